@@ -1,8 +1,8 @@
-"""Compares the clients of this repository with redis-py and hiredis. Prints a Markdown table.
+"""Compares the clients of this repository with redis-py and hiredis. Prints two Markdown tables: calls, and patterns.
 
 Both servers run at once, on Unix sockets: femem with a store in /dev/shm, Redis with neither log nor snapshots. It compares
 the processor time, user and system, of the client's own process, not what the servers do or promise. The two clients of a
-language are in one process and work in short turns.
+language are in one process and work in short turns. Of patterns it compares the time: of a step, or values per second.
 """
 
 import argparse
@@ -18,6 +18,16 @@ import time
 
 HERE = pathlib.Path(__file__).resolve().parent
 ROOT = HERE.parents[1]
+
+# Of patterns: its name, the unit, and what it is compared with.
+PATTERNS = {
+    "lock": ("Lock, acquired and released", "ms", "redis-py's Lock"),
+    "semaphore": ("Semaphore of 1,000 permits", "ms", ""),
+    "calls": ("calls of one client", "/s", ""),
+    "queue": ("BoundedQueue, 4 to 4", "/s", "LPUSH, BLMOVE, LREM"),
+    "channel": ("Channel, 4 to 4", "/s", "LPUSH, BLMOVE, LREM"),
+    "work queue": ("WorkQueue, 4 to 4", "/s", "LPUSH, BLMOVE, LREM"),
+}
 
 LOADS = {"call": "a call that waits for its answer", "batch 32": "32 in a batch", "batch 1000": "1,000 in a batch"}
 
@@ -64,6 +74,17 @@ def print_rows(rounds, ours, theirs):
         print(f"| {text} | {ours} {mine:.1f} | {theirs} {other:.1f} | {spread} |", flush=True)
 
 
+def print_patterns(rounds):
+    print("| pattern | femem | Redis | |")
+    print("|---|---|---|---|")
+    for name, (text, unit, other) in PATTERNS.items():
+        mine = statistics.median(pair[0] for pair in rounds[name])
+        theirs = [pair[1] for pair in rounds[name] if pair[1] is not None]
+        digits = 2 if unit == "ms" else 0
+        told = f"{statistics.median(theirs):,.{digits}f} {unit}" if theirs else ""
+        print(f"| {text} | {mine:,.{digits}f} {unit} | {told} | {other} |", flush=True)
+
+
 def main():
     parser = argparse.ArgumentParser(usage="bench/clients/run PROGRAM [--rounds N]")
     parser.add_argument("program")
@@ -85,6 +106,7 @@ def main():
             told = [femem, redis, str(asked.rounds)]
             python = rounds_of([python_with_redis(), HERE / "calls.py", *told])
             c = rounds_of([c_program(folder), *told])
+            patterns = rounds_of([python_with_redis(), HERE / "patterns.py", femem, redis, str(max(1, asked.rounds // 5))])
         finally:
             for process in servers:
                 process.kill()
@@ -93,6 +115,8 @@ def main():
     print("|---|---|---|---|")
     print_rows(python, "Python", "redis-py")
     print_rows(c, "C", "hiredis")
+    print()
+    print_patterns(patterns)
 
 
 if __name__ == "__main__":

@@ -21,7 +21,8 @@ sys.path.insert(0, str(ROOT))
 
 import femem  # noqa: E402
 from femem import Client, requests  # noqa: E402
-from femem.patterns import Barrier, BoundedQueue, Counter, Future, Lock, Once, Semaphore, shared_array  # noqa: E402
+from femem.patterns import Barrier, BoundedQueue, Channel, Counter, Election, Future, Lock, Once  # noqa: E402
+from femem.patterns import ReadWriteLock, Semaphore, WorkQueue, shared_array  # noqa: E402
 
 PROCESSES = 16
 KILLS = 20
@@ -96,6 +97,58 @@ def queue(client, k):
     return []
 
 
+def channel(client, k):
+    """Half of them give, half of them take."""
+    values = Channel(client, "channel")
+    if k % 2:
+        return [values.get() for _ in range(8)]
+    for value in range(8):
+        values.put(100 * k + value)
+    return []
+
+
+def jobs(client, k):
+    """Half of them give, half of them take. Each job fails once."""
+    queue, done = WorkQueue(client, "jobs", 64), []
+    if k % 2 == 0:
+        for value in range(8):
+            queue.put(100 * k + value)
+        return []
+    while len(done) < 8:
+        job = queue.take()
+        if job.attempt == 1:
+            job.fail()
+        else:
+            job.done()
+            done.append(job.value)
+    return done
+
+
+def book(client, k):
+    """A writer raises two numbers, and a reader finds them equal."""
+    lock, pages = ReadWriteLock(client, "book", 8), shared_array(client, "pages", 2, full=True)
+    for _ in range(3):
+        if k % 4 == 0:
+            lock.acquire_write()
+            for page in range(2):
+                client.writexf(pages, page, client.readxx(pages, page) + 1)
+            lock.release_write()
+        else:
+            lock.acquire_read()
+            first, second = client.readxx(pages, 0), client.readxx(pages, 1)
+            lock.release_read()
+            if first != second:
+                return [first, second]
+    return None
+
+
+def election(client, k):
+    leader = Election(client, "leader")
+    number = leader.campaign()
+    leader.resign()
+    return number
+
+
 def barrier(client, k):
     """The number of arrivals seen after each wait: never fewer than all of that round."""
     gate, arrivals = Barrier(client, "barrier", PROCESSES), Counter(client, "arrivals")
@@ -152,7 +205,8 @@ def count_once(path, file, progress, steps):
             client.forget(done - 1)
 
 
-WORK = {w.__name__: w for w in (lock, semaphore, queue, barrier, counter, future, once, raising)}
+EVERY = (lock, semaphore, queue, channel, jobs, book, election, barrier, counter, future, once, raising)
+WORK = {work.__name__: work for work in EVERY}
 
 
 def work_as_told(path, k):
@@ -225,6 +279,15 @@ def try_patterns(path, processes):
         put = [100 * k + value for k in range(0, PROCESSES, 2) for value in range(8)]
         expect("queue", sorted(flat(processes.run("queue"))), put)
         yield "queue"
+        expect("channel", sorted(flat(processes.run("channel"))), put)
+        yield "channel"
+        expect("jobs", sorted(flat(processes.run("jobs"))), put)
+        yield "jobs"
+        expect("book", processes.run("book"), [None] * PROCESSES)
+        expect("book", client.readxx(client.find("pages"), 1), 3 * len(range(0, PROCESSES, 4)))
+        yield "book"
+        expect("election", len(set(processes.run("election"))), PROCESSES)
+        yield "election"
         for seen in processes.run("barrier"):
             if any(count < PROCESSES * (round + 1) for round, count in enumerate(seen)):
                 raise Failure(f"barrier: arrivals {seen}")

@@ -20,13 +20,13 @@ import warnings
 import weakref
 from functools import partial
 from types import TracebackType
-from typing import Any, Awaitable, Iterable, List, Optional, Sequence, Type, TypeVar, Union, cast
+from typing import Any, Awaitable, Dict, Iterable, List, Optional, Sequence, Type, TypeVar, Union, cast
 
 from . import errors, frames, registry, requests
 from .client import DEFAULT, Key, Path, Recovered, Timeout
 from .client import choose_session, end_session, key_bytes, pause_of, request_of, seconds_of, ticket_of
 from .core import Core, Phase
-from .jobs import Job
+from .jobs import Job, first_of
 from .errors import FememError
 from .events import OnEvent
 from .reports import Report
@@ -84,7 +84,6 @@ class AsyncClient:
         self._transport: Optional[asyncio.Transport] = None
         self._timer: Optional[asyncio.TimerHandle] = None
         self._connecting: Optional[asyncio.Task[None]] = None
-        self._helpers: List[asyncio.Task[None]] = []
         self.recovered: List[Recovered] = []
         _clients.add(self)
 
@@ -309,10 +308,21 @@ class AsyncClient:
         ticket = self._keyed(key, request)
         return await self._told((ticket,), self._submit(ticket, timeout))
 
-    def forget(self, key: Key) -> None:
+    def forget(self, *keys: Key) -> None:
         """As `Client.forget`."""
         self._with_file()
-        self._core.forget(key_bytes(key))
+        for key in [key_bytes(key) for key in keys]:
+            self._core.forget(key)
+
+    def keys(self) -> List[bytes]:
+        """As `Client.keys`."""
+        self._with_file()
+        return self._core.keys()
+
+    async def wait_any(self, asked: Iterable[Request[Any]], *, timeout: Timeout = DEFAULT) -> Dict[int, Any]:
+        """As `Client.wait_any`."""
+        steps = first_of([request_of(request) for request in asked], self._seconds(timeout))
+        return await self._run_job(Job(steps))
 
     def _keyed(self, key: Key, request: Request[T]) -> Ticket[T]:
         self._with_file()
@@ -452,10 +462,6 @@ class AsyncClient:
                 core.file.commit()
             except errors.SessionFileError as error:
                 core.fail(error)
-        if core.fences:
-            fences, core.fences = core.fences, []
-            for session, ticket in fences:
-                self._helpers.append(asyncio.get_running_loop().create_task(self._fence(session, ticket)))
         if core.moved:
             self._move_waits()
         if self._transport is not None and core.to_send:
@@ -492,17 +498,6 @@ class AsyncClient:
             side._is_temporary = is_there
             await side.close()
             is_there = side._core.has_left
-
-    async def _fence(self, session: int, ticket: Ticket[None]) -> None:
-        failed: Optional[BaseException] = None
-        try:
-            async with AsyncClient(self.path, session, wait_for_server=True):
-                pass
-        except errors.FememError as error:
-            failed = error
-        self._core.fenced(ticket, failed)
-        self._helpers = [task for task in self._helpers if task is not asyncio.current_task()]
-        self._move()
 
     def _forked(self) -> None:
         """In a child of the process: as in `Client`. The loop is the parent's too, so only the socket is closed."""
@@ -681,11 +676,16 @@ atexit.register(_at_exit)
 from ._aiopatterns import (  # noqa: E402
     Barrier,
     BoundedQueue,
+    Channel,
     Counter,
+    Election,
     Future,
     Lock,
     Once,
+    ReadWriteLock,
     Semaphore,
+    WorkJob,
+    WorkQueue,
     shared_array,
 )
 
@@ -693,10 +693,15 @@ __all__ = [
     "AsyncClient",
     "Barrier",
     "BoundedQueue",
+    "Channel",
     "Counter",
+    "Election",
     "Future",
     "Lock",
     "Once",
+    "ReadWriteLock",
     "Semaphore",
+    "WorkJob",
+    "WorkQueue",
     "shared_array",
 ]

@@ -12,12 +12,12 @@ from concurrent.futures import Future
 from functools import partial
 from threading import get_ident
 from types import TracebackType
-from typing import Any, Callable, Iterable, Iterator, List, NamedTuple, Optional, Sequence, Type, TypeVar, Union
+from typing import Any, Callable, Dict, Iterable, Iterator, List, NamedTuple, Optional, Sequence, Type, TypeVar, Union
 
 from . import errors, registry, requests, worker
 from .core import Core
 from .events import OnEvent
-from .jobs import Job
+from .jobs import Batch, Job, Wait, first_of
 from .reports import Report
 from .requests import Array, ArrayLike, Request
 from .sessionfile import SessionFile
@@ -416,6 +416,14 @@ class Client:
             self._wait_for(tickets, partial(self._core.take, tickets, seconds))
         return [ticket.result if ticket.error is None else ticket.error for ticket in tickets]
 
+    def wait_any(self, asked: Iterable[Request[Any]], *, timeout: Timeout = DEFAULT) -> Dict[int, Any]:
+        """Waits until one of the requests has happened, and takes the others back.
+
+        Returns the answers of those that happened by their places in `asked`: of one, or of several at the same time.
+        `TimedOut` if none did in time: then nothing happened.
+        """
+        return self._run_job(Job(first_of([request_of(request) for request in asked], self._seconds(timeout))))
+
     def pipeline(self) -> Pipeline:
         """Collects requests, and then asks them in one step."""
         return Pipeline(self)
@@ -444,11 +452,19 @@ class Client:
         self._wait_for((ticket,), partial(self._core.take, (ticket,), seconds))
         return _result(ticket)
 
-    def forget(self, key: Key) -> None:
-        """Makes the session file drop the key's answer: the key will not be used again."""
+    def keys(self) -> List[bytes]:
+        """The keys that the session file has: those with an answer first, then those whose request has none yet."""
         self._with_file()
-        spelled = key_bytes(key)
-        self._ask(lambda now: self._core.forget(spelled))
+        return self._core.keys()
+
+    def forget(self, *keys: Key) -> None:
+        """Makes the session file drop the keys' answers: the keys will not be used again."""
+        self._with_file()
+        for spelled in [key_bytes(key) for key in keys]:
+            self._ask(partial(self._drop, spelled))
+
+    def _drop(self, key: bytes, now: float) -> None:
+        self._core.forget(key)
 
     def _keyed(self, key: Key, request: Request[T]) -> Ticket[T]:
         self._with_file()
@@ -501,10 +517,12 @@ class Client:
             self._ask(partial(self._core.withdraw, ticket))
             raise
 
-    def _run_job(self, job: Job[T]) -> T:
+    def _run_job(self, job: Job[T], is_light: bool = False) -> T:
         """Runs an operation of several steps. If this thread is interrupted, it is taken back and undone."""
         self._check_thread()
         try:
+            if is_light and self._worker.lease is not None and self._run_here(job):
+                return _result(job)
             gate = threading.Lock()
             gate.acquire()
             job.finished = gate.release
@@ -516,6 +534,41 @@ class Client:
         except BaseException:
             self._abandon(job)
             raise
+
+    def _run_here(self, job: Job[Any]) -> bool:
+        """Runs the job over lent numbers as far as it need not wait. Whether it is done; the thread goes on otherwise."""
+        steps = job.steps
+        try:
+            step = next(steps)
+            while isinstance(step, (Batch, Wait)) and step.key is None:
+                tickets: List[Ticket[Any]] = [Ticket(request) for request in step.requests]
+                if not self._ask_here(tickets):
+                    job.asked = tickets
+                    break
+                if isinstance(step, Batch):
+                    step = steps.send([ticket.result if ticket.error is None else ticket.error for ticket in tickets])
+                elif tickets[0].error is None:
+                    step = steps.send(tickets[0].result)
+                else:
+                    step = steps.throw(tickets[0].error)
+        except StopIteration as end:
+            job.end(end.value)
+            return True
+        except Exception as error:
+            job.end(error=error)
+            return True
+        job.begun = step
+        return False
+
+    def _ask_here(self, tickets: List[Ticket[Any]]) -> bool:
+        """Asks them over lent numbers, if there are enough. Whether all are done."""
+        worker = self._worker
+        lease = worker.lease
+        if lease is None or worker.is_led():
+            return False
+        # No interruption comes between the lock's taking and the block.
+        with worker.lead:
+            return worker.lease is lease and (lease.call(tickets[0]) if len(tickets) == 1 else lease.call_all(tickets))
 
     def _abandon(self, job: Job[Any]) -> None:
         """Takes back, or undoes, a job that no caller waits for. Calling it twice has the effect of once."""

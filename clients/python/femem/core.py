@@ -13,6 +13,7 @@ import logging
 import random
 import time
 from collections import deque
+from functools import partial
 from typing import Any, Callable, Deque, Dict, List, Optional, Sequence, Set, Tuple, TypeVar
 
 from . import errors, frames, reports
@@ -20,11 +21,12 @@ from .errors import ProtocolError
 from .events import Events, OnEvent
 from .frames import Answer
 from .flow import PATIENCE, Flow
-from .jobs import Batch, Fence, Job, Look, Pause, Present, Step, Wait
+from .jobs import Batch, First, Job, Look, Pause, Present, Step, Wait
 from .meeting import FIRST_PROBE, Meeting, unexpected
 from .requests import Request, number_of_bits, readff
 from .sessionfile import SessionFile
-from .tickets import Ticket, Timeouts
+from .holdings import Holdings
+from .tickets import Ticket, Timeouts, nobody
 
 T = TypeVar("T")
 
@@ -85,11 +87,8 @@ class Core:
         # Once the client has failed: whether the server had ended the session, and whether requests could be sent.
         self.has_left = False
         self.was_ready = False
-        # The sessions that patterns want taken from their owners. The client does it.
-        self.fences: List[Tuple[int, Ticket[None]]] = []
-        # What this client's patterns hold: the generation of each lock, by the id of its array.
-        self.holdings: Dict[int, int] = {}
-        self.releasing: Set[int] = set()
+        # What this client's patterns hold and do.
+        self.holdings = Holdings()
         self._presence: Optional[Ticket[int]] = None
         self._fights = 0
         self._reconnect_timeout = float("inf") if reconnect_timeout is None else reconnect_timeout
@@ -255,6 +254,15 @@ class Core:
         assert self.file is not None
         self.file.forget(key)
 
+    def keys(self) -> List[bytes]:
+        """The keys that have an answer, and those whose request has none yet."""
+        assert self.file is not None
+        return [*list(self.file.keyed), *list(self._flow.keys)]
+
+    def is_open(self, key: bytes) -> bool:
+        """Whether a request under this key has no answer yet."""
+        return key in self._flow.keys
+
     def withdraw(self, ticket: Ticket[Any], now: float, why: Optional[errors.Withdrawn] = None) -> None:
         """Takes a request back, if it waits. It ends with `why`, or with its answer if it has happened."""
         if ticket.done or ticket.request is None:
@@ -293,11 +301,10 @@ class Core:
         self._start_over()
         tickets: List[Ticket[Any]] = [*self._flow.take_all(), *self._reports]
         tickets += [ticket for ticket in (self._leaving, self._opening) if ticket is not None]
-        tickets += [*self._pauses, *(ticket for _, ticket in self.fences), *self._elsewhere]
+        tickets += [*self._pauses, *self._elsewhere]
         self._elsewhere.clear()
         self._reports.clear()
         self._pauses.clear()
-        self.fences.clear()
         for ticket in tickets:
             if not ticket.done:
                 self._end(ticket, error=self._failure_again())
@@ -478,8 +485,10 @@ class Core:
     # Jobs: operations of several steps.
 
     def start(self, job: Job[Any], now: float) -> None:
+        """Runs the job. Its caller may have begun a step."""
+        step, job.begun = job.begun, None
         if self._admit((job,), now):
-            self._advance(job, lambda: next(job.steps))
+            self._advance(job, lambda: next(job.steps) if step is None else step)
 
     def abandon(self, job: Job[Any], now: float) -> None:
         """No caller waits for the job any more: takes it back if it waits, and undoes it if it is done."""
@@ -530,45 +539,59 @@ class Core:
     def _ask(self, job: Job[Any], step: Step) -> None:
         now = self.clock()
         self._check()
-        if job.is_interrupted and isinstance(step, (Wait, Pause)):
+        may_wait = isinstance(step, (Wait, First))
+        if job.is_interrupted and (may_wait or isinstance(step, Pause)):
             raise errors.Withdrawn("interrupted")
-        tickets: List[Ticket[Any]]
-        if isinstance(step, Batch):
-            tickets = [Ticket(request) for request in step.requests]
-        elif isinstance(step, Wait):
-            tickets = [Ticket(step.request)]
+        if isinstance(step, (Batch, Wait, First)):
+            # (the tickets of a step that the caller has begun are there)
+            tickets = job.asked or [Ticket(request) for request in step.requests]
+            if may_wait:
+                for ticket in tickets:
+                    ticket.ends_with_process = True
+            if step.key is not None:
+                tickets[0].key = step.key
+            if step.seconds is not None and tickets[0].taken and not tickets[0].done:
+                self._timeouts.add(now + step.seconds, tickets[0])  # its caller had asked it
+            self._await(job, step, tickets)
+            self.take(tickets, step.seconds, now)
+            return
+        ticket: Ticket[Any] = Ticket(None)
+        self._await(job, step, [ticket])
+        if isinstance(step, Look):
+            self.report(now, ticket)
+        elif isinstance(step, Pause):
+            self.is_urgent = True
+            self._pauses.add(ticket)
+            self._timeouts.add(now + step.seconds, ticket)
         else:
-            tickets = [Ticket(None)]
-        for ticket in tickets:
-            ticket.ends_with_process = isinstance(step, Wait)
-        left = len(tickets)
+            self._be_present(step, now)
+            self._end(ticket)
+
+    def _await(self, job: Job[Any], step: Step, tickets: List[Ticket[Any]]) -> None:
+        """Goes on with the job once its tickets are done."""
+        job.asked = tickets
+        left = sum(not ticket.done for ticket in tickets)
 
         def finished() -> None:
             nonlocal left
             left -= 1
-            if not left:
+            if left and isinstance(step, First):
+                waiting = [ticket for ticket in tickets if not ticket.done and ticket.taken_back is None]
+                self.withdraw_all(waiting, self.clock())
+            elif not left:
                 self._answer(job, step, tickets)
 
         for ticket in tickets:
             ticket.finished = finished
-        job.asked = tickets
-        if isinstance(step, (Batch, Wait)):
-            self.take(tickets, step.seconds if isinstance(step, Wait) else None, now)
-        elif isinstance(step, Look):
-            self.report(now, tickets[0])
-        elif isinstance(step, Pause):
-            self.is_urgent = True
-            self._pauses.add(tickets[0])
-            self._timeouts.add(now + step.seconds, tickets[0])
-        elif isinstance(step, Fence):
-            self.fences.append((step.session, tickets[0]))
-        else:
-            self._be_present(step, now)
-            self._end(tickets[0])
+        if not left:
+            last: Ticket[Any] = Ticket(None, partial(self._answer, job, step, tickets))
+            self._end(last)
 
     def _answer(self, job: Job[Any], step: Step, tickets: List[Ticket[Any]]) -> None:
         job.asked = []
-        if isinstance(step, Batch):
+        for ticket in tickets:
+            ticket.finished = nobody  # nothing holds itself
+        if isinstance(step, (Batch, First)):
             outcomes = [ticket.result if ticket.error is None else ticket.error for ticket in tickets]
             ends = self.failure is not None
             self._advance(job, _thrower(job, self._failure_again()) if ends else lambda: job.steps.send(outcomes))
@@ -583,11 +606,6 @@ class Core:
             self._presence.is_presence = True
             self._presence.ends_with_process = True
             self.take((self._presence,), None, now)
-
-    def fenced(self, ticket: Ticket[None], error: Optional[BaseException]) -> None:
-        """The client has attached the session of a fence, or could not."""
-        if not ticket.done:
-            self._end(ticket, error=error)
 
     # Sending.
 

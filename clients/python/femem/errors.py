@@ -137,6 +137,14 @@ class NotOwner(FememError):
     """The lock or permit is not held by the session that releases it, or is no longer."""
 
 
+class OtherPattern(FememError, ValueError):
+    """The array of that name is of another pattern, or of the same one with another size."""
+
+
+class BrokenBarrier(FememError):
+    """The barrier's round was broken, since a wait timed out or somebody broke it. `reset` begins a new one."""
+
+
 class Closed(FememError):
     """The client is closed. A request without an answer happened once or not at all."""
 

@@ -41,7 +41,7 @@ class Flow:
         self.window: Optional[Window[Ticket[Any]]] = None
         self._file = file
         # Requests under keys that have no answer yet.
-        self._keys: Dict[bytes, Ticket[Any]] = {}
+        self.keys: Dict[bytes, Ticket[Any]] = {}
         self._to_send = to_send
         self._ended = ended
         self._queue: Deque[Ticket[Any]] = deque()
@@ -69,7 +69,7 @@ class Flow:
             ticket.key = asked.key
             ticket.asked_at = 0.0 if self._events is None else self._events.now()
             if asked.key is not None:
-                self._keys[asked.key] = ticket
+                self.keys[asked.key] = ticket
             if asked.ends_with_process:
                 ticket.taken_back = errors.Withdrawn("its process ended")
             tickets[number] = ticket
@@ -81,6 +81,9 @@ class Flow:
             now = self._events.now()
             for ticket in tickets:
                 ticket.asked_at = ticket.asked_at or now
+        if self._file is None and self._moved is None:
+            self._queue.extend(tickets)
+            return
         for ticket in tickets:
             if ticket.key is None or not self._is_known(ticket, ticket.key):
                 if self._moved is not None:
@@ -92,10 +95,10 @@ class Flow:
     def _is_known(self, ticket: Ticket[Any], key: bytes) -> bool:
         """Whether the key was used before. Then the ticket ends like the earlier one."""
         assert self._file is not None and ticket.request is not None
-        first = self._keys.get(key)
+        first = self.keys.get(key)
         known = self._file.keyed.get(key)
         if first is None and known is None:
-            self._keys[key] = ticket
+            self.keys[key] = ticket
             return False
         frame = first.request.frame if first is not None and first.request is not None else known[0] if known else b""
         if frame != ticket.request.frame:
@@ -158,17 +161,18 @@ class Flow:
             self._cancel(ticket, now)
 
     def _send_queue(self, window: Window[Ticket[Any]], now: float) -> None:
-        queue = self._queue
-        room = window.room()
-        while queue and room:
-            room -= 1
+        queue, file, to_send = self._queue, self._file, self._to_send
+        for _ in range(min(len(queue), window.room())):
             ticket = queue.popleft()
-            ticket.number = window.give(ticket)
-            if self._file is not None:
-                assert ticket.request is not None
-                asked = Asked(ticket.request.frame, ticket.key, ticket.ends_with_process)
-                self._file.asked(ticket.number, asked)
-            self._send(ticket, now)
+            request = ticket.request
+            assert request is not None
+            ticket.number = number = window.give(ticket)
+            if file is not None:
+                file.asked(number, Asked(request.frame, ticket.key, ticket.ends_with_process))
+            ticket.sent_at = now
+            if ticket.cancel_sent:
+                ticket.cancel_sent = False
+            append_under(to_send, request.frame, number, ticket.asks_first)
 
     def _has_new(self) -> bool:
         """Whether the queue has a request that was not sent yet. The others are known to wait."""
@@ -227,8 +231,13 @@ class Flow:
     def _end(self, ticket: Ticket[Any], result: Any = None, error: Optional[BaseException] = None) -> None:
         ticket.end(result, error)
         self._ended.append(ticket)
-        if ticket.key is not None and self._keys.get(ticket.key) is ticket:
-            del self._keys[ticket.key]
+        if ticket.key is not None:
+            self._end_key(ticket, ticket.key, result, error)
+
+    def _end_key(self, ticket: Ticket[Any], key: bytes, result: Any, error: Optional[BaseException]) -> None:
+        """What else was asked under the ticket's key ends like it."""
+        if self.keys.get(key) is ticket:
+            del self.keys[key]
         followers = [follower for follower in ticket.followers or () if not follower.done]
         if followers and isinstance(error, errors.Withdrawn):
             # It did not happen, and the others still wait for it: the first of them asks in its place.
@@ -269,7 +278,8 @@ class Flow:
             self._has_to_wait(ticket)
         else:
             self._end_by(ticket, answer)
-            self._tell("answered", ticket)
+            if self._events is not None:
+                self._tell("answered", ticket)
         return True
 
     def _tell(self, kind: str, ticket: Ticket[Any]) -> None:

@@ -6,8 +6,9 @@ task that asked, so that one may be interrupted anywhere and nothing is left hal
 
 from __future__ import annotations
 
-from typing import Any, Callable, Generator, List, Optional, Sequence, TypeVar, Union
+from typing import Any, Callable, Dict, Generator, List, Optional, Sequence, TypeVar, Union
 
+from .errors import Withdrawn
 from .requests import Array, Request
 from .tickets import Ticket
 
@@ -17,19 +18,39 @@ T = TypeVar("T")
 class Wait:
     """A request that may wait, for `seconds` at most. Its result is sent to the generator, or its error raised there.
 
-    After a restart, the next process with the same session file takes it back.
+    After a restart, the next process with the same session file takes it back. With a key, the file keeps its answer.
     """
 
-    def __init__(self, request: Request[Any], seconds: Optional[float] = None) -> None:
-        self.request = request
+    def __init__(self, request: Request[Any], seconds: Optional[float] = None, key: Optional[bytes] = None) -> None:
+        self.requests = (request,)
         self.seconds = seconds
+        self.key = key
 
 
 class Batch:
-    """Requests that are sent together, in this order. The outcome is a list of results and errors."""
+    """Requests that are sent together, in this order. The outcome is a list of results and errors.
 
-    def __init__(self, requests: Sequence[Request[Any]]) -> None:
+    None of them may wait. The key is that of the first one.
+    """
+
+    seconds = None
+
+    def __init__(self, requests: Sequence[Request[Any]], key: Optional[bytes] = None) -> None:
         self.requests = requests
+        self.key = key
+
+
+class First:
+    """Requests that may wait. Once one is answered, or after `seconds`, the others are taken back.
+
+    The outcome is a list as of a batch. Several of them may have happened.
+    """
+
+    key = None
+
+    def __init__(self, requests: Sequence[Request[Any]], seconds: Optional[float] = None) -> None:
+        self.requests = requests
+        self.seconds = seconds
 
 
 class Pause:
@@ -50,15 +71,21 @@ class Present:
         self.array = array
 
 
-class Fence:
-    """Takes the session from its client: nothing that this has under way is carried out from now on."""
-
-    def __init__(self, session: int) -> None:
-        self.session = session
-
-
-Step = Union[Wait, Batch, Pause, Look, Present, Fence]
+Step = Union[Wait, Batch, First, Pause, Look, Present]
 Steps = Generator[Step, Any, T]
+
+
+def first_of(asked: Sequence[Request[Any]], seconds: Optional[float]) -> Steps[Dict[int, Any]]:
+    """Waits until one of them has happened, and takes the others back. The answers by their places among them.
+
+    `TimedOut` if none happens in time. If all end with errors, the first one's is raised.
+    """
+    outcomes: List[Any] = (yield First(asked, seconds)) if asked else []
+    found = {k: outcome for k, outcome in enumerate(outcomes) if not isinstance(outcome, BaseException)}
+    errors = [outcome for outcome in outcomes if isinstance(outcome, BaseException)]
+    if not found and errors:
+        raise next((error for error in errors if not isinstance(error, Withdrawn)), errors[0])
+    return found
 
 
 class Job(Ticket[T]):
@@ -73,6 +100,8 @@ class Job(Ticket[T]):
         self.gives_back = gives_back
         # The tickets of the current step.
         self.asked: List[Ticket[Any]] = []
+        # The step that its caller has begun by itself, with its tickets.
+        self.begun: Optional[Step] = None
         self.is_interrupted = False
         # Whether its caller no longer waits; `undo` then makes steps that undo what was done.
         self.is_abandoned = False

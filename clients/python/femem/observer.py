@@ -22,7 +22,7 @@ from . import errors, frames, reports
 from .client import Client, Path, seconds_of
 from .reports import Report, Waiter
 from .sides import MOST, numbers
-from .steps import PRESENCE
+from .operations import PRESENCE
 
 _ARRAY = re.compile(r"array ([0-9]+) ([a-z0-9_]+) ([0-9]+)")
 _SESSION = re.compile(r"session ([0-9]+) floor [0-9]+ kept ([0-9]+)")

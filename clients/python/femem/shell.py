@@ -22,6 +22,7 @@ from .client import Client
 from .errors import FememError, NoArray, ServerUnreachable
 from .observer import Look, Observer, overview
 from .patterns import BoundedQueue, Lock
+from .ring import SLOTS
 from .requests import Array, ArrayLike, Request
 from .signals import end_on_signals
 
@@ -372,7 +373,7 @@ class Shell:
     def _queue_of(self, name: str, capacity: Words) -> BoundedQueue:
         """The queue of that name, with its present capacity."""
         try:
-            found = self._client.find(name).length - 3
+            found = max(1, self._client.find(name).length - SLOTS)
         except NoArray:
             found = 8
         return BoundedQueue(self._client, name, number(capacity[0]) if capacity else found)

@@ -239,8 +239,6 @@ class Worker:
                 core.file.commit()
             except errors.SessionFileError as error:
                 core.fail(error)
-        if core.fences:
-            self._fence_all()
         if core.moved:
             self._move_waits()
         if self._socket is None or not core.to_send:
@@ -285,22 +283,6 @@ class Worker:
             side._worker.is_temporary = is_there
             side.close()
             is_there = side._core.has_left
-
-    def _fence_all(self) -> None:
-        """Attaches the sessions again, each in its own thread, since that waits for the server."""
-        fences, self.core.fences = self.core.fences, []
-        for session, ticket in fences:
-            threading.Thread(target=self._fence, args=(session, ticket), daemon=True).start()
-
-    def _fence(self, session: int, ticket: Ticket[None]) -> None:
-        from .client import Client
-
-        failed: Optional[BaseException] = None
-        try:
-            Client(self.path, session, wait_for_server=True).close()
-        except (errors.FememError, OSError) as error:
-            failed = error
-        self.ask(lambda now: self.core.fenced(ticket, failed))
 
     def _run(self) -> None:
         self.own_thread = get_ident()
@@ -436,7 +418,8 @@ class Worker:
         core = self.core
         seconds = min(_LINGER, self._look_at - self._now)
         self._is_at_bell = True
-        self._finish(core.take_ended())
+        while core.ended and not core.to_send:
+            self._finish(core.take_ended())
         if seconds > 0.0 and not (self._asked or core.ended or core.to_send or core.is_urgent):
             lease = self._lend()
             if lease is None:
@@ -464,14 +447,14 @@ class Worker:
     def _take_back(self, lease: Lease) -> None:
         """Ends the lease, and goes on with what its last caller left."""
         self.lease = None
-        is_free = self.lead.acquire(timeout=2 * READ_TIME)
+        is_free = self.lead.acquire(timeout=3 * READ_TIME)
         if not is_free:
-            # Its caller is held up, perhaps within a signal handler that waits for this thread. What it does later is in vain.
+            # Its caller is held up, perhaps within a signal handler that waits for this thread.
             self.lead = threading.Lock()
-            lease.is_known = False
         core = self.core
         self._now = now = time.monotonic()
-        if lease.unfinished() is not None and not lease.is_known:
+        if not is_free or not lease.is_known:
+            # Before its numbers are noted: a caller that goes on later finds a connection that takes nothing.
             self._give_up_connection(lease.connection)
         core.takes_back(list(lease.tickets), now)
         if is_free:

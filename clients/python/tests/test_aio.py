@@ -454,6 +454,63 @@ class Patterns(WithFolder):
         self.assertEqual(len(set(got)), 1)
         self.assertEqual(got[0][1], 7)
 
+    def test_channels_jobs_and_readers(self):
+        async def work(client, k):
+            channel = aio.Channel(client, "channel")
+            book = aio.ReadWriteLock(client, "book", 4)
+            jobs = aio.WorkQueue(client, "jobs", 16)
+            self.assertTrue(await (book.acquire_read() if k else book.acquire_write()))
+            await (book.release_read() if k else book.release_write())
+            if k:
+                await jobs.put(k)
+                await channel.put(k)
+                return []
+            got = [await channel.get() for _ in range(4)]
+            for _ in range(4):
+                async with await jobs.take(timeout=60) as job:
+                    got.append(job.value)
+            with self.assertRaises(femem.TimedOut):
+                await channel.get(timeout=0.05)
+            return got
+
+        got = self.run_all(work)[0]
+        self.assertEqual((sorted(got[:4]), sorted(got[4:])), ([1, 2, 3, 4], [1, 2, 3, 4]))
+
+    def test_the_first_of_several_words(self):
+        async def work(client, k):
+            words = await client.create("words", 3)
+            asked = [requests.readfe(words, at) for at in range(3)]
+            task = asyncio.ensure_future(client.wait_any(asked))
+            await asyncio.sleep(0.05)
+            await client.writeef(words, 2, 9)
+            self.assertEqual(await task, {2: 9})
+            task = asyncio.ensure_future(client.wait_any(asked))
+            await asyncio.sleep(0.05)
+            task.cancel()
+            with self.assertRaises(asyncio.CancelledError):
+                await task
+            with self.assertRaises(femem.TimedOut):
+                await client.wait_any(asked, timeout=0.05)
+            self.assertEqual((await client.report()).waiters, [])
+
+        self.run_all(work, 1)
+
+    def test_keys(self):
+        self.server()
+
+        async def main():
+            for _ in range(2):
+                async with AsyncClient(self.path, session_file=self.path + ".session") as client:
+                    await aio.BoundedQueue(client, "queue", 3).put(7, key="seven")
+                    self.assertEqual(await aio.Counter(client, "counter").add(2, key="two"), 0)
+                    self.assertEqual(sorted(client.keys()), [b"seven", b"two"])
+                    self.assertEqual(await aio.BoundedQueue(client, "queue", 3).qsize(), 1)
+            async with AsyncClient(self.path, session_file=self.path + ".session") as client:
+                client.forget("seven", "two")
+                self.assertEqual(client.keys(), [])
+
+        asyncio.run(main())
+
     def test_a_client_of_another_kind(self):
         self.server()
         with femem.Client(self.path, 5) as client:

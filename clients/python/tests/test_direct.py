@@ -5,6 +5,7 @@ import os
 import random
 import signal
 import socket
+import struct
 import threading
 import time
 
@@ -16,7 +17,7 @@ from test_unspoilt import Stop, interrupted
 
 import femem
 from femem import Client, lease, requests
-from femem.patterns import Lock
+from femem.patterns import BoundedQueue, Lock, shared_array
 
 LONG = 60
 
@@ -270,6 +271,70 @@ class Direct(WithFolder):
                 while True:
                     client.int_fetch_add(word, 0, 1)
 
+    def test_most_steps_of_a_queue_do_not_need_the_thread(self):
+        self.server()
+        with Client(self.path, 7, probe_interval=100.0) as client:
+            queue = BoundedQueue(client, "queue", 4)
+            queue.put(1)
+            self.assertEqual(queue.get(), 1)
+            asked = count_asks(client)
+            for value in range(200):
+                queue.put(value)
+                self.assertEqual(queue.get(), value)
+            # (each put and get has two steps)
+            self.assertLess(len(asked), 400)
+            del client._ask
+            client._ask = client._worker.ask
+
+    def test_a_caller_that_is_held_up_keeps_its_numbers(self):
+        """Between the choice of its number and its send, and behind it: longer than the thread waits for it."""
+        model = self.server().model
+        pack, held, take, asked = lease.pack_number, threading.Event(), model.take, {}
+
+        def note(conn, message):
+            if message[0] == "call":
+                asked.setdefault(message[1], set()).add(message[2][4] if message[2][0] == "access" else 0)
+            take(conn, message)
+
+        model.take = note
+        self.addCleanup(setattr, lease, "pack_number", pack)
+        for where in ("before", "sending", "sent"):
+            with self.subTest(where=where), Client(self.path, 7) as client:
+                word = shared_array(client, "word", 1, full=True)
+                begin = client.readff(word, 0)
+                self.warm(client, word)
+                lent, slow = client._worker.lease, []
+                inner = lent.connection
+                held.clear()
+
+                def wait(at):
+                    if at == where and threading.current_thread() in slow:
+                        held.set()
+                        time.sleep(5 * lease.READ_TIME)
+
+                class Slow:
+                    def send(self, content, *flags):
+                        wait("sending")
+                        sent = inner.send(content, *flags)
+                        wait("sent")
+                        return sent
+
+                    def __getattr__(self, name):
+                        return getattr(inner, name)
+
+                lent.connection = Slow()
+                lease.pack_number = lambda *args: (wait("before"), pack(*args))
+                got = []
+                slow.append(threading.Thread(target=lambda: got.append(client.int_fetch_add(word, 0, 100))))
+                slow[0].start()
+                self.assertTrue(held.wait(LONG))
+                for _ in range(3):
+                    client.int_fetch_add(word, 0, 1)
+                slow[0].join(LONG)
+                self.assertEqual((client.readff(word, 0), len(got)), (begin + 103, 1))
+                self.assertIsNone(client.failure)
+                self.assertEqual([number for number, operands in asked.items() if len(operands) > 1], [])
+
     def test_a_client_with_a_session_file_lends_nothing(self):
         """Each of its requests must be in the file before it is sent."""
         self.server()
@@ -339,8 +404,9 @@ class Replies(WithFolder):
 
     def test_a_lease_hands_over_what_it_does_not_know(self):
         here, there = socket.socketpair()
+        here.setsockopt(socket.SOL_SOCKET, socket.SO_RCVTIMEO, struct.pack("@ll", 0, 100_000))
         with here, there:
-            for reply in (frame(66, 41, 1, 5, 0), frame(66, 40, 1, 5, 0) + b"x", frame(67, 40), frame(70, 40, 8), b"\0"):
+            for reply in (frame(66, 41, 1, 5, 0), frame(67, 40), frame(70, 40, 8), b"\0", frame(66, 40, 1, 5, 0)[:25]):
                 lent = lease.Lease(here, 40, 50)
                 ticket = femem.tickets.Ticket(requests.readff(1, 0))
                 there.sendall(reply)
@@ -355,8 +421,32 @@ class Replies(WithFolder):
             ticket = femem.tickets.Ticket(requests.readff(1, 0))
             self.assertTrue(lent.call(ticket))
             self.assertEqual((ticket.result, bytes(lent.rest)), (5, frame(68, 40)))
-            self.assertFalse(lent.call(femem.tickets.Ticket(requests.readff(1, 0))))
+            lent = lease.Lease(here, 40, 50)
+            there.sendall(frame(66, 40, 1, 5, 0) + b"x")
+            self.assertTrue(lent.call(femem.tickets.Ticket(requests.readff(1, 0))))
+            self.assertEqual((bytes(lent.rest), lent.is_known), (b"x", True))
 
+    def test_a_lease_takes_the_answers_of_a_batch(self):
+        here, there = socket.socketpair()
+        here.setsockopt(socket.SOL_SOCKET, socket.SO_RCVTIMEO, struct.pack("@ll", 0, 100_000))
+        answers = [frame(66, 40 + k, 1, k, 0) for k in range(3)]
+        for pieces, done in (
+            ([b"".join(answers)], 3),
+            ([answers[0] + frame(68, 40) + answers[1][:7], answers[1][7:] + answers[2] + b"y"], 3),
+            ([answers[0], answers[2] + answers[1]], 1),
+            ([answers[0] + answers[1]], 2),
+        ):
+            lent = lease.Lease(here, 40, 50)
+            tickets = [femem.tickets.Ticket(requests.readff(1, 0, nowait=True)) for _ in range(3)]
+            thread = threading.Thread(target=lambda pieces=pieces: [(time.sleep(0.02), there.sendall(p)) for p in pieces])
+            thread.start()
+            self.assertEqual(lent.call_all(tickets), done == 3)
+            thread.join()
+            self.assertEqual([ticket.result for ticket in tickets], [*range(done), *[None] * (3 - done)])
+            self.assertEqual(sum(ticket is not None for ticket in lent.tickets), 3 - done)
+            self.assertTrue(lent.is_known)
+        here.close()
+        there.close()
 
 if __name__ == "__main__":
     import unittest

@@ -1,7 +1,6 @@
 """The patterns, with threads that each have a client, and the model at a socket, which is killed in between."""
 
 import os
-import random
 import signal
 import threading
 import time
@@ -12,7 +11,9 @@ from serving import WithFolder
 import femem
 from femem import Client
 from femem.aio import AsyncClient
-from femem.patterns import Barrier, BoundedQueue, Counter, Future, Lock, Once, Semaphore
+from femem import requests
+from femem.patterns import Barrier, BoundedQueue, Channel, Counter, Election, Future, Lock, Once, ReadWriteLock, Semaphore
+from femem.patterns import WorkQueue
 
 
 class Patterns(WithFolder):
@@ -59,7 +60,7 @@ class Patterns(WithFolder):
             self.assertTrue(mine.try_acquire())
             self.assertFalse(yours.try_acquire())
             self.assertFalse(yours.acquire(timeout=0.05))
-            yours.break_open()
+            yours.break_()
             self.assertTrue(yours.acquire(timeout=60))
 
     def test_semaphore(self):
@@ -249,7 +250,7 @@ class Patterns(WithFolder):
         with Client(self.path, 1) as one, Client(self.path, 2) as two:
             mine, yours = Lock(one, "lock"), Lock(two, "lock")
             mine.acquire()
-            yours.break_open()
+            yours.break_()
             self.assertTrue(yours.acquire(timeout=60))
             with self.assertRaises(femem.NotOwner):
                 mine.release()
@@ -292,25 +293,27 @@ class Patterns(WithFolder):
                 self.assertIsNone(lock.owner())
 
     def test_a_put_and_a_get_are_two_sends_each(self):
-        """If there is room, or a value: one takes the turn and reads, and one changes the words and gives the turn back."""
+        """One draws a ticket, and one puts the value, or takes it."""
         self.server()
         with Client(self.path, 7, probe_interval=100.0) as client:
-            queue = BoundedQueue(client, "queue", 4)
-            queue.put(4)  # the first operation finds the queue's arrays
             inner, sent = client._worker._socket, []
 
             class Counting:
+                def __getattr__(self, name):
+                    return getattr(inner, name)
+
                 def send(self, content, *flags):
                     sent.append(inner.send(content, *flags))
                     return sent[-1]
 
             client._worker._socket = Counting()
+            queue = BoundedQueue(client, "queue", 4)
+            queue.put(4)
             for work in (lambda: queue.put(5), queue.get):
                 sent.clear()
                 work()
-                # A settle (13 bytes) and the presence under a new number (34) may be sent by themselves.
-                self.assertEqual(len([size for size in sent if size > 13 + 34]), 2, sent)
-            client._worker._socket = inner
+                # (a settle, of 13 bytes, may be sent by itself)
+                self.assertEqual(len([size for size in sent if size > 13]), 2, sent)
 
     def test_a_queue_without_waiting(self):
         self.server()
@@ -325,12 +328,46 @@ class Patterns(WithFolder):
                 queue.put_nowait(3)
             self.assertEqual([queue.get_nowait(), queue.get(), queue.qsize()], [1, 2, 0])
 
-    def test_a_barrier_in_time(self):
+    def test_a_barrier_whose_wait_timed_out_is_broken_until_it_is_reset(self):
+        self.server()
+        with Client(self.path, 1) as one, Client(self.path, 2) as two, Client(self.path, 3) as three:
+            mine, yours, theirs = (Barrier(client, "barrier", 3) for client in (one, two, three))
+            told = []
+
+            def wait():
+                try:
+                    told.append(yours.wait(timeout=60))
+                except femem.BrokenBarrier as error:
+                    told.append(type(error))
+
+            thread = threading.Thread(target=wait)
+            thread.start()
+            with self.assertRaises(femem.TimedOut):
+                mine.wait(timeout=0.3)
+            thread.join(60)
+            self.assertEqual(told, [femem.BrokenBarrier])
+            with self.assertRaises(femem.BrokenBarrier):
+                theirs.wait(timeout=60)
+            theirs.reset()
+            threads = [threading.Thread(target=lambda each=each: told.append(each.wait(60))) for each in (mine, yours, theirs)]
+            for thread in threads:
+                thread.start()
+            for thread in threads:
+                thread.join(60)
+            self.assertEqual(sorted(told[1:]), [0, 1, 2])
+
+    def test_a_barrier_whose_last_one_was_killed_before_it_opened_opens(self):
         self.server()
         with Client(self.path, 1) as one, Client(self.path, 2) as two:
-            with self.assertRaises(femem.TimedOut):
-                Barrier(one, "barrier", 2).wait(timeout=0.05)
-            self.assertEqual(Barrier(two, "barrier", 2).wait(timeout=60), 1)
+            barrier = Barrier(one, "barrier", 2)
+            done = []
+            thread = threading.Thread(target=lambda: done.append(barrier.wait(60)))
+            thread.start()
+            while not any(w.operation == "readff" for w in two.report().waiters):
+                time.sleep(0.01)
+            self.assertEqual(two.int_fetch_add(two.find("barrier_0"), Barrier.ARRIVED, 1), 1)
+            thread.join(30)
+            self.assertEqual(done, [0])
 
     def test_whose_the_permits_are(self):
         self.server()
@@ -346,43 +383,384 @@ class Patterns(WithFolder):
             self.assertTrue(yours.acquire(timeout=60))
             self.assertEqual(sorted(mine.holders()), [1, 2])
 
-    def test_a_queue_that_killed_clients_leave_goes_on(self):
-        """40 clients are killed at any point of put and get; the next one continues, and values come in order."""
+    def test_an_array_of_the_former_queue_is_not_misread(self):
+        self.server()
+        with Client(self.path, 1) as client:
+            # (two counts, two signals and the values, as it was)
+            old = client.create("queue", 3 + 5)
+            client.writexf(old, 0, 2**32 + 1)
+            for capacity in (4, 5):
+                with self.assertRaises(femem.OtherPattern):
+                    BoundedQueue(client, "queue", capacity)
+            client.writexf(client.create("semaphore", 1 + 11), 0, 0)
+            for permits in (4, 11):
+                with self.assertRaises(femem.OtherPattern):
+                    Semaphore(client, "semaphore", permits)
+
+    def test_a_client_with_further_sessions_waits(self):
+        self.server()
+        with Client(self.path, 1, sessions=3) as client, Client(self.path, 2) as other:
+            queue, semaphore = BoundedQueue(client, "queue", 2), Semaphore(client, "semaphore", 1)
+            for _ in range(3):
+                with self.assertRaises(femem.TimedOut):
+                    queue.get(timeout=0.2)
+                threading.Timer(0.3, BoundedQueue(other, "queue", 2).put, (5,)).start()
+                self.assertEqual(queue.get(timeout=60), 5)
+            semaphore.acquire()
+            self.assertFalse(Semaphore(client, "semaphore", 1).acquire(timeout=0.3))
+
+    def test_a_queue_whose_tickets_were_lost_goes_on(self):
+        """Clients that were killed between ticket and slot: neither a value nor room is missed for long."""
+        self.server()
+        with Client(self.path, 1) as client, Client(self.path, 2) as other:
+            queue, yours = BoundedQueue(client, "queue", 4), BoundedQueue(other, "queue", 4)
+            words = client.find("queue")
+            for head, tail in ((0, 9), (9, 0), (13, 6)):
+                client.int_fetch_add(words, 1, head)
+                client.int_fetch_add(words, 2, tail)
+                for value in range(4):
+                    queue.put(value, timeout=20)
+                with self.assertRaises(femem.NotNow):
+                    yours.put_nowait(9)
+                self.assertEqual(sorted(yours.get(timeout=20) for _ in range(4)), [0, 1, 2, 3])
+                with self.assertRaises(femem.NotNow):
+                    queue.get_nowait()
+                taken = []
+                thread = threading.Thread(target=lambda: taken.extend(yours.get(timeout=20) for _ in range(6)))
+                thread.start()
+                for value in range(6):
+                    queue.put(value, timeout=20)
+                thread.join(30)
+                self.assertEqual(sorted(taken), list(range(6)))
+
+    def test_pollers_find_what_is_there(self):
+        self.server()
+        with Client(self.path, 1) as one, Client(self.path, 2) as two:
+            mine, yours = BoundedQueue(one, "queue", 3), BoundedQueue(two, "queue", 3)
+            for queue in (mine, yours, mine):
+                with self.assertRaises(femem.NotNow):
+                    queue.get_nowait()
+            mine.put_nowait(1)
+            self.assertEqual(yours.get_nowait(), 1)
+            for value in range(3):
+                yours.put_nowait(value)
+            for queue in (mine, yours, mine):
+                with self.assertRaises(femem.NotNow):
+                    queue.put_nowait(9)
+            got = [mine.get_nowait()]
+            yours.put_nowait(3)
+            got += [mine.get_nowait() for _ in range(3)]
+            self.assertEqual(sorted(got), [0, 1, 2, 3])
+
+    def test_a_channel(self):
+        def work(client, k):
+            channel = Channel(client, "channel")
+            if k == 0:
+                return [channel.get() for _ in range(40)]
+            for value in range(10):
+                channel.put(100 * k + value)
+            return []
+
+        got = self.run_all(work)[0]
+        self.assertEqual(sorted(got), sorted(100 * k + value for k in range(1, 5) for value in range(10)))
+        with Client(self.path, 1) as client:
+            channel = Channel(client, "channel")
+            with self.assertRaises(femem.TimedOut):
+                channel.get(timeout=0.05)
+            channel.put(1)
+            with self.assertRaises(femem.TimedOut):
+                channel.put(2, timeout=0.05)
+            self.assertEqual(channel.get(), 1)
+
+    def test_a_thousand_permits_take_few_requests(self):
         server = self.server()
-        chance = random.Random(4)
-        begun = os.path.join(os.path.dirname(self.path), "begun")
-        for turn in range(40):
+        with Client(self.path, 1) as client:
+            semaphore = Semaphore(client, "semaphore", 1000)
+            semaphore.acquire()
+            taken = []
+            take = server.model.take
+            server.model.take = lambda conn, message: (taken.append(message), take(conn, message))
+            for _ in range(10):
+                self.assertTrue(semaphore.acquire())
+                semaphore.release()
+            self.assertLess(len(taken), 200)
+
+    def test_permits_of_an_earlier_process_are_acquired_again(self):
+        self.server()
+        for _ in range(2):
             pid = os.fork()
             if pid == 0:
-                client = Client(self.path, 2)
-                queue = BoundedQueue(client, "queue", 3, repair_after=0.1)
-                with open(begun, "w"):
-                    pass
-                for value in range(10**9):
-                    queue.put(value)
-                    queue.get()
-            deadline = time.monotonic() + 60
-            while not os.path.exists(begun) and time.monotonic() < deadline:
-                time.sleep(0.001)
-            time.sleep(chance.random() * 0.03)
-            os.kill(pid, signal.SIGKILL)
+                client = Client(self.path, 5)
+                Semaphore(client, "semaphore", 2).acquire()
+                os.kill(os.getpid(), signal.SIGKILL)
             os.waitpid(pid, 0)
-            os.unlink(begun)
-            with Client(self.path, 1) as client:
-                queue = BoundedQueue(client, "queue", 3, repair_after=0.1)
-                queue.put(10**6, timeout=60)
-                values = [queue.get(timeout=60) for _ in range(queue.qsize())]
-                self.assertEqual(values[-1], 10**6)
-                self.assertEqual(values, sorted(values))
-                self.assertLessEqual(len(values), 2)
-        self.assertEqual(sorted(server.model.stored.sessions), [1, 2])
+        with Client(self.path, 5) as client:
+            semaphore = Semaphore(client, "semaphore", 2)
+            self.assertEqual(semaphore.holders(), [5, 5])
+            self.assertTrue(semaphore.try_acquire())
+            self.assertTrue(semaphore.adopted)
+            self.assertTrue(semaphore.acquire(timeout=10))
+            self.assertFalse(semaphore.acquire(timeout=0.2))
+            semaphore.release()
+            semaphore.release()
+            self.assertEqual(semaphore.holders(), [])
+
+    def test_an_owner_that_was_killed_and_is_started_again_acquires_its_lock(self):
+        self.server()
+        for how in ({"session": 950}, {"session_file": self.path + ".session"}):
+            pid = os.fork()
+            if pid == 0:
+                Lock(Client(self.path, **how), "lock").acquire()
+                os.kill(os.getpid(), signal.SIGKILL)
+            os.waitpid(pid, 0)
+            with Client(self.path, **how) as back, Client(self.path, 2) as other:
+                mine, yours = Lock(back, "lock"), Lock(other, "lock")
+                self.assertFalse(yours.acquire(timeout=0.3, takeover_after=10.0))
+                self.assertTrue(mine.acquire(timeout=10))
+                self.assertTrue(mine.adopted)
+                self.assertFalse(Lock(back, "lock").try_acquire())  # it is held now, by this process
+                mine.release()
+                self.assertTrue(yours.acquire(timeout=10))
+                yours.release()
+                self.assertTrue(mine.acquire(timeout=10))
+                self.assertFalse(mine.adopted)
+                mine.release()
+
+    def test_of_all_that_take_a_lock_over_one_broke_it(self):
+        self.server()
+        with Client(self.path, 904) as gone:
+            Lock(gone, "lock").acquire()
+        broke, generations = [], []
+
+        def take(k):
+            with Client(self.path, 910 + k) as client:
+                lock = Lock(client, "lock")
+                self.assertTrue(lock.acquire(timeout=30, takeover_after=0.3))
+                broke.append(lock.broke)
+                generations.append(lock.generation)
+                lock.release()
+
+        threads = [threading.Thread(target=take, args=(k,)) for k in range(6)]
+        for thread in threads:
+            thread.start()
+        for thread in threads:
+            thread.join(60)
+        self.assertEqual(sorted(broke, key=str), [904, None, None, None, None, None])
+        self.assertEqual(generations, sorted(generations))
+
+    def test_readers_and_writers(self):
+        inside, seen = [], []
+
+        def work(client, k):
+            lock = ReadWriteLock(client, "book", 3)
+            for round in range(4):
+                if (k + round) % 3:
+                    lock.acquire_read()
+                    inside.append("r")
+                    seen.append("".join(inside))
+                    time.sleep(0.002)
+                    inside.remove("r")
+                    lock.release_read()
+                else:
+                    lock.acquire_write()
+                    inside.append("w")
+                    seen.append("".join(inside))
+                    time.sleep(0.002)
+                    inside.remove("w")
+                    lock.release_write()
+
+        self.run_all(work)
+        self.assertTrue(all("w" not in each or each == "w" for each in seen), seen)
+        self.assertLessEqual(max(map(len, seen)), 3)
+        with Client(self.path, 1) as one, Client(self.path, 2) as two:
+            mine, yours = ReadWriteLock(one, "book", 3), ReadWriteLock(two, "book", 3)
+            self.assertTrue(mine.acquire_read())
+            self.assertFalse(yours.acquire_write(timeout=0.2))
+            self.assertTrue(yours.acquire_read())
+            self.assertEqual(mine.owners(), (None, [1, 2]))
+            yours.release_read()
+            with self.assertRaises(femem.NotOwner):
+                yours.release_read()
+            mine.release_read()
+            self.assertTrue(yours.acquire_write(timeout=30))
+            self.assertFalse(mine.acquire_read(timeout=0.2))
+            yours.release_write()
+
+    def test_a_reader_and_a_writer_that_were_killed(self):
+        self.server()
+        for act in ("acquire_read", "acquire_write"):
+            pid = os.fork()
+            if pid == 0:
+                getattr(ReadWriteLock(Client(self.path, 5), "book", 3), act)()
+                os.kill(os.getpid(), signal.SIGKILL)
+            os.waitpid(pid, 0)
+            with Client(self.path, 6) as other:
+                lock = ReadWriteLock(other, "book", 3)
+                self.assertFalse(lock.acquire_write(timeout=0.2))
+                self.assertTrue(lock.acquire_write(timeout=30, takeover_after=0.3))
+                self.assertEqual(lock.broke, 5)
+                lock.release_write()
+            pid = os.fork()
+            if pid == 0:
+                getattr(ReadWriteLock(Client(self.path, 5), "book", 3), act)()
+                os.kill(os.getpid(), signal.SIGKILL)
+            os.waitpid(pid, 0)
+            with Client(self.path, 5) as back:
+                lock = ReadWriteLock(back, "book", 3)
+                self.assertTrue(lock.acquire_write(timeout=30))
+                lock.release_write()
+
+    def test_leaders_follow_each_other_with_greater_numbers(self):
+        self.server()
+        with Client(self.path, 1) as one, Client(self.path, 2) as two:
+            mine, yours = Election(one, "leader"), Election(two, "leader")
+            first = mine.campaign()
+            self.assertEqual((yours.leader(), yours.campaign(timeout=0.1)), (1, None))
+            mine.resign()
+            second = yours.campaign(timeout=30)
+            self.assertGreater(second, first)
+            with self.assertRaises(femem.NotOwner):
+                mine.resign()
+        with Client(self.path, 3) as three:
+            third = Election(three, "leader")
+            self.assertGreater(third.campaign(timeout=30, takeover_after=0.3), second)
+            self.assertEqual(third.broke, 2)
+
+    def test_the_first_of_several_words(self):
+        self.server()
+        with Client(self.path, 1) as client, Client(self.path, 2) as other:
+            words = client.create("words", 3)
+            asked = [requests.readfe(words, k) for k in range(3)]
+            with self.assertRaises(femem.TimedOut):
+                client.wait_any(asked, timeout=0.1)
+            got = []
+            thread = threading.Thread(target=lambda: got.append(client.wait_any(asked, timeout=60)))
+            thread.start()
+            while len(other.report().waiters) < 3:
+                time.sleep(0.01)
+            other.writeef(words, 1, 42)
+            thread.join(60)
+            self.assertEqual(got, [{1: 42}])
+            self.assertEqual(other.report().waiters, [])
+            for k in range(3):
+                other.writeef(words, k, k)
+            got = client.wait_any(asked)
+            for k in got:
+                self.assertEqual(got[k], k)
+                other.writeef(words, k, k, nowait=True)
+            self.assertEqual(client.wait_any([]), {})
+            with self.assertRaises(femem.BadIndex):
+                client.wait_any([requests.readfe(words, 9)])
+
+    def test_once_in_time(self):
+        self.server()
+        with Client(self.path, 1) as one, Client(self.path, 2) as two:
+            one.create("once", 1)
+            with self.assertRaises(femem.TimedOut):
+                Once(two, "once").run(lambda: 5, timeout=0.1)
+            Once(two, "once").done(7)
+            self.assertEqual(Once(one, "once").run(lambda: 5, timeout=60), 7)
+
+    def test_jobs(self):
+        self.server()
+        with Client(self.path, 1) as one, Client(self.path, 2) as two:
+            mine, yours = WorkQueue(one, "jobs", 8, attempts=2), WorkQueue(two, "jobs", 8, attempts=2)
+            with self.assertRaises(femem.TimedOut):
+                mine.take(timeout=0.05)
+            mine.put(10)
+            mine.put(11)
+            with yours.take(timeout=30) as job:
+                self.assertEqual((job.value, job.attempt), (10, 1))
+                number = job.number
+            with self.assertRaises(femem.NotOwner):
+                job.done()
+            for attempt in (1, 2):
+                with self.assertRaises(KeyError):
+                    with mine.take(timeout=30) as job:
+                        self.assertEqual((job.value, job.attempt), (11, attempt))
+                        raise KeyError
+            self.assertNotEqual(job.number, number)
+            with self.assertRaises(femem.TimedOut):
+                yours.take(timeout=0.5)
+            self.assertEqual(yours.aside(), [(job.number, 11)])
+            yours.drop(job.number)
+            self.assertEqual(mine.aside(), [])
+            with self.assertRaises(ValueError):
+                mine.put(2**64 - 1)
+            mine.put(12)
+            with self.assertRaises(femem.OtherPattern):
+                WorkQueue(one, "jobs", 8, attempts=3).put(1)
+
+    def test_a_work_queue_has_room_again_as_jobs_are_done(self):
+        self.server()
+        with Client(self.path, 1) as client:
+            queue = WorkQueue(client, "jobs", 8)
+            for value in range(8):
+                queue.put(value, timeout=30)
+            with self.assertRaises(femem.TimedOut):
+                queue.put(9, timeout=0.2)
+            got = []
+            for value in range(0, 20, 2):
+                for _ in range(2):  # (a quarter of the room comes back at a time)
+                    with queue.take(timeout=30) as job:
+                        got.append(job.value)
+                queue.put(100 + value, timeout=30)
+                queue.put(101 + value, timeout=30)
+            self.assertEqual(got, [*range(8), *range(100, 112)])
+
+    def test_keys(self):
+        self.server()
+        file = self.path + ".session"
+        for life in range(2):
+            with Client(self.path, session_file=file) as client:
+                queue, counter = BoundedQueue(client, "queue", 3), Counter(client, "counter")
+                queue.put(7, key="seven")
+                self.assertEqual(counter.add(2, key="two"), 0)
+                self.assertTrue(Future(client, "future").set(3, key="three"))
+                lock, semaphore = Lock(client, "lock"), Semaphore(client, "semaphore", 2)
+                self.assertTrue(lock.acquire(key="lock"))
+                self.assertTrue(semaphore.acquire(key="permit"))
+                self.assertEqual((lock.adopted, semaphore.adopted), (life == 1, life == 1))
+                self.assertEqual((queue.qsize(), counter.value(), semaphore.holders()), (1, 2, [client.session]))
+                self.assertEqual(sorted(client.keys()), [b"lock", b"permit", b"seven", b"three", b"two"])
+                with self.assertRaises(ValueError):
+                    queue.put(8, key="seven")
+        with Client(self.path, session_file=file) as client, Client(self.path, 1) as other:
+            lock, semaphore = Lock(client, "lock"), Semaphore(client, "semaphore", 2)
+            lock.release()
+            semaphore.release()
+            for again in (lambda: lock.acquire(key="lock"), lambda: semaphore.acquire(key="permit")):
+                with self.assertRaises(femem.NotOwner):
+                    again()
+            client.forget("lock", "permit", "three")
+            self.assertTrue(lock.acquire(key="lock"))
+            self.assertEqual(sorted(client.keys()), [b"lock", b"seven", b"two"])
+            with self.assertRaises(ValueError):
+                BoundedQueue(other, "queue", 3).put(1, key="one")
+            with self.assertRaises(ValueError):
+                other.keys()
+
+    def test_two_callers_under_one_key(self):
+        self.server()
+        with Client(self.path, session_file=self.path + ".session") as client, Client(self.path, 1) as other:
+            queue = BoundedQueue(client, "queue", 1)
+            queue.put(1)
+            threads = [threading.Thread(target=queue.put, args=(7,), kwargs={"key": "seven"}) for _ in range(4)]
+            for thread in threads:
+                thread.start()
+            time.sleep(0.1)
+            theirs = BoundedQueue(other, "queue", 1)
+            self.assertEqual([theirs.get(timeout=60), theirs.get(timeout=60)], [1, 7])
+            for thread in threads:
+                thread.join(60)
+            self.assertEqual((client.keys(), theirs.qsize()), ([b"seven"], 0))
 
     def test_a_client_of_another_kind(self):
         self.server()
-        for make in (Lock, Counter, Future, Once):
+        for make in (Channel, Counter, Election, Future, Lock, Once):
             for wrong in (AsyncClient(self.path, 5), None, self.path):
                 with self.assertRaises(TypeError):
                     make(wrong, "name")
-        for make in (Semaphore, BoundedQueue, Barrier):
+        for make in (Barrier, BoundedQueue, ReadWriteLock, Semaphore, WorkQueue):
             with self.assertRaises(TypeError):
                 make(AsyncClient(self.path, 5), "name", 3)

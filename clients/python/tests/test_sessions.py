@@ -176,9 +176,10 @@ class Sessions(WithFolder):
             self.assertEqual(client.readxx(total, 0), 40)
             lock.acquire()
             self.assertEqual(lock.owner(), 7)
-            # Its presence is under the owning session.
-            presence = client.find("presence")
-            self.assertIn((presence.id, 7), [(w.array, w.session) for w in client.report().waiters])
+            # Its presence is under the owning session. (it gets a new number now and then, and waits again a moment later)
+            presence, end = client.find("presence"), time.monotonic() + 30
+            while (presence.id, 7) not in [(w.array, w.session) for w in client.report().waiters]:
+                self.assertLess(time.monotonic(), end)
             lock.release()
 
 

@@ -1,0 +1,278 @@
+"""What the patterns are made of. Each operation is a generator of steps (femem/jobs.py) and stands once, for two faces.
+
+A face (femem/patterns.py for threads, femem/aio.py for asyncio) says how the steps are run: `Lock.acquire` is the same text
+for both, and returns its result in one and an awaitable of it in the other.
+"""
+
+from __future__ import annotations
+
+import time
+from functools import partial
+from typing import TYPE_CHECKING, Any, Callable, Generic, List, Optional, Sequence, TypeVar, overload
+
+from . import frames, requests
+from .client import Key, key_bytes, seconds_of
+from .core import Core
+from .errors import NameTaken, NoArray, NotNow, OtherPattern, TimedOut
+from .jobs import Batch, First, Look, Pause, Present, Step, Steps, Wait
+from .reports import Report
+from .requests import Array, Request, number_of_bits
+
+if TYPE_CHECKING:
+    from typing import Awaitable
+
+    from typing_extensions import Concatenate, ParamSpec
+
+    P = ParamSpec("P")
+else:
+    P = TypeVar("P")
+
+T = TypeVar("T")
+
+# Each client that uses a lock or a work queue waits at this array's word, so that reports show that it is there.
+PRESENCE = "presence"
+
+# How long an operation waits before it looks at more than its own word, in seconds: at first, and at most.
+FIRST_LOOK, LAST_LOOK = 0.05, 1.0
+
+
+class Pattern:
+    """A pattern of one client. Its array is found or made by the first operation."""
+
+    # How many words its array has, and whether they are made full.
+    LENGTH = 1
+    IS_FULL = False
+
+    def __init__(self, client: Any, name: str) -> None:
+        self._client = self._checked(client)
+        self._core: Core = client._core
+        self._name = name
+        self._array: Optional[Array] = None
+        self._presence: Optional[Array] = None
+
+    def _checked(self, client: Any) -> Any:
+        """The client, if it is of this face."""
+        raise NotImplementedError
+
+    def _perform(self, done: Any, *args: Any, **more: Any) -> Any:
+        """Runs an operation's steps."""
+        raise NotImplementedError
+
+    def _find(self) -> Steps[Array]:
+        if self._array is None:
+            self._array = yield from shared_array(self._name, self.LENGTH, self.IS_FULL)
+        return self._array
+
+    def _show(self) -> Steps[Array]:
+        """Makes this client wait where reports show it."""
+        if self._presence is None:
+            self._presence = yield from shared_array(PRESENCE, 1, False)
+        yield Present(self._presence)
+        return self._presence
+
+    @property
+    def _session(self) -> int:
+        return self._core.session
+
+
+class Blocking(Pattern):
+    """A pattern whose operations return when they are done."""
+
+
+class Awaiting(Pattern):
+    """A pattern whose operations are awaited."""
+
+
+class operation(Generic[P, T]):
+    """A method whose steps the face runs.
+
+    `undo` names what undoes its result if no caller waits for it any more. An operation that `gives_back` is done even
+    by a task that is to be cancelled. One that is `light` is begun by the caller itself where it can be: interrupted, it
+    may have happened, as a call of the client.
+    """
+
+    def __init__(
+        self, steps: Callable[Concatenate[Any, P], Steps[T]], undo: str = "", gives_back: bool = False, light: bool = False
+    ) -> None:
+        self.steps = steps
+        self.undo = undo
+        self.gives_back = gives_back
+        self.is_light = light
+        self.__doc__ = steps.__doc__
+        self.__wrapped__ = steps
+
+    @overload
+    def __get__(self, pattern: Blocking, kind: Any = None) -> Callable[P, T]: ...
+
+    @overload
+    def __get__(self, pattern: Awaiting, kind: Any = None) -> Callable[P, Awaitable[T]]: ...
+
+    @overload
+    def __get__(self, pattern: None, kind: Any = None) -> operation[P, T]: ...
+
+    def __get__(self, pattern: Any, kind: Any = None) -> Any:
+        return self if pattern is None else partial(pattern._perform, self)
+
+
+def operation_with(
+    undo: str = "", gives_back: bool = False, light: bool = False
+) -> Callable[[Callable[Concatenate[Any, P], Steps[T]]], operation[P, T]]:
+    return lambda steps: operation(steps, undo, gives_back, light)
+
+
+# Steps that many patterns have.
+
+
+def batch(asked: Sequence[Request[Any]], *allowed: type, key: Optional[bytes] = None) -> Steps[List[Any]]:
+    """Sends them together. Raises errors that are not allowed."""
+    outcomes: List[Any] = yield Batch(asked, key)
+    for outcome in outcomes:
+        if isinstance(outcome, BaseException) and not isinstance(outcome, allowed):
+            raise outcome
+    return outcomes
+
+
+def shared_array(name: str, length: int, full: bool) -> Steps[Array]:
+    """The array of that name, made if it is missing. `OtherPattern` if it has another length."""
+    asked = [requests.create(name, length, full), requests.find(name)]
+    while True:
+        made, found = yield from batch(asked, NameTaken, NoArray)
+        array = found if isinstance(made, NameTaken) else made
+        if isinstance(array, NoArray):
+            continue  # it was removed in between
+        if array.length != length:
+            raise OtherPattern(f"{name} has {array.length} words, not {length}: another pattern, or of another size")
+        return array
+
+
+def marked_array(name: str, length: int, mark: bytes, first: Sequence[int] = ()) -> Steps[Array]:
+    """As `shared_array`. Word 0 has the mark of its pattern, and the words from 1 on begin with these values."""
+    array = yield from shared_array(name, length, False)
+    wanted = int.from_bytes(mark, "big")
+    fills = [requests.writeef(array, 1 + k, value, nowait=True) for k, value in enumerate(first)]
+    looks = [requests.writeef(array, 0, wanted, nowait=True), requests.readff(array, 0, nowait=True)]
+    _, found = yield from batch(looks, NotNow)
+    if found != wanted:
+        raise OtherPattern(f"{name} is the array of another pattern")
+    yield from batch(fills, NotNow)
+    return array
+
+
+def is_there(report: Report, presence: Array, session: int) -> bool:
+    """Whether the session's client shows that it is there."""
+    return any(w.array == presence.id and w.session == session for w in report.waiters)
+
+
+def is_full(outcome: object) -> bool:
+    """Whether a look found the word full."""
+    return not isinstance(outcome, BaseException)
+
+
+# Times.
+
+
+def end_of(timeout: Optional[float]) -> Optional[float]:
+    """The time at which the timeout ends."""
+    seconds = seconds_of(timeout)
+    return None if seconds is None else time.monotonic() + seconds
+
+
+def left(end: Optional[float]) -> Optional[float]:
+    return None if end is None else max(0.0, end - time.monotonic())
+
+
+def size_of(size: int, what: str) -> int:
+    found = number_of_bits(size, 16, what)
+    if not found:
+        raise ValueError(f"{what} is at least 1")
+    return found
+
+
+# Operations of several tries under one key.
+
+
+class Tries:
+    """The key of an operation that tries one request after the other until one happens. The file has the last try."""
+
+    def __init__(self, core: Core, key: Optional[Key], code: int, value: int) -> None:
+        self.core = core
+        self.key = None if key is None else key_bytes(key)
+        self._code = code
+        self._value = value
+        self._is_begun = False
+        if key is not None and core.file is None:
+            raise ValueError("a key needs a client with a session file")
+
+    def begin(self) -> Steps[Optional[bytes]]:
+        """The request that has happened under the key, or `None`. Waits while another call tries, or has its last answer due.
+
+        No try of an earlier process waits: one that might is taken back, and the others are answered at once.
+        """
+        if self.key is None:
+            return None
+        file = self.core.file
+        assert file is not None
+        while self.key in self.core.holdings.keys or self.core.is_open(self.key):
+            yield Pause(0.005)
+        self.core.holdings.keys.add(self.key)
+        self._is_begun = True
+        known = file.keyed.get(self.key)
+        if known is None:
+            return None
+        frame, answer = known
+        if frame[4] not in (5, 11) or (frame[13], int.from_bytes(frame[26:34], "big")) != (self._code, self._value):
+            raise ValueError(f"another request was asked under the key {self.key!r}")
+        if answer.code == frames.DONE:
+            return frame
+        file.forget(self.key)
+        return None
+
+    def next(self) -> Optional[bytes]:
+        """The key, for another try. The earlier one did not happen."""
+        if self.key is not None and self.core.file is not None:
+            self.core.file.forget(self.key)
+        return self.key
+
+    def end(self) -> None:
+        if self._is_begun and self.key is not None:
+            self.core.holdings.keys.discard(self.key)
+
+
+def once(core: Core, key: Optional[Key], request: Request[T], timeout: Optional[float] = None) -> Steps[T]:
+    """Asks one request, under a key if there is one."""
+    if key is not None and core.file is None:
+        raise ValueError("a key needs a client with a session file")
+    result: T = yield Wait(request, seconds_of(timeout), None if key is None else key_bytes(key))
+    return result
+
+
+__all__ = [
+    "FIRST_LOOK",
+    "LAST_LOOK",
+    "PRESENCE",
+    "Array",
+    "Awaiting",
+    "Batch",
+    "Blocking",
+    "First",
+    "Key",
+    "Look",
+    "Pattern",
+    "Pause",
+    "Step",
+    "Steps",
+    "TimedOut",
+    "Tries",
+    "Wait",
+    "batch",
+    "end_of",
+    "is_full",
+    "is_there",
+    "left",
+    "marked_array",
+    "once",
+    "operation",
+    "operation_with",
+    "shared_array",
+    "size_of",
+]

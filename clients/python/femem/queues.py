@@ -1,0 +1,89 @@
+"""Queues of values: bounded ones of many places, and channels of one."""
+
+from __future__ import annotations
+
+from typing import Any, Optional
+
+from . import frames, requests
+from .client import seconds_of
+from .jobs import Wait
+from .operations import Array, Key, Pattern, Steps, Tries, end_of, marked_array, once, operation_with, size_of
+from .requests import number_of_bits
+from .ring import SLOTS, Ring
+
+
+class BoundedQueue(Pattern):
+    """At most `capacity` values of 64 bits, each taken once.
+
+    First in, first out, except near a client that was killed, stopped, or gave up waiting. Nobody waits for a client that is stopped or killed. A value whose `get` was answered to a killed client went with it.
+    """
+
+    MARK = b"fe_ring1"
+
+    def __init__(self, client: Any, name: str, capacity: int) -> None:
+        """`capacity` is the same for all who share it."""
+        super().__init__(client, name)
+        self._ring = Ring(name, size_of(capacity, "capacity"))
+
+    def _find(self) -> Steps[Array]:
+        if self._array is None:
+            self._array = yield from marked_array(self._name, SLOTS + self._ring.slots, self.MARK, (0, 0))
+        return self._array
+
+    @operation_with(light=True)
+    def put(self, value: int, timeout: Optional[float] = None, *, key: Optional[Key] = None) -> Steps[None]:
+        """Waits for room, and adds a value. `TimedOut` if there is none in time.
+
+        With a key, which needs a session file, the value is added once, however often this is called again.
+        """
+        yield from self._put(value, end_of(timeout), False, key)
+
+    @operation_with(light=True)
+    def put_nowait(self, value: int, *, key: Optional[Key] = None) -> Steps[None]:
+        """Adds a value. `NotNow` if there is no room."""
+        yield from self._put(value, None, True, key)
+
+    def _put(self, value: int, end: Optional[float], nowait: bool, key: Optional[Key]) -> Steps[None]:
+        number = number_of_bits(value, 64, "value")
+        words = self._array or (yield from self._find())
+        tries = Tries(self._core, key, frames.WRITEEF, number)
+        try:
+            if (yield from tries.begin()) is None:
+                yield from self._ring.put(words, number, end, nowait, tries)
+        finally:
+            tries.end()
+
+    @operation_with(light=True)
+    def get(self, timeout: Optional[float] = None) -> Steps[int]:
+        """Waits for a value, and takes it. `TimedOut` if there is none in time."""
+        return (yield from self._ring.get(self._array or (yield from self._find()), end_of(timeout), False))
+
+    @operation_with(light=True)
+    def get_nowait(self) -> Steps[int]:
+        """Takes a value. `NotNow` if there is none."""
+        return (yield from self._ring.get(self._array or (yield from self._find()), None, True))
+
+    @operation_with(light=True)
+    def qsize(self) -> Steps[int]:
+        """How many values are there now."""
+        return (yield from self._ring.size((yield from self._find())))
+
+
+class Channel(Pattern):
+    """One word that hands values on: a value lies there at most, and each is taken once."""
+
+    @operation_with(light=True)
+    def put(self, value: int, timeout: Optional[float] = None, *, key: Optional[Key] = None) -> Steps[None]:
+        """Waits until the last value is taken, and puts this one. `TimedOut` if it is not taken in time.
+
+        With a key, which needs a session file, the value is put once, however often this is called again.
+        """
+        word = self._array or (yield from self._find())
+        yield from once(self._core, key, requests.writeef(word, 0, value), timeout)
+
+    @operation_with(light=True)
+    def get(self, timeout: Optional[float] = None) -> Steps[int]:
+        """Waits for a value, and takes it. `TimedOut` if there is none in time."""
+        word = self._array or (yield from self._find())
+        value: int = yield Wait(requests.readfe(word, 0), seconds_of(timeout))
+        return value

@@ -1,0 +1,241 @@
+"""Words that hand on values, each put once and taken once: what queues and semaphores are made of.
+
+Two words count tickets, and ticket t means slot t modulo the number of slots. **A ticket says where to look. It obliges
+nobody.** A value goes in by one `writeef` and out by one `readfe`, so each value is put once and taken once whatever stops,
+and a wait can be taken back. A ticket that nobody uses costs time, not values:
+
+- A client keeps a ticket whose time ran out, and looks there first the next time.
+- Where the other side has the ticket and is late or gone, a client waits a moment and then looks at all slots.
+- A putter whose taker has the ticket and has not come fills the signal. Whoever waits for a value also waits for the
+  signal, and then looks at all slots. A client that waits looks at them now and then even without a signal.
+
+So a value that lies there is found by whoever waits for one, and a free slot by whoever waits for room, whatever the tickets
+say: no client goes round without end. Each round of a loop waits, or takes or fills a slot, or was outrun by one that did.
+"""
+
+from __future__ import annotations
+
+import time
+from collections import deque
+from typing import Any, Deque, List, Optional
+
+from . import requests
+from .errors import NoArray, NotNow, TimedOut, Withdrawn
+from .jobs import First, Steps, Wait
+from .operations import FIRST_LOOK, LAST_LOOK, Tries, batch, is_full, left
+from .requests import Array, Request
+
+# How long a client waits for one that has a ticket and may be late, or gone, in seconds.
+SOON = 0.005
+
+# How long a client that does not wait trusts the tickets, in seconds, before it looks at all slots.
+TRUST = 1.0
+
+MARK, HEAD, TAIL, SIGNAL, SLOTS = range(5)
+
+
+class Clock:
+    """When a client that waits looks at all slots, and when it ends."""
+
+    def __init__(self, end: Optional[float]) -> None:
+        self._end = end
+        self._pause = FIRST_LOOK
+        self._look_at = time.monotonic() + FIRST_LOOK
+
+    def pause(self, is_late: bool) -> float:
+        """How long it may wait now: a moment for one that is late, otherwise until the next look."""
+        most = SOON if is_late else max(0.0, self._look_at - time.monotonic())
+        rest = left(self._end)
+        return most if rest is None else min(most, rest)
+
+    def is_over(self) -> bool:
+        return left(self._end) == 0.0
+
+    def is_due(self) -> bool:
+        """Whether a look is due. The next one is later."""
+        now = time.monotonic()
+        if now < self._look_at:
+            return False
+        self._pause = min(2 * self._pause, LAST_LOOK)
+        self._look_at = now + self._pause
+        return True
+
+
+class Ring:
+    """The slots of an array from word 4 on, behind the words MARK, HEAD, TAIL and SIGNAL."""
+
+    def __init__(self, name: str, slots: int) -> None:
+        self.name = name
+        self.slots = slots
+        # Tickets that were not used.
+        self._puts: Deque[int] = deque()
+        self._gets: Deque[int] = deque()
+        self._looked_at = 0.0
+
+    def slot(self, ticket: int) -> int:
+        return SLOTS + ticket % self.slots
+
+    # Putting.
+
+    def put(self, words: Array, value: int, end: Optional[float], nowait: bool, tries: Tries) -> Steps[None]:
+        ticket = yield from self._put_ticket(words)
+        clock = Clock(end)
+        while True:
+            if (yield from self._put_at(words, ticket, value, tries)):
+                return
+            (head,) = yield from batch([requests.readff(words, HEAD, nowait=True)])
+            is_late = head > ticket - self.slots  # the taker of the value there has its ticket
+            if not nowait and (yield from self._wait_at(words, ticket, value, clock.pause(is_late), tries)):
+                return
+            is_over = nowait or clock.is_over()
+            if is_over or clock.is_due():
+                if (yield from self._put_anywhere(words, ticket, value, tries)):
+                    if not is_late:
+                        self._puts.append(ticket)
+                    return
+            if is_over:
+                self._puts.append(ticket)
+                raise NotNow(f"{self.name} is full") if nowait else TimedOut(f"put {self.name}")
+            if is_late:
+                # The value there is taken by the taker that gets this ticket's number.
+                ticket = yield from self._new_ticket(words, TAIL)
+
+    def _put_ticket(self, words: Array) -> Steps[int]:
+        """A ticket that was kept, if its taker has not gone on, or a new one."""
+        while self._puts:
+            ticket = self._puts.popleft()
+            (head,) = yield from batch([requests.readff(words, HEAD, nowait=True)])
+            if head <= ticket:
+                return ticket
+        return (yield from self._new_ticket(words, TAIL))
+
+    def _new_ticket(self, words: Array, counter: int) -> Steps[int]:
+        (ticket,) = yield from batch([requests.int_fetch_add(words, counter, 1, nowait=True)])
+        return int(ticket)
+
+    def _put_at(self, words: Array, ticket: int, value: int, tries: Tries) -> Steps[bool]:
+        """Puts the value into its slot, if that is empty."""
+        slot = self.slot(ticket)
+        asked: List[Request[object]] = [
+            requests.writeef(words, slot, value, nowait=True),
+            requests.readff(words, slot, nowait=True),
+            requests.readff(words, HEAD, nowait=True),
+        ]
+        done, there, head = yield from batch(asked, NotNow, key=tries.next())
+        if not is_full(done):
+            return False
+        if head > ticket and is_full(there):
+            yield from self.tell(words)
+        return True
+
+    def _wait_at(self, words: Array, ticket: int, value: int, seconds: float, tries: Tries) -> Steps[bool]:
+        """Waits until the slot is empty, and puts the value there."""
+        slot = self.slot(ticket)
+        try:
+            yield Wait(requests.writeef(words, slot, value), seconds, tries.next())
+        except TimedOut:
+            return False
+        looks = [requests.readff(words, slot, nowait=True), requests.readff(words, HEAD, nowait=True)]
+        there, head = yield from batch(looks, NotNow)
+        if head > ticket and is_full(there):
+            yield from self.tell(words)
+        return True
+
+    def _put_anywhere(self, words: Array, ticket: int, value: int, tries: Tries) -> Steps[bool]:
+        """Puts the value into an empty slot, one whose next ticket comes late. Whoever waits is told."""
+        for slot, there in (yield from self._look(words, ticket + self.slots // 2)):
+            if not is_full(there):
+                (done,) = yield from batch([requests.writeef(words, slot, value, nowait=True)], NotNow, key=tries.next())
+                if is_full(done):
+                    yield from self.tell(words)
+                    return True
+        return False
+
+    def leave(self, words: Array, ticket: int, value: int) -> Steps[None]:
+        """Puts the value into the ticket's slot, or drops it if that is full. Whoever waits is told in both cases."""
+        slot = self.slot(ticket)
+        asked: List[Request[object]] = [
+            requests.writeef(words, slot, value, nowait=True),
+            requests.readff(words, slot, nowait=True),
+            requests.readff(words, HEAD, nowait=True),
+        ]
+        done, there, head = yield from batch(asked, NotNow, NoArray)
+        if not isinstance(done, NoArray) and (not is_full(done) or head > ticket and is_full(there)):
+            yield from self.tell(words)
+
+    def tell(self, words: Array) -> Steps[None]:
+        """Makes whoever waits for a value look at all slots."""
+        yield from batch([requests.writexf(words, SIGNAL, 0)])
+
+    # Taking.
+
+    def get(self, words: Array, end: Optional[float], nowait: bool) -> Steps[int]:
+        is_kept = bool(self._gets)
+        ticket = self._gets.popleft() if is_kept else (yield from self._new_ticket(words, HEAD))
+        clock = Clock(end)
+        while True:
+            slot = self.slot(ticket)
+            asked = [requests.readfe(words, slot, nowait=True), requests.readff(words, TAIL, nowait=True)]
+            if nowait:
+                asked.append(requests.readff(words, SIGNAL, nowait=True))
+            value, tail, *signal = yield from batch(asked, NotNow)
+            if is_full(value):
+                return int(value)
+            is_late = tail > ticket  # the putter of its value has the ticket
+            if is_late and is_kept:
+                ticket, is_kept = (yield from self._new_ticket(words, HEAD)), False
+                continue
+            if not nowait:
+                value, *signal = yield from self._wait_for(words, slot, is_late, clock.pause(is_late))
+                if is_full(value):
+                    return int(value)
+            is_over = nowait or clock.is_over()
+            is_told = any(map(is_full, signal)) or nowait and (is_late or time.monotonic() - self._looked_at > TRUST)
+            found = (yield from self._get_anywhere(words, ticket)) if is_told or clock.is_over() or clock.is_due() else None
+            if found is not None:
+                if not is_late:
+                    self._gets.append(ticket)
+                return found
+            if is_over:
+                self._gets.append(ticket)
+                raise NotNow(f"{self.name} is empty") if nowait else TimedOut(f"get {self.name}")
+            if is_late:
+                ticket = yield from self._new_ticket(words, HEAD)
+
+    def _wait_for(self, words: Array, slot: int, is_late: bool, seconds: float) -> Steps[List[Any]]:
+        """Waits for the slot's value: for a putter that is late that alone, otherwise for the signal too."""
+        asked = [requests.readfe(words, slot)]
+        if not is_late:
+            asked.append(requests.readff(words, SIGNAL))
+        value, *signal = yield First(asked, seconds)
+        if not is_full(value) and (
+            not isinstance(value, Withdrawn) or not isinstance(value, TimedOut) and not any(map(is_full, signal))
+        ):
+            raise value  # the array is gone, or the caller is interrupted
+        return [value, *signal]
+
+    def _get_anywhere(self, words: Array, ticket: int) -> Steps[Optional[int]]:
+        """Takes a value from any slot, that of the lowest ticket first."""
+        full = [slot for slot, there in (yield from self._look(words, ticket, purges=True)) if is_full(there)]
+        while full:
+            asked: List[Request[object]] = [requests.readfe(words, full.pop(0), nowait=True)]
+            if full:
+                asked.append(requests.writexf(words, SIGNAL, 0))  # for whoever else waits
+            value, *_ = yield from batch(asked, NotNow)
+            if is_full(value):
+                return int(value)
+        return None
+
+    def _look(self, words: Array, ticket: int, purges: bool = False) -> Steps[List[tuple[int, object]]]:
+        """Each slot and what it has, that of the ticket first. Purges the signal before: what is put later fills it again."""
+        slots = [self.slot(ticket + k) for k in range(self.slots)]
+        asked: List[Request[object]] = [requests.purge(words, SIGNAL)] if purges else []
+        asked += [requests.readff(words, slot, nowait=True) for slot in slots]
+        found = yield from batch(asked, NotNow)
+        if purges:
+            self._looked_at = time.monotonic()
+        return list(zip(slots, found[-self.slots :]))
+
+    def size(self, words: Array) -> Steps[int]:
+        found = yield from self._look(words, 0)
+        return sum(is_full(there) for _, there in found)

@@ -1,0 +1,370 @@
+"""Patterns whose clients are killed at any moment, and whose server is too. Each history has an end, whatever happens."""
+
+import fcntl
+import os
+import random
+import signal
+import threading
+import time
+
+import paths  # noqa: F401
+from serving import WithFolder
+
+import femem
+from femem import Client
+from femem.patterns import Barrier, BoundedQueue, Channel, Counter, Election, Future, Lock, ReadWriteLock, Semaphore
+from femem.patterns import WorkQueue
+
+# How long what was begun may take to end, in seconds.
+BOUND = 60
+
+
+class Log:
+    """Lines that a process adds to and its next life reads."""
+
+    def __init__(self, name):
+        self.file = os.open(name, os.O_RDWR | os.O_CREAT | os.O_APPEND, 0o600)
+
+    def add(self, *words):
+        os.write(self.file, (" ".join(map(str, words)) + "\n").encode())
+
+    def lines(self):
+        return [line.split() for line in os.pread(self.file, 1 << 24, 0).decode().splitlines()]
+
+    def numbers(self, kind):
+        return [int(line[1]) for line in self.lines() if line[0] == kind]
+
+
+class Kills(WithFolder):
+    SECONDS = 3.0
+
+    def setUp(self):
+        super().setUp()
+        self.folder = os.path.dirname(self.path)
+        self.model = self.server()
+        self.chance = random.Random(5)
+
+    def log(self, name):
+        return Log(os.path.join(self.folder, name + ".log"))
+
+    def is_enough(self):
+        return os.path.exists(self.path + ".enough")
+
+    def fork(self, work, k):
+        pid = os.fork()
+        if pid:
+            return pid
+        status = 1
+        os.closerange(3, 1024)  # the server's ends of connections among them, or its stop would not be seen
+        try:
+            work(k)
+            status = 0
+        except BaseException as error:
+            self.log("errors").add(type(error).__name__, error)
+        finally:
+            os._exit(status)
+
+    def history(self, work, count, killed=None, server_kills=2):
+        """`count` processes run `work(k)` until it is enough. Those in `killed` are killed and started again."""
+        running = {k: self.fork(work, k) for k in range(count)}
+        killed = list(range(count)) if killed is None else killed
+        kills, begin = 0, time.monotonic()
+        server_at = [begin + self.SECONDS * (k + 1) / (server_kills + 1) for k in range(server_kills)]
+        # (on a busy machine a kill takes long)
+        while time.monotonic() < begin + self.SECONDS or kills < 12 and time.monotonic() < begin + BOUND:
+            time.sleep(0.02 + 0.12 * self.chance.random())
+            k = self.chance.choice(killed)
+            os.kill(running[k], signal.SIGKILL)
+            os.waitpid(running[k], 0)
+            kills += 1
+            running[k] = self.fork(work, k)
+            if server_at and time.monotonic() > server_at[0]:
+                server_at.pop(0)
+                self.model.kill()
+                self.model.start()
+        with open(self.path + ".enough", "w"):
+            pass
+        end = time.monotonic() + BOUND
+        for pid in running.values():
+            while os.waitpid(pid, os.WNOHANG) == (0, 0):
+                if time.monotonic() > end:
+                    self.give_up(running.values())
+                time.sleep(0.01)
+        self.assertEqual(self.log("errors").lines(), [])
+        self.assertGreater(kills, 11)
+        return kills
+
+    def give_up(self, processes):
+        for pid in processes:
+            try:
+                os.kill(pid, signal.SIGKILL)
+            except ProcessLookupError:
+                pass  # it has ended
+        self.fail("a process does not end")
+
+    # Queues.
+
+    def put_under_keys(self, k, make):
+        """A producer with a session file. A value is put once, in however many lives."""
+        log = self.log(f"put{k}")
+        with Client(self.path, session_file=f"{self.path}.{k}", wait_for_server=True) as client:
+            queue, chance = make(client), random.Random()
+            number = len(log.lines())
+            while not self.is_enough() or client.keys():
+                for key in client.keys():
+                    if key != b"%d" % number:
+                        client.forget(key)
+                try:
+                    queue.put(1000 * k + number, timeout=chance.choice((None, 0.0, 0.003, 0.2)), key=number)
+                except femem.TimedOut:
+                    if self.is_enough():
+                        return
+                    continue
+                log.add("p", 1000 * k + number)
+                client.forget(number)
+                number += 1
+
+    def check_puts_under_keys(self, make):
+        got, stop = [], threading.Event()
+
+        def take(session):
+            with Client(self.path, session, wait_for_server=True) as client:
+                queue = make(client)
+                while True:
+                    try:
+                        got.append(queue.get(timeout=0.3))
+                    except femem.TimedOut:
+                        if stop.is_set():
+                            return
+
+        threads = [threading.Thread(target=take, args=(1 + k,)) for k in range(2)]
+        for thread in threads:
+            thread.start()
+        try:
+            self.history(lambda k: self.put_under_keys(k, make), 3)
+        finally:
+            stop.set()
+            for thread in threads:
+                thread.join(BOUND)
+        put = [value for k in range(3) for value in self.log(f"put{k}").numbers("p")]
+        self.assertGreater(len(put), 50)
+        self.assertEqual(sorted(got), sorted(put))
+
+    def test_what_is_put_under_keys_is_got_once(self):
+        self.check_puts_under_keys(lambda client: BoundedQueue(client, "queue", 4))
+
+    def test_what_is_put_into_a_channel_under_keys_is_got_once(self):
+        self.check_puts_under_keys(lambda client: Channel(client, "channel"))
+
+    def test_a_put_that_was_sent_and_not_answered_ends(self):
+        """Each life is killed as its put waits at a full queue: the next one takes it back, and puts it once there is room."""
+        with Client(self.path, 1) as client:
+            queue = BoundedQueue(client, "queue", 2)
+            queue.put(1)
+            queue.put(2)
+            for _ in range(5):
+                pid = self.fork(self.put_seven, 0)
+                end = time.monotonic() + BOUND
+                while not any(w.operation == "writeef" for w in client.report().waiters) and time.monotonic() < end:
+                    time.sleep(0.005)
+                os.kill(pid, signal.SIGKILL)
+                os.waitpid(pid, 0)
+            self.assertEqual([queue.get(timeout=BOUND), queue.get(timeout=BOUND)], [1, 2])
+            for _ in range(2):
+                self.put_seven(0)
+            self.assertEqual((queue.get(timeout=BOUND), queue.qsize()), (7, 0))
+
+    def put_seven(self, k):
+        with Client(self.path, session_file=self.path + ".seven") as client:
+            BoundedQueue(client, "queue", 2).put(7, timeout=BOUND, key="seven")
+
+    def test_no_value_is_got_twice_and_one_at_most_goes_with_a_killed_taker(self):
+        def work(k):
+            log = self.log(f"w{k}")
+            with Client(self.path, 10 + k, wait_for_server=True) as client:
+                queue, number = BoundedQueue(client, "queue", 4), 10 * len(log.lines())
+                while not self.is_enough():
+                    number += 1
+                    try:
+                        if k % 2:
+                            log.add("g", queue.get(timeout=0.1))
+                        else:
+                            queue.put(10**6 * k + number, timeout=0.1)
+                            log.add("p", 10**6 * k + number)
+                    except femem.TimedOut:
+                        pass
+
+        kills = self.history(work, 6)
+        with Client(self.path, 1) as client:
+            queue = BoundedQueue(client, "queue", 4)
+            got = [queue.get(timeout=BOUND) for _ in range(queue.qsize())]
+        got += [value for k in (1, 3, 5) for value in self.log(f"w{k}").numbers("g")]
+        put = [value for k in (0, 2, 4) for value in self.log(f"w{k}").numbers("p")]
+        self.assertGreater(len(put), 50)
+        self.assertEqual(len(got), len(set(got)))
+        self.assertLessEqual(len(set(put) - set(got)), kills)
+
+    # What is held.
+
+    def hold(self, acquire, release, files, how=fcntl.LOCK_EX):
+        """While it is held, one of these files is locked: there are as many as may hold it at a time."""
+        if not acquire():
+            return
+        for name in files:
+            file = os.open(os.path.join(self.folder, name), os.O_RDWR | os.O_CREAT)
+            try:
+                fcntl.flock(file, how | fcntl.LOCK_NB)
+                break
+            except BlockingIOError:
+                os.close(file)
+        else:
+            raise AssertionError("more hold it than may")
+        self.log("held").add("h")
+        time.sleep(0.002)
+        os.close(file)
+        release()
+
+    def check_held(self, make, work):
+        def run(k):
+            with Client(self.path, 20 + k, wait_for_server=True) as client:
+                held = make(client)
+                while not self.is_enough():
+                    work(held, k)
+
+        self.history(run, 4)
+        self.assertGreater(len(self.log("held").lines()), 20)
+
+    def test_a_lock(self):
+        def work(lock, k):
+            self.hold(lambda: lock.acquire(timeout=5, takeover_after=0.5), lock.release, ["one"])
+
+        self.check_held(lambda client: Lock(client, "lock"), work)
+
+    def test_a_semaphore(self):
+        def work(semaphore, k):
+            self.hold(lambda: semaphore.acquire(timeout=5), semaphore.release, ["one", "two"])
+
+        self.check_held(lambda client: Semaphore(client, "semaphore", 2), work)
+        # Every permit can be had again, by the clients whose earlier lives left them.
+        clients = [Client(self.path, 20 + k) for k in range(4)]
+        semaphores = [Semaphore(client, "semaphore", 2) for client in clients]
+        for semaphore in semaphores:
+            while semaphore.try_acquire():
+                pass
+        self.assertEqual(len(semaphores[0].holders()), 2)
+        for client in clients:
+            client.close()
+
+    def test_readers_and_writers(self):
+        def work(lock, k):
+            if k % 2:
+                self.hold(lambda: lock.acquire_read(5, takeover_after=0.5), lock.release_read, ["one"], fcntl.LOCK_SH)
+            else:
+                self.hold(lambda: lock.acquire_write(5, takeover_after=0.5), lock.release_write, ["one"])
+
+        self.check_held(lambda client: ReadWriteLock(client, "book", 8), work)
+
+    def test_the_numbers_of_leaders_grow(self):
+        def work(election, k):
+            def begin():
+                number = election.campaign(timeout=5, takeover_after=0.5)
+                if number is not None:
+                    self.log("numbers").add("n", number)
+                return number is not None
+
+            self.hold(begin, election.resign, ["one"])
+
+        self.check_held(lambda client: Election(client, "leader"), work)
+        numbers = self.log("numbers").numbers("n")
+        self.assertEqual(numbers, sorted(set(numbers)))
+
+    # The others.
+
+    def test_what_is_added_under_keys_counts_once(self):
+        def work(k):
+            log = self.log(f"add{k}")
+            with Client(self.path, session_file=f"{self.path}.{k}", wait_for_server=True) as client:
+                counter, number = Counter(client, "counter"), len(log.lines())
+                while not self.is_enough():
+                    counter.add(key=number)
+                    if not Future(client, f"f{k}").set(k, key="first"):
+                        raise AssertionError("it was set under this key")
+                    log.add("a", number)
+                    client.forget(number)
+                    number += 1
+
+        self.history(work, 3)
+        with Client(self.path, 1) as client:
+            added = sum(len(self.log(f"add{k}").lines()) for k in range(3))
+            # (a life may have been killed between its answer and its line; the next one found that answer)
+            self.assertEqual(Counter(client, "counter").value(), added + self.open_keys())
+            self.assertEqual([Future(client, f"f{k}").get(timeout=BOUND) for k in range(3)], [0, 1, 2])
+
+    def open_keys(self):
+        count = 0
+        for k in range(3):
+            with Client(self.path, session_file=f"{self.path}.{k}") as client:
+                lines = len(self.log(f"add{k}").lines())
+                count += sum(key == b"%d" % lines for key in client.keys())
+        return count
+
+    def test_a_killed_client_has_arrived(self):
+        def arrive(k):
+            with Client(self.path, 30 + k) as client:
+                Barrier(client, "barrier", 3).wait()
+
+        with Client(self.path, 1) as one, Client(self.path, 2) as two:
+            pid = self.fork(arrive, 0)
+            end = time.monotonic() + BOUND
+            while not one.report().waiters and time.monotonic() < end:
+                time.sleep(0.005)
+            os.kill(pid, signal.SIGKILL)
+            os.waitpid(pid, 0)
+            told = []
+            thread = threading.Thread(target=lambda: told.append(Barrier(two, "barrier", 3).wait(BOUND)))
+            thread.start()
+            told.append(Barrier(one, "barrier", 3).wait(BOUND))
+            thread.join(BOUND)
+            self.assertEqual(sorted(told), [1, 2])
+
+    def test_jobs_are_done_once_each(self):
+        def work(k):
+            if k < 2:
+                self.put_under_keys(k, lambda client: WorkQueue(client, "jobs", 32, attempts=16, away_after=0.5))
+                return
+            log = self.log(f"take{k}")
+            with Client(self.path, 40 + k, wait_for_server=True) as client:
+                queue = WorkQueue(client, "jobs", 32, attempts=16, away_after=0.5)
+                while True:
+                    try:
+                        job = queue.take(timeout=1.0)
+                    except femem.TimedOut:
+                        if self.is_enough():
+                            return
+                        continue
+                    log.add("t", job.value)
+                    try:
+                        job.done()
+                    except femem.NotOwner:
+                        continue
+                    log.add("d", job.value)
+
+        kills = self.history(work, 5)
+        put = sorted(value for k in range(2) for value in self.log(f"put{k}").numbers("p"))
+        with Client(self.path, 1) as client:
+            queue = WorkQueue(client, "jobs", 32, attempts=16, away_after=0.5)
+            rest = []
+            try:
+                while True:
+                    with queue.take(timeout=2.0) as job:
+                        rest.append(job.value)
+            except femem.TimedOut:
+                pass
+            self.assertEqual(queue.aside(), [])
+        taken = {value for k in (2, 3, 4) for value in self.log(f"take{k}").numbers("t")}
+        done = [value for k in (2, 3, 4) for value in self.log(f"take{k}").numbers("d")] + rest
+        self.assertGreater(len(put), 20)
+        self.assertEqual(len(done), len(set(done)))
+        self.assertEqual(set(put) - taken - set(rest), set())
+        # (a taker may have been killed between the answer and its line)
+        self.assertLessEqual(len(put) - len(done), kills)
