@@ -35,10 +35,12 @@ static void waits(femem_channel *channel) {
 }
 
 /* Another program's value ends a take's wait, and its take a put's; a restart of the server does neither. */
-static void passes(femem_channel *channel) {
+static void passes(femem *parents, femem_channel *channel) {
   fflush(stdout);
   pid_t child = fork();
   if (child == 0) {
+    femem_channel_close(channel);
+    femem_close(parents);
     femem *client = opened(8, &usual);
     femem_channel *other = channel_opened(client, "calls");
     uint64_t value = 0;
@@ -132,7 +134,7 @@ static void calls(void) {
   femem *client = opened(7, &usual);
   femem_channel *channel = channel_opened(client, "calls");
   waits(channel);
-  passes(channel);
+  passes(client, channel);
   arguments(client, channel);
   forks(client, channel);
   femem_channel_close(channel);
