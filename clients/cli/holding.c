@@ -38,8 +38,8 @@ static void hold(holding *held, int pipe) {
     if (poll(both, 2, connected ? -1 : 200) < 0 && errno != EINTR) return;
     if (both[0].revents) return;
     femem_answer answer;
-    if (!connected) femem_reconnect(client, 1000);
-    else if (both[1].revents && femem_next(client, &answer, 0) == FEMEM_NOTHING_OUT) femem_settle(client);
+    if (!connected && femem_reconnect(client, 1000) == FEMEM_OK) femem_flush(client);
+    if (connected && both[1].revents && femem_next(client, &answer, 0) == FEMEM_NOTHING_OUT) femem_settle(client);
     if (held->cli->shown && femem_out(client) == 0) show_presence(held);
   }
 }

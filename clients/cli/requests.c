@@ -14,11 +14,17 @@ static void wait_for_bytes(command_line *cli, int64_t rest) {
   if (poll(both, 2, time) > 0 && both[1].revents) cli->stopped = true;
 }
 
+/* Whether the server may be back later. */
+static bool is_passing(femem_error error) {
+  return error == FEMEM_UNREACHABLE || error == FEMEM_TIMEOUT || error == FEMEM_DISCONNECTED;
+}
+
 femem_error wait_for(command_line *cli, uint64_t number, int64_t within, femem_answer *answer) {
   int64_t end = moment(within), lost = -1;
   for (;;) {
     femem_error error = femem_wait(cli->client, number, answer, 0);
-    if (error != FEMEM_TIMEOUT) return error ? error : answer->error;
+    bool is_lost = is_passing(error) && femem_descriptor(cli->client) < 0;
+    if (error != FEMEM_TIMEOUT && !is_lost) return error ? error : answer->error;
     if (cli->stopped || (within >= 0 && left(end) == 0)) break;
     if (femem_descriptor(cli->client) >= 0) {
       lost = -1;
@@ -28,8 +34,7 @@ femem_error wait_for(command_line *cli, uint64_t number, int64_t within, femem_a
     if (lost < 0) lost = moment(cli->given.reconnect);
     int64_t rest = left(end);
     error = femem_reconnect(cli->client, rest < 0 || rest > AGAIN ? AGAIN : rest);
-    bool passing = error == FEMEM_UNREACHABLE || error == FEMEM_TIMEOUT || error == FEMEM_DISCONNECTED;
-    if (error && (!passing || left(lost) == 0)) return error;
+    if (error && (!is_passing(error) || left(lost) == 0)) return error;
     if (nap(cli->stop, 0)) cli->stopped = true;
   }
   return femem_descriptor(cli->client) >= 0 ? femem_cancel(cli->client, number, answer) : FEMEM_UNREACHABLE;

@@ -6,7 +6,7 @@ SECONDS_AT_MOST=180
 # hold NAME WORD ..: holds a lock until the file `go` is there. `holder` is then femem-cli's process.
 hold() {
   rm -f in go
-  env --default-signal=INT "$cli" "$@" -- sh -c 'touch in; until [ -e go ]; do sleep 0.02; done' & holder=$!
+  env --default-signal=INT "$cli" "$@" -- sh -c 'touch in; until [ -e go ]; do sleep 0.02; done' 2> held & holder=$!
   until_so [ -e in ]
 }
 let_go() { touch go; wait $holder 2> /dev/null; }
@@ -25,7 +25,7 @@ gives 0 "$FEMEM_SOCKET" lock night -- sh -c 'echo "$FEMEM_SOCKET"'
 first=$(x lock night -- sh -c 'echo $FEMEM_GENERATION')
 second=$(x lock night -- sh -c 'echo $FEMEM_GENERATION')
 is "the fencing number" $((second - first)) 1
-is "the lock's number in it" $((first / (1024 * 1024 * 1024 * 1024))) 1
+is "the lock's number in it" $((first / (1024 * 1024 * 1024 * 1024))) 2
 gives 2 "" lock night true
 gives 2 "" lock night --
 gives 3 "" lock Night -- true
@@ -111,6 +111,7 @@ gives 0 "mine" lock night -n -- echo mine
 hold lock night --session 901
 gives 0 "" break night
 touch go
-wait $holder 2> said
+wait $holder
 is "the status of an owner whose lock was broken" $? 5
+is "what it says" "$(cat held)" "femem-cli: night: the lock was taken over while the command ran"
 done_testing
