@@ -64,7 +64,7 @@ rm -f in events
 is "the status after Ctrl-C" "$(python3 terminal.py "$cli")" 3
 is "what the command got" "$(grep -c asked events)" 1
 is "the order after Ctrl-C" "$(tail -n 1 events)" "ends"
-left_over() { for it in $(grep -ls "FEMEM_SOCKET=$FEMEM_SOCKET" /proc/[0-9]*/environ); do cat "${it%environ}comm"; done; }
+left_over() { for it in $(grep -ls "FEMEM_SOCKET=$FEMEM_SOCKET" /proc/[0-9]*/environ); do cat "${it%environ}comm" 2> /dev/null; done; }
 is "processes that are left" "$(left_over | grep -c femem-cli)" 0
 is "sessions" "$(x sessions | cut -d ' ' -f 1,2)" "session 7"
 done_testing

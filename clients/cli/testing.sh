@@ -56,7 +56,7 @@ gives() {
 says() { is "the text" "$(cat said)" "femem-cli: $1"; }
 
 clean_up() {
-  [ -z "$server" ] || kill -KILL "$server" 2> /dev/null
+  [ -z "$server" ] || { kill -KILL "$server"; wait "$server"; } 2> /dev/null
   cd / && rm -rf "$folder"
 }
 trap clean_up EXIT
