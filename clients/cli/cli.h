@@ -18,6 +18,7 @@ enum { LONGEST_NAME = 32, MOST_WORDS = 64 };
 typedef struct options {
   const char *socket, *store, *program, *file, *key;
   uint64_t session;
+  bool adopted;                /* a temporary session that this process goes on with */
   bool has_session, no_wait, json, ends, owners, svg, help, version;
   int64_t timeout, reconnect, takeover_after, away_after;
   int conflict;                /* the status of `lock` and `queue take` that are late */
@@ -99,6 +100,7 @@ struct holding {
   /* Gives it back. `status` is the command's, or -1 if it is not known. A status. */
   int (*end)(holding *held, int status);
   struct { const char *name; uint64_t value; } told[3];
+  bool goes_on;                        /* another process can go on with it in the same session */
   uint64_t array, presence;            /* of a lock */
   uint64_t broke;                      /* the session that lost the lock, or 0 */
   femem_queue *queue;

@@ -3,7 +3,7 @@
    Two processes share the work. This one starts the command, passes signals on to it, and has its status. The holder,
    its child, has the session; it waits for the end of a pipe whose other end this process, the command and what that
    starts have open. So what is held is given back when all of them have ended, even if this process was killed. */
-#define _POSIX_C_SOURCE 200809L
+#define _XOPEN_SOURCE 700
 #include "cli.h"
 
 #include <errno.h>
@@ -20,7 +20,7 @@
 /* What the holder says at its begin and its end. */
 typedef struct message {
   int status;
-  uint64_t values[3];
+  uint64_t session, values[3];
 } message;
 
 static bool send_all(int to, const void *from, size_t size) {
@@ -61,6 +61,7 @@ static void be_holder(holding *held, int pipe, int line) {
   command_line *cli = held->cli;
   begin_holder(cli, pipe);
   message told = {.status = held->begin(held)};
+  if (told.status == DONE) told.session = femem_session(cli->client);
   for (int i = 0; i < 3; i++) told.values[i] = held->told[i].value;
   send_all(line, &told, sizeof told);
   if (told.status == DONE) {
@@ -107,6 +108,13 @@ static void pass_no_signals(void) {
 
 /* ---- this process ---- */
 
+/* The holder, and what this process shares with it: the pipe, and a line for messages. */
+typedef struct running {
+  holding *held;
+  pid_t holder;                /* 0 if there is none */
+  int pipe[2], line;
+} running;
+
 /* Waits for the holder's message. False if it has ended, or a signal came. */
 static bool hear(int line, message *told) {
   ssize_t size;
@@ -115,75 +123,119 @@ static bool hear(int line, message *told) {
   return size == sizeof *told;
 }
 
-static void run(holding *held, const message *told, char **words) {
-  char value[24];
+static bool start_holder(running *run) {
+  int line[2];
+  if (socketpair(AF_UNIX, SOCK_STREAM, 0, line)) return false;
+  fcntl(line[0], F_SETFD, FD_CLOEXEC);
+  fflush(NULL);
+  pid_t holder = fork();
+  if (holder == 0) {
+    close(run->pipe[1]);
+    close(line[0]);
+    be_holder(run->held, run->pipe[0], line[1]);
+    _exit(0);
+  }
+  close(line[1]);
+  run->line = line[0];
+  run->holder = holder > 0 ? holder : 0;
+  return holder > 0;
+}
+
+/* The holder was killed while the command runs. A lock is still its session's, so another holder goes on with it. */
+static void replace_holder(running *run, uint64_t session) {
+  options *given = &run->held->cli->given;
+  message told = {.status = FAULT};
+  close(run->line);
+  run->line = -1;
+  run->holder = 0;
+  if (!run->held->goes_on) return;
+  given->adopted = given->adopted || (!given->has_session && !given->file);
+  given->has_session = !given->file;
+  given->session = session;
+  given->no_wait = true;
+  last = 0;
+  if (!start_holder(run)) return;
+  while (!hear(run->line, &told) && last) last = 0;
+  if (told.status != DONE) run->holder = 0;
+}
+
+static void set_variables(holding *held, const message *told) {
+  char value[24], *path = realpath(held->cli->given.socket, NULL);
   for (int i = 0; i < 3 && held->told[i].name; i++) {
     snprintf(value, sizeof value, "%" PRIu64, told->values[i]);
     setenv(held->told[i].name, value, 1);
   }
-  setenv("FEMEM_SOCKET", held->cli->given.socket, 1);
+  setenv("FEMEM_SOCKET", path ? path : held->cli->given.socket, 1);
+  free(path);
+}
+
+static void run_command(holding *held, const message *told, char **words) {
+  set_variables(held, told);
   signal(SIGPIPE, SIG_DFL);
   execvp(words[0], words);
   int status = errno == ENOENT ? NOT_FOUND : NOT_RUNNABLE;
   _exit(fail(held->cli, status, "%s: %s", words[0], strerror(errno)));
 }
 
-/* Starts the command. No signal is lost in between. */
-static bool start(holding *held, const message *told, char **words) {
+/* Starts the command, unless a signal has come. No later one is lost. */
+static bool start_command(holding *held, const message *told, char **words) {
   sigset_t all, kept;
   sigfillset(&all);
   sigprocmask(SIG_BLOCK, &all, &kept);
   fflush(NULL);
-  pid_t process = fork();
+  pid_t process = last ? -1 : fork();
   command = process;
   if (process == 0) {
     pass_no_signals();
     sigprocmask(SIG_SETMASK, &kept, NULL);
-    run(held, told, words);
+    run_command(held, told, words);
   }
   sigprocmask(SIG_SETMASK, &kept, NULL);
   return process > 0;
 }
 
-static int wait_for_process(pid_t process) {
+static int wait_for_command(running *run, uint64_t session) {
   int status = 0;
-  while (waitpid(process, &status, 0) < 0)
-    if (errno != EINTR) return FAULT;
+  pid_t ended;
+  do {
+    ended = waitpid(-1, &status, 0);
+    if (ended > 0 && ended == run->holder) replace_holder(run, session);
+  } while (ended < 0 ? errno == EINTR : ended != command);
+  command = 0;
   by_signal = WIFSIGNALED(status);
   return by_signal ? BY_SIGNAL + WTERMSIG(status) : WEXITSTATUS(status);
 }
 
 /* Waits for the command and what it started, and then for the holder. */
-static int finish(holding *held, int pipe, int line, message *told) {
-  pid_t process = command;
-  int status = wait_for_process(process);
-  command = 0;
+static int finish(running *run, message *told) {
+  int status = wait_for_command(run, told->session);
   last = 0;
-  send_all(line, &status, sizeof status);
-  close(pipe);
-  if (!hear(line, told)) {
-    by_signal = last;
-    if (last) return BY_SIGNAL + last; /* the holder stays until all have ended */
-    return status ? status : fail(held->cli, FAULT, "the process that held %s was killed", held->name);
+  if (run->holder) send_all(run->line, &status, sizeof status);
+  close(run->pipe[1]);
+  if (run->holder && hear(run->line, told)) return status ? status : told->status;
+  if (run->holder && last) {
+    by_signal = true;
+    return BY_SIGNAL + last; /* the holder stays until all have ended */
   }
-  return status ? status : told->status;
+  fail(run->held->cli, FAULT, "%s: the process that held it was killed", run->held->name);
+  return status ? status : FAULT;
 }
 
 /* Runs the command, once the holder says so. */
-static int converse(holding *held, pid_t holder, int pipe, int line, char **words) {
+static int converse(running *run, char **words) {
   message told;
-  bool heard = hear(line, &told);
-  int status = heard ? told.status : last ? BY_SIGNAL + last : FAULT;
-  if (heard && status == DONE && start(held, &told, words)) {
-    status = finish(held, pipe, line, &told);
+  bool heard = hear(run->line, &told);
+  int status = heard ? told.status : FAULT;
+  if (heard && status == DONE && start_command(run->held, &told, words)) {
+    status = finish(run, &told);
   } else {
-    close(pipe);
-    by_signal = !heard && last;
-    if (heard && status == DONE) status = fail(held->cli, FAULT, "%s", strerror(errno));
-    if (status == LATE) status = held->cli->given.conflict;
+    close(run->pipe[1]);
+    by_signal = last && (!heard || status == DONE);
+    if (by_signal) return BY_SIGNAL + last;
+    if (heard && status == DONE) status = fail(run->held->cli, FAULT, "%s", strerror(errno));
+    if (status == LATE) status = run->held->cli->given.conflict;
   }
-  close(line);
-  if (!last) waitpid(holder, NULL, 0);
+  if (run->holder && !last) waitpid(run->holder, NULL, 0);
   return status;
 }
 
@@ -198,24 +250,13 @@ static int end_by(int status) {
 }
 
 int run_holding(holding *held, char **words) {
-  int pipe_ends[2], line[2];
+  running run = {.held = held, .line = -1};
   held->cli->stop = -1;
   int status = guard_session(held->cli);
   if (status) return status == LATE ? held->cli->given.conflict : status;
-  if (pipe(pipe_ends) || socketpair(AF_UNIX, SOCK_STREAM, 0, line)) return fail(held->cli, FAULT, "%s", strerror(errno));
-  fcntl(line[0], F_SETFD, FD_CLOEXEC);
-  fcntl(pipe_ends[0], F_SETFD, FD_CLOEXEC);
+  if (pipe(run.pipe)) return fail(held->cli, FAULT, "%s", strerror(errno));
+  fcntl(run.pipe[0], F_SETFD, FD_CLOEXEC);
   pass_signals();
-  fflush(NULL);
-  pid_t holder = fork();
-  if (holder == 0) {
-    close(pipe_ends[1]);
-    close(line[0]);
-    be_holder(held, pipe_ends[0], line[1]);
-    _exit(0);
-  }
-  close(pipe_ends[0]);
-  close(line[1]);
-  if (holder < 0) return fail(held->cli, FAULT, "%s", strerror(errno));
-  return end_by(converse(held, holder, pipe_ends[1], line[0], words));
+  if (!start_holder(&run)) return fail(held->cli, FAULT, "%s", strerror(errno));
+  return end_by(converse(&run, words));
 }

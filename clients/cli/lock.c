@@ -159,7 +159,7 @@ static int release(holding *held, int status) {
 int do_lock(command_line *cli, char **words, int count) {
   if (count < 4 || strcmp(words[2], "--")) return fail(cli, USAGE, "lock NAME -- COMMAND ..");
   if (!is_name(words[1])) return fail_for(cli, FEMEM_BAD_NAME, words[1]);
-  holding held = {.cli = cli, .name = words[1], .begin = acquire, .end = release,
+  holding held = {.cli = cli, .name = words[1], .begin = acquire, .end = release, .goes_on = true,
                   .told = {{.name = "FEMEM_GENERATION"}}};
   return run_holding(&held, words + 3);
 }

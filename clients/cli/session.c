@@ -167,11 +167,10 @@ int open_client(command_line *cli) {
   if (cli->given.file) {
     error = open_file(cli, &settings);
   } else {
-    if (!cli->given.has_session) {
-      sweep(cli);
-      if (!draw_session(&session)) return fail(cli, FAULT, "/dev/urandom: %s", strerror(errno));
-      enter(cli, session);
-    }
+    bool draws = !cli->given.has_session;
+    if (draws) sweep(cli);
+    if (draws && !draw_session(&session)) return fail(cli, FAULT, "/dev/urandom: %s", strerror(errno));
+    if (draws || cli->given.adopted) enter(cli, session);
     error = femem_open(&cli->client, cli->given.socket, session, &settings);
   }
   int why = errno;
@@ -183,7 +182,7 @@ int open_client(command_line *cli) {
 }
 
 void close_client(command_line *cli) {
-  bool temporary = !cli->given.has_session && !cli->given.file, ended = !cli->client;
+  bool temporary = (!cli->given.has_session || cli->given.adopted) && !cli->given.file, ended = !cli->client;
   femem_answer answer;
   if (cli->client && cli->shown && femem_descriptor(cli->client) >= 0) femem_cancel(cli->client, cli->shown, &answer);
   if (cli->client && temporary) ended = femem_bye(cli->client) == FEMEM_OK;

@@ -52,4 +52,34 @@ for step in 3 4 5 6 7 8 9 10 11 12 13 14 15 16 17 18 19 20; do
 done
 gives 0 20 counter steps
 gives 2 "" forget first
+
+# Channels and queues under keys; a key does not go with --nowait.
+keyed() { status=$1 output=$2 key=$3; shift 3; gives "$status" "$output" --session-file state --key "$key" "$@"; }
+keyed 0 "" "put 1" channel pipe put 7
+keyed 0 "" "put 1" channel pipe put 7
+keyed 0 7 "take 1" channel pipe take
+keyed 0 7 "take 1" channel pipe take
+keyed 1 "" "take 2" channel pipe take --timeout 0.2
+keyed 0 "" "put 2" channel pipe put 8
+keyed 0 8 "take 2" channel pipe take
+keyed 0 "" "job 1" queue jobs put 9
+keyed 0 "" "job 1" queue jobs put 9
+gives 0 9 queue jobs take
+gives 1 "" queue jobs take -n
+keyed 2 "" "put 3" channel pipe put 8 -n
+says "--key and --nowait do not go together: --timeout does"
+
+# A session file is one process's at a time.
+"$cli" --session-file state readfe cells 0 2> /dev/null
+x create cells 1
+"$cli" --session-file state readfe cells 0 > got & reader=$!
+until_so sh -c "'$cli' report | grep readfe"
+gives 1 "" --session-file state --timeout 0.2 counter steps
+says "another process uses the session file"
+# What a killed process asked for without a key is taken back by the next one.
+kill -KILL $reader
+wait $reader 2> /dev/null
+gives 0 20 --session-file state counter steps
+gives 0 "" writeef cells 0 3
+gives 0 3 --session-file state readfe cells 0 -n
 done_testing

@@ -9,7 +9,7 @@ hold() {
   env --default-signal=INT "$cli" "$@" -- sh -c 'touch in; until [ -e go ]; do sleep 0.02; done' 2> held & holder=$!
   until_so [ -e in ]
 }
-let_go() { touch go; wait $holder 2> /dev/null; }
+let_go() { touch go; wait $holder; }
 # The process that has the session of the lock for femem-cli's process $1.
 keeper_of() { ps -o pid= --ppid "$1" | while read -r pid; do
   [ "$(cat "/proc/$pid/comm")" != femem-cli ] || echo "$pid"; done; }
@@ -84,6 +84,21 @@ let_go
 wait $waiter
 is "the next one after a restart" "$? $(cat got)" "0 next"
 
+# The process that has the session is killed: another one goes on with the lock, until the command has ended.
+for session in "" "--session 900"; do
+  hold lock night $session
+  keeper=$(keeper_of $holder)
+  owner=$(x owner night)
+  kill -KILL "$keeper"
+  until_so sh -c "! kill -0 $keeper"
+  until_so sh -c "[ '$owner' = \"\$('$cli' owner night)\" ]"
+  gives 1 "" --takeover-after 0.2 --timeout 1.5 lock night -- echo wrong
+  let_go
+  is "the status over a kill of the process that has the session" "$? $(cat held)" "0 "
+  gives 0 "free" owner night
+done
+is "sessions" "$(x sessions | cut -d ' ' -f 1,2)" "session 900"
+
 # An owner that was killed: it is away, the same session takes its own lock again, and others take it over or break it.
 kill_owner() {
   hold "$@"
@@ -108,6 +123,27 @@ is "the time of a takeover, $took seconds" $((took >= 2 && took <= 10)) 1
 kill_owner lock night --session 900
 gives 0 "" break night
 gives 0 "mine" lock night -n -- echo mine
+
+# Two commands that wait for each other's locks, as a graph.
+for each in 1 2; do
+  "$cli" --session 80$each lock lock_$each -- sh -c "touch in_$each; until [ -e in_1 ] && [ -e in_2 ]; do sleep 0.02; done
+    exec '$cli' --session 81$each --timeout 300 lock lock_$((3 - each)) -- true" 2> said_$each &
+  eval "holder_$each=\$!"
+done
+until_so sh -c "[ \$('$cli' report | grep -c writeef) = 2 ]"
+x graph --owners > graph
+id() { x find "$1" | cut -d ' ' -f 2; }
+for each in 1 2; do
+  is "who waits for lock_$each" "$(grep -c "\"s81$((3 - each))\" -> \"w$(id lock_$each)_0\" .label=\"writeef, needs empty" graph)" 1
+  is "who holds lock_$each" "$(grep -c "\"w$(id lock_$each)_0\" -> \"s80$each\" .label=\"is held by" graph)" 1
+done
+is "names of arrays" "$(grep -c 'word 0 of lock_[12]"' graph)" 2
+gives 0 "" break lock_1
+wait $holder_2
+is "the status of who got it" $? 0
+wait $holder_1
+is "the status of whose lock was broken" "$? $(cat said_1)" "5 femem-cli: lock_1: the lock was taken over while the command ran"
+
 hold lock night --session 901
 gives 0 "" break night
 touch go
