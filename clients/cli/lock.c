@@ -1,5 +1,5 @@
-/* Locks, as the Python client has them (docs/patterns.md, "A lock that names its owner"). Word 0 is empty while the lock
-   is free, and otherwise has its owner's session. Word 1 counts acquisitions. */
+/* Locks, as the Python client has them (docs/patterns.md, "A lock that names its owner"). Word 0 is empty while the
+   lock is free, and otherwise has its owner's session. Word 1 counts acquisitions. */
 #define _POSIX_C_SOURCE 200809L
 #include "cli.h"
 

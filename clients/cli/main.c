@@ -4,6 +4,7 @@
 
 #include <ctype.h>
 #include <errno.h>
+#include <inttypes.h>
 #include <signal.h>
 #include <stdlib.h>
 #include <string.h>
@@ -77,9 +78,11 @@ static int take_value(command_line *cli, size_t at, const char *word) {
   option_kind kind = options_known[at].kind;
   if (kind == TEXT) *(const char **)field = word;
   if (kind == TEXT) return *word ? DONE : fail(cli, USAGE, "%s needs a text", name);
-  if (kind == SECONDS) return read_time(word, field) ? DONE : fail(cli, USAGE, "%s: %s is no time in seconds", name, word);
-  if (!read_number(word, options_known[at].most, &number) || (kind == NUMBER && number == 0))
-    return fail(cli, USAGE, "%s: %s is no number up to %llu", name, word, (unsigned long long)options_known[at].most);
+  if (kind == SECONDS && !read_time(word, field)) return fail(cli, USAGE, "%s: %s is no time in seconds", name, word);
+  if (kind == SECONDS) return DONE;
+  uint64_t most = options_known[at].most, least = kind == NUMBER;
+  if (!read_number(word, most, &number) || number < least)
+    return fail(cli, USAGE, "%s: %s is no number from %" PRIu64 " to %" PRIu64, name, word, least, most);
   if (kind == SESSION) *(uint64_t *)field = number;
   if (kind == SESSION) cli->given.has_session = true;
   if (kind == NUMBER) *(uint32_t *)field = (uint32_t)number;
@@ -87,12 +90,16 @@ static int take_value(command_line *cli, size_t at, const char *word) {
   return DONE;
 }
 
+static bool is_option(const char *name, const char *word, size_t length) {
+  return strlen(name) == length && strncmp(name, word, length) == 0;
+}
+
 /* Takes one option, `--name value` or `--name=value`; a status. *used says how many words it is. */
 static int take_option(command_line *cli, char **words, int *used) {
   char *value = strchr(words[0], '=');
   size_t length = value ? (size_t)(value - words[0]) : strlen(words[0]), at = 0, count;
   count = sizeof options_known / sizeof *options_known;
-  while (at < count && (strlen(options_known[at].name) != length || strncmp(options_known[at].name, words[0], length))) at++;
+  while (at < count && !is_option(options_known[at].name, words[0], length)) at++;
   if (at == count) return fail(cli, USAGE, "there is no option %s ('femem-cli --help' lists them)", words[0]);
   *used = 1;
   if (options_known[at].kind == FLAG) {
@@ -108,10 +115,10 @@ static int take_option(command_line *cli, char **words, int *used) {
 static int take_options(command_line *cli, char **words, int *count) {
   int kept = 0, at = 0;
   while (words[at] && strcmp(words[at], "--")) {
-    bool is_option = words[at][0] == '-' && words[at][1] && !isdigit((unsigned char)words[at][1]);
-    int used = 1, status = is_option ? take_option(cli, words + at, &used) : DONE;
+    bool option = words[at][0] == '-' && words[at][1] && !isdigit((unsigned char)words[at][1]);
+    int used = 1, status = option ? take_option(cli, words + at, &used) : DONE;
     if (status) return status;
-    if (!is_option) words[kept++] = words[at];
+    if (!option) words[kept++] = words[at];
     at += used;
   }
   while (words[at]) words[kept++] = words[at++];
@@ -120,7 +127,8 @@ static int take_options(command_line *cli, char **words, int *count) {
   if (cli->given.file && cli->given.has_session)
     return fail(cli, USAGE, "--session-file has a session of its own, so --session is not for it");
   if (cli->given.key && !cli->given.file) return fail(cli, USAGE, "--key needs --session-file");
-  if (cli->given.key && cli->given.no_wait) return fail(cli, USAGE, "--key and --nowait do not go together: --timeout does");
+  if (cli->given.key && cli->given.no_wait)
+    return fail(cli, USAGE, "--key and --nowait do not go together: --timeout does");
   return DONE;
 }
 

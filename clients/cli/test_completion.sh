@@ -45,7 +45,7 @@ COMP_WORDS=(femem-cli -)
 _femem_cli
 is "bash's options" "$(printf '%s\n' "${COMPREPLY[@]}" | sorted)" "$options"
 for option in $options; do
-  is "$option of zsh" "$(grep -c -e "[{',]$option[[},']" "$here/femem-cli.zsh")" 1
+  is "$option of zsh" "$(grep -c -e "[{',]${option}[[},']" "$here/femem-cli.zsh")" 1
   is "$option of the page" "$(tr -d '\\' < "$here/femem-cli.1" | grep -c -m 1 -e "^\.B.*$option\b")" 1
 done
 if command -v zsh > /dev/null; then

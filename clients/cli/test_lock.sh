@@ -78,7 +78,7 @@ kill_server
 sleep 0.3
 start_server
 until_so sh -c "'$cli' report | grep writeef"
-gives 0 "session 900" owner night
+until_so sh -c "[ 'session 900' = \"\$('$cli' owner night)\" ]"
 gives 1 "" --takeover-after 0.4 --timeout 2 lock night -- echo wrong
 let_go
 wait $waiter
@@ -116,10 +116,10 @@ gives 0 "again" --session 900 lock night -- echo again
 gives 0 "free" owner night
 kill_owner lock night --session 900
 begun=$(date +%s)
-gives 0 "" --takeover-after 2 --timeout 20 lock night -- true
+gives 0 "" --takeover-after 2 --timeout 60 lock night -- true
 says "night: taken over from session 900, which was away"
 took=$(($(date +%s) - begun))
-is "the time of a takeover, $took seconds" $((took >= 2 && took <= 10)) 1
+is "the time of a takeover, $took seconds" $((took >= 2 && took <= 20)) 1
 kill_owner lock night --session 900
 gives 0 "" break night
 gives 0 "mine" lock night -n -- echo mine
@@ -128,7 +128,7 @@ gives 0 "mine" lock night -n -- echo mine
 for each in 1 2; do
   "$cli" --session 80$each lock lock_$each -- sh -c "touch in_$each; until [ -e in_1 ] && [ -e in_2 ]; do sleep 0.02; done
     exec '$cli' --session 81$each --timeout 300 lock lock_$((3 - each)) -- true" 2> said_$each &
-  eval "holder_$each=\$!"
+  holders="${holders-} $!"
 done
 until_so sh -c "[ \$('$cli' report | grep -c writeef) = 2 ]"
 x graph --owners > graph
@@ -139,9 +139,10 @@ for each in 1 2; do
 done
 is "names of arrays" "$(grep -c 'word 0 of lock_[12]"' graph)" 2
 gives 0 "" break lock_1
-wait $holder_2
+wait "${holders##* }"
 is "the status of who got it" $? 0
-wait $holder_1
+holders=${holders% *}
+wait "${holders##* }"
 is "the status of whose lock was broken" "$? $(cat said_1)" "5 femem-cli: lock_1: the lock was taken over while the command ran"
 
 hold lock night --session 901

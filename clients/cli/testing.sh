@@ -4,10 +4,10 @@ set -u
 if [ -z "${FEMEM_BOUNDED:-}" ]; then
   FEMEM_BOUNDED=1 exec timeout -k 10 "${SECONDS_AT_MOST:-120}" "$0" "$@"
 fi
-here=$(cd "$(dirname "$0")" && pwd)
+here=$(cd "$(dirname "$0")" && pwd) # shellcheck disable=SC2034
 cli=$(realpath "$1") program=$(realpath "$2")
 folder=$(mktemp -d) && cd "$folder" || exit 1
-server= checks=0 failures=0
+server='' checks=0 failures=0
 export FEMEM_SOCKET="$folder/socket" FEMEM_STORE="$folder/store"
 printf 'socket = "%s"\nstore = "%s"\nformat = true\n' "$FEMEM_SOCKET" "$FEMEM_STORE" > settings.toml
 
