@@ -66,7 +66,8 @@ static const struct { const char *name; option_kind kind; size_t at; uint64_t mo
   OPTION("-E", STATUS, conflict, 255),
   OPTION("--nowait", FLAG, no_wait, 0), OPTION("-n", FLAG, no_wait, 0), OPTION("--json", FLAG, json, 0),
   OPTION("--help", FLAG, help, 0), OPTION("-h", FLAG, help, 0), OPTION("--version", FLAG, version, 0),
-  OPTION("-V", FLAG, version, 0), OPTION("-e", FLAG, ends, 0), OPTION("--owners", FLAG, owners, 0), OPTION("--svg", FLAG, svg, 0),
+  OPTION("-V", FLAG, version, 0), OPTION("-e", FLAG, ends, 0),
+  OPTION("--owners", FLAG, owners, 0), OPTION("--svg", FLAG, svg, 0),
 #undef OPTION
 };
 

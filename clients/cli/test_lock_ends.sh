@@ -48,6 +48,14 @@ is_next killed
 is "who asked the command to end" "$(grep -c asked events)" 0
 gives 0 "free" owner killed
 
+# A kill of the whole process group leaves the lock free.
+rm -f in
+setsid "$cli" lock group -- sh -c 'touch in; exec sleep 300' & holder=$!
+until_so [ -e in ]
+kill -KILL -- -$holder
+wait $holder 2> /dev/null
+gives 0 "" --timeout 60 lock group -- true
+
 # The same session waits for them as well.
 begin --session 7 lock own
 kill -KILL $holder
