@@ -52,7 +52,7 @@ gives 0 "free" owner killed
 rm -f in
 setsid "$cli" lock group -- sh -c 'touch in; exec sleep 300' & holder=$!
 until_so [ -e in ]
-kill -KILL -- -$holder
+kill -KILL -$holder
 wait $holder 2> /dev/null
 gives 0 "" --timeout 60 lock group -- true
 
