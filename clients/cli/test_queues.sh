@@ -90,4 +90,5 @@ says "jobs is no queue of 1000 jobs with 3 attempts: --capacity and --attempts a
 q 2 "" give 1
 gives 3 "" queue Jobs put 1
 gives 0 "" sessions
+is "entries of clients that are gone" "$(ls "$FEMEM_SOCKET.clients")" ""
 done_testing
