@@ -84,10 +84,11 @@ check-hosts: $(PROGRAM) ## a store on two hosts that fail in turn (docs/replicat
 lint-deb: deb ## checks the package with Debian's lintian
 	@lintian --fail-on error,warning $(DIST)/*.deb
 
-client: ## builds the C client, and runs the tests of both clients; needs no toolchain (1 minute)
+client: ## builds the C client and femem-cli, and runs the tests of both clients; needs no toolchain (1 minute)
 	@$(MAKE) -s -C clients/c all test
+	@$(MAKE) -s -C clients/cli
 	@python3 -m unittest discover -s clients/python/tests
-	@echo "clients/c/out/libfemem.a is built; 'pip install ./clients/python' installs the Python client"
+	@echo "clients/c/out/libfemem.a and clients/cli/out/femem-cli are built; 'pip install ./clients/python' installs the Python client"
 
 bench: $(PROVED) ## measures a long schedule
 	@bench/run $(PROVED)

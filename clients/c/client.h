@@ -213,6 +213,11 @@ femem_error fe_wait_for(femem *client, condition holds, uint64_t number, int64_t
 /* Runs the connection until all output is written. */
 femem_error fe_write_all(femem *client, int64_t end);
 
+/* ---- names.c ---- */
+
+/* Finds an array of that name and length, or makes it, with empty words. */
+femem_error fe_shared_array(femem *client, const char *name, uint32_t length, uint64_t *array);
+
 /* ---- requests.c ---- */
 
 /* Whether the request can be encoded. */
@@ -223,6 +228,8 @@ enum { SEND_ENDS = 1, SEND_UNWANTED = 2 };
 /* Gives a request the next number and adds it to the output. `key` may be NULL. */
 femem_error fe_send_request(femem *client, const femem_request *request, const char *key, unsigned how,
                             uint64_t *number);
+/* femem_call_within with a request that is sent in that way. */
+femem_error fe_call(femem *client, const femem_request *request, unsigned how, int64_t within, femem_answer *answer);
 /* How a request with a key has ended. (Its answer is not taken by number.) */
 femem_answer fe_end_of(const femem *client, uint64_t number);
 /* Cancels a request, if it has no answer. */
@@ -236,6 +243,9 @@ void fe_abandon(femem *client, uint64_t number);
 const kept_key *fe_find_key(const femem *client, const char *key);
 /* Whether it is a key. */
 bool fe_is_key(const char *key);
+/* femem_once with its own time in milliseconds. */
+femem_error fe_once(femem *client, const char *key, const femem_request *request, int64_t within,
+                    femem_answer *answer);
 /* femem_batch with requests that are sent in that way. */
 femem_error fe_batch(femem *client, unsigned how, const femem_request *requests, size_t count, femem_answer *answers);
 

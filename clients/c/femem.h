@@ -355,6 +355,35 @@ femem_error femem_queue_aside(femem_queue *queue, femem_job *jobs, size_t most, 
 /* Ends a job that is set aside. FEMEM_NOT_OWNER: it has ended. */
 femem_error femem_queue_drop(femem_queue *queue, uint64_t number);
 
+/* ---- channels ----
+
+   A channel hands values from those who put them to those who take them, one at a time: it is an array of one word, of
+   the channel's name, which a put fills and a take empties. So a put waits until the value before it was taken, and
+   each value is taken once. The Python client's Channel is the same.
+
+   A program that is killed in a put or a take leaves it done or not done, and does not know which; with a session file
+   and a key it does. A call that ends with FEMEM_TIMEOUT, FEMEM_DISCONNECTED or FEMEM_UNREACHABLE has its request still
+   out, under femem_number. */
+
+/* A channel, opened by one client. */
+typedef struct femem_channel femem_channel;
+
+/* Opens the channel of that name, which is made if it is missing. FEMEM_BAD_NAME; FEMEM_BAD_CALL if the array of that
+   name has another length, or with the setting `resume`. Takes memory. If it fails, *channel is NULL. */
+femem_error femem_channel_open(femem_channel **channel, femem *client, const char *name);
+
+/* Frees the channel, before or after its client is closed. Never waits. NULL is allowed. */
+void femem_channel_close(femem_channel *channel);
+
+/* Puts a value. Waits until the one before it was taken, `within` milliseconds at most: FEMEM_WITHDRAWN; then it was
+   not put. FEMEM_NO_ARRAY if the array was removed. With a key, which needs a session file, it is put once, however
+   often the program is restarted and calls this; femem_forget forgets the key. `key` may be NULL. */
+femem_error femem_channel_put(femem_channel *channel, uint64_t value, const char *key, int64_t within);
+
+/* Takes a value. Waits for one, `within` milliseconds at most: FEMEM_WITHDRAWN; then nothing was taken. With a key it
+   takes one value, and gives the same one however often the program is restarted and calls this. */
+femem_error femem_channel_take(femem_channel *channel, uint64_t *value, const char *key, int64_t within);
+
 /* ---- what a client knows about itself ---- */
 
 /* The connection's descriptor, for poll and the like; -1 if not connected. It changes with each connection. */

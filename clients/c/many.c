@@ -26,9 +26,9 @@ static femem_error begin_once(femem *client, const char *key, const femem_reques
 }
 
 /* Waits for a key's answer. Takes the request back when its time is over. */
-static femem_error end_once(femem *client, const char *key, femem_answer *answer) {
+static femem_error end_once(femem *client, const char *key, int64_t within, femem_answer *answer) {
   uint64_t number = answer->number;
-  femem_error error = fe_wait_for(client, fe_is_answered, number, fe_moment(client->settings.wait));
+  femem_error error = fe_wait_for(client, fe_is_answered, number, fe_moment(within));
   if (error == FEMEM_TIMEOUT && (error = fe_ask_back(client, number)) == FEMEM_OK)
     error = fe_wait_for(client, fe_is_answered, number, fe_moment(client->settings.wait));
   if (error) return error;
@@ -37,12 +37,17 @@ static femem_error end_once(femem *client, const char *key, femem_answer *answer
   return FEMEM_OK;
 }
 
-femem_error femem_once(femem *client, const char *key, const femem_request *request, femem_answer *answer) {
+femem_error fe_once(femem *client, const char *key, const femem_request *request, int64_t within,
+                    femem_answer *answer) {
   if (fe_is_copy(client)) return FEMEM_FORKED;
   if (!client->file || !fe_is_key(key) || !fe_is_spelled(request)) return FEMEM_BAD_CALL;
   femem_error error = begin_once(client, key, request, &answer->number);
-  if (error == FEMEM_OK) error = end_once(client, key, answer);
+  if (error == FEMEM_OK) error = end_once(client, key, within, answer);
   return error ? error : answer->error;
+}
+
+femem_error femem_once(femem *client, const char *key, const femem_request *request, femem_answer *answer) {
+  return fe_once(client, key, request, client->settings.wait, answer);
 }
 
 femem_error femem_forget(femem *client, const char *key) {
@@ -89,7 +94,7 @@ static femem_error send_more(femem *client, batch *many) {
 static femem_error take_next(femem *client, batch *many) {
   femem_answer *answer = &many->answers[many->taken];
   uint64_t number = answer->number;
-  if (many->keys) return end_once(client, many->keys[many->taken], answer);
+  if (many->keys) return end_once(client, many->keys[many->taken], client->settings.wait, answer);
   femem_error error = femem_wait(client, number, answer, client->settings.wait);
   if (error != FEMEM_TIMEOUT) return error;
   error = femem_cancel(client, number, answer);

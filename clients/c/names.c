@@ -35,6 +35,16 @@ femem_error femem_find(femem *client, const char *name, uint64_t *array, uint32_
   return error;
 }
 
+femem_error fe_shared_array(femem *client, const char *name, uint32_t length, uint64_t *array) {
+  for (;;) {
+    uint32_t found;
+    femem_error error = femem_find(client, name, array, &found);
+    if (error == FEMEM_OK) return found == length ? FEMEM_OK : FEMEM_BAD_CALL;
+    if (error == FEMEM_NO_ARRAY) error = femem_create(client, name, length, false, array);
+    if (error != FEMEM_NAME_TAKEN) return error;
+  }
+}
+
 static femem_error access_word(femem *client, femem_operation operation, uint64_t array, uint32_t index,
                                uint64_t operand, uint64_t *value) {
   femem_request request = {.operation = operation, .array = array, .index = index, .operand = operand};

@@ -9,17 +9,6 @@ enum { SLOW = 50, SLOWEST = 1000 }; /* milliseconds */
 
 /* ---- opening ---- */
 
-/* Finds an array of that name and length, or makes it, with empty words. */
-static femem_error shared_array(femem *client, const char *name, uint32_t length, uint64_t *array) {
-  for (;;) {
-    uint32_t found;
-    femem_error error = femem_find(client, name, array, &found);
-    if (error == FEMEM_OK) return found == length ? FEMEM_OK : FEMEM_BAD_CALL;
-    if (error == FEMEM_NO_ARRAY) error = femem_create(client, name, length, false, array);
-    if (error != FEMEM_NAME_TAKEN) return error;
-  }
-}
-
 femem_error femem_queue_open(femem_queue **queue, femem *client, const char *name, uint32_t capacity,
                              uint32_t attempts, int64_t away_after) {
   *queue = NULL;
@@ -35,7 +24,7 @@ femem_error femem_queue_open(femem_queue **queue, femem *client, const char *nam
   made->slots = (capacity + PAGES - 1) / PAGES;
   made->attempts = attempts;
   made->away_after = 1000 * (away_after ? away_after : 5000);
-  femem_error error = shared_array(client, name, 2, &made->root);
+  femem_error error = fe_shared_array(client, name, 2, &made->root);
   if (error == FEMEM_OK) error = fq_find_pages(made);
   if (error) femem_queue_close(made);
   else *queue = made;
@@ -202,7 +191,7 @@ static femem_error be_present(femem_queue *queue) {
   femem *client = queue->client;
   const slot *place = queue->present ? fe_find(client, queue->present) : NULL;
   if (place) return FEMEM_OK;
-  femem_error error = shared_array(client, "presence", 1, &queue->presence);
+  femem_error error = fe_shared_array(client, "presence", 1, &queue->presence);
   if (error) return error;
   femem_request show = fq_read(queue->presence, 0, false);
   return fe_send_request(client, &show, NULL, SEND_ENDS | SEND_UNWANTED, &queue->present);

@@ -163,9 +163,9 @@ femem_error femem_cancel(femem *client, uint64_t number, femem_answer *answer) {
   return error ? error : answer->error;
 }
 
-femem_error femem_call_within(femem *client, const femem_request *request, int64_t within, femem_answer *answer) {
+femem_error fe_call(femem *client, const femem_request *request, unsigned how, int64_t within, femem_answer *answer) {
   uint64_t number;
-  femem_error error = femem_send(client, request, &number);
+  femem_error error = fe_send_request(client, request, NULL, how, &number);
   if (error) return error;
   error = femem_wait(client, number, answer, within);
   if (error != FEMEM_TIMEOUT) return error ? error : answer->error;
@@ -173,6 +173,10 @@ femem_error femem_call_within(femem *client, const femem_request *request, int64
   slot *place = fe_find(client, number);
   if (place) place->given_up = true;
   return error;
+}
+
+femem_error femem_call_within(femem *client, const femem_request *request, int64_t within, femem_answer *answer) {
+  return fe_call(client, request, 0, within, answer);
 }
 
 femem_error femem_call(femem *client, const femem_request *request, femem_answer *answer) {

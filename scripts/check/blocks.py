@@ -22,6 +22,7 @@ BLOCKS = {
         ("# clause: Decoder::feed reads", HERE),
     ),
     "ARCHITECTURE.md": (),
+    "docs/cli.md": (("make -C clients/cli", HERE), ("femem-cli counter hits", HERE), ("1\n42", HERE)),
     "docs/commands.md": (
         ("femem serve --settings FILE", "manuals.py compares the synopsis with the program"),
         ("printf 'attach 7", HERE),
@@ -217,6 +218,19 @@ def page_of_c(place):
 
 
 @within(110)
+def page_of_cli(place):
+    """the commands of femem-cli's page build and install it, and print against a server what the page says"""
+    compiler()
+    for folder in ("c", "cli"):
+        ignored = shutil.ignore_patterns("out")
+        shutil.copytree(os.path.join(TOP, "clients", folder), place.path(f"clients/{folder}"), ignore=ignored)
+    shell(place, block("docs/cli.md", "make -C").replace("/usr/local", place.path("usr")), env={"MAKEFLAGS": "-j4"})
+    server = Server(place).start()
+    env = {"PATH": f"{place.path('usr/bin')}:{os.environ['PATH']}", "FEMEM_SOCKET": server.socket}
+    same(shell(place, block("docs/cli.md", "femem-cli counter"), env=env), block("docs/cli.md", "1\n42"))
+
+
+@within(110)
 def page_of_python(place):
     """the commands of the Python client's page install it; its shell does what the page shows, against a server"""
     words = block("clients/python/README.md", "pip install").strip()
@@ -237,4 +251,4 @@ def page_of_python(place):
     same([it.split()[-1:] for it in said[2:]], [["42"]], "what the shell reads")
 
 
-CHECKS = (blocks_known, targets, example_of_commands, page_of_operating, planted_edit, page_of_c, page_of_python)
+CHECKS = (blocks_known, targets, example_of_commands, page_of_operating, planted_edit, page_of_c, page_of_cli, page_of_python)

@@ -1,4 +1,4 @@
-"""Both clients: their own tests, and their check programs against a real server."""
+"""The clients: their own tests, and their check programs against a real server."""
 
 import os
 import re
@@ -82,4 +82,14 @@ def c(place):
     return ran(place, [os.path.join(CLIENTS, "c", "check"), place.program], 590)
 
 
-CHECKS = (tests_in_c, c, tests_in_python, python)
+@within(600)
+def cli(place):
+    """the tests of femem-cli: commands, lists, locks and queues, with kills of their processes and of the server"""
+    compiler()
+    said = output_of(place, ["make", "-s", "-j2", "-C", os.path.join(CLIENTS, "cli"), "test", f"PROGRAM={place.program}"], 590)
+    count = sum(map(int, re.findall(r"^femem-cli, test_[a-z_]+: (\d+) checks, 0 failed$", said, re.MULTILINE)))
+    holds(count >= 700, f"{count} checks are few: {said[-1000:]}")
+    return f"{count} checks"
+
+
+CHECKS = (tests_in_c, c, cli, tests_in_python, python)

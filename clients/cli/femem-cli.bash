@@ -1,0 +1,36 @@
+# Completion of femem-cli for bash. After `--` it is that of the command that is run.
+_femem_cli_names() { femem-cli arrays 2> /dev/null | cut -d ' ' -f 1; }
+
+_femem_cli() {
+  local word=${COMP_WORDS[COMP_CWORD]} before=${COMP_WORDS[COMP_CWORD - 1]} command='' first at
+  local options='--socket --timeout --nowait --reconnect-timeout --session --session-file --key -E --takeover-after
+    --capacity --attempts --away-after --json -e --store --program --owners --svg --help --version'
+  local commands='create find remove arrays readfe readff readxx writeef writeff writexf purge int_fetch_add counter
+    channel queue lock owner break forget sessions report graph'
+  COMPREPLY=()
+  for ((at = 1; at < COMP_CWORD; at++)); do
+    case ${COMP_WORDS[at]} in
+      --) declare -F _command_offset > /dev/null && _command_offset $((at + 1)); return ;;
+      --socket | -s | --session-file | --store | --program | --key | --timeout | -t | --session | -E | --capacity | \
+        --attempts | --*-timeout | --*-after) ((at++)) ;;
+      -*) ;;
+      *) [ -n "$command" ] || { command=${COMP_WORDS[at]}; first=$at; } ;;
+    esac
+  done
+  case $before in
+    --socket | -s | --session-file | --store | --program) mapfile -t COMPREPLY < <(compgen -f -- "$word"); return ;;
+  esac
+  local place=$((COMP_CWORD - ${first:-COMP_CWORD})) choice=$commands
+  [ -z "$command" ] || choice=
+  case $command:$place in
+    report:* | graph:* | arrays:* | sessions:* | forget:* | create:1) ;;
+    ?*:1) choice=$(_femem_cli_names) ;;
+    channel:2) choice='put take' ;;
+    queue:2) choice='put take aside drop' ;;
+    lock:2 | queue:3) choice=-- ;;
+    create:3) choice='full empty' ;;
+  esac
+  [[ $word != -* ]] || choice="$choice $options"
+  mapfile -t COMPREPLY < <(compgen -W "$choice" -- "$word")
+}
+complete -F _femem_cli femem-cli

@@ -1,0 +1,68 @@
+/* Requests that can be given up. */
+#define _POSIX_C_SOURCE 200809L
+#include "cli.h"
+
+#include <poll.h>
+#include <string.h>
+
+enum { AGAIN = 1000 }; /* milliseconds after which a waiting client looks after its connection */
+
+/* Waits until something has come from the server, it is time to give up, or the time is over. */
+static void wait_for_bytes(command_line *cli, int64_t rest) {
+  struct pollfd both[] = {{.fd = femem_descriptor(cli->client), .events = POLLIN}, {.fd = cli->stop, .events = POLLIN}};
+  int time = rest < 0 || rest > AGAIN ? AGAIN : (int)rest;
+  if (poll(both, 2, time) > 0 && both[1].revents) cli->stopped = true;
+}
+
+/* Whether the server may be back later. */
+static bool is_passing(femem_error error) {
+  return error == FEMEM_UNREACHABLE || error == FEMEM_TIMEOUT || error == FEMEM_DISCONNECTED;
+}
+
+femem_error wait_for(command_line *cli, uint64_t number, int64_t within, femem_answer *answer) {
+  int64_t end = moment(within), lost = -1;
+  for (;;) {
+    femem_error error = femem_wait(cli->client, number, answer, 0);
+    bool is_lost = is_passing(error) && femem_descriptor(cli->client) < 0;
+    if (error != FEMEM_TIMEOUT && !is_lost) return error ? error : answer->error;
+    if (cli->stopped || (within >= 0 && left(end) == 0)) break;
+    if (femem_descriptor(cli->client) >= 0) {
+      lost = -1;
+      wait_for_bytes(cli, left(end));
+      continue;
+    }
+    if (lost < 0) lost = moment(cli->given.reconnect);
+    int64_t rest = left(end);
+    error = femem_reconnect(cli->client, rest < 0 || rest > AGAIN ? AGAIN : rest);
+    if (error && (!is_passing(error) || left(lost) == 0)) return error;
+    if (nap(cli->stop, 0)) cli->stopped = true;
+  }
+  return femem_descriptor(cli->client) >= 0 ? femem_cancel(cli->client, number, answer) : FEMEM_UNREACHABLE;
+}
+
+femem_error make_request_within(command_line *cli, const femem_request *request, int64_t within, femem_answer *answer) {
+  uint64_t number;
+  femem_error error = femem_send(cli->client, request, &number);
+  return error ? error : wait_for(cli, number, within, answer);
+}
+
+femem_error make_request(command_line *cli, femem_request request, femem_answer *answer) {
+  if (cli->given.key) return femem_once(cli->client, cli->given.key, &request, answer);
+  request.no_wait = cli->given.no_wait && request.operation >= FEMEM_READFE;
+  return make_request_within(cli, &request, cli->given.timeout, answer);
+}
+
+femem_request on_word(femem_operation operation, uint64_t array, uint32_t index, uint64_t operand, bool no_wait) {
+  return (femem_request){.operation = operation, .array = array, .index = index, .operand = operand,
+                         .no_wait = no_wait};
+}
+
+femem_error shared_array(command_line *cli, const char *name, uint32_t length, bool full, uint64_t *array) {
+  for (;;) {
+    uint32_t found;
+    femem_error error = femem_find(cli->client, name, array, &found);
+    if (error == FEMEM_OK) return found == length ? FEMEM_OK : FEMEM_BAD_CALL;
+    if (error == FEMEM_NO_ARRAY) error = femem_create(cli->client, name, length, full, array);
+    if (error != FEMEM_NAME_TAKEN) return error;
+  }
+}
