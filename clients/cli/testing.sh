@@ -55,7 +55,16 @@ gives() {
 # says TEXT: the last femem-cli did.
 says() { is "the text" "$(cat said)" "femem-cli: $1"; }
 
+# Ends what a test that failed left.
+end_others() {
+  for it in $(grep -ls "FEMEM_SOCKET=$FEMEM_SOCKET" /proc/[0-9]*/environ); do
+    it=${it#/proc/}
+    kill -KILL "${it%/environ}"
+  done
+}
+
 clean_up() {
+  end_others 2> /dev/null
   [ -z "$server" ] || { kill -KILL "$server"; wait "$server"; } 2> /dev/null
   cd / && rm -rf "$folder"
 }
