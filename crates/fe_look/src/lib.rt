@@ -2,9 +2,12 @@
 #![tactic(auto)]
 
 mod fault;
+mod header;
 mod laws;
 mod looking;
+mod parts;
 mod reading;
+mod slot;
 mod state_text;
 
 pub use fault::LookFault;
