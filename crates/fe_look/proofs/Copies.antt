@@ -83,7 +83,7 @@ module _ (xs ys : List ℕ) (slot : ℕ) (f : Format) (same : SameSlot xs ys slo
   damage_same offset (OddGroup k g groups counts numbered fits stand is_open odd at) =
       let s : SameSlot xs ys k = same_at k (slot_is k g counts) in
       OddGroup k g groups (counts_at k g counts) (let e = generation_same xs ys k s in omega (arith, e, numbered)) (subst (λ (n : ℕ). IsImageLength g n) (sym (length_same xs ys k s)) fits) (s.groups.stand g groups stand)
-          (s.groups.opens g groups stand is_open) (λ there. odd (s.groups.fits g groups stand is_open there)) at
+      (s.groups.opens g groups stand is_open) (λ there. odd (s.groups.fits g groups stand is_open there)) at
 
 -- A slot that was copied into zeros.
 module _ (image zeros copy : List ℕ) (slot : ℕ) (header : Header) (whole : length image ≡ 4202496) (room : length zeros ≡ 4202496) (zero : (i : ℕ) → get_or zeros i 0 ≡ 0) (found : Counts image (Some (slot, header)))

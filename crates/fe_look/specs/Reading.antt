@@ -15,6 +15,3 @@ TellsReading image (Whole bytes) = IsCopyOf image bytes.items
 
 abbrev pub IsDeviceOrMemory : OpenFault → Type 0
 IsDeviceOrMemory why = (why ≡ fault.Device) ⊎ (why ≡ fault.Memory)
-
-abbrev pub IsReported : OpenFault → Type 0
-IsReported why = IsDeviceOrMemory why ⊎ (why ≡ fault.Unformatted)

@@ -61,7 +61,7 @@ pub(crate) fn read_counting<D: Disk>(disk: &mut D) -> Result<Option<(usize, Head
 
 // Which slot counts, if the slots have these headers.
 fn chosen(first: &Header, second: &Header) -> Option<(usize, Header)>
-    ensures { IsChosen first.now second.now result }
+    ensures counts { IsChosen first.now second.now result }
 {
     match (first.format(), second.format()) {
         (None, None) => None,

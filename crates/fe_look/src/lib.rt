@@ -12,4 +12,4 @@ mod state_text;
 
 pub use fault::LookFault;
 pub use laws::layout_is;
-pub use looking::{look, look_at};
+pub use looking::{look, look_at, look_copy};

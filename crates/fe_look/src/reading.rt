@@ -9,7 +9,7 @@ ghost use Rattle.fe_store.specs.Opening.{IsReason};
 ghost use Rattle.fe_store.specs.declared.fault.OpenFault.TheVariants as fault;
 ghost use Rattle.fe_look.specs.Calls.{KeepsDisk};
 ghost use Rattle.fe_look.specs.Copy.{IsCopyOf};
-ghost use Rattle.fe_look.specs.Reading.{TellsReading, IsDeviceOrMemory, IsReported};
+ghost use Rattle.fe_look.specs.Reading.{TellsReading, IsDeviceOrMemory};
 
 use crate::header::read_counting;
 use crate::slot::read_slot;
@@ -41,13 +41,14 @@ pub(crate) fn copy_of<D: Disk>(alloc: Global, disk: &mut D) -> Result<MemoryDisk
     ensures honest { IfOk result IsHonest }
     // A reported fault is the store's. A store that stands for a state is refused only if the device fails or memory is short.
     ensures refused { D.honest disk.old → IfErr result (IsReason (D.seen disk.old)) }
-    ensures device { D.honest disk.old → IsErrOf result fault.Device → Rises (D.failures disk.old) (D.failures disk.new) }
+    ensures device { D.honest disk.old
+        → IsErrOf result fault.Device → Rises (D.failures disk.old) (D.failures disk.new) }
     ensures failed { Rises (D.failures disk.old) (D.failures disk.new) → IsErrOf result fault.Device }
     // A crash leaves nothing that it couldn't leave before, and reads give the same bytes.
     ensures reads { D.honest disk.old → OnlyReads D.seen D.may_leave D.moment D.left_since disk.old disk.new }
 
     // On any disk: it is not written.
-    ensures unwritten { (D.calls disk.new).writes ≡ (D.calls disk.old).writes }
+    ensures kept { KeepsDisk D.size D.calls D.honest disk.old disk.new }
     ensures sized { (found : ℕ) → IsErrOf result (fault.Size found) → ⊥ }
 {
     disk.sync()?;
@@ -64,11 +65,12 @@ fn read_bytes<D: Disk>(alloc: Global, disk: &mut D) -> Result<Vec<u8>, OpenFault
     requires device { D.size disk.old ≡ device_bytes }
     ensures copy { D.honest disk.old → IfOk result (λ bytes. IsCopyOf (D.seen disk.old) bytes.items) }
     ensures refused { D.honest disk.old → IfErr result (IsReason (D.seen disk.old)) }
-    ensures fault { D.honest disk.old → IsErrOf result fault.Device → Rises (D.failures disk.old) (D.failures disk.new) }
+    ensures fault { D.honest disk.old
+        → IsErrOf result fault.Device → Rises (D.failures disk.old) (D.failures disk.new) }
     ensures still { (IsErrOf result fault.Device → ⊥) → D.failures disk.new ≡ D.failures disk.old }
-    ensures faults { IfErr result IsReported }
+    ensures sized { (found : ℕ) → IsErrOf result (fault.Size found) → ⊥ }
     ensures reads { D.honest disk.old → OnlyReads D.seen D.may_leave D.moment D.left_since disk.old disk.new }
-    ensures device { KeepsDisk D.size D.calls D.honest disk.old disk.new }
+    ensures kept { KeepsDisk D.size D.calls D.honest disk.old disk.new }
 {
     let mut is_formatted = false;
     for _k in 0..TRIES {
@@ -93,7 +95,7 @@ fn read_once<D: Disk>(alloc: Global, disk: &mut D) -> Result<Reading, OpenFault>
     ensures fault { IsErrOf result fault.Device → Rises (D.failures disk.old) (D.failures disk.new) }
     ensures still { (IsErrOf result fault.Device → ⊥) → D.failures disk.new ≡ D.failures disk.old }
     ensures reads { D.honest disk.old → OnlyReads D.seen D.may_leave D.moment D.left_since disk.old disk.new }
-    ensures device { KeepsDisk D.size D.calls D.honest disk.old disk.new }
+    ensures kept { KeepsDisk D.size D.calls D.honest disk.old disk.new }
 {
     let Some((slot, header)) = read_counting(disk)? else {
         return Ok(Reading::Unformatted);

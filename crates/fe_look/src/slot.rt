@@ -27,8 +27,10 @@ pub(crate) fn read_slot<D: Disk>(
     requires is_slot { slot < 2 }
     requires device { D.size disk.old ≡ device_bytes }
     requires room { length bytes.old ≡ device_bytes }
-    ensures copied { D.honest disk.old → OnOk result (IsSlotCopy (D.seen disk.old) slot header.now.fields bytes.old bytes.new) }
-    ensures whole { D.honest disk.old → IsHeaderOf (D.seen disk.old) slot header.now → IfOk result (λ same. IsTrue same) }
+    ensures copied { D.honest disk.old
+        → OnOk result (IsSlotCopy (D.seen disk.old) slot header.now.fields bytes.old bytes.new) }
+    ensures whole { D.honest disk.old → IsHeaderOf (D.seen disk.old) slot header.now
+        → IfOk result (λ same. IsTrue same) }
     ensures same { length bytes.new ≡ length bytes.old }
     ensures reads { D.honest disk.old → OnlyReads D.seen D.may_leave D.moment D.left_since disk.old disk.new }
     ensures device { OnlyAsks D.size D.failures D.calls D.honest result disk.old disk.new }

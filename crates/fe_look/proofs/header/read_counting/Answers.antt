@@ -11,4 +11,4 @@ returns-clause-counts g c = λ honest.
     let first = c.in_ok-first.ensures.header honest in
     let there = c.in_ok-second.ensures.header (c.in_ok-first.ensures.device.honesty.1 honest) in
     let second = subst (λ (l : List ℕ). IsHeaderOf l 1 c.in_ok-second.second) (c.in_ok-first.ensures.reads honest).same there in
-    chosen_counts seen c.in_ok-first.first c.in_ok-second.second (whole ∙ c.requires.device) first second c.chosen.result c.chosen.ensures
+    chosen_counts seen c.in_ok-first.first c.in_ok-second.second (whole ∙ c.requires.device) first second c.chosen.result c.chosen.ensures.counts
