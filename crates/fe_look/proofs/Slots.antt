@@ -1,5 +1,5 @@
 -- The bytes of a slot, put where they are in a store.
-use Rattle.std.proofs.Common.{◌≡◌, ◌≢◌, ◌⊎◌, ℕ, ◌+◌, ◌*◌, ◌<◌, ◌≤◌, List, ◌++◌, length, take, drop, set, get_or, Option, Some, None, inl, inr, sym, ◌∙◌, ap, subst, refl, arith}
+use Rattle.std.proofs.Common.{◌≡◌, ◌≢◌, ◌⊎◌, ℕ, ◌+◌, ◌-◌, ◌*◌, ◌<◌, ◌≤◌, List, ◌++◌, length, take, drop, set, get_or, Option, Some, None, inl, inr, sym, ◌∙◌, ap, subst, refl, arith}
 use Rattle.std.proofs.lemmas.List.{take_all, take-append-le, length-set, get_or-set_same, get_or-set_other}
 use Rattle.fe_disk.specs.Disk.{IsTorn, bytes_at, after_write}
 use Rattle.fe_disk.proofs.Images.{length-bytes_at, length-after_write, IsTorn-after_write, bytes_at-after_write, bytes_at_elsewhere, torn_wider, torn_again}
@@ -79,6 +79,18 @@ module _ (seen start one two : List ℕ) (slot : ℕ) (is_slot : slot < 2) (whol
         );
         elsewhere = torn_again (image_of slot) 2097152 start two three torn_two (torn_wider (image_of slot) 2097152 (area_of slot + end) 1 two three (omega arith) (omega arith) torn);
       }
+
+-- The same, where the code reads: with offsets of its own names, and the disk as it was at each read.
+pub parts_read : (seen seen' start one two : List ℕ) (slot image area : ℕ) → slot < 2 → length seen ≡ 4202496 → length start ≡ 4202496 → seen' ≡ seen → image ≡ image_of slot → area ≡ area_of slot → one ≡ after_write start image (bytes_at seen image (area - image))
+    → two ≡ after_write one area (bytes_at seen' area 1048576) → HasParts seen slot start two × ((end : ℕ) → end < 1048576 → EndsAt seen area end → HasParts seen slot start (set two (area + end) 0))
+parts_read seen seen' start one two slot image area is_slot whole room same at_image at_area first second =
+    let there = put_as seen seen start one image (image_of slot) (area - image) 1048576 refl at_image (omega arith) first in
+    let behind = put_as seen' seen one two area (area_of slot) 1048576 1048576 same at_area refl second in (
+      parts_whole seen start one two slot is_slot whole room there behind,
+      λ end within ends.
+          subst (λ (k : ℕ). HasParts seen slot start (set two (k + end) 0)) (sym at_area)
+          (parts_closed seen start one two slot is_slot whole room there behind end within (subst (λ (k : ℕ). EndsAt seen k end) at_area ends)),
+    )
 
 -- the header after them
 module _ (seen start parts copy fields : List ℕ) (slot : ℕ) (has : HasParts seen slot start parts) (torn : IsTorn (header_of slot) 4096 parts copy) where

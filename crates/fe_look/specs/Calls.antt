@@ -3,7 +3,7 @@ use Rattle.std.specs.Prelude.{◌≡◌, ◌↔◌, ℕ, Result, IsErr, OnOk}
 use Rattle.fe_disk.specs.Disk.{Rises}
 use Rattle.fe_disk.specs.declared.calls.Calls.{Calls}
 
--- nothing was written to the disk; it has its size, and is honest exactly if it was
+-- no write of the disk was counted; it has its size, and is honest exactly if it was
 pub record KeepsDisk {D : Type 0} (size : D → ℕ) (calls : D → Calls) (honest : D → Type 0) (old new : D) : Type 0 where
   pub unwritten : (calls new).writes ≡ (calls old).writes
   pub honesty : honest new ↔ honest old

@@ -95,7 +95,7 @@ pub fn look_copy<D: Disk, W: Write>(
     // Over a disk that nobody else writes: what is written is the text of the state that the disk stands for.
     ensures shows { D.honest disk.old
         → OnOk result (Shows (D.seen disk.old) (W.contents writer.old) (W.contents writer.new)) }
-    // A reported fault is true of the store, and a valid store is refused only if the device fails or memory is short.
+    // A reported fault is true of the store, and a valid store is refused only with `Device` or `Memory`.
     ensures refused { D.honest disk.old → (why : OpenFault) → IsErrOf result (fault.Store why)
         → IsReason (D.seen disk.old) why }
     // Memory is short for the text, or the writer fails, only once the store is read.
@@ -104,7 +104,7 @@ pub fn look_copy<D: Disk, W: Write>(
     // A crash leaves nothing that it couldn't leave before, and reads give the same bytes.
     ensures reads { D.honest disk.old → OnlyReads D.seen D.may_leave D.moment D.left_since disk.old disk.new }
 
-    // On any disk: it is not written, and each of its faults is reported.
+    // On any disk: no write is counted, and each fault of the disk is reported.
     ensures kept { KeepsDisk D.size D.calls D.honest disk.old disk.new }
     ensures failed { Rises (D.failures disk.old) (D.failures disk.new) → IsErrOf result (fault.Store store.Device) }
     // What is written is the text of a state, or after a fault the start of one. Without a store, nothing is.

@@ -39,7 +39,7 @@ pub(crate) fn copy_of<D: Disk>(alloc: Global, disk: &mut D) -> Result<MemoryDisk
     // The copy holds what the disk holds, and what is wrong with the disk is wrong with it.
     ensures copy { D.honest disk.old → IfOk result (λ copy. IsCopyOf (D.seen disk.old) copy.image) }
     ensures honest { IfOk result IsHonest }
-    // A reported fault is the store's. A store that stands for a state is refused only if the device fails or memory is short.
+    // A reported fault is true of the store, and a store that stands for a state is refused only with `Device` or `Memory`.
     ensures refused { D.honest disk.old → IfErr result (IsReason (D.seen disk.old)) }
     ensures device { D.honest disk.old
         → IsErrOf result fault.Device → Rises (D.failures disk.old) (D.failures disk.new) }
@@ -47,7 +47,7 @@ pub(crate) fn copy_of<D: Disk>(alloc: Global, disk: &mut D) -> Result<MemoryDisk
     // A crash leaves nothing that it couldn't leave before, and reads give the same bytes.
     ensures reads { D.honest disk.old → OnlyReads D.seen D.may_leave D.moment D.left_since disk.old disk.new }
 
-    // On any disk: it is not written.
+    // On any disk: no write is counted.
     ensures kept { KeepsDisk D.size D.calls D.honest disk.old disk.new }
     ensures sized { (found : ℕ) → IsErrOf result (fault.Size found) → ⊥ }
 {
