@@ -1,14 +1,13 @@
 -- A store that has the slot that counts alone says the same as the store.
-use Rattle.std.proofs.Common.{◌≡◌, ◌≢◌, ◌⊎◌, ◌↔◌, ℕ, ◌+◌, ◌-◌, ◌*◌, ◌<◌, ◌≤◌, List, [], ◌∷◌, length, get_or, Option, Some, None, inl, inr, ⊎_elim, sym, ◌∙◌, ap, subst, refl, arith}
+use Rattle.std.proofs.Common.{◌≡◌, ℕ, ◌+◌, ◌<◌, ◌≤◌, List, [], ◌∷◌, length, get_or, Option, Some, None, inl, inr, ⊎_elim, sym, ◌∙◌, subst, refl, arith}
 use Rattle.std.proofs.lemmas.Bool.{cases_lt}
-use Rattle.fe_disk.specs.Disk.{bytes_at}
 use Rattle.fe_format.specs.Layout.{IsImageLength}
 use Rattle.fe_format.specs.declared.format.Format.{Format}
-use Rattle.fe_journal.specs.Layout.{header_of, gate_of, image_of, area_of, other_than, number_at, IsGateOpen, IsGateShut}
-use Rattle.fe_journal.specs.Groups.{HoldsGroups, end_of_groups, GroupFits}
+use Rattle.fe_journal.specs.Layout.{header_of, gate_of, image_of, area_of, other_than, IsGateOpen, IsGateShut}
+use Rattle.fe_journal.specs.Groups.{HoldsGroups, end_of_groups}
 use Rattle.fe_journal.specs.Contents.{Contents, Holds, IsValidAs, SlotCounts, generation_at, image_length_at}
 use Rattle.fe_journal.specs.Damage.{IsUnformatted, IsDamagedAt, NoGeneration, OddImage, OddGroup}
-use Rattle.fe_journal.proofs.Bytes.{SameBytes, same_back, same_through, same_part, same_byte, same_bytes_at, same_number_at, known_same}
+use Rattle.fe_journal.proofs.Bytes.{SameBytes, same_back, same_part, same_bytes_at, same_number_at}
 use Rattle.fe_journal.proofs.Frames.{image_short}
 use Rattle.fe_journal.proofs.Founds.{counts_one}
 use Rattle.fe_look.specs.Copy.{IsCopyOf}

@@ -1,8 +1,8 @@
 -- What the headers of a store's slots say of it.
-use Rattle.std.proofs.Common.{◌≡◌, ◌⊎◌, ℕ, ◌+◌, ◌*◌, ◌<◌, ◌≤◌, List, length, Option, Some, None, inl, inr, ⊎_elim, sym, ◌∙◌, subst, refl, arith}
+use Rattle.std.proofs.Common.{◌≡◌, ℕ, ◌+◌, ◌<◌, ◌≤◌, List, length, Option, Some, None, inl, inr, ⊎_elim, sym, ◌∙◌, subst, refl, arith}
 use Rattle.std.proofs.lemmas.Bool.{cases_lt}
 use Rattle.fe_format.specs.declared.format.Format.{Format}
-use Rattle.fe_journal.specs.Layout.{device_bytes, header_of, number_at}
+use Rattle.fe_journal.specs.Layout.{header_of, number_at}
 use Rattle.fe_journal.specs.Contents.{IsValidAs, SlotCounts, generation_at}
 use Rattle.fe_journal.proofs.Bytes.{SameBytes, same_part, same_number_at, known_same}
 use Rattle.fe_look.specs.Header.{IsValid, IsHeaderOf, IsChosen, Counts, generation_in}

@@ -1,5 +1,5 @@
 -- What a look writes where no store is opened, and what a look at a copy says of the store.
-use Rattle.std.proofs.Common.{◌≡◌, ℕ, List, Option, ◌∙◌, sym}
+use Rattle.std.proofs.Common.{ℕ, List, Option, ◌∙◌, sym}
 use Rattle.std.proofs.KnownBytes.{Appends-nil}
 use Rattle.fe_state.specs.State.{ServerState, first_state}
 use Rattle.fe_keeper.specs.Damage.{IsDamagedAt, InSlot, InContents}

@@ -1,9 +1,9 @@
 -- The bytes of a slot, put where they are in a store.
-use Rattle.std.proofs.Common.{◌≡◌, ◌≢◌, ◌⊎◌, ℕ, ◌+◌, ◌-◌, ◌*◌, ◌<◌, ◌≤◌, List, ◌++◌, length, take, drop, set, get_or, Option, Some, None, inl, inr, sym, ◌∙◌, ap, subst, refl, arith}
+use Rattle.std.proofs.Common.{◌≡◌, ℕ, ◌+◌, ◌-◌, ◌<◌, ◌≤◌, List, ◌++◌, length, take, drop, set, get_or, Option, Some, None, inl, inr, sym, ◌∙◌, subst, refl, arith}
 use Rattle.std.proofs.lemmas.List.{take_all, take-append-le, length-set, get_or-set_same, get_or-set_other}
 use Rattle.fe_disk.specs.Disk.{IsTorn, bytes_at, after_write}
-use Rattle.fe_disk.proofs.Images.{length-bytes_at, length-after_write, IsTorn-after_write, bytes_at-after_write, bytes_at_elsewhere, torn_wider, torn_again}
-use Rattle.fe_journal.specs.Layout.{header_of, gate_of, image_of, area_of, IsGateOpen, IsGateShut}
+use Rattle.fe_disk.proofs.Images.{length-bytes_at, IsTorn-after_write, bytes_at-after_write, bytes_at_elsewhere, torn_wider, torn_again}
+use Rattle.fe_journal.specs.Layout.{header_of, gate_of, image_of, area_of, IsGateOpen}
 use Rattle.fe_journal.proofs.Bytes.{SameBytes, same_back, same_through, same_part, same_bytes_at, part_same, known_same}
 use Rattle.fe_look.specs.Slot.{EndsAt, IsAreaCopied, HasParts, IsSlotCopy}
 

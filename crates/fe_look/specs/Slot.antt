@@ -1,7 +1,7 @@
 -- How one slot of a store is copied.
-use Rattle.std.specs.Prelude.{◌≡◌, ◌+◌, ◌<◌, ℕ, List, [], ◌∷◌, length, Option, Some, None, slice_index}
+use Rattle.std.specs.Prelude.{◌≡◌, ◌+◌, ◌<◌, ℕ, List, [], ◌∷◌, Option, Some, None}
 use Rattle.fe_disk.specs.Disk.{IsTorn, bytes_at}
-use Rattle.fe_journal.specs.Layout.{area_bytes, device_bytes, header_of, gate_of, image_of, area_of, other_than, number_at, IsGateOpen, IsGateShut}
+use Rattle.fe_journal.specs.Layout.{area_bytes, header_of, gate_of, image_of, area_of, number_at, IsGateOpen, IsGateShut}
 
 -- the length after a gate, if the gate is open
 abbrev pub IsLengthAfter : List ℕ → ℕ → Option ℕ → Type 0

@@ -1,6 +1,6 @@
 //! The headers of a store's slots.
 
-ghost use Rattle.std.specs.Prelude.{◌≡◌, ◌<◌, IfOk, IfSome, length};
+ghost use Rattle.std.specs.Prelude.{◌≡◌, ◌<◌, IfOk, IfSome};
 ghost use Rattle.fe_journal.specs.Layout.{device_bytes, number_at};
 ghost use Rattle.fe_journal.specs.Steps.{OnlyReads};
 ghost use Rattle.fe_look.specs.Calls.{OnlyAsks};

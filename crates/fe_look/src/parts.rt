@@ -1,6 +1,6 @@
 //! Reads parts of a disk.
 
-ghost use Rattle.std.specs.Prelude.{◌≡◌, ◌+◌, ◌≤◌, ◌<◌, ◌^◌, length, slice_index, IfOk, OnOk};
+ghost use Rattle.std.specs.Prelude.{◌≡◌, ◌+◌, ◌≤◌, length, slice_index, IfOk, OnOk};
 ghost use Rattle.fe_disk.specs.Disk.{bytes_at, after_write};
 ghost use Rattle.fe_journal.specs.Layout.{number_at};
 ghost use Rattle.fe_journal.specs.Steps.{OnlyReads};

@@ -1,8 +1,8 @@
 //! Copies a store that a server may be writing (`docs/store.md`, "A copy while the store is written").
 
-ghost use Rattle.std.specs.Prelude.{◌≡◌, ◌↔◌, ℕ, length, slice_index, IfOk, IfErr, IsErrOf, IsOk};
+ghost use Rattle.std.specs.Prelude.{◌≡◌, ℕ, length, slice_index, IfOk, IfErr, IsErrOf};
 ghost use Rattle.fe_disk.specs.Disk.{Rises};
-ghost use Rattle.fe_disk.specs.Memory.{IsHonest, IsFresh};
+ghost use Rattle.fe_disk.specs.Memory.{IsHonest};
 ghost use Rattle.fe_journal.specs.Layout.{device_bytes};
 ghost use Rattle.fe_journal.specs.Steps.{OnlyReads};
 ghost use Rattle.fe_store.specs.Opening.{IsReason};

@@ -1,8 +1,8 @@
 //! The bytes of one slot of a store.
 
-ghost use Rattle.std.specs.Prelude.{◌≡◌, ◌+◌, ◌<◌, ◌≤◌, ◌^◌, IsTrue, length, IfOk, IfSome, OnOk};
+ghost use Rattle.std.specs.Prelude.{◌≡◌, ◌+◌, ◌<◌, ◌≤◌, IsTrue, length, IfOk, IfSome, OnOk};
 ghost use Rattle.fe_disk.specs.Disk.{IsTorn, bytes_at, after_write};
-ghost use Rattle.fe_journal.specs.Layout.{area_bytes, device_bytes, header_bytes, header_of, gate_of, area_of, IsGateOpen};
+ghost use Rattle.fe_journal.specs.Layout.{area_bytes, device_bytes, header_bytes, header_of, gate_of, IsGateOpen};
 ghost use Rattle.fe_journal.specs.Steps.{OnlyReads};
 ghost use Rattle.fe_look.specs.Calls.{OnlyAsks};
 ghost use Rattle.fe_look.specs.Slot.{IsLengthAfter, EndsAt, HasParts, IsSlotCopy};

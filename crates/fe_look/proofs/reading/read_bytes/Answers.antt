@@ -1,8 +1,7 @@
-use Rattle.std.proofs.Common.{rules, ◌≡◌, ℕ, ◌<◌, true, List, sym, ◌∙◌, subst, arith}
+use Rattle.std.proofs.Common.{rules, ℕ, List, sym, ◌∙◌, subst, arith}
 use Rattle.fe_journal.proofs.Founds.{formatted}
 use Rattle.fe_look.specs.Reading.{TellsReading}
 use Rattle.fe_look.specs.declared.reading.Reading.{Reading}
-use Rattle.fe_look.specs.declared.reading.Reading.TheVariants.{Unformatted, Overtaken}
 use Rattle.fe_look.proofs.reading.read_bytes.Goals.{in-Overtaken, in-Unformatted}
 use Rattle.fe_look.proofs.reading.read_bytes.Goals as goal
 

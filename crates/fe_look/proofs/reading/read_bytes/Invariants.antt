@@ -1,5 +1,4 @@
-use Rattle.std.proofs.Common.{◌<◌, ◌≡◌, ℕ, true}
-use Rattle.fe_disk.specs.Disk.{Rises}
+use Rattle.std.proofs.Common.{◌<◌, ◌≡◌, true}
 use Rattle.fe_journal.specs.Damage.{IsUnformatted}
 use Rattle.fe_journal.specs.Steps.{OnlyReads}
 use Rattle.fe_look.specs.Calls.{KeepsDisk}

@@ -1,6 +1,5 @@
-use Rattle.std.proofs.Common.{rules, ◌≡◌, ℕ, ◌+◌, ◌<◌, List, [], ◌∷◌, Option, Some, None, sym, ◌∙◌, subst, refl, arith}
-use Rattle.fe_disk.specs.Disk.{Rises}
-use Rattle.fe_look.specs.Slot.{IsLengthAfter, GatesEnd}
+use Rattle.std.proofs.Common.{rules, ℕ, ◌+◌, List, [], ◌∷◌, Option, subst, refl}
+use Rattle.fe_look.specs.Slot.{IsLengthAfter}
 use Rattle.fe_look.proofs.slot.end_of_groups.Goals as goal
 
 pub returns-in_default-clause-ends : goal.returns-in_default-clause-ends

@@ -1,4 +1,4 @@
-use Rattle.std.proofs.Common.{◌+◌, ◌-◌, ◌<◌, ◌≡◌, ℕ, List}
+use Rattle.std.proofs.Common.{◌-◌, ◌<◌, ◌≡◌, ℕ, List}
 use Rattle.fe_disk.specs.Disk.{Rises}
 use Rattle.fe_journal.specs.Steps.{OnlyReads}
 use Rattle.fe_look.specs.Calls.{KeepsDisk}

@@ -1,4 +1,4 @@
-use Rattle.std.proofs.Common.{◌≡◌, ℕ, ◌+◌, ◌-◌, List, length, set, inl, ◌∙◌, sym, ap, subst, arith, rules}
+use Rattle.std.proofs.Common.{◌≡◌, ℕ, ◌-◌, List, length, set, inl, ◌∙◌, sym, subst, arith, rules}
 use Rattle.fe_disk.specs.Disk.{bytes_at, after_write}
 use Rattle.fe_disk.proofs.Images.{bytes_at-after_write, bytes_at_elsewhere}
 use Rattle.fe_journal.specs.Layout.{header_of}
