@@ -1,6 +1,6 @@
 ghost use Rattle.std.specs.Prelude.{◌≡◌};
 ghost use Rattle.fe_journal.specs.Layout.{area_begin};
-ghost use Rattle.fe_look.specs.declared.reading.TheConstants.{AREA_BEGIN};
+ghost use Rattle.fe_look.specs.declared.slot.TheConstants.{AREA_BEGIN};
 
 /// The code's constant is the offset of the journal area in a slot (`docs/formats.md`, "Device").
 pub fn layout_is()

@@ -2,11 +2,14 @@
 #![tactic(auto)]
 
 mod fault;
+mod header;
 mod laws;
 mod looking;
+mod parts;
 mod reading;
+mod slot;
 mod state_text;
 
 pub use fault::LookFault;
 pub use laws::layout_is;
-pub use looking::{look, look_at};
+pub use looking::{look, look_at, look_copy};

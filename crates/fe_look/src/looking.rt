@@ -12,13 +12,14 @@ ghost use Rattle.fe_store.specs.Opening.{IsReason};
 ghost use Rattle.fe_store.specs.declared.fault.OpenFault.{OpenFault};
 ghost use Rattle.fe_store.specs.declared.fault.OpenFault.TheVariants as store;
 ghost use Rattle.fe_text.specs.declared.fault.StreamFault.{StreamFault};
+ghost use Rattle.fe_look.specs.Calls.{KeepsDisk};
 ghost use Rattle.fe_look.specs.Look.{Shows, ShowsSome, ShowsFront, state_text};
 ghost use Rattle.fe_look.specs.declared.fault.LookFault.TheVariants as fault;
 
 use crate::fault::LookFault;
 use crate::reading::copy_of;
 use crate::state_text::state_text;
-use fe_disk::{Disk, MemoryDisk};
+use fe_disk::Disk;
 use fe_state::State;
 use fe_store::{OpenFault, disk_to_read, open_existing};
 use fe_text::{StreamFault, write_text};
@@ -82,6 +83,41 @@ pub fn look_at<D: Disk, W: Write>(
     }
 }
 
+/// Copies the store on a disk into memory, and writes its text. The disk is only synced and read, so a server may use it at the
+/// same time (`docs/store.md`, "A copy while the store is written").
+///
+/// `Device` if the disk fails, or a checkpoint begins during each of 100 readings. `Unformatted` or `Damaged` if it holds no state.
+pub fn look_copy<D: Disk, W: Write>(
+    alloc: Global,
+    disk: &mut D,
+    writer: &mut W,
+) -> Result<(), LookFault>
+    // Over a disk that nobody else writes: what is written is the text of the state that the disk stands for.
+    ensures shows { D.honest disk.old
+        → OnOk result (Shows (D.seen disk.old) (W.contents writer.old) (W.contents writer.new)) }
+    // A reported fault is true of the store, and a valid store is refused only with `Device` or `Memory`.
+    ensures refused { D.honest disk.old → (why : OpenFault) → IsErrOf result (fault.Store why)
+        → IsReason (D.seen disk.old) why }
+    // Memory is short for the text, or the writer fails, only once the store is read.
+    ensures opened { D.honest disk.old → (why : StreamFault) → IsErrOf result (fault.Stream why)
+        → (s : ServerState) × StandsFor (D.seen disk.old) s }
+    // A crash leaves nothing that it couldn't leave before, and reads give the same bytes.
+    ensures reads { D.honest disk.old → OnlyReads D.seen D.may_leave D.moment D.left_since disk.old disk.new }
+
+    // On any disk: no write is counted, and each fault of the disk is reported.
+    ensures kept { KeepsDisk D.size D.calls D.honest disk.old disk.new }
+    ensures failed { Rises (D.failures disk.old) (D.failures disk.new) → IsErrOf result (fault.Store store.Device) }
+    // What is written is the text of a state, or after a fault the start of one. Without a store, nothing is.
+    ensures written { OnOk result (ShowsSome (W.contents writer.old) (W.contents writer.new)) }
+    ensures front { ShowsFront (W.contents writer.old) (W.contents writer.new) }
+    ensures silent { (why : OpenFault) → IsErrOf result (fault.Store why)
+        → Keeps (W.contents writer.old) (W.contents writer.new) }
+    ensures sized { (found : ℕ) → IsErrOf result (fault.Store (store.Size found)) → ⊥ }
+{
+    let copy = copy_of(alloc, disk)?;
+    look_at(alloc, copy, writer).0
+}
+
 /// Copies the store in a file into memory, and writes its text: its place, and a line for each array and each session. The
 /// file is only synced and read, so a server may use it at the same time.
 ///
@@ -100,14 +136,6 @@ pub fn look<R: Files<File = File>, W: Write>(
         → Keeps (W.contents writer.old) (W.contents writer.new) }
     ensures wrong_size { (found : ℕ) → IsErrOf result (fault.Store (store.Size found)) → found ≢ device_bytes }
 {
-    let copy = copied(rt, alloc, path)?;
-    look_at(alloc, copy, writer).0
-}
-
-/// The store in a file, as a disk in memory.
-fn copied<R: Files<File = File>>(rt: &R, alloc: Global, path: &str) -> Result<MemoryDisk, OpenFault>
-    ensures wrong_size { (found : ℕ) → IsErrOf result (store.Size found) → found ≢ device_bytes }
-{
     let mut disk = disk_to_read(rt, path)?;
-    copy_of(alloc, &mut disk)
+    look_copy(alloc, &mut disk, writer)
 }

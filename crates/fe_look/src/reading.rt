@@ -1,57 +1,83 @@
 //! Copies a store that a server may be writing (`docs/store.md`, "A copy while the store is written").
 
-ghost use Rattle.std.specs.Prelude.{◌≡◌, ◌+◌, ◌<◌, ◌≤◌, ℕ, length, IfOk, IfSome, IsErrOf};
-ghost use Rattle.fe_journal.specs.Layout.{area_bytes, device_bytes};
+ghost use Rattle.std.specs.Prelude.{◌≡◌, ℕ, length, slice_index, IfOk, IfErr, IsErrOf};
+ghost use Rattle.fe_disk.specs.Disk.{Rises};
+ghost use Rattle.fe_disk.specs.Memory.{IsHonest};
+ghost use Rattle.fe_journal.specs.Layout.{device_bytes};
+ghost use Rattle.fe_journal.specs.Steps.{OnlyReads};
+ghost use Rattle.fe_store.specs.Opening.{IsReason};
 ghost use Rattle.fe_store.specs.declared.fault.OpenFault.TheVariants as fault;
+ghost use Rattle.fe_look.specs.Calls.{KeepsDisk};
+ghost use Rattle.fe_look.specs.Copy.{IsCopyOf};
+ghost use Rattle.fe_look.specs.Reading.{TellsReading, IsDeviceOrMemory};
 
-use fe_disk::{DeviceFault, Disk, MemoryDisk};
-use fe_journal::{AREA_BYTES, DEVICE_BYTES, header_of, image_of};
+use crate::header::read_counting;
+use crate::slot::read_slot;
+use fe_disk::{Disk, MemoryDisk};
+use fe_journal::DEVICE_BYTES;
 use fe_store::OpenFault;
-use std::alloc::Global;
-
-/// Where a slot's journal area begins in it. The area ends the slot (`docs/formats.md`, "Device").
-const AREA_BEGIN: usize = DEVICE_BYTES / 2 - AREA_BYTES;
-
-/// The bytes of a header that are read, besides its gate.
-const FIELDS: usize = 20;
+use std::alloc::{AllocError, Global};
 
 /// The most readings of a store: one more each time that a checkpoint begins.
 const TRIES: u64 = 100;
 
-/// What the header of a slot says.
+/// What one reading of a store found.
 #[derive(Drop)]
-struct Header {
-    fields: [u8; FIELDS],
-    gate: u8,
-}
-
-impl Header {
-    fn is_valid(&self) -> bool {
-        let magic = &self.fields[..8];
-        self.gate == 1 && (magic == b"FEMEMST1".as_slice() || magic == b"FEMEMST2".as_slice())
-    }
-
-    // Whether its generation is that of the other, or a greater one.
-    fn is_at_least(&self, other: &Header) -> bool {
-        self.fields[8..16] >= other.fields[8..16]
-    }
+enum Reading {
+    /// No slot counts.
+    Unformatted,
+    /// A checkpoint began in the slot while it was read.
+    Overtaken,
+    /// The bytes of a store that has this slot alone.
+    Whole(Vec<u8>),
 }
 
 /// A copy of the store on a disk, as a crash at some moment since the call began may leave it, with only the slot that counted
 /// then. All that it holds is synced. `Unformatted` if no slot counts. `Device` if the disk fails, or a checkpoint begins during
 /// each of 100 readings.
 pub(crate) fn copy_of<D: Disk>(alloc: Global, disk: &mut D) -> Result<MemoryDisk, OpenFault>
+    // The copy holds what the disk holds, and what is wrong with the disk is wrong with it.
+    ensures copy { D.honest disk.old → IfOk result (λ copy. IsCopyOf (D.seen disk.old) copy.image) }
+    ensures honest { IfOk result IsHonest }
+    // A reported fault is true of the store, and a store that stands for a state is refused only with `Device` or `Memory`.
+    ensures refused { D.honest disk.old → IfErr result (IsReason (D.seen disk.old)) }
+    ensures device { D.honest disk.old
+        → IsErrOf result fault.Device → Rises (D.failures disk.old) (D.failures disk.new) }
+    ensures failed { Rises (D.failures disk.old) (D.failures disk.new) → IsErrOf result fault.Device }
+    // A crash leaves nothing that it couldn't leave before, and reads give the same bytes.
+    ensures reads { D.honest disk.old → OnlyReads D.seen D.may_leave D.moment D.left_since disk.old disk.new }
+
+    // On any disk: no write is counted.
+    ensures kept { KeepsDisk D.size D.calls D.honest disk.old disk.new }
     ensures sized { (found : ℕ) → IsErrOf result (fault.Size found) → ⊥ }
 {
     disk.sync()?;
+    if disk.size() != DEVICE_BYTES {
+        return Err(OpenFault::Unformatted);
+    }
+    let bytes = read_bytes(alloc, disk)?;
+    disk.sync()?;
+    Ok(MemoryDisk::over(alloc, bytes)?)
+}
+
+// The bytes of a store, from the first of the readings in which no checkpoint began.
+fn read_bytes<D: Disk>(alloc: Global, disk: &mut D) -> Result<Vec<u8>, OpenFault>
+    requires device { D.size disk.old ≡ device_bytes }
+    ensures copy { D.honest disk.old → IfOk result (λ bytes. IsCopyOf (D.seen disk.old) bytes.items) }
+    ensures refused { D.honest disk.old → IfErr result (IsReason (D.seen disk.old)) }
+    ensures fault { D.honest disk.old
+        → IsErrOf result fault.Device → Rises (D.failures disk.old) (D.failures disk.new) }
+    ensures still { (IsErrOf result fault.Device → ⊥) → D.failures disk.new ≡ D.failures disk.old }
+    ensures sized { (found : ℕ) → IsErrOf result (fault.Size found) → ⊥ }
+    ensures reads { D.honest disk.old → OnlyReads D.seen D.may_leave D.moment D.left_since disk.old disk.new }
+    ensures kept { KeepsDisk D.size D.calls D.honest disk.old disk.new }
+{
     let mut is_formatted = false;
     for _k in 0..TRIES {
-        if let Some((slot, header)) = counting(disk)? {
-            is_formatted = true;
-            if let Some(bytes) = slot_in(alloc, disk, slot, &header)? {
-                disk.sync()?;
-                return Ok(MemoryDisk::over(alloc, bytes)?);
-            }
+        match read_once(alloc, disk)? {
+            Reading::Whole(bytes) => return Ok(bytes),
+            Reading::Overtaken => is_formatted = true,
+            Reading::Unformatted => {}
         }
     }
     if is_formatted {
@@ -61,122 +87,31 @@ pub(crate) fn copy_of<D: Disk>(alloc: Global, disk: &mut D) -> Result<MemoryDisk
     }
 }
 
-// The slot that counts, and its header.
-fn counting<D: Disk>(disk: &mut D) -> Result<Option<(usize, Header)>, DeviceFault>
-    ensures { IfOk result (λ found. IfSome found (λ f. f.0 < 2)) }
+// Reads the store once.
+fn read_once<D: Disk>(alloc: Global, disk: &mut D) -> Result<Reading, OpenFault>
+    requires device { D.size disk.old ≡ device_bytes }
+    ensures tells { D.honest disk.old → IfOk result (TellsReading (D.seen disk.old)) }
+    ensures faults { IfErr result IsDeviceOrMemory }
+    ensures fault { IsErrOf result fault.Device → Rises (D.failures disk.old) (D.failures disk.new) }
+    ensures still { (IsErrOf result fault.Device → ⊥) → D.failures disk.new ≡ D.failures disk.old }
+    ensures reads { D.honest disk.old → OnlyReads D.seen D.may_leave D.moment D.left_since disk.old disk.new }
+    ensures kept { KeepsDisk D.size D.calls D.honest disk.old disk.new }
 {
-    let first = read_header(disk, 0)?;
-    let second = read_header(disk, 1)?;
-    if second.is_valid() && !(first.is_valid() && first.is_at_least(&second)) {
-        Ok(Some((1, second)))
-    } else if first.is_valid() {
-        Ok(Some((0, first)))
+    let Some((slot, header)) = read_counting(disk)? else {
+        return Ok(Reading::Unformatted);
+    };
+    let mut bytes = zeros(alloc, DEVICE_BYTES)?;
+    if read_slot(disk, bytes.as_mut_slice(), slot, &header)? {
+        Ok(Reading::Whole(bytes))
     } else {
-        Ok(None)
+        Ok(Reading::Overtaken)
     }
 }
 
-// The header of a slot. The gate, just before the image, is read after the fields.
-fn read_header<D: Disk>(disk: &mut D, slot: usize) -> Result<Header, DeviceFault>
-    requires { slot < 2 }
+// This many zeros.
+fn zeros(alloc: Global, count: usize) -> Result<Vec<u8>, AllocError>
+    ensures size { IfOk result (λ bytes. length bytes.items ≡ count) }
+    ensures zeros { IfOk result (λ bytes. (i : ℕ) → slice_index bytes.items i ≡ 0) }
 {
-    let mut fields = [0; FIELDS];
-    read(disk, header_of(slot), &mut fields)?;
-    let mut gate = [0];
-    read(disk, image_of(slot) - 1, &mut gate)?;
-    Ok(Header {
-        fields,
-        gate: gate[0],
-    })
-}
-
-// The bytes of a store that has this slot alone, with the groups whose gates were open, or `None` where a checkpoint began in it
-// since its header was read.
-fn slot_in<D: Disk>(
-    alloc: Global,
-    disk: &mut D,
-    slot: usize,
-    header: &Header,
-) -> Result<Option<Vec<u8>>, OpenFault>
-    requires { slot < 2 }
-    ensures sized { (found : ℕ) → IsErrOf result (fault.Size found) → ⊥ }
-{
-    let mut bytes = vec![in alloc; 0; DEVICE_BYTES]?;
-    let image = image_of(slot);
-    let area = header_of(slot) + AREA_BEGIN;
-    read_part(disk, bytes.as_mut_slice(), image, area - image)?;
-    let end = end_of_groups(disk, area)?;
-    read_part(disk, bytes.as_mut_slice(), area, AREA_BYTES)?;
-    put_header(bytes.as_mut_slice(), slot, &header.fields);
-    if let Some(end) = end {
-        put(bytes.as_mut_slice(), area + end, 0);
-    }
-    if read_header(disk, slot)?.fields == header.fields {
-        Ok(Some(bytes))
-    } else {
-        Ok(None)
-    }
-}
-
-// Reads a part of the disk to where it is in the bytes.
-fn read_part<D: Disk>(
-    disk: &mut D,
-    bytes: &mut [u8],
-    at: usize,
-    count: usize,
-) -> Result<(), DeviceFault>
-    requires { at + count ≤ length bytes.old }
-    ensures { length bytes.new ≡ length bytes.old }
-{
-    read(disk, at, &mut bytes[at..at + count])
-}
-
-fn put(bytes: &mut [u8], at: usize, byte: u8)
-    requires { at < length bytes.old }
-    ensures { length bytes.new ≡ length bytes.old }
-{
-    bytes[at] = byte;
-}
-
-// Writes the fields of a slot's header, and its open gate.
-fn put_header(bytes: &mut [u8], slot: usize, fields: &[u8; FIELDS])
-    requires slot { slot < 2 }
-    requires store { length bytes.old ≡ device_bytes }
-    ensures { length bytes.new ≡ length bytes.old }
-{
-    let start = header_of(slot);
-    bytes[start..start + FIELDS].copy_from_slice(fields);
-    put(bytes, image_of(slot) - 1, 1);
-}
-
-// The place in a journal area of the gate that ends its groups, which was not open. Each gate is read before what follows
-// it. `None` where a length is none that fits.
-fn end_of_groups<D: Disk>(disk: &mut D, area: usize) -> Result<Option<usize>, DeviceFault>
-    requires { area + area_bytes ≤ device_bytes }
-    ensures { IfOk result (λ found. IfSome found (λ end. end < area_bytes)) }
-{
-    let mut at = 0;
-    for _k in 0..AREA_BYTES {
-        if at > AREA_BYTES - 5 {
-            return Ok(None);
-        }
-        let mut gate = [0];
-        read(disk, area + at, &mut gate)?;
-        if gate[0] != 1 {
-            return Ok(Some(at));
-        }
-        let mut length = [0; 4];
-        read(disk, area + at + 1, &mut length)?;
-        at += 5 + u32::from_be_bytes(length) as usize;
-    }
-    Ok(None)
-}
-
-// Reads bytes of the disk. It is a fault where it has too few.
-fn read<D: Disk>(disk: &mut D, at: usize, buffer: &mut [u8]) -> Result<(), DeviceFault> {
-    let size = disk.size();
-    if at > size || buffer.len() > size - at {
-        return Err(DeviceFault);
-    }
-    disk.read_at(at, buffer)
+    vec![in alloc; 0; count]
 }

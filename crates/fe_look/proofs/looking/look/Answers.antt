@@ -1,5 +1,5 @@
 use Rattle.fe_look.proofs.LookLemmas.{shows_nothing}
 use Rattle.fe_look.proofs.looking.look.Goals as goal
 
-pub returns-in_err-copy-clause-front : goal.returns-in_err-copy-clause-front
-returns-in_err-copy-clause-front g c = shows_nothing (g.W.Write.contents c.args.writer.now)
+pub returns-in_err-disk-clause-front : goal.returns-in_err-disk-clause-front
+returns-in_err-disk-clause-front g c = shows_nothing (g.W.Write.contents c.args.writer.now)

@@ -1,0 +1,41 @@
+-- How one slot of a store is copied.
+use Rattle.std.specs.Prelude.{◌≡◌, ◌+◌, ◌<◌, ℕ, List, [], ◌∷◌, Option, Some, None}
+use Rattle.fe_disk.specs.Disk.{IsTorn, bytes_at}
+use Rattle.fe_journal.specs.Layout.{area_bytes, header_of, gate_of, image_of, area_of, number_at, IsGateOpen, IsGateShut}
+
+-- the length after a gate, if the gate is open
+abbrev pub IsLengthAfter : List ℕ → ℕ → Option ℕ → Type 0
+IsLengthAfter bytes gate None = IsGateShut bytes gate
+IsLengthAfter bytes gate (Some n) = IsGateOpen bytes gate × (number_at bytes (gate + 1) 4 ≡ n)
+
+-- From the gate at `at` in an area on, each gate is open and has the next of these lengths after it, until one at `end` that is not open.
+abbrev pub GatesEnd : List ℕ → ℕ → ℕ → List ℕ → ℕ → Type 0
+GatesEnd bytes area at [] end = (at ≡ end) × IsGateShut bytes (area + at)
+GatesEnd bytes area at (n ∷ ns) end = IsGateOpen bytes (area + at) × (number_at bytes (area + at + 1) 4 ≡ n) × GatesEnd bytes area (at + (5 + n)) ns end
+
+-- the gate at `end` in an area is the first that is not open, whatever lengths the groups before it have
+pub record EndsAt (bytes : List ℕ) (area end : ℕ) : Type 0 where
+  pub lengths : List ℕ
+  pub gates : GatesEnd bytes area 0 lengths end
+
+-- A journal area is there whole, or up to the gate that ends its groups, which is closed.
+abbrev pub IsAreaCopied : List ℕ → List ℕ → ℕ → Option ℕ → Type 0
+IsAreaCopied image copy area None = bytes_at copy area area_bytes ≡ bytes_at image area area_bytes
+IsAreaCopied image copy area (Some end) =
+    (end < area_bytes) × EndsAt image area end × (bytes_at copy area end ≡ bytes_at image area end) × IsGateShut copy (area + end)
+
+-- the image and the journal area of a slot are copied, and nothing else is changed
+pub record HasParts (image : List ℕ) (slot : ℕ) (old new : List ℕ) : Type 0 where
+  pub end : Option ℕ
+  pub image_is : bytes_at new (image_of slot) 1048576 ≡ bytes_at image (image_of slot) 1048576
+  pub area_is : IsAreaCopied image new (area_of slot) end
+  pub elsewhere : IsTorn (image_of slot) 2097152 old new
+
+-- the same, with the fields of a header and its open gate
+pub record IsSlotCopy (image : List ℕ) (slot : ℕ) (fields old new : List ℕ) : Type 0 where
+  pub end : Option ℕ
+  pub fields_are : bytes_at new (header_of slot) 20 ≡ fields
+  pub is_open : IsGateOpen new (gate_of slot)
+  pub image_is : bytes_at new (image_of slot) 1048576 ≡ bytes_at image (image_of slot) 1048576
+  pub area_is : IsAreaCopied image new (area_of slot) end
+  pub elsewhere : IsTorn (header_of slot) 2101248 old new

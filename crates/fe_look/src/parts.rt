@@ -1,0 +1,52 @@
+//! Reads parts of a disk.
+
+ghost use Rattle.std.specs.Prelude.{◌≡◌, ◌+◌, ◌≤◌, length, slice_index, IfOk, OnOk};
+ghost use Rattle.fe_disk.specs.Disk.{bytes_at, after_write};
+ghost use Rattle.fe_journal.specs.Layout.{number_at};
+ghost use Rattle.fe_journal.specs.Steps.{OnlyReads};
+ghost use Rattle.fe_look.specs.Calls.{OnlyAsks};
+
+use byteorder::{BigEndian, ByteOrder};
+use fe_disk::{DeviceFault, Disk};
+
+/// The byte at this offset.
+pub(crate) fn read_byte<D: Disk>(disk: &mut D, at: usize) -> Result<u8, DeviceFault>
+    requires within { at + 1 ≤ D.size disk.old }
+    ensures byte { D.honest disk.old → IfOk result (λ byte. byte ≡ slice_index (D.seen disk.old) at) }
+    ensures reads { D.honest disk.old → OnlyReads D.seen D.may_leave D.moment D.left_since disk.old disk.new }
+    ensures device { OnlyAsks D.size D.failures D.calls D.honest result disk.old disk.new }
+{
+    let mut byte = [0];
+    disk.read_at(at, &mut byte)?;
+    Ok(byte[0])
+}
+
+/// The number in the four bytes from this offset on.
+pub(crate) fn read_number<D: Disk>(disk: &mut D, at: usize) -> Result<u32, DeviceFault>
+    requires within { at + 4 ≤ D.size disk.old }
+    ensures number { D.honest disk.old → IfOk result (λ number. number ≡ number_at (D.seen disk.old) at 4) }
+    ensures reads { D.honest disk.old → OnlyReads D.seen D.may_leave D.moment D.left_since disk.old disk.new }
+    ensures device { OnlyAsks D.size D.failures D.calls D.honest result disk.old disk.new }
+{
+    let mut bytes = [0; 4];
+    disk.read_at(at, &mut bytes)?;
+    Ok(BigEndian::read_u32(&bytes))
+}
+
+/// Reads a part of the disk to where it is in the bytes.
+pub(crate) fn read_part<D: Disk>(
+    disk: &mut D,
+    bytes: &mut [u8],
+    at: usize,
+    count: usize,
+) -> Result<(), DeviceFault>
+    requires within { at + count ≤ D.size disk.old }
+    requires room { at + count ≤ length bytes.old }
+    ensures part { D.honest disk.old
+        → OnOk result (bytes.new ≡ after_write bytes.old at (bytes_at (D.seen disk.old) at count)) }
+    ensures same { length bytes.new ≡ length bytes.old }
+    ensures reads { D.honest disk.old → OnlyReads D.seen D.may_leave D.moment D.left_since disk.old disk.new }
+    ensures device { OnlyAsks D.size D.failures D.calls D.honest result disk.old disk.new }
+{
+    disk.read_at(at, &mut bytes[at..at + count])
+}

@@ -1,0 +1,116 @@
+//! The bytes of one slot of a store.
+
+ghost use Rattle.std.specs.Prelude.{◌≡◌, ◌+◌, ◌<◌, ◌≤◌, IsTrue, length, IfOk, IfSome, OnOk};
+ghost use Rattle.fe_disk.specs.Disk.{IsTorn, bytes_at, after_write};
+ghost use Rattle.fe_journal.specs.Layout.{area_bytes, device_bytes, header_bytes, header_of, gate_of, IsGateOpen};
+ghost use Rattle.fe_journal.specs.Steps.{OnlyReads};
+ghost use Rattle.fe_look.specs.Calls.{OnlyAsks};
+ghost use Rattle.fe_look.specs.Slot.{IsLengthAfter, EndsAt, HasParts, IsSlotCopy};
+ghost use Rattle.fe_look.specs.Header.{IsHeaderOf};
+
+use crate::header::{FIELDS, Header, read_header};
+use crate::parts::{read_byte, read_number, read_part};
+use fe_disk::{DeviceFault, Disk};
+use fe_journal::{AREA_BYTES, DEVICE_BYTES, header_of, image_of};
+
+/// Where a slot's journal area begins in it. The area ends the slot (`docs/formats.md`, "Device").
+const AREA_BEGIN: usize = DEVICE_BYTES / 2 - AREA_BYTES;
+
+/// Reads a slot into bytes that are zero, with the groups whose gates were open. It is there whole if its header is the same
+/// still, and else a checkpoint began in it.
+pub(crate) fn read_slot<D: Disk>(
+    disk: &mut D,
+    bytes: &mut [u8],
+    slot: usize,
+    header: &Header,
+) -> Result<bool, DeviceFault>
+    requires is_slot { slot < 2 }
+    requires device { D.size disk.old ≡ device_bytes }
+    requires room { length bytes.old ≡ device_bytes }
+    ensures copied { D.honest disk.old
+        → OnOk result (IsSlotCopy (D.seen disk.old) slot header.now.fields bytes.old bytes.new) }
+    ensures whole { D.honest disk.old → IsHeaderOf (D.seen disk.old) slot header.now
+        → IfOk result (λ same. IsTrue same) }
+    ensures same { length bytes.new ≡ length bytes.old }
+    ensures reads { D.honest disk.old → OnlyReads D.seen D.may_leave D.moment D.left_since disk.old disk.new }
+    ensures device { OnlyAsks D.size D.failures D.calls D.honest result disk.old disk.new }
+{
+    read_parts(disk, bytes, slot)?;
+    put_header(bytes, slot, &header.fields);
+    let again = read_header(disk, slot)?;
+    Ok(again.fields == header.fields)
+}
+
+// Reads the image and the journal area of a slot to where they are in the bytes. The gate that ended the groups is closed.
+fn read_parts<D: Disk>(disk: &mut D, bytes: &mut [u8], slot: usize) -> Result<(), DeviceFault>
+    requires is_slot { slot < 2 }
+    requires device { D.size disk.old ≡ device_bytes }
+    requires room { length bytes.old ≡ device_bytes }
+    ensures parts { D.honest disk.old → OnOk result (HasParts (D.seen disk.old) slot bytes.old bytes.new) }
+    ensures same { length bytes.new ≡ length bytes.old }
+    ensures reads { D.honest disk.old → OnlyReads D.seen D.may_leave D.moment D.left_since disk.old disk.new }
+    ensures device { OnlyAsks D.size D.failures D.calls D.honest result disk.old disk.new }
+{
+    let image = image_of(slot);
+    let area = header_of(slot) + AREA_BEGIN;
+    read_part(disk, bytes, image, area - image)?;
+    let end = end_of_groups(disk, area)?;
+    read_part(disk, bytes, area, AREA_BYTES)?;
+    if let Some(end) = end {
+        bytes[area + end] = 0;
+    }
+    Ok(())
+}
+
+// Writes the fields of a slot's header, and its open gate.
+fn put_header(bytes: &mut [u8], slot: usize, fields: &[u8; FIELDS])
+    requires is_slot { slot < 2 }
+    requires room { length bytes.old ≡ device_bytes }
+    ensures fields { bytes_at bytes.new (header_of slot) 20 ≡ fields.now }
+    ensures gate { IsGateOpen bytes.new (gate_of slot) }
+    ensures elsewhere { IsTorn (header_of slot) header_bytes bytes.old bytes.new }
+{
+    put(bytes, header_of(slot), fields);
+    bytes[image_of(slot) - 1] = 1;
+}
+
+fn put(bytes: &mut [u8], at: usize, part: &[u8])
+    requires room { at + length part.now ≤ length bytes.old }
+    ensures { bytes.new ≡ after_write bytes.old at part.now }
+{
+    bytes[at..at + part.len()].copy_from_slice(part);
+}
+
+// The place in a journal area of the gate that ends its groups, which was not open. Each gate is read before what follows
+// it. `None` where a length is none that fits.
+fn end_of_groups<D: Disk>(disk: &mut D, area: usize) -> Result<Option<usize>, DeviceFault>
+    requires area { area + area_bytes ≤ device_bytes }
+    requires device { D.size disk.old ≡ device_bytes }
+    ensures ends { D.honest disk.old → IfOk result (λ found. IfSome found (EndsAt (D.seen disk.old) area)) }
+    ensures within { IfOk result (λ found. IfSome found (λ end. end < area_bytes)) }
+    ensures reads { D.honest disk.old → OnlyReads D.seen D.may_leave D.moment D.left_since disk.old disk.new }
+    ensures device { OnlyAsks D.size D.failures D.calls D.honest result disk.old disk.new }
+{
+    let mut at = 0;
+    while at <= AREA_BYTES - 5 {
+        let Some(length) = length_after(disk, area + at)? else {
+            return Ok(Some(at));
+        };
+        at += 5 + length as usize;
+    }
+    Ok(None)
+}
+
+// The length after a gate, if the gate is open. The gate is read first.
+fn length_after<D: Disk>(disk: &mut D, gate: usize) -> Result<Option<u32>, DeviceFault>
+    requires within { gate + 5 ≤ device_bytes }
+    requires device { D.size disk.old ≡ device_bytes }
+    ensures length { D.honest disk.old → IfOk result (IsLengthAfter (D.seen disk.old) gate) }
+    ensures reads { D.honest disk.old → OnlyReads D.seen D.may_leave D.moment D.left_since disk.old disk.new }
+    ensures device { OnlyAsks D.size D.failures D.calls D.honest result disk.old disk.new }
+{
+    if read_byte(disk, gate)? != 1 {
+        return Ok(None);
+    }
+    Ok(Some(read_number(disk, gate + 1)?))
+}
