@@ -2,4 +2,5 @@ pub mod Acknowledged
 pub mod BooksText
 pub mod Departed
 pub mod Serving
+pub mod Sides
 pub mod Streams

@@ -2,16 +2,15 @@
 
 ghost use Rattle.std.specs.Prelude.{◌≡◌, ◌<◌, ◌≤◌};
 
-use crate::connection::{STACK, attend, turn_away};
+use crate::connection::{Accepted, Connection, STACK};
 use crate::entrance::Entrance;
 use crate::house::House;
-use crate::register::Newcomer;
+use crate::newcomer::Newcomer;
 use fe_hall::{Gate, Tally};
 use fe_options::Settings;
 use std::alloc::Global;
 use std::io::ErrorKind;
-use std::os::unix::net::UnixStream;
-use std::sync::{Arc, Wait};
+use std::sync::Wait;
 use std::thread::{Builder, Scope, Threads};
 use std::time::{Clock, Duration};
 use std::{io, thread};
@@ -87,14 +86,14 @@ impl<
         ensures { 0 < accepts → result ≤ accepts }
     {
         let mut came = 0;
-        for conn in 0..u64::MAX {
+        for _tried in 0..u64::MAX {
             let Some(running) = self.house.running(self.rt) else {
                 return came;
             };
-            match entrance.accept(running) {
+            match entrance.accept(self.alloc, running) {
                 Err(error) => pause(self.rt, error),
-                Ok(stream) => {
-                    if self.welcome(scope, conn, stream) {
+                Ok(accepted) => {
+                    if self.welcome(scope, accepted) {
                         came += 1;
                     }
                     if came == accepts && accepts > 0 {
@@ -107,33 +106,27 @@ impl<
     }
 
     /// Begins to serve a connection. `false` if it is refused: there are too many and none is about to end, or the hall makes none.
-    fn welcome<E>(&self, scope: &Scope<'s, E>, conn: u64, stream: UnixStream) -> bool
+    fn welcome<E>(&self, scope: &Scope<'s, E>, accepted: Accepted) -> bool
         requires calls { C.all ≡ C.parts }
         requires mails { M.all ≡ M.parts }
     {
         let (rt, house) = (self.rt, self.house);
-        let Some(admission) = house.enter(rt) else {
-            return false;
-        };
-        let Ok(stream) = Arc::new(self.alloc, stream) else {
-            house.leave(rt, conn, admission);
-            return false;
-        };
-        let Ok((calls, mails)) = house.connect(rt, conn) else {
-            house.leave(rt, conn, admission);
-            return false;
-        };
-        self.start(
-            scope,
-            Newcomer {
-                conn,
-                admission,
-                stream,
-                calls,
-                mails,
+        match house.enter(rt) {
+            Ok(admission) => match house.connect(rt, Connection::of(accepted, admission)) {
+                Ok(newcomer) => {
+                    self.start(scope, newcomer);
+                    true
+                }
+                Err(unserved) => {
+                    house.refuse(rt, unserved);
+                    false
+                }
             },
-        );
-        true
+            Err(full) => {
+                accepted.close(full);
+                false
+            }
+        }
     }
 
     /// Starts the thread of a connection. If that can't be done, the connection ends at once.
@@ -145,7 +138,7 @@ impl<
             self.rt, self.alloc, self.house, self.gate, self.turns,
         );
         if let Err(newcomer) = house.put(rt, newcomer) {
-            turn_away(rt, alloc, house, gate, newcomer);
+            newcomer.serve(rt, alloc, house, gate, 0);
             return;
         }
         let started = Builder::new()
@@ -154,14 +147,29 @@ impl<
                 scope,
                 move ||
                     requires { (C.all ≡ C.parts) × (M.all ≡ M.parts) }
-                { attend(rt, alloc, house, gate, turns) },
+                { serve_next(rt, alloc, house, gate, turns) },
             )
             .is_ok();
         if !started {
             if let Some(newcomer) = house.take(rt) {
-                turn_away(rt, alloc, house, gate, newcomer);
+                newcomer.serve(rt, alloc, house, gate, 0);
             }
         }
+    }
+}
+
+/// Serves a connection that was put, until both its sides have ended.
+fn serve_next<
+    C: Tally + Send + Sync,
+    M: Tally + Send + Sync,
+    G: Gate + Sync,
+    R: Threads + Wait + Sync,
+>(rt: &R, alloc: Global, house: &House<C, M>, gate: &G, turns: u64)
+    requires calls { C.all ≡ C.parts }
+    requires mails { M.all ≡ M.parts }
+{
+    if let Some(newcomer) = house.take(rt) {
+        newcomer.serve(rt, alloc, house, gate, turns);
     }
 }
 

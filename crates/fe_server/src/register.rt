@@ -1,32 +1,39 @@
 //! Which connections a server has.
 
-ghost use Rattle.std.specs.Prelude.{◌≡◌, ◌⊎◌, ◌+◌, ◌-◌, ◌≤◌, ◌↔◌, true, false, None, IfSome, IsSome, nat_lt};
-ghost use Rattle.fe_shared.specs.Seats.{first_read_seat, first_write_seat};
+ghost use Rattle.std.specs.Prelude.{◌≡◌, ◌⊎◌, ◌+◌, ◌-◌, ◌^◌, ◌≤◌, ◌↔◌, ◌∷◌, ◌++◌, [], true, false, IfOk, IfErr, OnOk, IsSome, IsTrue, nat_lt};
+ghost use Rattle.fe_server.specs.Departed.{joined_to};
 ghost use Rattle.fe_server.specs.Serving.{fault_of_end};
 
+use crate::connection::Outcome;
 use crate::departed::Departed;
+use crate::newcomer::{Newcomer, Unserved};
+use crate::socket_handle::SocketHandle;
 use crate::stop_fault::StopFault;
-use fe_hall::{CallSeat, CommitEnd, Gathered, MailSeat, Tally};
+use fe_hall::{CommitEnd, Gathered, Tally};
 use std::alloc::Global;
-use std::io::Write;
 use std::net::Shutdown;
 use std::os::unix::net::UnixStream;
-use std::sync::Arc;
-
-/// A connection that came, before its threads begin. It is not `Drop`, since its admission has to be given back.
-pub(crate) struct Newcomer<C: Tally, M: Tally> {
-    pub(crate) conn: u64,
-    pub(crate) admission: Admission,
-    pub(crate) stream: Arc<UnixStream, Global>,
-    pub(crate) calls: CallSeat<C>,
-    pub(crate) mails: MailSeat<M>,
-    ghost reads: { calls ≡ first_read_seat conn },
-    ghost writes: { mails ≡ first_write_seat conn },
-}
 
 /// Lets a connection come, with at most this many at once. Only `Register::enter` makes it. It is not `Drop`: a connection cannot end
 /// without giving it back to `Register::leave`.
 pub(crate) struct Admission {
+    /// The number of the connection, which no other one has.
+    conn: u64,
+    most: u64,
+}
+
+impl Admission {
+    pub(crate) fn conn(&self) -> u64
+        ensures { result ≡ self.now.conn }
+    {
+        self.conn
+    }
+}
+
+/// Shows that there was no room for one more connection, with at most this many at once, or that the server has ended. Only
+/// `Register::enter` makes it.
+#[derive(Drop)]
+pub(crate) struct Full {
     most: u64,
 }
 
@@ -58,10 +65,12 @@ impl Over {
 pub(crate) struct Register<C: Tally, M: Tally> {
     /// The connections whose threads have not begun.
     newcomers: Vec<Newcomer<C, M>>,
+    /// How many connections were admitted, which is the number of the next.
+    admitted: u64,
     /// How many connections are there.
     present: u64,
-    /// Their sockets, each with its connection's number.
-    sockets: Vec<(u64, Arc<UnixStream, Global>)>,
+    /// By which their streams are ended.
+    handles: Vec<SocketHandle>,
     /// Another handle of the listener, as a socket that can be shut down, while connections are accepted.
     door: Option<UnixStream>,
     /// Nothing is stored any more.
@@ -74,8 +83,9 @@ impl<C: Tally, M: Tally> Register<C, M> {
     pub(crate) fn new(alloc: Global, door: UnixStream, receipts: Gathered<M>) -> Register<C, M> {
         Register {
             newcomers: Vec::new(alloc),
+            admitted: 0,
             present: 0,
-            sockets: Vec::new(alloc),
+            handles: Vec::new(alloc),
             door: Some(door),
             over: false,
             departed: Departed::new(alloc, receipts),
@@ -87,10 +97,10 @@ impl<C: Tally, M: Tally> Register<C, M> {
         if self.newcomers.reserve(1).is_err() {
             return Err(newcomer);
         }
-        let Ok(socket) = Arc::try_clone(&newcomer.stream) else {
+        let Some(handle) = newcomer.connection.handle() else {
             return Err(newcomer);
         };
-        if self.sockets.push((newcomer.conn, socket)).is_err() {
+        if self.handles.push(handle).is_err() {
             return Err(newcomer);
         }
         self.newcomers.push_reserved(newcomer);
@@ -111,34 +121,56 @@ impl<C: Tally, M: Tally> Register<C, M> {
 
     /// Whether a connection is about to end: its client, or one of its own sides, has closed it.
     pub(crate) fn has_ending(&self) -> bool {
-        self.sockets.iter().any(|(_, socket)| has_ended(socket))
+        self.handles.iter().any(|handle| handle.has_ended())
     }
 
-    /// Admits one more connection, with at most this many at once. `None` if there is no room, or the server has ended.
-    pub(crate) fn enter(&mut self, most: u64) -> Option<Admission>
-        ensures most { IfSome result (λ admission. admission.most ≡ most) }
-        ensures few { IsSome result → (self.new.present ≡ self.old.present + 1) × (self.new.present ≤ most) }
-        ensures running { IsSome result → self.old.over ≡ false }
-        ensures none { result ≡ None → (self.new ≡ self.old) × ((self.old.over ≡ true) ⊎ (most ≤ self.old.present)) }
+    /// Admits one more connection, with at most this many at once, and gives it the next number.
+    pub(crate) fn enter(&mut self, most: u64) -> Result<Admission, Full>
+        ensures most { IfOk result (λ admission. admission.most ≡ most) }
+        ensures number { IfOk result (λ admission. (admission.conn ≡ self.old.admitted) × (self.new.admitted ≡ admission.conn + 1)) }
+        ensures few { OnOk result ((self.new.present ≡ self.old.present + 1) × (self.new.present ≤ most)) }
+        ensures running { OnOk result (self.old.over ≡ false) }
+        ensures full { IfErr result (λ full. (full.most ≡ most) × (self.new ≡ self.old)
+            × ((self.old.over ≡ true) ⊎ (most ≤ self.old.present) ⊎ (2 ^ 64 ≤ self.old.admitted + 1))) }
     {
-        if self.over {
-            return None;
+        if self.over || self.present >= most || self.admitted == u64::MAX {
+            return Err(Full { most });
         }
-        if self.present >= most {
-            return None;
-        }
+        let conn = self.admitted;
+        self.admitted += 1;
         self.present += 1;
-        Some(Admission { most })
+        Ok(Admission { conn, most })
     }
 
-    /// A connection has ended, and leaves room for another one.
-    pub(crate) fn leave(&mut self, conn: u64, admission: Admission)
-        ensures { self.new.present ≡ self.old.present - 1 }
+    /// A connection has ended, and leaves what its sides did, and room for another one.
+    pub(crate) fn leave(&mut self, admission: Admission, outcome: Outcome<C, M>, keeps: bool)
+        requires own { outcome.mails.conn ≡ admission.conn }
+        requires calls { C.all ≡ C.parts }
+        requires mails { M.all ≡ M.parts }
+        ensures present { self.new.present ≡ self.old.present - 1 }
+        ensures calls { self.new.departed.calls ≡ joined_to self.old.departed.calls outcome.calls.calls }
+        ensures mails { self.new.departed.mails ≡ joined_to self.old.departed.mails outcome.mails.mails }
+        ensures kept { IsTrue keeps → self.new.departed.short ≡ false
+            → (self.new.departed.sent.items ≡ self.old.departed.sent.items ++ outcome.sent ∷ [])
+            × (self.new.departed.receipts.items ≡ self.old.departed.receipts.items ++ outcome.receipts.items) }
     {
-        let Admission { most: _ } = admission;
+        outcome.add_to(&mut self.departed, keeps);
+        self.release(admission);
+    }
+
+    /// A connection was not served, since the hall made no seats for it.
+    pub(crate) fn refuse(&mut self, unserved: Unserved) {
+        self.release(unserved.close());
+    }
+
+    fn release(&mut self, admission: Admission)
+        ensures present { self.new.present ≡ self.old.present - 1 }
+        ensures departed { self.new.departed ≡ self.old.departed }
+    {
+        let Admission { conn, most: _ } = admission;
         self.present = self.present.saturating_sub(1);
-        if let Some(at) = self.sockets.iter().position(|(other, _)| *other == conn) {
-            drop(self.sockets.swap_remove(at));
+        if let Some(at) = self.handles.iter().position(|handle| handle.conn() == conn) {
+            drop(self.handles.swap_remove(at));
         }
     }
 
@@ -165,8 +197,8 @@ impl<C: Tally, M: Tally> Register<C, M> {
 
     /// Ends the streams of all connections.
     pub(crate) fn shut_all(&self) {
-        for (_, socket) in &self.sockets {
-            let _ = socket.shutdown(Shutdown::Both);
+        for handle in &self.handles {
+            handle.shut();
         }
     }
 
@@ -183,14 +215,15 @@ impl<C: Tally, M: Tally> Register<C, M> {
     {
         let Register {
             newcomers,
+            admitted: _,
             present: _,
-            sockets,
+            handles,
             door,
             over: _,
             departed,
         } = self;
         dismiss(newcomers);
-        drop(sockets);
+        drop(handles);
         drop(door);
         departed
     }
@@ -201,22 +234,13 @@ fn dismiss<C: Tally, M: Tally>(newcomers: Vec<Newcomer<C, M>>) {
     let mut newcomers = newcomers;
     while let Some(newcomer) = newcomers.pop() {
         let Newcomer {
-            conn: _,
-            admission,
-            stream,
+            connection,
             calls,
             mails,
         } = newcomer;
-        let Admission { most: _ } = admission;
-        drop(stream);
+        let Admission { conn: _, most: _ } = connection.close();
         drop(calls);
         drop(mails);
     }
     newcomers.destroy_empty();
-}
-
-/// Whether a socket takes no more bytes. This writes none.
-fn has_ended(socket: &UnixStream) -> bool {
-    let mut stream = socket;
-    stream.write(&[]).is_err()
 }

@@ -6,5 +6,5 @@ pub record Few (came tried accepts : ℕ) : Type 0 where
   pub some : came ≤ tried
   pub fewer : 0 < accepts → came < accepts
 
-abbrev pub invariant-loop-conn : goal.invariant-loop-conn
-invariant-loop-conn g l = Few l.came l.conn l.accepts
+abbrev pub invariant-loop-tried : goal.invariant-loop-tried
+invariant-loop-tried g l = Few l.came l._tried l.accepts
