@@ -1,6 +1,7 @@
 pub mod Acknowledged
 pub mod BooksText
 pub mod Departed
+pub mod Opened
 pub mod Serving
 pub mod Sides
 pub mod Streams

@@ -13,6 +13,7 @@ use Rattle.fe_shared.specs.Seats.{HasDeparted, HasRested, ReadSeat, WriteSeat}
 
 -- A read side read a half: what it handled is the front of the stream, if the half tells its bytes and had told none; and it ended so.
 pub record HasHandled {H : Type 0} (tells : H → Type 0) (told : H → List ℕ) (old new : H) (seat left : ReadSeat) (sent : List ClientMessage) (end : ReadEnd) : Type 0 where
+  pub own : left.conn ≡ seat.conn
   pub handled : tells old → told old ≡ [] → reads.HandlesStream (told new) seat left sent end
   pub hall : reads.IsTold end left.standing
   pub departed : end ≢ read_end.Stopped → HasDeparted left

@@ -1,5 +1,5 @@
-//! A connection: its socket and its number. Here a client's stream is read and written. No other file does that: `Entrance::accept` hands
-//! the stream over, and a `SocketHandle` only ends it.
+//! A connection: its socket and its number. No other file reads or writes the socket of a client: `Entrance::accept` hands it over, and
+//! a `SocketHandle` only ends its stream.
 //!
 //! What serves a connection takes any reader and any writer, whose bytes its clauses name. One expression, in `Connection::serve`, knows
 //! that it is a socket.
@@ -48,42 +48,61 @@ impl HangUp for UnixStream {
     }
 }
 
-/// A client's stream that was accepted and is not admitted yet. It is not `Drop`: it becomes a connection, or is closed where the
+/// The socket of a client.
+#[derive(Drop)]
+pub(crate) struct ClientSocket {
+    stream: UnixStream,
+}
+
+impl ClientSocket {
+    /// Whether its stream takes no more bytes. This writes none.
+    pub(crate) fn has_ended(&self) -> bool {
+        let mut stream = &self.stream;
+        stream.write(&[]).is_err()
+    }
+
+    /// Ends its stream.
+    pub(crate) fn shut(&self) {
+        self.stream.hang_up();
+    }
+}
+
+/// A client that was accepted and is not admitted yet. It is not `Drop`: it becomes a connection, or its socket is closed where the
 /// register had no room for it.
 pub(crate) struct Accepted {
-    stream: Arc<UnixStream, Global>,
+    socket: Arc<ClientSocket, Global>,
 }
 
 impl Accepted {
-    /// The stream that a listener accepted. Without memory for it, the stream is closed.
+    /// The client whose stream a listener accepted. Without memory for it, the stream is closed.
     pub(crate) fn of(alloc: Global, stream: UnixStream) -> Result<Accepted, AllocError> {
-        match Arc::new(alloc, stream) {
-            Ok(stream) => Ok(Accepted { stream }),
+        match Arc::new(alloc, ClientSocket { stream }) {
+            Ok(socket) => Ok(Accepted { socket }),
             Err(_) => Err(AllocError),
         }
     }
 
-    /// Closes the stream of a client that was not admitted.
+    /// Closes the socket of a client that was not admitted.
     pub(crate) fn close(self, full: Full) {
-        let Accepted { stream } = self;
+        let Accepted { socket } = self;
         drop(full);
-        drop(stream);
+        drop(socket);
     }
 }
 
-/// A connection that was admitted: its number and its stream. It is not `Drop`, since the admission has to be given back.
+/// A connection that was admitted: its number and its socket. It is not `Drop`, since the admission has to be given back.
 pub(crate) struct Connection {
     admission: Admission,
-    stream: Arc<UnixStream, Global>,
+    socket: Arc<ClientSocket, Global>,
 }
 
 impl Connection {
-    /// The connection over this stream. Its number is that of the admission.
+    /// The connection of this client. Its number is that of the admission.
     pub(crate) fn of(accepted: Accepted, admission: Admission) -> Connection
         ensures { result.admission ≡ admission }
     {
-        let Accepted { stream } = accepted;
-        Connection { admission, stream }
+        let Accepted { socket } = accepted;
+        Connection { admission, socket }
     }
 
     /// Its number.
@@ -97,8 +116,8 @@ impl Connection {
     pub(crate) fn handle(&self) -> Option<SocketHandle>
         ensures { IfSome result (λ handle. handle.conn ≡ self.now.admission.conn) }
     {
-        match Arc::try_clone(&self.stream) {
-            Ok(stream) => Some(SocketHandle::of(self.admission.conn(), stream)),
+        match Arc::try_clone(&self.socket) {
+            Ok(socket) => Some(SocketHandle::of(self.admission.conn(), socket)),
             Err(_) => None,
         }
     }
@@ -123,19 +142,19 @@ impl Connection {
         requires mails { mails.conn ≡ self.now.admission.conn }
         ensures own { result.mails.conn ≡ self.now.admission.conn }
     {
-        let stream: &UnixStream = &self.stream;
+        let stream: &UnixStream = &self.socket.stream;
         let (_, _, outcome) = serve_streams(
             rt, alloc, house, gate, calls, mails, stream, stream, stream, turns,
         );
         outcome
     }
 
-    /// Lets go of its stream.
+    /// Lets go of its socket.
     pub(crate) fn close(self) -> Admission
         ensures { result ≡ self.admission }
     {
-        let Connection { admission, stream } = self;
-        drop(stream);
+        let Connection { admission, socket } = self;
+        drop(socket);
         admission
     }
 }
@@ -149,6 +168,7 @@ pub(crate) struct Outcome<C: Tally, M: Tally> {
     mails: MailSeat<M>,
     receipts: Receipts<M>,
     write: WriteEnd,
+    ghost one: { calls.conn ≡ mails.conn },
     ghost own: { receipts.conn ≡ mails.conn },
 }
 
@@ -161,6 +181,7 @@ impl<C: Tally, M: Tally> Outcome<C, M> {
         receipts: Receipts<M>,
         write: WriteEnd,
     ) -> Outcome<C, M>
+        requires one { calls.conn ≡ mails.conn }
         requires own { receipts.conn ≡ mails.conn }
         ensures calls { result.calls ≡ calls }
         ensures sent { result.sent ≡ sent }
@@ -241,8 +262,8 @@ fn serve_streams<
 ) -> (StreamRead<I>, StreamWrite<O>, Outcome<C, M>)
     requires one { calls.conn ≡ mails.conn }
     ensures own { result.2.mails.conn ≡ mails.conn }
-    ensures handled { IsSome (I.remaining reader)
-        → HandlesStream (known_bytes (bytes_read (I.remaining result.0.incoming.began.value) (I.remaining result.0.incoming.reader)))
+    ensures handled { let incoming = result.0.incoming in IsSome (I.remaining reader)
+        → HandlesStream (known_bytes (bytes_read (I.remaining incoming.began.value) (I.remaining incoming.reader)))
         calls result.2.calls result.2.sent.items result.2.read }
     ensures wrote { (all : List Told) × AreTaken mails result.2.mails result.2.receipts.items all
         × (IsSome (O.contents writer)

@@ -15,7 +15,7 @@ use crate::connection::{Connection, Outcome};
 use crate::departed::Departed;
 use crate::entrance::Entrance;
 use crate::newcomer::{Newcomer, Unserved};
-use crate::register::{Admission, Full, Over, Register, Running};
+use crate::register::{Admission, Full, NoMore, NoNewcomer, Over, Register, Running, Waiting};
 use crate::stop_fault::StopFault;
 use fe_disk::Disk;
 use fe_front::Front;
@@ -43,6 +43,8 @@ pub(crate) struct House<C: Tally, M: Tally> {
     freed: Condvar,
     /// How many connections may be there at once.
     most: u64,
+    /// How many connections may come; any number if it is 0.
+    accepts: u64,
     /// Whether what was sent and the receipts are kept for the closing.
     keeps: bool,
 }
@@ -70,6 +72,7 @@ impl<C: Tally, M: Tally> Opened<C, M> {
         requires acts { history.acts ≡ act.Began state.now ∷ [] }
         ensures begun { IfOk result (λ opened. opened.0.begun.value ≡ state.now) }
         ensures most { IfOk result (λ opened. opened.0.house.most ≡ settings.now.connections) }
+        ensures accepts { IfOk result (λ opened. opened.0.house.accepts ≡ settings.now.accepts) }
         ensures keeps { IfOk result (λ opened. opened.0.house.keeps ≡ nat_lt 0 settings.now.accepts) }
         ensures seat { IfOk result (λ opened. opened.1 ≡ history.acts) }
     {
@@ -91,6 +94,7 @@ impl<C: Tally, M: Tally> Opened<C, M> {
                     register: Mutex::new(Register::new(alloc, door, receipts)),
                     freed: Condvar::new(),
                     most: settings.connections,
+                    accepts: settings.accepts,
                     keeps: settings.accepts > 0,
                 };
                 Ok((Opened { house, begun }, seat))
@@ -118,6 +122,7 @@ impl<C: Tally, M: Tally> Opened<C, M> {
             register,
             freed,
             most: _,
+            accepts: _,
             keeps,
         } = house;
         drop(freed);
@@ -164,11 +169,12 @@ impl<C: Tally, M: Tally> Opened<C, M> {
 impl<C: Tally, M: Tally> House<C, M> {
     /// Admits one more connection if there is room. If there is none, it waits for a connection that is about to end.
     pub(crate) fn enter<R: Clock + Wait>(&self, rt: &R) -> Result<Admission, Full>
-        ensures admission { IfOk result (λ admission. admission.most ≡ self.now.most) }
+        ensures admission { IfOk result
+            (λ admission. (admission.most ≡ self.now.most) × (admission.accepts ≡ self.now.accepts)) }
         // Only the register says that it is full, with as many as the settings say.
-        ensures full { IfErr result (λ full. full.most ≡ self.now.most) }
+        ensures full { IfErr result (λ full. (full.most ≡ self.now.most) × (full.accepts ≡ self.now.accepts)) }
     {
-        let most = self.most;
+        let (most, accepts) = (self.most, self.accepts);
         let register = self.register.lock(rt);
         let (mut register, _) = self.freed.wait_timeout_while(
             rt,
@@ -176,18 +182,20 @@ impl<C: Tally, M: Tally> House<C, M> {
             Duration::from_millis(ROOM_WAIT),
             |register| !register.has_room(most) && register.has_ending(),
         );
-        register.enter(most)
+        register.enter(most, accepts)
     }
 
+    /// Keeps a connection until its thread takes it. Gives it back if there is no memory for it.
     pub(crate) fn put<R: Wait>(
         &self,
         rt: &R,
         newcomer: Newcomer<C, M>,
-    ) -> Result<(), Newcomer<C, M>> {
+    ) -> Result<Waiting, Newcomer<C, M>> {
         self.register.lock(rt).put(newcomer)
     }
 
-    pub(crate) fn take<R: Wait>(&self, rt: &R) -> Option<Newcomer<C, M>> {
+    /// Takes a connection whose threads have not begun.
+    pub(crate) fn take<R: Wait>(&self, rt: &R) -> Result<Newcomer<C, M>, NoNewcomer> {
         self.register.lock(rt).take()
     }
 
@@ -262,15 +270,16 @@ impl<C: Tally, M: Tally> House<C, M> {
         self.register.lock(rt).close_door();
     }
 
-    /// `None` once the server has ended.
-    pub(crate) fn running<R: Wait>(&self, rt: &R) -> Option<Running> {
-        self.register.lock(rt).running()
+    /// Whether connections may come: the server has not ended, and not as many came as the settings say.
+    pub(crate) fn running<R: Wait>(&self, rt: &R) -> Result<Running, NoMore>
+        ensures { IfErr result (λ no_more. no_more.accepts ≡ self.now.accepts) }
+    {
+        self.register.lock(rt).running(self.accepts)
     }
 
     /// All clients were served, so the hall may stop.
     pub(crate) fn stop<R: Wait>(&self, rt: &R, served: AllServed) {
-        drop(served);
-        self.hall.stop(rt);
+        served.end(self.hall.stop(rt));
     }
 
     /// There is no memory for something that the closing needs, so the hall stops.

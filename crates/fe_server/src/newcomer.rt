@@ -5,7 +5,7 @@ ghost use Rattle.fe_shared.specs.Seats.{first_read_seat, first_write_seat};
 
 use crate::connection::Connection;
 use crate::house::House;
-use crate::register::Admission;
+use crate::register::{Admission, NoNewcomer};
 use fe_hall::{CallSeat, Gate, Hall, MailSeat, Tally};
 use std::alloc::Global;
 use std::sync::Wait;
@@ -18,6 +18,18 @@ pub(crate) struct Newcomer<C: Tally, M: Tally> {
     pub(crate) mails: MailSeat<M>,
     ghost reads: { calls ≡ first_read_seat connection.admission.conn },
     ghost writes: { mails ≡ first_write_seat connection.admission.conn },
+}
+
+/// Shows that a connection that waited for its thread was served, or that none waited. Only `Newcomer::serve` and `NoNewcomer` make it.
+#[derive(Drop)]
+pub(crate) struct Ended(());
+
+impl Ended {
+    /// No connection waited.
+    pub(crate) fn of(none: NoNewcomer) -> Ended {
+        drop(none);
+        Ended(())
+    }
 }
 
 /// A connection for which a hall made no seats. Only `Newcomer::of` makes it.
@@ -63,7 +75,7 @@ impl<C: Tally + Send + Sync, M: Tally + Send + Sync> Newcomer<C, M> {
         house: &House<C, M>,
         gate: &G,
         turns: u64,
-    )
+    ) -> Ended
         requires calls { C.all ≡ C.parts }
         requires mails { M.all ≡ M.parts }
     {
@@ -74,5 +86,6 @@ impl<C: Tally + Send + Sync, M: Tally + Send + Sync> Newcomer<C, M> {
         } = self;
         let outcome = connection.serve(rt, alloc, house, gate, calls, mails, turns);
         house.leave(rt, connection, outcome);
+        Ended(())
     }
 }

@@ -1,26 +1,24 @@
-//! A handle by which the register ends the stream of a connection.
+//! A handle by which the stream of a connection is ended from outside.
 
 ghost use Rattle.std.specs.Prelude.{◌≡◌};
 
+use crate::connection::ClientSocket;
 use std::alloc::Global;
-use std::io::Write;
-use std::net::Shutdown;
-use std::os::unix::net::UnixStream;
 use std::sync::Arc;
 
 /// Ends the stream of a connection from outside, and sees whether it has ended. It neither reads nor writes.
 #[derive(Drop)]
 pub(crate) struct SocketHandle {
     conn: u64,
-    stream: Arc<UnixStream, Global>,
+    socket: Arc<ClientSocket, Global>,
 }
 
 impl SocketHandle {
     /// A handle of the connection with this number.
-    pub(crate) fn of(conn: u64, stream: Arc<UnixStream, Global>) -> SocketHandle
+    pub(crate) fn of(conn: u64, socket: Arc<ClientSocket, Global>) -> SocketHandle
         ensures { result.conn ≡ conn }
     {
-        SocketHandle { conn, stream }
+        SocketHandle { conn, socket }
     }
 
     pub(crate) fn conn(&self) -> u64
@@ -29,14 +27,13 @@ impl SocketHandle {
         self.conn
     }
 
-    /// Whether the stream takes no more bytes. This writes none.
+    /// Whether the stream takes no more bytes.
     pub(crate) fn has_ended(&self) -> bool {
-        let mut stream: &UnixStream = &self.stream;
-        stream.write(&[]).is_err()
+        self.socket.has_ended()
     }
 
     /// Ends the stream.
     pub(crate) fn shut(&self) {
-        let _ = self.stream.shutdown(Shutdown::Both);
+        self.socket.shut();
     }
 }
