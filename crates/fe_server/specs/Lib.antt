@@ -1,4 +1,5 @@
 pub mod Acknowledged
+pub mod Arrivals
 pub mod BooksText
 pub mod Departed
 pub mod Opened

@@ -1,6 +1,7 @@
 //! Accepts connections from a listener.
 
-ghost use Rattle.std.specs.Prelude.{◌≡◌, ◌⊎◌, ◌<◌, ◌≤◌, true};
+ghost use Rattle.std.specs.Prelude.{◌≡◌};
+ghost use Rattle.fe_server.specs.Arrivals.{HasEnded};
 
 use crate::connection::{Accepted, Connection, STACK};
 use crate::entrance::Entrance;
@@ -51,8 +52,7 @@ pub(crate) fn serve_clients<
     requires mails { M.all ≡ M.parts }
     requires accepts { house.now.accepts ≡ settings.now.accepts }
     // Clients come until the server ends, or as many came as the settings say.
-    ensures why { (result.no_more.over ≡ true)
-        ⊎ ((0 < settings.now.accepts) × (settings.now.accepts ≤ result.no_more.came)) }
+    ensures why { HasEnded settings.now.accepts result.no_more }
 {
     let turns = settings.turns;
     let no_more = thread::scope(
@@ -60,7 +60,7 @@ pub(crate) fn serve_clients<
         rt,
         move |scope| -> NoMore
             requires { (C.all ≡ C.parts) × (M.all ≡ M.parts) }
-            ensures { result.accepts ≡ house.now.accepts }
+            ensures { HasEnded house.now.accepts result }
         {
             let porter = Porter {
                 rt,
@@ -100,7 +100,7 @@ impl<
     fn accept_all<E>(&self, scope: &Scope<'s, E>, entrance: &Entrance) -> NoMore
         requires calls { C.all ≡ C.parts }
         requires mails { M.all ≡ M.parts }
-        ensures { result.accepts ≡ self.now.house.now.accepts }
+        ensures { HasEnded self.now.house.now.accepts result }
     {
         for _ in self.rt.forever() {
             match self.house.running(self.rt) {

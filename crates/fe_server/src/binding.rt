@@ -1,6 +1,6 @@
 //! Makes the socket, first under another name in its folder, so that its file is there only once it listens.
 
-ghost use Rattle.std.specs.Prelude.{◌≡◌, ◌<◌, ◌≤◌, ◌++◌, codes, length, string_bytes, IfSome, IsSome};
+ghost use Rattle.std.specs.Prelude.{◌≡◌, ◌<◌, ◌++◌, codes, length, string_bytes, IfSome, IsSome};
 
 use std::alloc::Global;
 use std::fs;
@@ -50,7 +50,6 @@ fn is_taken<R: Files>(rt: &R, path: &str) -> bool {
 /// The other name of a path, if it is not too long and there is memory for it.
 fn name_beside(alloc: Global, path: &str) -> Option<String>
     ensures name { IfSome result (λ name. string_bytes name ≡ path.now ++ codes ".new") }
-    ensures fits { IfSome result (λ name. length (string_bytes name) ≤ 107) }
 {
     if path.len() > LONGEST - BESIDE.len() {
         return None;

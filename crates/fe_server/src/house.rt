@@ -6,6 +6,7 @@ ghost use Rattle.fe_history.specs.Acts.{EachTold, Gathered as Kept, IsAccountOf}
 ghost use Rattle.fe_hall.specs.Audits.{account_left};
 ghost use Rattle.fe_history.specs.Receipts.{IsBorneOut};
 ghost use Rattle.fe_history.specs.declared.act.Act.TheVariants as act;
+ghost use Rattle.fe_server.specs.Arrivals.{HasEnded};
 ghost use Rattle.fe_server.specs.Departed.{IsClean};
 ghost use Rattle.fe_server.specs.Serving.{HasNoted, IsBlankOf, fault_of_end};
 ghost use Rattle.fe_server.specs.declared.stop_fault.StopFault.TheVariants as fault;
@@ -272,7 +273,8 @@ impl<C: Tally, M: Tally> House<C, M> {
 
     /// Whether connections may come: the server has not ended, and not as many came as the settings say.
     pub(crate) fn running<R: Wait>(&self, rt: &R) -> Result<Running, NoMore>
-        ensures { IfErr result (λ no_more. no_more.accepts ≡ self.now.accepts) }
+        ensures accepts { IfErr result (λ no_more. no_more.accepts ≡ self.now.accepts) }
+        ensures why { IfErr result (HasEnded self.now.accepts) }
     {
         self.register.lock(rt).running(self.accepts)
     }

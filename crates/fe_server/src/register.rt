@@ -2,6 +2,7 @@
 
 ghost use Rattle.std.specs.Prelude.{◌≡◌, ◌⊎◌, ◌+◌, ◌-◌, ◌^◌, ◌<◌, ◌≤◌, ◌∷◌, ◌++◌, [], true, false, IfOk, IfErr, OnErr, OnOk, IsSome, IsTrue, nat_lt};
 ghost use Rattle.fe_server.specs.Departed.{IsAdded, joined_to};
+ghost use Rattle.fe_server.specs.Arrivals.{HasEnded};
 ghost use Rattle.fe_server.specs.Serving.{fault_of_end};
 
 use crate::connection::Outcome;
@@ -46,7 +47,6 @@ pub(crate) struct NoMore {
     over: bool,
     came: u64,
     accepts: u64,
-    ghost why: { (over ≡ true) ⊎ ((0 < accepts) × (accepts ≤ came)) },
 }
 
 /// A connection was put into the register, and a thread has to take it. It is not `Drop`: either such a thread was started, or this one
@@ -112,6 +112,7 @@ pub(crate) struct Register<C: Tally, M: Tally> {
     /// Nothing is stored any more.
     over: bool,
     pub(crate) departed: Departed<C, M>,
+    ghost few: { came ≤ admitted },
 }
 
 impl<C: Tally, M: Tally> Register<C, M> {
@@ -278,6 +279,7 @@ impl<C: Tally, M: Tally> Register<C, M> {
         ensures running { OnOk result (self.now.over ≡ false) }
         ensures no_more { IfErr result (λ no_more. (no_more.accepts ≡ accepts) × (no_more.came ≡ self.now.came)
             × (no_more.over ≡ self.now.over)) }
+        ensures why { IfErr result (HasEnded accepts) }
     {
         let over = self.over;
         let came = self.came;
