@@ -50,17 +50,16 @@ pub(crate) fn serve_clients<
 ) -> AllServed
     requires calls { C.all ≡ C.parts }
     requires mails { M.all ≡ M.parts }
-    requires accepts { house.now.accepts ≡ settings.now.accepts }
     // Clients come until the server ends, or as many came as the settings say.
     ensures why { HasEnded settings.now.accepts result.no_more }
 {
-    let turns = settings.turns;
+    let (turns, accepts) = (settings.turns, settings.accepts);
     let no_more = thread::scope(
         thread::scope_env(),
         rt,
         move |scope| -> NoMore
             requires { (C.all ≡ C.parts) × (M.all ≡ M.parts) }
-            ensures { HasEnded house.now.accepts result }
+            ensures { HasEnded accepts result }
         {
             let porter = Porter {
                 rt,
@@ -69,7 +68,7 @@ pub(crate) fn serve_clients<
                 gate,
                 turns,
             };
-            let no_more = porter.accept_all(scope, &entrance);
+            let no_more = porter.accept_all(scope, &entrance, accepts);
             house.close_door(rt);
             drop(entrance);
             no_more
@@ -96,14 +95,14 @@ impl<
     G: Gate + Sync,
     R: Clock + Threads + Wait + Sync,
 > Porter<'s, C, M, G, R> {
-    /// Accepts connections until no more may come.
-    fn accept_all<E>(&self, scope: &Scope<'s, E>, entrance: &Entrance) -> NoMore
+    /// Accepts connections until the server ends or this many came; without end if it is 0.
+    fn accept_all<E>(&self, scope: &Scope<'s, E>, entrance: &Entrance, accepts: u64) -> NoMore
         requires calls { C.all ≡ C.parts }
         requires mails { M.all ≡ M.parts }
-        ensures { HasEnded self.now.house.now.accepts result }
+        ensures { HasEnded accepts result }
     {
         for _ in self.rt.forever() {
-            match self.house.running(self.rt) {
+            match self.house.running(self.rt, accepts) {
                 Err(no_more) => return no_more,
                 Ok(running) => match entrance.accept(self.alloc, running) {
                     Err(error) => pause(self.rt, error),

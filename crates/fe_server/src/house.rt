@@ -271,12 +271,11 @@ impl<C: Tally, M: Tally> House<C, M> {
         self.register.lock(rt).close_door();
     }
 
-    /// Whether connections may come: the server has not ended, and not as many came as the settings say.
-    pub(crate) fn running<R: Wait>(&self, rt: &R) -> Result<Running, NoMore>
-        ensures accepts { IfErr result (λ no_more. no_more.accepts ≡ self.now.accepts) }
-        ensures why { IfErr result (HasEnded self.now.accepts) }
+    /// Whether connections may come: the server has not ended and, unless `accepts` is 0, fewer than that came.
+    pub(crate) fn running<R: Wait>(&self, rt: &R, accepts: u64) -> Result<Running, NoMore>
+        ensures why { IfErr result (HasEnded accepts) }
     {
-        self.register.lock(rt).running(self.accepts)
+        self.register.lock(rt).running(accepts)
     }
 
     /// All clients were served, so the hall may stop.

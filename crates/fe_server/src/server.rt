@@ -253,7 +253,6 @@ fn run<
     requires mails { M.all ≡ M.parts }
     requires begun { opened.now.begun.value ≡ keeper.state }
     requires most { opened.now.house.most ≡ settings.now.connections }
-    requires accepts { opened.now.house.accepts ≡ settings.now.accepts }
     requires keeps { opened.now.house.keeps ≡ nat_lt 0 settings.now.accepts }
     requires seat { seat ≡ act.Began keeper.state ∷ [] }
     ensures { HasNoted D.honest D.moment D.left_since D.may_leave D.failures keeper result.0 result.1.end result.2 }
@@ -263,8 +262,7 @@ fn run<
         thread::scope_env(),
         rt,
         move |scope| -> (Keeper<D>, Over, StoreSeat<M>)
-            requires { (C.all ≡ C.parts) × (M.all ≡ M.parts) × (seat ≡ act.Began keeper.state ∷ [])
-                × (house.now.accepts ≡ settings.now.accepts) }
+            requires { (C.all ≡ C.parts) × (M.all ≡ M.parts) × (seat ≡ act.Began keeper.state ∷ []) }
             ensures { HasNoted D.honest D.moment D.left_since D.may_leave D.failures keeper
                 result.0 result.1.end result.2 }
         {
@@ -298,7 +296,6 @@ fn run_in<
     requires calls { C.all ≡ C.parts }
     requires mails { M.all ≡ M.parts }
     requires seat { seat ≡ act.Began keeper.state ∷ [] }
-    requires accepts { house.now.accepts ≡ settings.now.accepts }
     ensures { HasNoted D.honest D.moment D.left_since D.may_leave D.failures keeper result.0 result.1.end result.2 }
 {
     let promise = Committed {
