@@ -39,6 +39,7 @@ pub fn read_side<C: Tally, M: Tally, H: ReadHalf, G: Gate, R: Wait>(
     // If the half tells its bytes, and has told none yet, what was handled is the front of its stream.
     ensures handled { H.tells half.old → H.told half.old ≡ []
         → HandlesStream (H.told half.new) seat result.0 result.1.items result.2 }
+    ensures own { result.0.conn ≡ seat.conn }
     ensures tells { H.tells half.old → H.tells half.new }
     ensures turns { result.2 ≡ ReadEnd.Turns → IsSome turns }
     ensures ended { result.2 ≡ ReadEnd.Closed → H.ended half.new }
@@ -86,6 +87,7 @@ impl<C: Tally> Reading<C> {
         ensures handled { H.tells half.old → H.told half.old ≡ []
             → IsAt [] self.old.seat self.old.decoder self.old.seat self.old.listed.items
             → HandlesStream (H.told half.new) self.old.seat self.new.seat self.new.listed.items result }
+        ensures own { self.new.seat.conn ≡ self.old.seat.conn }
         ensures tells { H.tells half.old → H.tells half.new }
         ensures turns { result ≡ ReadEnd.Turns → IsSome turns }
         ensures ended { result ≡ ReadEnd.Closed → H.ended half.new }
@@ -124,6 +126,7 @@ impl<C: Tally> Reading<C> {
             → IsAt (H.told half.old) before self.old.decoder self.old.seat self.old.listed.items
             → MatchOption result (IsAt (H.told half.new) before self.new.decoder self.new.seat self.new.listed.items)
             (HandlesStream (H.told half.new) before self.new.seat self.new.listed.items) }
+        ensures own { self.new.seat.conn ≡ self.old.seat.conn }
         ensures tells { H.tells half.old → H.tells half.new }
         ensures turns { IfSome result (λ end. end ≢ ReadEnd.Turns) }
         ensures ended { IfSome result (λ end. end ≡ ReadEnd.Closed → H.ended half.new) }
@@ -149,6 +152,7 @@ impl<C: Tally> Reading<C> {
             → IsAt bytes before self.old.decoder self.old.seat self.old.listed.items
             → MatchOption result (IsAt (bytes ++ piece.now) before self.new.decoder self.new.seat self.new.listed.items)
             (HandlesStream (bytes ++ piece.now) before self.new.seat self.new.listed.items) }
+        ensures own { self.new.seat.conn ≡ self.old.seat.conn }
         ensures of { IfSome result IsOfMessages }
         ensures told { IfSome result (λ end. IsTold end self.new.seat.standing) }
     {
@@ -176,6 +180,7 @@ impl<C: Tally> Reading<C> {
             → AreHandled before self.old.seat self.old.listed.items earlier
             → MatchOption result (AreHandled before self.new.seat self.new.listed.items (earlier ++ messages.now))
             (EndsAmong before self.new.seat self.new.listed.items earlier messages.now) }
+        ensures own { self.new.seat.conn ≡ self.old.seat.conn }
         ensures of { IfSome result IsOfMessages }
         ensures told { IfSome result (λ end. IsTold end self.new.seat.standing) }
         ensures decoder { self.new.decoder ≡ self.old.decoder }
@@ -200,6 +205,7 @@ impl<C: Tally> Reading<C> {
         message: &ClientMessage,
         grip: &mut Grip<'_>,
     ) -> Option<ReadEnd>
+        ensures own { self.new.seat.conn ≡ self.old.seat.conn }
         ensures seat { IfNone result (self.new.seat ≡ message_taken self.old.seat message.now) }
         ensures listed { IfNone result (self.new.listed.items ≡ listed_with self.old.listed.items message.now) }
         ensures untaken { OnSome result (TookNoMessage self.old.seat self.new.seat

@@ -1,5 +1,5 @@
 -- What the connections that ended leave.
-use Rattle.std.specs.Prelude.{◌≡◌, ℕ, Bool, false, ◌&&◌, ◌||◌, not, Option, Some, None}
+use Rattle.std.specs.Prelude.{◌≡◌, ℕ, Bool, false, ◌&&◌, ◌||◌, not, List, [], ◌∷◌, ◌++◌, Option, Some, None}
 use Rattle.fe_mail.specs.Books.{AddUp}
 use Rattle.fe_hall.specs.Audits.{Audited}
 use Rattle.fe_shared.specs.Seats.{Seats, both_seats, one_seat}
@@ -8,6 +8,10 @@ use Rattle.fe_shared.specs.Seats.{Seats, both_seats, one_seat}
 abbrev pub joined_to : Option Seats → ℕ → Option Seats
 joined_to None amount = Some (one_seat amount)
 joined_to (Some all) amount = Some (both_seats all (one_seat amount))
+
+-- a list got one more element at its end, which is such a one
+abbrev pub IsAdded : {A : Type 0} → (A → Type 0) → List A → List A → Type 0
+IsAdded {A} is before after = (a : A) × (after ≡ before ++ a ∷ []) × is a
 
 -- something that the closing needs is missing: memory was short for it, or receipts are to be kept and are not whole
 abbrev pub lacks : Bool → Bool → Bool → Bool

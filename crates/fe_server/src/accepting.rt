@@ -1,17 +1,18 @@
 //! Accepts connections from a listener.
 
-ghost use Rattle.std.specs.Prelude.{◌≡◌, ◌<◌, ◌≤◌};
+ghost use Rattle.std.specs.Prelude.{◌≡◌};
+ghost use Rattle.fe_server.specs.Arrivals.{HasEnded};
 
-use crate::connection::{STACK, attend, turn_away};
+use crate::connection::{Accepted, Connection, STACK};
 use crate::entrance::Entrance;
 use crate::house::House;
-use crate::register::Newcomer;
-use fe_hall::{Gate, Tally};
+use crate::newcomer::{Ended, Newcomer};
+use crate::register::NoMore;
+use fe_hall::{Gate, HasStopped, Tally};
 use fe_options::Settings;
 use std::alloc::Global;
 use std::io::ErrorKind;
-use std::os::unix::net::UnixStream;
-use std::sync::{Arc, Wait};
+use std::sync::Wait;
 use std::thread::{Builder, Scope, Threads};
 use std::time::{Clock, Duration};
 use std::{io, thread};
@@ -20,9 +21,18 @@ use std::{io, thread};
 const PAUSE: u64 = 10;
 
 /// Shows that no connection comes any more, and that those that came have ended. Only `serve_clients` makes it, and a house does not
-/// stop its hall without it unless something is short or full.
-#[derive(Drop)]
-pub(crate) struct AllServed(());
+/// stop its hall without it unless something is short or full. It is not `Drop`, since the hall has to be stopped.
+pub(crate) struct AllServed {
+    no_more: NoMore,
+}
+
+impl AllServed {
+    /// The hall was stopped.
+    pub(crate) fn end(self, _stopped: HasStopped) {
+        let AllServed { no_more } = self;
+        drop(no_more);
+    }
+}
 
 /// Serves the connections that come, until as many came as the settings say or nothing is stored any more, and all of them have ended.
 pub(crate) fn serve_clients<
@@ -40,26 +50,31 @@ pub(crate) fn serve_clients<
 ) -> AllServed
     requires calls { C.all ≡ C.parts }
     requires mails { M.all ≡ M.parts }
+    // Clients come until the server ends, or as many came as the settings say.
+    ensures why { HasEnded settings.now.accepts result.no_more }
 {
-    thread::scope(
+    let (turns, accepts) = (settings.turns, settings.accepts);
+    let no_more = thread::scope(
         thread::scope_env(),
         rt,
-        move |scope|
+        move |scope| -> NoMore
             requires { (C.all ≡ C.parts) × (M.all ≡ M.parts) }
+            ensures { HasEnded accepts result }
         {
             let porter = Porter {
                 rt,
                 alloc,
                 house,
                 gate,
-                turns: settings.turns,
+                turns,
             };
-            let _ = porter.accept_all(scope, &entrance, settings.accepts);
+            let no_more = porter.accept_all(scope, &entrance, accepts);
             house.close_door(rt);
             drop(entrance);
+            no_more
         },
     );
-    AllServed(())
+    AllServed { no_more }
 }
 
 /// Accepts connections, and begins to serve them.
@@ -80,63 +95,40 @@ impl<
     G: Gate + Sync,
     R: Clock + Threads + Wait + Sync,
 > Porter<'s, C, M, G, R> {
-    /// Accepts this many connections; any number if it is 0. Returns how many came.
-    fn accept_all<E>(&self, scope: &Scope<'s, E>, entrance: &Entrance, accepts: u64) -> u64
+    /// Accepts connections until the server ends or this many came; without end if it is 0.
+    fn accept_all<E>(&self, scope: &Scope<'s, E>, entrance: &Entrance, accepts: u64) -> NoMore
         requires calls { C.all ≡ C.parts }
         requires mails { M.all ≡ M.parts }
-        ensures { 0 < accepts → result ≤ accepts }
+        ensures { HasEnded accepts result }
     {
-        let mut came = 0;
-        for conn in 0..u64::MAX {
-            let Some(running) = self.house.running(self.rt) else {
-                return came;
-            };
-            match entrance.accept(running) {
-                Err(error) => pause(self.rt, error),
-                Ok(stream) => {
-                    if self.welcome(scope, conn, stream) {
-                        came += 1;
-                    }
-                    if came == accepts && accepts > 0 {
-                        return came;
-                    }
-                }
+        for _ in self.rt.forever() {
+            match self.house.running(self.rt, accepts) {
+                Err(no_more) => return no_more,
+                Ok(running) => match entrance.accept(self.alloc, running) {
+                    Err(error) => pause(self.rt, error),
+                    Ok(accepted) => self.welcome(scope, accepted),
+                },
             }
         }
-        came
+        unreachable!()
     }
 
-    /// Begins to serve a connection. `false` if it is refused: there are too many and none is about to end, or the hall makes none.
-    fn welcome<E>(&self, scope: &Scope<'s, E>, conn: u64, stream: UnixStream) -> bool
+    /// Begins to serve a client, if there is room for it and the hall makes its seats.
+    fn welcome<E>(&self, scope: &Scope<'s, E>, accepted: Accepted)
         requires calls { C.all ≡ C.parts }
         requires mails { M.all ≡ M.parts }
     {
         let (rt, house) = (self.rt, self.house);
-        let Some(admission) = house.enter(rt) else {
-            return false;
-        };
-        let Ok(stream) = Arc::new(self.alloc, stream) else {
-            house.leave(rt, conn, admission);
-            return false;
-        };
-        let Ok((calls, mails)) = house.connect(rt, conn) else {
-            house.leave(rt, conn, admission);
-            return false;
-        };
-        self.start(
-            scope,
-            Newcomer {
-                conn,
-                admission,
-                stream,
-                calls,
-                mails,
+        match house.enter(rt) {
+            Ok(admission) => match house.connect(rt, Connection::of(accepted, admission)) {
+                Ok(newcomer) => self.start(scope, newcomer),
+                Err(unserved) => house.refuse(rt, unserved),
             },
-        );
-        true
+            Err(full) => accepted.close(full),
+        }
     }
 
-    /// Starts the thread of a connection. If that can't be done, the connection ends at once.
+    /// Starts the thread of a connection. If that can't be done, nothing is read from the connection, and it ends at once.
     fn start<E>(&self, scope: &Scope<'s, E>, newcomer: Newcomer<C, M>)
         requires calls { C.all ≡ C.parts }
         requires mails { M.all ≡ M.parts }
@@ -144,24 +136,37 @@ impl<
         let (rt, alloc, house, gate, turns) = (
             self.rt, self.alloc, self.house, self.gate, self.turns,
         );
-        if let Err(newcomer) = house.put(rt, newcomer) {
-            turn_away(rt, alloc, house, gate, newcomer);
-            return;
-        }
-        let started = Builder::new()
-            .stack_size(STACK)
-            .spawn_scoped(
-                scope,
-                move ||
-                    requires { (C.all ≡ C.parts) × (M.all ≡ M.parts) }
-                { attend(rt, alloc, house, gate, turns) },
-            )
-            .is_ok();
-        if !started {
-            if let Some(newcomer) = house.take(rt) {
-                turn_away(rt, alloc, house, gate, newcomer);
+        match house.put(rt, newcomer) {
+            Ok(waiting) => {
+                let started = Builder::new().stack_size(STACK).spawn_scoped(
+                    scope,
+                    move || -> Ended
+                        requires { (C.all ≡ C.parts) × (M.all ≡ M.parts) }
+                    { serve_next(rt, alloc, house, gate, turns) },
+                );
+                match started {
+                    Ok(thread) => waiting.begins(thread),
+                    Err(_) => waiting.ends(serve_next(rt, alloc, house, gate, 0)),
+                }
             }
+            Err(newcomer) => drop(newcomer.serve(rt, alloc, house, gate, 0)),
         }
+    }
+}
+
+/// Takes a connection that waits for its thread, and serves it until both its sides have ended.
+fn serve_next<
+    C: Tally + Send + Sync,
+    M: Tally + Send + Sync,
+    G: Gate + Sync,
+    R: Threads + Wait + Sync,
+>(rt: &R, alloc: Global, house: &House<C, M>, gate: &G, turns: u64) -> Ended
+    requires calls { C.all ≡ C.parts }
+    requires mails { M.all ≡ M.parts }
+{
+    match house.take(rt) {
+        Ok(newcomer) => newcomer.serve(rt, alloc, house, gate, turns),
+        Err(none) => Ended::of(none),
     }
 }
 

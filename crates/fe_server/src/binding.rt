@@ -1,5 +1,7 @@
 //! Makes the socket, first under another name in its folder, so that its file is there only once it listens.
 
+ghost use Rattle.std.specs.Prelude.{◌≡◌, ◌<◌, ◌++◌, codes, length, string_bytes, IfSome, IsSome};
+
 use std::alloc::Global;
 use std::fs;
 use std::net::Net;
@@ -15,7 +17,9 @@ const LONGEST: usize = 107;
 
 /// Binds a listener to a path that does not exist. The file appears there once clients can connect. If the path has no room for
 /// the name beside it, that name is taken, or the file system has no hard links, the path itself is bound.
-pub(crate) fn bind<R: Files + Net>(rt: &R, alloc: Global, path: &str) -> Option<UnixListener> {
+pub(crate) fn bind<R: Files + Net>(rt: &R, alloc: Global, path: &str) -> Option<UnixListener>
+    ensures named { IsSome result → 0 < length path.now }
+{
     // The system would make a socket of its own choice.
     if path.is_empty() || is_taken(rt, path) {
         return None;
@@ -44,7 +48,9 @@ fn is_taken<R: Files>(rt: &R, path: &str) -> bool {
 }
 
 /// The other name of a path, if it is not too long and there is memory for it.
-fn name_beside(alloc: Global, path: &str) -> Option<String> {
+fn name_beside(alloc: Global, path: &str) -> Option<String>
+    ensures name { IfSome result (λ name. string_bytes name ≡ path.now ++ codes ".new") }
+{
     if path.len() > LONGEST - BESIDE.len() {
         return None;
     }

@@ -1,137 +1,429 @@
-//! The two threads of a connection.
+//! A connection: its socket and its number. No other file reads or writes the socket of a client: `Entrance::accept` hands it over, and
+//! a `SocketHandle` only ends its stream.
+//!
+//! What serves a connection takes any reader and any writer, whose bytes its clauses name. One expression, in `Connection::serve`, knows
+//! that it is a socket.
 
-ghost use Rattle.std.specs.Prelude.{◌≡◌};
+ghost use Rattle.std.specs.Prelude.{◌≡◌, ◌≢◌, ◌∷◌, ◌++◌, [], List, true, false, IfSome, IsSome, IsTrue};
+ghost use Rattle.fe_history.specs.Acts.{AreTold};
+ghost use Rattle.fe_mail.specs.declared.mail.Mail.{Mail as Told};
+ghost use Rattle.fe_streams.specs.Incoming.{bytes_read};
+ghost use Rattle.fe_hall.specs.Reads.{HandlesStream};
+ghost use Rattle.fe_hall.specs.Writes.{AreTaken, IsWritten};
+ghost use Rattle.fe_server.specs.Departed.{joined_to};
+ghost use Rattle.fe_server.specs.Sides.{HasHandled, HasWritten};
+ghost use Rattle.fe_server.specs.Streams.{known_bytes};
 
+use crate::departed::Departed;
 use crate::house::House;
-use crate::register::Newcomer;
+use crate::register::{Admission, Full};
+use crate::socket_handle::SocketHandle;
 use crate::stream::{StreamRead, StreamWrite};
-use fe_hall::{CallSeat, Gate, MailSeat, ReadEnd, Tally};
-use std::alloc::Global;
+use core::thread::Stack;
+use fe_hall::{
+    CallSeat, Gate, MailSeat, ReadEnd, ReadHalf, Receipts, Tally, WriteEnd, WriteHalf, read_side,
+    write_side,
+};
+use fe_wire::ClientMessage;
+use std::alloc::{AllocError, Global};
+use std::io::{Read, Write};
 use std::net::Shutdown;
 use std::os::unix::net::UnixStream;
-use std::sync::{Mutex, Wait};
+use std::snapshot::Snapshot;
+use std::sync::{Arc, Wait};
 use std::thread;
-use std::thread::{Builder, Threads};
+use std::thread::{Promise, Scope, Threads};
 
 /// The bytes of the stack of each thread of a connection.
 pub(crate) const STACK: usize = 1 << 20;
 
-/// Serves a connection that came, until both its sides have ended. `turns` bounds its reads.
-///
-/// If its writing thread can't be started, the connection ends at once.
-pub(crate) fn attend<
+/// A stream that can be ended, in both directions.
+trait HangUp {
+    fn hang_up(&self);
+}
+
+impl HangUp for UnixStream {
+    fn hang_up(&self) {
+        let _ = self.shutdown(Shutdown::Both);
+    }
+}
+
+/// The socket of a client.
+#[derive(Drop)]
+pub(crate) struct ClientSocket {
+    stream: UnixStream,
+}
+
+impl ClientSocket {
+    /// Whether its stream takes no more bytes. This writes none.
+    pub(crate) fn has_ended(&self) -> bool {
+        let mut stream = &self.stream;
+        stream.write(&[]).is_err()
+    }
+
+    /// Ends its stream.
+    pub(crate) fn shut(&self) {
+        self.stream.hang_up();
+    }
+}
+
+/// A client that was accepted and is not admitted yet. It is not `Drop`: it becomes a connection, or its socket is closed where the
+/// register had no room for it.
+pub(crate) struct Accepted {
+    socket: Arc<ClientSocket, Global>,
+}
+
+impl Accepted {
+    /// The client whose stream a listener accepted. Without memory for it, the stream is closed.
+    pub(crate) fn of(alloc: Global, stream: UnixStream) -> Result<Accepted, AllocError> {
+        match Arc::new(alloc, ClientSocket { stream }) {
+            Ok(socket) => Ok(Accepted { socket }),
+            Err(_) => Err(AllocError),
+        }
+    }
+
+    /// Closes the socket of a client that was not admitted.
+    pub(crate) fn close(self, full: Full) {
+        let Accepted { socket } = self;
+        drop(full);
+        drop(socket);
+    }
+}
+
+/// A connection that was admitted: its number and its socket. It is not `Drop`, since the admission has to be given back.
+pub(crate) struct Connection {
+    admission: Admission,
+    socket: Arc<ClientSocket, Global>,
+}
+
+impl Connection {
+    /// The connection of this client. Its number is that of the admission.
+    pub(crate) fn of(accepted: Accepted, admission: Admission) -> Connection
+        ensures { result.admission ≡ admission }
+    {
+        let Accepted { socket } = accepted;
+        Connection { admission, socket }
+    }
+
+    /// Its number.
+    pub(crate) fn conn(&self) -> u64
+        ensures { result ≡ self.now.admission.conn }
+    {
+        self.admission.conn()
+    }
+
+    /// A handle by which others end its stream, and see whether it has ended.
+    pub(crate) fn handle(&self) -> Option<SocketHandle>
+        ensures { IfSome result (λ handle. handle.conn ≡ self.now.admission.conn) }
+    {
+        match Arc::try_clone(&self.socket) {
+            Ok(socket) => Some(SocketHandle::of(self.admission.conn(), socket)),
+            Err(_) => None,
+        }
+    }
+
+    /// Serves its client, until both sides have ended. At most `turns` reads are made. If the writing thread can't be started, none is.
+    pub(crate) fn serve<
+        C: Tally + Send + Sync,
+        M: Tally + Send + Sync,
+        G: Gate + Sync,
+        R: Threads + Wait + Sync,
+    >(
+        &self,
+        rt: &R,
+        alloc: Global,
+        house: &House<C, M>,
+        gate: &G,
+        calls: CallSeat<C>,
+        mails: MailSeat<M>,
+        turns: u64,
+    ) -> Outcome<C, M>
+        requires calls { calls.conn ≡ self.now.admission.conn }
+        requires mails { mails.conn ≡ self.now.admission.conn }
+        ensures own { result.mails.conn ≡ self.now.admission.conn }
+    {
+        let stream: &UnixStream = &self.socket.stream;
+        let (_, _, outcome) = serve_streams(
+            rt, alloc, house, gate, calls, mails, stream, stream, stream, turns,
+        );
+        outcome
+    }
+
+    /// Lets go of its socket.
+    pub(crate) fn close(self) -> Admission
+        ensures { result ≡ self.admission }
+    {
+        let Connection { admission, socket } = self;
+        drop(socket);
+        admission
+    }
+}
+
+/// What the two sides of a connection did. Only serving a connection makes one, and only `add_to` uses it up: it is not `Drop`, so the
+/// seats, the list and the receipts of each connection that was served are added.
+pub(crate) struct Outcome<C: Tally, M: Tally> {
+    calls: CallSeat<C>,
+    sent: Vec<ClientMessage>,
+    read: ReadEnd,
+    mails: MailSeat<M>,
+    receipts: Receipts<M>,
+    write: WriteEnd,
+    ghost one: { calls.conn ≡ mails.conn },
+    ghost own: { receipts.conn ≡ mails.conn },
+}
+
+impl<C: Tally, M: Tally> Outcome<C, M> {
+    fn of(
+        calls: CallSeat<C>,
+        sent: Vec<ClientMessage>,
+        read: ReadEnd,
+        mails: MailSeat<M>,
+        receipts: Receipts<M>,
+        write: WriteEnd,
+    ) -> Outcome<C, M>
+        requires one { calls.conn ≡ mails.conn }
+        requires own { receipts.conn ≡ mails.conn }
+        ensures calls { result.calls ≡ calls }
+        ensures sent { result.sent ≡ sent }
+        ensures read { result.read ≡ read }
+        ensures mails { result.mails ≡ mails }
+        ensures receipts { result.receipts ≡ receipts }
+        ensures write { result.write ≡ write }
+    {
+        Outcome {
+            calls,
+            sent,
+            read,
+            mails,
+            receipts,
+            write,
+        }
+    }
+
+    /// Adds it to what the connections did that have ended. The list and the receipts are added only if `keeps`.
+    pub(crate) fn add_to(self, departed: &mut Departed<C, M>, keeps: bool)
+        requires calls { C.all ≡ C.parts }
+        requires mails { M.all ≡ M.parts }
+        ensures calls { departed.new.calls ≡ joined_to departed.old.calls self.calls.calls }
+        ensures mails { departed.new.mails ≡ joined_to departed.old.mails self.mails.mails }
+        // What has to be kept is kept, or `short` says that memory was short for it.
+        ensures kept { IsTrue keeps → departed.new.short ≡ false
+            → (departed.new.sent.items ≡ departed.old.sent.items ++ self.sent ∷ [])
+            × (departed.new.receipts.items ≡ departed.old.receipts.items ++ self.receipts.items) }
+    {
+        let Outcome {
+            calls,
+            sent,
+            read: _,
+            mails,
+            receipts,
+            write: _,
+        } = self;
+        departed.add_calls(calls, sent, keeps);
+        departed.add_mails(mails, receipts, keeps);
+    }
+}
+
+/// What the writing thread promises of what it gives back.
+#[derive(Drop)]
+struct Wrote<W: WriteHalf + Drop, M: Tally> {
+    before: Snapshot<W>,
+    seat: Snapshot<MailSeat<M>>,
+}
+
+impl<W: WriteHalf + Drop, M: Tally> Promise<(MailSeat<M>, Receipts<M>, WriteEnd, W)>
+    for Wrote<W, M> {
+    ghost use Rattle.fe_server.specs.Sides.{HasWritten};
+
+    ghost kept_by = { λ p r. HasWritten W.tells W.got p.before.value r.3 p.seat.value r.0 r.1 r.2 };
+}
+
+/// Serves a connection over a reader and a writer, until both its sides have ended. Where the reader's bytes are known, the front of what
+/// was read was handled; where the writer's are, it got the frames of the mails that were taken.
+fn serve_streams<
     C: Tally + Send + Sync,
     M: Tally + Send + Sync,
     G: Gate + Sync,
     R: Threads + Wait + Sync,
->(rt: &R, alloc: Global, house: &House<C, M>, gate: &G, turns: u64)
-    requires calls { C.all ≡ C.parts }
-    requires mails { M.all ≡ M.parts }
+    I: Read + Drop,
+    O: Write + Drop + Send,
+    E: HangUp + Sync,
+>(
+    rt: &R,
+    alloc: Global,
+    house: &House<C, M>,
+    gate: &G,
+    calls: CallSeat<C>,
+    mails: MailSeat<M>,
+    reader: I,
+    writer: O,
+    ends: &E,
+    turns: u64,
+) -> (StreamRead<I>, StreamWrite<O>, Outcome<C, M>)
+    requires one { calls.conn ≡ mails.conn }
+    ensures own { result.2.mails.conn ≡ mails.conn }
+    ensures handled { let incoming = result.0.incoming in IsSome (I.remaining reader)
+        → HandlesStream (known_bytes (bytes_read (I.remaining incoming.began.value) (I.remaining incoming.reader)))
+        calls result.2.calls result.2.sent.items result.2.read }
+    ensures wrote { (all : List Told) × AreTaken mails result.2.mails result.2.receipts.items all
+        × (IsSome (O.contents writer)
+        → IsWritten (known_bytes (O.contents writer)) all result.2.write (known_bytes (O.contents result.1.writer)))
+        × AreTold all result.2.receipts.history }
+    ensures departed { result.2.write ≢ WriteEnd.Stopped → result.2.mails.departed ≡ true }
 {
-    let Some(newcomer) = house.take(rt) else {
-        return;
-    };
-    let Newcomer {
-        conn,
-        admission,
-        stream,
-        calls,
-        mails,
-    } = newcomer;
-    let seat = Mutex::new(Some(mails));
-    let (line, desk): (&UnixStream, _) = (&stream, &seat);
+    let (from, to) = (StreamRead::new(reader), StreamWrite::new(writer));
+    serve_over(rt, alloc, house, gate, calls, mails, from, to, ends, turns)
+}
+
+/// Serves a connection over the two directions of its stream, in two threads, until both its sides have ended.
+fn serve_over<
+    C: Tally + Send + Sync,
+    M: Tally + Send + Sync,
+    G: Gate + Sync,
+    R: Threads + Wait + Sync,
+    H: ReadHalf + Drop,
+    W: WriteHalf + Drop + Send,
+    E: HangUp + Sync,
+>(
+    rt: &R,
+    alloc: Global,
+    house: &House<C, M>,
+    gate: &G,
+    calls: CallSeat<C>,
+    mails: MailSeat<M>,
+    from: H,
+    to: W,
+    ends: &E,
+    turns: u64,
+) -> (H, W, Outcome<C, M>)
+    requires one { calls.conn ≡ mails.conn }
+    // The front of the client's stream was handled.
+    ensures handled { HasHandled H.tells H.told from result.0 calls result.2.calls result.2.sent.items result.2.read }
+    // The client got the frames of the mails that were taken.
+    ensures wrote { HasWritten W.tells W.got to result.1 mails result.2.mails result.2.receipts result.2.write }
+{
     thread::scope(
         thread::scope_env(),
         rt,
-        move |scope|
-            requires { (C.all ≡ C.parts) × (M.all ≡ M.parts) }
+        move |scope| -> (H, W, Outcome<C, M>)
+            requires { calls.conn ≡ mails.conn }
+            ensures { HasHandled H.tells H.told from result.0 calls result.2.calls result.2.sent.items result.2.read
+                × HasWritten W.tells W.got to result.1 mails result.2.mails result.2.receipts result.2.write }
         {
-            let writer = Builder::new().stack_size(STACK).spawn_scoped(
-                scope,
-                move ||
-                    requires { M.all ≡ M.parts }
-                { write_once(rt, alloc, house, desk, line) },
-            );
-            // Without a writing thread, don't read from the connection.
-            let turns = if writer.is_ok() { turns } else { 0 };
-            read(rt, alloc, house, calls, line, gate, turns);
+            serve_in(
+                rt, alloc, scope, house, gate, calls, mails, from, to, ends, turns,
+            )
         },
-    );
-    // If no writing thread could be started, its seat is still here.
-    write_once(rt, alloc, house, &seat, &stream);
-    house.leave(rt, conn, admission);
+    )
 }
 
-/// Ends a connection for which no thread can be started.
-pub(crate) fn turn_away<C: Tally, M: Tally, G: Gate, R: Wait>(
-    rt: &R,
+/// Serves a connection in a scope: its write side in a thread of its own, its read side in this one.
+fn serve_in<
+    's,
+    Z,
+    C: Tally + Send + Sync,
+    M: Tally + Send + Sync,
+    G: Gate + Sync,
+    R: Threads + Wait + Sync,
+    H: ReadHalf + Drop,
+    W: WriteHalf + Drop + Send + 's,
+    E: HangUp + Sync,
+>(
+    rt: &'s R,
     alloc: Global,
-    house: &House<C, M>,
+    scope: &Scope<'s, Z>,
+    house: &'s House<C, M>,
     gate: &G,
-    newcomer: Newcomer<C, M>,
-)
-    requires calls { C.all ≡ C.parts }
-    requires mails { M.all ≡ M.parts }
-{
-    let Newcomer {
-        conn,
-        admission,
-        stream,
-        calls,
-        mails,
-    } = newcomer;
-    read(rt, alloc, house, calls, &stream, gate, 0);
-    write(rt, alloc, house, mails, &stream);
-    house.leave(rt, conn, admission);
-}
-
-/// Runs the read side of a connection over its socket. If the client has ended its stream, or the reads are used up, the write side
-/// still writes what it took. At every other end the socket is shut down, which ends the write side too.
-fn read<C: Tally, M: Tally, G: Gate, R: Wait>(
-    rt: &R,
-    alloc: Global,
-    house: &House<C, M>,
-    seat: CallSeat<C>,
-    stream: &UnixStream,
-    gate: &G,
+    calls: CallSeat<C>,
+    mails: MailSeat<M>,
+    from: H,
+    to: W,
+    ends: &'s E,
     turns: u64,
-)
-    requires ledger { C.all ≡ C.parts }
+) -> (H, W, Outcome<C, M>)
+    requires one { calls.conn ≡ mails.conn }
+    ensures { HasHandled H.tells H.told from result.0 calls result.2.calls result.2.sent.items result.2.read
+        × HasWritten W.tells W.got to result.1 mails result.2.mails result.2.receipts result.2.write }
 {
-    let mut half = StreamRead::new(stream);
-    let end = house.read(rt, alloc, seat, &mut half, gate, turns);
-    if !matches!(end, ReadEnd::Closed | ReadEnd::Turns) {
-        let _ = stream.shutdown(Shutdown::Both);
+    let promise = Wrote {
+        before: Snapshot::of(&to),
+        seat: Snapshot::of(&mails),
+    };
+    let writing = Stack::new().stack_size(STACK).spawn_scoped_with(
+        scope,
+        promise,
+        move || -> (MailSeat<M>, Receipts<M>, WriteEnd, W)
+            ensures { HasWritten W.tells W.got to result.3 mails result.0 result.1 result.2 }
+        { run_write_side(rt, alloc, house, mails, to, ends) },
+    );
+    match writing {
+        Ok(thread) => {
+            let (from, calls, sent, read) = run_read_side(
+                rt, alloc, house, gate, calls, from, ends, turns,
+            );
+            let (mails, receipts, write, to) = thread.join(rt);
+            (
+                from,
+                to,
+                Outcome::of(calls, sent, read, mails, receipts, write),
+            )
+        }
+        Err(refused) => {
+            // Without a writing thread, nothing is read.
+            let (from, calls, sent, read) = run_read_side(
+                rt, alloc, house, gate, calls, from, ends, 0,
+            );
+            let (mails, receipts, write, to) = (refused.value)();
+            (
+                from,
+                to,
+                Outcome::of(calls, sent, read, mails, receipts, write),
+            )
+        }
     }
 }
 
-/// Runs the write side of a connection over its socket. At its end the socket is shut down, which ends the read side too.
-fn write<C: Tally, M: Tally, R: Wait>(
+/// Runs the read side of a connection. If the client has ended its stream, or the reads are used up, the write side still writes what
+/// it took. At every other end the stream is ended, which ends the write side too.
+fn run_read_side<C: Tally, M: Tally, G: Gate, R: Wait, H: ReadHalf + Drop, E: HangUp>(
+    rt: &R,
+    alloc: Global,
+    house: &House<C, M>,
+    gate: &G,
+    seat: CallSeat<C>,
+    from: H,
+    ends: &E,
+    turns: u64,
+) -> (H, CallSeat<C>, Vec<ClientMessage>, ReadEnd)
+    ensures { HasHandled H.tells H.told from result.0 seat result.1 result.2.items result.3 }
+{
+    let mut from = from;
+    let (seat, sent, end) = read_side(rt, alloc, house.hall(), seat, &mut from, gate, Some(turns));
+    if end == ReadEnd::Spent {
+        house.spend(rt);
+    }
+    if !matches!(end, ReadEnd::Closed | ReadEnd::Turns) {
+        ends.hang_up();
+    }
+    (from, seat, sent, end)
+}
+
+/// Runs the write side of a connection. At its end the stream is ended, which ends the read side too.
+fn run_write_side<C: Tally, M: Tally, R: Wait, W: WriteHalf + Drop, E: HangUp>(
     rt: &R,
     alloc: Global,
     house: &House<C, M>,
     seat: MailSeat<M>,
-    stream: &UnixStream,
-)
-    requires ledger { M.all ≡ M.parts }
+    to: W,
+    ends: &E,
+) -> (MailSeat<M>, Receipts<M>, WriteEnd, W)
+    ensures { HasWritten W.tells W.got to result.3 seat result.0 result.1 result.2 }
 {
-    let mut half = StreamWrite::new(stream);
-    house.write(rt, alloc, seat, &mut half);
-    let _ = stream.shutdown(Shutdown::Both);
-}
-
-/// Runs the write side of a connection if its seat was not taken yet.
-fn write_once<C: Tally, M: Tally, R: Wait>(
-    rt: &R,
-    alloc: Global,
-    house: &House<C, M>,
-    desk: &Mutex<Option<MailSeat<M>>>,
-    stream: &UnixStream,
-)
-    requires ledger { M.all ≡ M.parts }
-{
-    let seat = desk.lock(rt).take();
-    if let Some(seat) = seat {
-        write(rt, alloc, house, seat, stream);
+    let mut to = to;
+    let (seat, receipts, end) = write_side(rt, alloc, house.hall(), seat, &mut to);
+    if end == WriteEnd::Spent {
+        house.spend(rt);
     }
+    ends.hang_up();
+    (seat, receipts, end, to)
 }

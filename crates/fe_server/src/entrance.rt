@@ -1,4 +1,6 @@
+use crate::connection::Accepted;
 use crate::register::Running;
+use std::alloc::Global;
 use std::io;
 use std::os::fd::OwnedFd;
 use std::os::unix::net::{UnixListener, UnixStream};
@@ -21,8 +23,11 @@ impl Entrance {
     }
 
     /// Waits for a connection.
-    pub(crate) fn accept(&self, _running: Running) -> io::Result<UnixStream> {
+    pub(crate) fn accept(&self, alloc: Global, _running: Running) -> io::Result<Accepted> {
         let (stream, _) = self.listener.accept()?;
-        Ok(stream)
+        match Accepted::of(alloc, stream) {
+            Ok(accepted) => Ok(accepted),
+            Err(_) => Err(io::Error::from(io::ErrorKind::OutOfMemory)),
+        }
     }
 }

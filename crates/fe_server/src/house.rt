@@ -1,27 +1,26 @@
 //! What the threads of a server share.
 
-ghost use Rattle.std.specs.Prelude.{◌≡◌, ◌⊎◌, ◌∷◌, [], false, IsTrue, All, IfOk, IfErr, IfSome, IsSome, nat_lt};
+ghost use Rattle.std.specs.Prelude.{◌≡◌, ◌⊎◌, ◌∷◌, [], false, IsTrue, All, IfOk, IfErr, IsSome, nat_lt};
 ghost use Rattle.fe_front.specs.Front.{IsFirst};
 ghost use Rattle.fe_history.specs.Acts.{EachTold, Gathered as Kept, IsAccountOf};
 ghost use Rattle.fe_hall.specs.Audits.{account_left};
 ghost use Rattle.fe_history.specs.Receipts.{IsBorneOut};
-ghost use Rattle.fe_shared.specs.Seats.{first_read_seat, first_write_seat};
 ghost use Rattle.fe_history.specs.declared.act.Act.TheVariants as act;
+ghost use Rattle.fe_server.specs.Arrivals.{HasEnded};
 ghost use Rattle.fe_server.specs.Departed.{IsClean};
 ghost use Rattle.fe_server.specs.Serving.{HasNoted, IsBlankOf, fault_of_end};
 ghost use Rattle.fe_server.specs.declared.stop_fault.StopFault.TheVariants as fault;
 
 use crate::accepting::AllServed;
+use crate::connection::{Connection, Outcome};
 use crate::departed::Departed;
 use crate::entrance::Entrance;
-use crate::register::{Admission, Newcomer, Over, Register, Running};
+use crate::newcomer::{Newcomer, Unserved};
+use crate::register::{Admission, Full, NoMore, NoNewcomer, Over, Register, Running, Waiting};
 use crate::stop_fault::StopFault;
 use fe_disk::Disk;
 use fe_front::Front;
-use fe_hall::{
-    Account, Audit, CallSeat, CommitEnd, Gate, Hall, MailSeat, NewHistory, ReadEnd, ReadHalf,
-    StoreSeat, Tally, Unconnected, WriteEnd, WriteHalf, commit_side, read_side, write_side,
-};
+use fe_hall::{Account, Audit, CommitEnd, Hall, NewHistory, StoreSeat, Tally, commit_side};
 use fe_keeper::Keeper;
 use fe_options::Settings;
 use fe_state::State;
@@ -45,6 +44,8 @@ pub(crate) struct House<C: Tally, M: Tally> {
     freed: Condvar,
     /// How many connections may be there at once.
     most: u64,
+    /// How many connections may come; any number if it is 0.
+    accepts: u64,
     /// Whether what was sent and the receipts are kept for the closing.
     keeps: bool,
 }
@@ -72,6 +73,7 @@ impl<C: Tally, M: Tally> Opened<C, M> {
         requires acts { history.acts ≡ act.Began state.now ∷ [] }
         ensures begun { IfOk result (λ opened. opened.0.begun.value ≡ state.now) }
         ensures most { IfOk result (λ opened. opened.0.house.most ≡ settings.now.connections) }
+        ensures accepts { IfOk result (λ opened. opened.0.house.accepts ≡ settings.now.accepts) }
         ensures keeps { IfOk result (λ opened. opened.0.house.keeps ≡ nat_lt 0 settings.now.accepts) }
         ensures seat { IfOk result (λ opened. opened.1 ≡ history.acts) }
     {
@@ -93,6 +95,7 @@ impl<C: Tally, M: Tally> Opened<C, M> {
                     register: Mutex::new(Register::new(alloc, door, receipts)),
                     freed: Condvar::new(),
                     most: settings.connections,
+                    accepts: settings.accepts,
                     keeps: settings.accepts > 0,
                 };
                 Ok((Opened { house, begun }, seat))
@@ -120,6 +123,7 @@ impl<C: Tally, M: Tally> Opened<C, M> {
             register,
             freed,
             most: _,
+            accepts: _,
             keeps,
         } = house;
         drop(freed);
@@ -165,10 +169,13 @@ impl<C: Tally, M: Tally> Opened<C, M> {
 
 impl<C: Tally, M: Tally> House<C, M> {
     /// Admits one more connection if there is room. If there is none, it waits for a connection that is about to end.
-    pub(crate) fn enter<R: Clock + Wait>(&self, rt: &R) -> Option<Admission>
-        ensures { IfSome result (λ admission. admission.most ≡ self.now.most) }
+    pub(crate) fn enter<R: Clock + Wait>(&self, rt: &R) -> Result<Admission, Full>
+        ensures admission { IfOk result
+            (λ admission. (admission.most ≡ self.now.most) × (admission.accepts ≡ self.now.accepts)) }
+        // Only the register says that it is full, with as many as the settings say.
+        ensures full { IfErr result (λ full. (full.most ≡ self.now.most) × (full.accepts ≡ self.now.accepts)) }
     {
-        let most = self.most;
+        let (most, accepts) = (self.most, self.accepts);
         let register = self.register.lock(rt);
         let (mut register, _) = self.freed.wait_timeout_while(
             rt,
@@ -176,80 +183,53 @@ impl<C: Tally, M: Tally> House<C, M> {
             Duration::from_millis(ROOM_WAIT),
             |register| !register.has_room(most) && register.has_ending(),
         );
-        register.enter(most)
+        register.enter(most, accepts)
     }
 
+    /// Keeps a connection until its thread takes it. Gives it back if there is no memory for it.
     pub(crate) fn put<R: Wait>(
         &self,
         rt: &R,
         newcomer: Newcomer<C, M>,
-    ) -> Result<(), Newcomer<C, M>> {
+    ) -> Result<Waiting, Newcomer<C, M>> {
         self.register.lock(rt).put(newcomer)
     }
 
-    pub(crate) fn take<R: Wait>(&self, rt: &R) -> Option<Newcomer<C, M>> {
+    /// Takes a connection whose threads have not begun.
+    pub(crate) fn take<R: Wait>(&self, rt: &R) -> Result<Newcomer<C, M>, NoNewcomer> {
         self.register.lock(rt).take()
     }
 
-    /// A connection has ended.
-    pub(crate) fn leave<R: Wait>(&self, rt: &R, conn: u64, admission: Admission) {
-        self.register.lock(rt).leave(conn, admission);
+    /// A connection has ended. The register gets what its sides did.
+    pub(crate) fn leave<R: Wait>(&self, rt: &R, connection: Connection, outcome: Outcome<C, M>)
+        requires own { outcome.mails.conn ≡ connection.admission.conn }
+        requires calls { C.all ≡ C.parts }
+        requires mails { M.all ≡ M.parts }
+    {
+        let admission = connection.close();
+        self.register.lock(rt).leave(admission, outcome, self.keeps);
         self.freed.notify_all();
     }
 
-    /// The two seats of a new connection.
+    /// A connection is not served, since the hall makes no seats for it.
+    pub(crate) fn refuse<R: Wait>(&self, rt: &R, unserved: Unserved) {
+        self.register.lock(rt).refuse(unserved);
+        self.freed.notify_all();
+    }
+
+    /// Makes the seats of a connection that was admitted.
     pub(crate) fn connect<R: Wait>(
         &self,
         rt: &R,
-        conn: u64,
-    ) -> Result<(CallSeat<C>, MailSeat<M>), Unconnected>
-        ensures calls { IfOk result (λ seats. seats.0 ≡ first_read_seat conn) }
-        ensures mails { IfOk result (λ seats. seats.1 ≡ first_write_seat conn) }
+        connection: Connection,
+    ) -> Result<Newcomer<C, M>, Unserved>
+        ensures connection { IfOk result (λ newcomer. newcomer.connection ≡ connection) }
     {
-        self.hall.connect(rt, conn)
+        Newcomer::of(rt, &self.hall, connection)
     }
 
-    /// Runs the read side of a connection. At its end the register gets what it did.
-    pub(crate) fn read<H: ReadHalf, G: Gate, R: Wait>(
-        &self,
-        rt: &R,
-        alloc: Global,
-        seat: CallSeat<C>,
-        half: &mut H,
-        gate: &G,
-        turns: u64,
-    ) -> ReadEnd
-        requires ledger { C.all ≡ C.parts }
-    {
-        let (seat, sent, end) = read_side(rt, alloc, &self.hall, seat, half, gate, Some(turns));
-        if end == ReadEnd::Spent {
-            self.spend(rt);
-        }
-        self.register
-            .lock(rt)
-            .departed
-            .add_calls(seat, sent, self.keeps);
-        end
-    }
-
-    /// Runs the write side of a connection. At its end the register gets what it did and saw.
-    pub(crate) fn write<H: WriteHalf, R: Wait>(
-        &self,
-        rt: &R,
-        alloc: Global,
-        seat: MailSeat<M>,
-        half: &mut H,
-    )
-        requires ledger { M.all ≡ M.parts }
-    {
-        let (seat, receipts, end) = write_side(rt, alloc, &self.hall, seat, half);
-        if end == WriteEnd::Spent {
-            self.spend(rt);
-        }
-        self.register
-            .lock(rt)
-            .departed
-            .add_mails(seat, receipts, self.keeps);
+    pub(crate) fn hall(&self) -> &Hall<C, M> {
+        &self.hall
     }
 
     /// Runs the committing side. At its end the house ends too.
@@ -291,15 +271,16 @@ impl<C: Tally, M: Tally> House<C, M> {
         self.register.lock(rt).close_door();
     }
 
-    /// `None` once the server has ended.
-    pub(crate) fn running<R: Wait>(&self, rt: &R) -> Option<Running> {
-        self.register.lock(rt).running()
+    /// Whether connections may come: the server has not ended and, unless `accepts` is 0, fewer than that came.
+    pub(crate) fn running<R: Wait>(&self, rt: &R, accepts: u64) -> Result<Running, NoMore>
+        ensures why { IfErr result (HasEnded accepts) }
+    {
+        self.register.lock(rt).running(accepts)
     }
 
     /// All clients were served, so the hall may stop.
     pub(crate) fn stop<R: Wait>(&self, rt: &R, served: AllServed) {
-        drop(served);
-        self.hall.stop(rt);
+        served.end(self.hall.stop(rt));
     }
 
     /// There is no memory for something that the closing needs, so the hall stops.
@@ -309,7 +290,7 @@ impl<C: Tally, M: Tally> House<C, M> {
     }
 
     /// A book of the hall is full, so the hall stops.
-    fn spend<R: Wait>(&self, rt: &R) {
+    pub(crate) fn spend<R: Wait>(&self, rt: &R) {
         self.register.lock(rt).departed.spent = true;
         self.hall.stop(rt);
     }

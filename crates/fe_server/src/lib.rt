@@ -12,10 +12,12 @@ mod departed;
 mod entrance;
 mod failed;
 mod house;
+mod newcomer;
 mod register;
 mod serve_fault;
 mod served;
 mod server;
+mod socket_handle;
 mod stop_fault;
 mod stream;
 

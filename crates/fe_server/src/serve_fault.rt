@@ -1,15 +1,12 @@
-use crate::stop_fault::StopFault;
 use fe_store::OpenFault;
 
-/// Why a server ended with no books.
+/// Why a store is not served.
 #[derive(Clone, Copy, PartialEq, Eq)]
 pub enum ServeFault {
     /// The store is not opened.
     Store(OpenFault),
     /// The socket can't be made.
     Socket,
-    /// The server began, and ended for this.
-    Stopped(StopFault),
 }
 
 impl From<OpenFault> for ServeFault {

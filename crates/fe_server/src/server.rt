@@ -10,6 +10,7 @@ ghost use Rattle.fe_hall.specs.declared.commit_end.CommitEnd.TheVariants as hall
 ghost use Rattle.fe_journal.specs.Layout.{device_bytes};
 ghost use Rattle.fe_store.specs.declared.fault.OpenFault.TheVariants as store;
 ghost use Rattle.fe_server.specs.Acknowledged.{IsAcknowledged};
+ghost use Rattle.fe_server.specs.Opened.{WasServed};
 ghost use Rattle.fe_server.specs.Serving.{HasCommitted, HasNoted, IsAnswerAt, IsBlankOf, account_in, fault_in, keeper_in};
 ghost use Rattle.fe_server.specs.declared.serve_fault.ServeFault.TheVariants as served;
 ghost use Rattle.fe_server.specs.declared.stop_fault.StopFault.TheVariants as fault;
@@ -23,8 +24,8 @@ use crate::register::Over;
 use crate::serve_fault::ServeFault;
 use crate::served::Served;
 use crate::stop_fault::StopFault;
-use fe_disk::Disk;
-use fe_hall::{Account, Audit, Gate, NewHistory, StoreSeat, Tally};
+use fe_disk::{Disk, FileDisk};
+use fe_hall::{Account, Gate, NewHistory, StoreSeat, Tally};
 use fe_keeper::Keeper;
 use fe_options::Settings;
 use fe_store::open_store;
@@ -44,18 +45,24 @@ use std::time::Clock;
 /// How many parts the ledgers of a hall have, 2^62 + 1.
 const PARTS: u64 = 4611686018427387905;
 
-/// Serves the store that the settings name, at the socket that they name. It opens the store before it makes the socket, so the
-/// socket's file means that the server is ready.
+/// Serves the store that the settings name, at the socket that they name, and gives what the server left. It opens the store before it
+/// makes the socket, so the socket's file means that the server is ready.
 pub fn serve<R: Files<File = File> + Net + Clock + Threads + Wait + Sync, G: Gate + Sync>(
     rt: &R,
     alloc: Global,
     settings: &Settings,
     gate: &G,
-) -> Result<Audit, ServeFault>
-    ensures add_up { IfOk result (λ audit. AddUp audit.books) }
-    ensures unspent { IfOk result (λ audit. audit.books.spent ≡ false) }
+) -> Result<Result<Served<FileDisk>, Failed<FileDisk>>, ServeFault>
+    // The store that was opened was served: its keeper comes back with what was stored since, and what clients were told is right.
+    ensures served { IfOk result (let disk = ⟦<FileDisk as Disk>⟧ in
+        WasServed disk.honest disk.moment disk.left_since disk.may_leave disk.failures) }
+    ensures add_up { IfOk result (λ answer. IfOk answer (λ served. AddUp served.audit.books)) }
+    ensures unspent { IfOk result (λ answer. IfOk answer (λ served. served.audit.books.spent ≡ false)) }
+    ensures borne_out { IfOk result (λ answer. IfOk answer
+        (λ served. All (IsBorneOut served.keeper.state served.audit.sent) served.audit.receipts)) }
     // A server of a bounded number of connections has compared the receipts of each.
-    ensures whole { IfOk result (λ audit. 0 < settings.now.accepts → IsTrue audit.whole) }
+    ensures whole { IfOk result (λ answer. IfOk answer
+        (λ served. 0 < settings.now.accepts → IsTrue served.audit.whole)) }
     // A wrong size is reported only of a file that has one, and a missing store only if none was to be made.
     ensures wrong_size { (found : ℕ) → IsErrOf result (served.Store (store.Size found)) → found ≢ device_bytes }
     ensures unformatted { IsErrOf result (served.Store store.Unformatted) → settings.now.format ≡ false }
@@ -65,23 +72,7 @@ pub fn serve<R: Files<File = File> + Net + Clock + Threads + Wait + Sync, G: Gat
         drop(keeper);
         return Err(ServeFault::Socket);
     };
-    match serve_store(rt, alloc, listener, settings, keeper, gate) {
-        Ok(Served { audit, keeper }) => {
-            drop(keeper);
-            Ok(audit)
-        }
-        Err(
-            Failed {
-                fault,
-                keeper,
-                account,
-            },
-        ) => {
-            drop(account);
-            drop(keeper);
-            Err(ServeFault::Stopped(fault))
-        }
-    }
+    Ok(serve_store(rt, alloc, listener, settings, keeper, gate))
 }
 
 /// Serves the clients of a listener over the store of a keeper.

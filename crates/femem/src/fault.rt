@@ -179,7 +179,6 @@ impl From<ServeFault> for Fault {
         match before {
             ServeFault::Store(fault) => Fault::from(fault),
             ServeFault::Socket => Fault::Socket,
-            ServeFault::Stopped(fault) => Fault::from(fault),
         }
     }
 }

@@ -24,7 +24,7 @@ use fe_hall::Open;
 use fe_look::look;
 use fe_options::{Invocation, Settings, arguments, not_text, read_settings};
 use fe_schedules::{CountedReader, CountedWriter, DEVICE_BYTES, run_schedule};
-use fe_server::{books_text, serve};
+use fe_server::{Served, books_text, serve};
 use fe_text::{StreamFault, write_out};
 use libc::net as c;
 use std::alloc::Global;
@@ -116,10 +116,15 @@ fn serve_by<R: Files<File = File> + Net + Clock + Threads + Wait + Sync + AllocG
     ensures { OnOk result (WritesBooks (W.contents writer.old) (W.contents writer.new)) }
 {
     let settings = settings_at(rt, path)?;
-    let audit = serve(rt, rt.alloc(), &settings, &Open)?;
-    let books = audit.books();
-    show_books(rt.alloc(), &books, writer)?;
-    Ok(())
+    match serve(rt, rt.alloc(), &settings, &Open)? {
+        Ok(Served { audit, keeper }) => {
+            drop(keeper);
+            let books = audit.books();
+            show_books(rt.alloc(), &books, writer)?;
+            Ok(())
+        }
+        Err(failed) => Err(Fault::from(failed.fault)),
+    }
 }
 
 /// The settings in a file.

@@ -121,15 +121,16 @@ fn gate_holds_one(rt: HostRuntime) {
         .ok()
         .expect(&rt, "settings");
     let gate = Barrier { hold: Hold::new() };
-    let (audit, _) = thread::join(
+    let (answer, _) = thread::join(
         &rt,
         || serve(&rt, rt.alloc(), &settings, &gate),
         || two_calls(&rt, socket.as_str(), &gate.hold),
     );
-    let audit = audit.ok().expect(&rt, "the server ended by itself");
-    let books = audit.books();
+    let answer = answer.ok().expect(&rt, "the store was served");
+    let served = answer.ok().expect(&rt, "the server ended by itself");
+    let books = served.audit.books();
     let found = books_text(rt.alloc(), &books).ok().expect(&rt, "a text");
-    assert!(&rt; found.as_str() == BOOKS && audit.receipts().len() == ANSWERS);
+    assert!(&rt; found.as_str() == BOOKS && served.audit.receipts().len() == ANSWERS);
     assert!(&rt;
         fs::remove_file(&rt, socket.as_str()).is_ok()
             && fs::remove_file(&rt, store.as_str()).is_ok()

@@ -73,11 +73,10 @@ of_stop stop.Device = fault.Device
 of_stop stop.Memory = fault.Memory
 of_stop stop.Strange = fault.Strange
 
--- a server ended without books
+-- a store was not served
 abbrev pub of_serve : ServeFault → Fault
 of_serve (serve.Store why) = of_store why
 of_serve serve.Socket = fault.Socket
-of_serve (serve.Stopped why) = of_stop why
 
 -- a call ended before its input did
 abbrev pub of_call : CallFault → Fault

@@ -1,4 +1,4 @@
-use Rattle.std.proofs.Common.{IsSome, Option, ℕ, refl, subst, rules}
+use Rattle.std.proofs.Common.{IsSome, Option, ℕ, refl, subst, ◌∙◌, rules}
 use Rattle.fe_hall.specs.declared.ends.ReadEnd.TheVariants.{Turns}
 use Rattle.fe_hall.proofs.Streams.{ends_behind, ends_first}
 use Rattle.fe_hall.proofs.reading.Reading.read_all.Goals as goal
@@ -22,6 +22,7 @@ loop-preserved g c = record {
   next = (tt, tt);
   tells = λ tells. c.read.ensures.tells (c.loop.invariant.tells tells);
   at = λ tells none at. c.in_default-read.ensures.handled c.args.self.now.seat (c.loop.invariant.tells tells) (c.loop.invariant.at tells none at);
+  own = c.read.ensures.own ∙ c.loop.invariant.own;
   left =
       elim c.match-left.branch [
         | in-Some-left w ↦ λ _. let some : IsSome c.loop.left = search rules in c.loop.invariant.left some

@@ -9,5 +9,6 @@ invariant-loop g l = record {
   at : g.H.ReadHalf.tells l.initial.half → g.H.ReadHalf.told l.initial.half ≡ []
       → IsAt [] l.initial.self.seat l.initial.self.decoder l.initial.self.seat l.initial.self.listed.items
       → IsAt (g.H.ReadHalf.told l.half) l.initial.self.seat l.self.decoder l.self.seat l.self.listed.items;
+  own : l.self.seat.conn ≡ l.initial.self.seat.conn;
   left : IsSome l.left → IsSome l.fn.turns;
 }

@@ -5,6 +5,7 @@ use Rattle.fe_hall.proofs.reading.Reading.take_all.Goals as goal
 pub loop-message-init : goal.loop-message-init
 loop-message-init g c = record {
   handled = λ before earlier h. handled_none before c.args.self.now.seat c.args.self.now.listed.items earlier c.args.messages.now h;
+  own = refl;
   decoder = refl;
 }
 
@@ -13,6 +14,7 @@ loop-message-preserved g c = record {
   handled = λ before earlier h.
       handled_next before c.loop-message.self.seat c.take.new.self.seat c.loop-message.self.listed.items c.take.new.self.listed.items earlier c.args.messages.now c.loop-message.message-index c.message-item.result
       c.loop-message-test.true c.message-item.is c.in_default.ensures.seat c.in_default.ensures.listed (c.loop-message.invariant.handled before earlier h);
+  own = c.take.ensures.own ∙ c.loop-message.invariant.own;
   decoder = c.take.ensures.decoder ∙ c.loop-message.invariant.decoder;
 }
 

@@ -8,5 +8,6 @@ abbrev pub invariant-loop-message : goal.invariant-loop-message
 invariant-loop-message g l = record {
   handled : (before : ReadSeat) (earlier : List ClientMessage) → AreHandled before l.initial.self.seat l.initial.self.listed.items earlier
       → AreHandled before l.self.seat l.self.listed.items (earlier ++ take l.message-index l.messages);
+  own : l.self.seat.conn ≡ l.initial.self.seat.conn;
   decoder : l.self.decoder ≡ l.initial.self.decoder;
 }

@@ -1,0 +1,32 @@
+-- What the two sides of a connection did with its stream.
+use Rattle.std.specs.Prelude.{◌≡◌, ◌≢◌, ℕ, true, List, []}
+use Rattle.fe_mail.specs.declared.mail.Mail.{Mail}
+use Rattle.fe_wire.specs.declared.client_message.ClientMessage.{ClientMessage}
+use Rattle.fe_history.specs.Acts.{AreTold, Receipts}
+use Rattle.fe_hall.specs.declared.ends.ReadEnd.{ReadEnd}
+use Rattle.fe_hall.specs.declared.ends.ReadEnd.TheVariants as read_end
+use Rattle.fe_hall.specs.declared.write_end.WriteEnd.{WriteEnd}
+use Rattle.fe_hall.specs.declared.write_end.WriteEnd.TheVariants as write_end
+use Rattle.fe_hall.specs.Reads as reads
+use Rattle.fe_hall.specs.Writes as writes
+use Rattle.fe_shared.specs.Seats.{HasDeparted, HasRested, ReadSeat, WriteSeat}
+
+-- A read side read a half: what it handled is the front of the stream, if the half tells its bytes and had told none; and it ended so.
+pub record HasHandled {H : Type 0} (tells : H → Type 0) (told : H → List ℕ) (old new : H) (seat left : ReadSeat) (sent : List ClientMessage) (end : ReadEnd) : Type 0 where
+  pub own : left.conn ≡ seat.conn
+  pub handled : tells old → told old ≡ [] → reads.HandlesStream (told new) seat left sent end
+  pub hall : reads.IsTold end left.standing
+  pub departed : end ≢ read_end.Stopped → HasDeparted left
+  pub rested : reads.IsQuietEnd end → HasRested left
+
+-- A write side wrote to a half: of the mails that its seat counts the half got the frames, and the receipts are of the answers among
+-- them; and it ended so.
+pub record HasWritten {W : Type 0} (tells : W → Type 0) (got : W → List ℕ) (old new : W) (seat left : WriteSeat) (receipts : Receipts) (end : WriteEnd) : Type 0 where
+  pub own : left.conn ≡ seat.conn
+  pub receipts_own : receipts.conn ≡ left.conn
+  pub mails : List Mail
+  pub taken : writes.AreTaken seat left receipts.items mails
+  pub written : tells old → writes.IsWritten (got old) mails end (got new)
+  pub told : AreTold mails receipts.history
+  pub hall : writes.IsTold end left.standing
+  pub departed : end ≢ write_end.Stopped → left.departed ≡ true
