@@ -20,7 +20,7 @@ import warnings
 import weakref
 from functools import partial
 from types import TracebackType
-from typing import Any, Awaitable, Dict, Iterable, List, Optional, Sequence, Type, TypeVar, Union, cast
+from typing import Any, Dict, Iterable, List, Optional, Sequence, Type, TypeVar, Union, cast
 
 from . import errors, frames, registry, requests
 from .client import DEFAULT, Key, Path, Recovered, Timeout

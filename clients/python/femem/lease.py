@@ -12,7 +12,7 @@ from __future__ import annotations
 
 import socket
 import time
-from typing import Any, List, Optional, Sequence, Tuple
+from typing import Any, List, Optional, Sequence
 
 from .errors import AnswerError, ProtocolError
 from .frames import ARRAY, NOT_NOW, VALUE, Answer, append_under, pack_number, unpack_answer

@@ -13,8 +13,8 @@ from typing import TYPE_CHECKING, Any, Callable, Generic, List, Optional, Sequen
 from . import frames, requests
 from .client import Key, key_bytes, seconds_of
 from .core import Core
-from .errors import NameTaken, NoArray, NotNow, OtherPattern, TimedOut
-from .jobs import Batch, First, Look, Pause, Present, Step, Steps, Wait
+from .errors import NameTaken, NoArray, NotNow, OtherPattern
+from .jobs import Batch, Pause, Present, Steps, Wait
 from .reports import Report
 from .requests import Array, Request, number_of_bits
 
@@ -244,35 +244,3 @@ def once(core: Core, key: Optional[Key], request: Request[T], timeout: Optional[
         raise ValueError("a key needs a client with a session file")
     result: T = yield Wait(request, seconds_of(timeout), None if key is None else key_bytes(key))
     return result
-
-
-__all__ = [
-    "FIRST_LOOK",
-    "LAST_LOOK",
-    "PRESENCE",
-    "Array",
-    "Awaiting",
-    "Batch",
-    "Blocking",
-    "First",
-    "Key",
-    "Look",
-    "Pattern",
-    "Pause",
-    "Step",
-    "Steps",
-    "TimedOut",
-    "Tries",
-    "Wait",
-    "batch",
-    "end_of",
-    "is_full",
-    "is_there",
-    "left",
-    "marked_array",
-    "once",
-    "operation",
-    "operation_with",
-    "shared_array",
-    "size_of",
-]

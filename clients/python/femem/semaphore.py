@@ -8,8 +8,8 @@ from typing import Any, List, Optional
 from . import frames, requests
 from .errors import NoArray, NotNow, NotOwner, TimedOut
 from .jobs import Steps
-from .operations import FIRST_LOOK, LAST_LOOK, Array, Key, Pattern, Tries, batch, end_of, is_full, left, marked_array
-from .operations import operation, operation_with, size_of
+from .operations import FIRST_LOOK, LAST_LOOK, Array, Key, Pattern, Tries, batch, end_of, is_full, left
+from .operations import marked_array, operation, operation_with, size_of
 from .ring import SLOTS, TRUST, Ring
 
 

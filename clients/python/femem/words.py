@@ -8,7 +8,8 @@ from typing import Any, Optional, Tuple
 from . import requests
 from .errors import BrokenBarrier, NameTaken, NoArray, NotNow, TimedOut
 from .jobs import Steps, Wait
-from .operations import Array, Key, Pattern, batch, end_of, is_full, left, once, operation, operation_with, shared_array, size_of
+from .operations import Array, Key, Pattern, batch, end_of, is_full, left, once
+from .operations import operation, operation_with, shared_array, size_of
 
 
 class Counter(Pattern):
