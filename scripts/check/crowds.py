@@ -360,6 +360,60 @@ def slow_reader(place):
     server.stop()
 
 
+PIPELINED = 20000
+
+
+def calls_and_settles(number):
+    """A call, and the settle behind it."""
+    return [wire.call(number, adding(1, 0, 1)), wire.settle(number + 1)]
+
+
+def of_each_kind(number):
+    """A call, a settle, a cancel of what is not there, a call beyond the window, and a report now and then."""
+    far = wire.call(number + 1000, adding(1, 0, 1))
+    return [*calls_and_settles(number), wire.cancel(number + 1), far, *([wire.report()] if number % 50 == 0 else [])]
+
+
+# What is sent for each number, one reply for each message.
+PIPELINES = {
+    "calls and settles": calls_and_settles,
+    "settles": lambda number: [wire.settle(1)],
+    "answers that are sent again": lambda number: [wire.call(1, adding(1, 0, 1))],
+    "refusals": lambda number: [wire.call(number + 1000, adding(1, 0, 1))],
+    "cancels": lambda number: [wire.cancel(7)],
+    "reports": lambda number: [wire.report()],
+    "each kind": of_each_kind,
+}
+
+
+def pipelines(place):
+    """a client that sends 20,000 messages of a kind without a pause, and reads all the while, gets the reply to each"""
+    server = Server(place).start()
+    made(server, (b"counter", 1, 1))
+    for session, (name, messages) in enumerate(PIPELINES.items(), 1):
+        with server.attached(session) as conn:
+            conn.wait(60)
+            # (a call that is sent again before it is answered has no reply of its own, so the first one is answered before)
+            start = 1
+            if name == "answers that are sent again":
+                same(conn.ask(wire.call(1, adding(1, 0, 1)))[:2], ("answer", 1))
+            sent = []
+            while len(sent) < PIPELINED:
+                sent += messages(start)
+                start += 1
+            sender = threading.Thread(target=conn.send, args=(b"".join(sent),), daemon=True)
+            sender.start()
+            for at in range(len(sent)):
+                try:
+                    conn.frame()
+                except wire.Ended as why:
+                    holds(False, f"{name}: after {at} replies of {len(sent)}: {why}")
+            sender.join()
+            holds(conn.is_quiet(), f"{name}: more replies than messages")
+    server.stop()
+    return f"{len(PIPELINES)} kinds"
+
+
 BAD_FRAMES = (
     ("of length 0", b"\0\0\0\0"),
     ("of length 48", b"\0\0\0\x30"),
@@ -470,6 +524,7 @@ CHECKS = (
     half_closed,
     never_reads,
     slow_reader,
+    pipelines,
     bad_frames,
     taken_over,
     refusals,

@@ -224,24 +224,26 @@ def quickest(turns, bound, turn):
 
 @within(90)
 def door_behind_half_closed(place):
-    """at the limit, while a client has shut its receiving side: a newcomer waits for a second and is closed within two; the next comes in where another has left"""
+    """at the limit, while a client has shut its receiving side: one newcomer waits a second for its end, and no later one; the next comes in where another has left"""
     server = Server(place, connections=2).start()
     with server.attached(1) as half, server.attached(2) as other:
         half.socket.shutdown(socket.SHUT_RD)
 
-        def turned_away(_turn):
+        def turned_away():
             began = time.monotonic()
             with server.connect() as late:
                 holds(late.has_ended(), "one connection too many is neither served nor closed")
             return time.monotonic() - began
 
-        took = quickest(3, 2, turned_away)
-        holds(0.9 < took < 2, f"closed after {took:.2f} s")
+        first = turned_away()
+        holds(0.9 < first, f"the first was closed after {first:.2f} s")
+        later = quickest(3, 0.5, lambda _turn: turned_away())
+        holds(later < 0.5, f"each later one was closed after {later:.2f} s or more")
         other.close()
         with until(lambda: served(server), 20, "a place is free again") as conn:
             same(conn.ask(wire.attach(3)), ("welcome", 3, 1))
     server.stop()
-    return f"after {took:.2f} s"
+    return f"after {first:.2f} s, then {later:.2f} s"
 
 
 @within(90)

@@ -10,7 +10,7 @@ use crate::hold::Lock;
 use fe_front::{BELLS, Front};
 use fe_history::{Chronicle, Gathered, History, NewHistory, Receipt, StoreSeat, Tally};
 use fe_shared::{
-    CallSeat, Cutting, HasStopped, MailSeat, Posted, Shared, Standing, Taking, Unconnected,
+    CallSeat, Cutting, HasStopped, Made, MailSeat, Posted, Shared, Standing, Taking, Unconnected,
     Unposted,
 };
 use fe_state::Batch;
@@ -18,6 +18,10 @@ use fe_wire::ClientMessage;
 use std::alloc::{AllocError, Global};
 use std::sync::ledger::Blank;
 use std::sync::{Condvar, Wait};
+use std::time::{Clock, Duration};
+
+/// How many milliseconds a read side waits at most for a write side that takes no mail.
+const STILL_MILLIS: u64 = 1000;
 
 /// A front that many threads share. A hold of its lock makes at most one event.
 ///
@@ -149,6 +153,40 @@ impl<C: Tally, M: Tally> Hall<C, M> {
             hold = hold.wait(rt, &self.bells[(conn % BELLS) as usize], &mut grip);
         }
         unreachable!()
+    }
+
+    /// Waits until the write side has taken what came of the connection's messages before `made`, except what waits. It waits as long as
+    /// entries are stored, or the write side takes mails: a client that takes none for a second is not waited for. Returns the place
+    /// after all entries made so far.
+    pub(crate) fn await_room<R: Clock + Wait>(
+        &self,
+        rt: &R,
+        seat: &CallSeat<C>,
+        made: &Made,
+        grip: &mut Grip<'_>,
+    ) -> Made {
+        let conn = seat.conn();
+        let bell = &self.bells[(conn % BELLS) as usize];
+        let limit = Duration::from_millis(STILL_MILLIS);
+        let mut hold = self.lock.enter(rt);
+        for _ in rt.forever() {
+            if hold.rest(seat, made).is_some() {
+                return hold.shared().made();
+            }
+            grip.give_up();
+            let (next, in_vain) = hold.wait_at_most(rt, bell, limit, conn, made);
+            hold = next;
+            if in_vain && hold.shared().is_durable(made) {
+                let _ = hold.unwatch(conn);
+                return hold.shared().made();
+            }
+        }
+        unreachable!()
+    }
+
+    /// The place after all entries made so far.
+    pub(crate) fn made<R: Wait>(&self, rt: &R) -> Made {
+        self.lock.enter(rt).shared().made()
     }
 
     /// Waits until the write side has taken what comes of the connection's messages, except what waits, and makes the connection gone.

@@ -24,7 +24,8 @@ use fe_shared::{
 use fe_state::Batch;
 use fe_wire::ClientMessage;
 use std::alloc::Global;
-use std::sync::{Condvar, Mutex, MutexGuard, Wait};
+use std::sync::{Condvar, CondvarTimeouts, Mutex, MutexGuard, Wait};
+use std::time::{Clock, Duration};
 
 /// How often a thread tries to take the lock before it sleeps: a hold is shorter than a sleep and a wake-up.
 const LOOKS: u64 = 100;
@@ -88,6 +89,25 @@ impl<'a, C: Tally, M: Tally> Hold<'a, C, M> {
             shared: bell.wait(rt, shared),
             used: false,
         }
+    }
+
+    /// Releases the lock until a read side that waits need not wait any more, or for this long: whether it was for nothing.
+    pub(crate) fn wait_at_most<R: Clock + Wait>(
+        self,
+        rt: &R,
+        bell: &Condvar,
+        limit: Duration,
+        conn: u64,
+        made: &Made,
+    ) -> (Hold<'a, C, M>, bool)
+        ensures { result.0.used ≡ false }
+    {
+        let Hold { shared, used: _ } = self;
+        let (shared, waited) = bell.wait_timeout_while(rt, shared, limit, |shared| {
+            shared.is_stuck(conn, made)
+        });
+        let used = false;
+        (Hold { shared, used }, waited.timed_out())
     }
 
     /// Releases the lock.

@@ -10,13 +10,18 @@ use crate::ends::ReadEnd;
 use crate::hall::Hall;
 use crate::halves::{Gate, ReadHalf};
 use fe_history::Tally;
-use fe_shared::{CallSeat, Standing};
+use fe_shared::{CallSeat, Made, Standing};
 use fe_wire::{ClientMessage, Decoder, Version};
 use std::alloc::Global;
 use std::sync::Wait;
+use std::time::Clock;
 
 /// How many bytes a read may bring.
 const PIECE_BYTES: usize = 8192;
+
+/// How many messages a read side hands on before it looks whether what came of earlier ones was taken. A box of 128 mails has room for
+/// those of two such runs, and for the answers that wait, 32 at most.
+const RUN: u64 = 32;
 
 /// How many messages the list of a side has at most.
 const LISTED: usize = 1024;
@@ -27,7 +32,7 @@ const LISTED: usize = 1024;
 /// It gives the seat back, with the first 1,024 attaches and calls that were handled. At `Closed` and `Turns` it waits until the
 /// write side has taken what comes of the messages that were handled, except what waits. Every end makes the connection gone,
 /// unless the hall is stopped.
-pub fn read_side<C: Tally, M: Tally, H: ReadHalf, G: Gate, R: Wait>(
+pub fn read_side<C: Tally, M: Tally, H: ReadHalf, G: Gate, R: Clock + Wait>(
     rt: &R,
     alloc: Global,
     hall: &Hall<C, M>,
@@ -57,6 +62,8 @@ pub fn read_side<C: Tally, M: Tally, H: ReadHalf, G: Gate, R: Wait>(
         seat,
         decoder,
         listed,
+        run: 0,
+        made: None,
     };
     let end = reading.read_all(rt, hall, half, gate, turns);
     depart(rt, hall, &mut reading.seat, end);
@@ -72,11 +79,15 @@ struct Reading<C: Tally> {
     decoder: Decoder,
     /// The first attaches and calls that were handled.
     listed: Vec<ClientMessage>,
+    /// How many messages this run has.
+    run: u64,
+    /// The place after all entries made before this run.
+    made: Option<Made>,
 }
 
 impl<C: Tally> Reading<C> {
     /// Reads as often as it may, until the side ends.
-    fn read_all<M: Tally, H: ReadHalf, G: Gate, R: Wait>(
+    fn read_all<M: Tally, H: ReadHalf, G: Gate, R: Clock + Wait>(
         &mut self,
         rt: &R,
         hall: &Hall<C, M>,
@@ -113,7 +124,7 @@ impl<C: Tally> Reading<C> {
     }
 
     /// Reads once, and takes the messages that came whole. Why the side ends, if it does.
-    fn read<M: Tally, H: ReadHalf, G: Gate, R: Wait>(
+    fn read<M: Tally, H: ReadHalf, G: Gate, R: Clock + Wait>(
         &mut self,
         rt: &R,
         hall: &Hall<C, M>,
@@ -141,7 +152,7 @@ impl<C: Tally> Reading<C> {
     }
 
     /// Takes the messages that the next piece of the stream completes. Why the side ends, if it does.
-    fn take_piece<M: Tally, G: Gate, R: Wait>(
+    fn take_piece<M: Tally, G: Gate, R: Clock + Wait>(
         &mut self,
         rt: &R,
         hall: &Hall<C, M>,
@@ -169,7 +180,7 @@ impl<C: Tally> Reading<C> {
     }
 
     /// Takes messages in their order. Why the side ends, if it does.
-    fn take_all<M: Tally, G: Gate, R: Wait>(
+    fn take_all<M: Tally, G: Gate, R: Clock + Wait>(
         &mut self,
         rt: &R,
         hall: &Hall<C, M>,
@@ -197,7 +208,7 @@ impl<C: Tally> Reading<C> {
     }
 
     /// Takes a message. Why the side ends before it, if it does.
-    fn take<M: Tally, G: Gate, R: Wait>(
+    fn take<M: Tally, G: Gate, R: Clock + Wait>(
         &mut self,
         rt: &R,
         hall: &Hall<C, M>,
@@ -222,6 +233,7 @@ impl<C: Tally> Reading<C> {
             grip.give_up();
             gate.pass(rt, self.seat.conn());
         }
+        self.keep_pace(rt, hall, grip);
         // A report may be long, and a client may ask for many and read none.
         if matches!(message, ClientMessage::Report) {
             grip.give_up();
@@ -235,6 +247,30 @@ impl<C: Tally> Reading<C> {
             unreachable!();
         }
         None
+    }
+
+    /// A message more. After each run, waits until what came of the run before it was taken, so that a client that reads does not find
+    /// its box full.
+    fn keep_pace<M: Tally, R: Clock + Wait>(
+        &mut self,
+        rt: &R,
+        hall: &Hall<C, M>,
+        grip: &mut Grip<'_>,
+    )
+        ensures seat { self.new.seat ≡ self.old.seat }
+        ensures listed { self.new.listed ≡ self.old.listed }
+        ensures decoder { self.new.decoder ≡ self.old.decoder }
+    {
+        if self.run < RUN {
+            self.run += 1;
+            return;
+        }
+        let made = match &self.made {
+            Some(made) => hall.await_room(rt, &self.seat, made, grip),
+            None => hall.made(rt),
+        };
+        self.run = 1;
+        self.made = Some(made);
     }
 }
 

@@ -159,7 +159,7 @@ fn serve_next<
     C: Tally + Send + Sync,
     M: Tally + Send + Sync,
     G: Gate + Sync,
-    R: Threads + Wait + Sync,
+    R: Clock + Threads + Wait + Sync,
 >(rt: &R, alloc: Global, house: &House<C, M>, gate: &G, turns: u64) -> Ended
     requires calls { C.all ≡ C.parts }
     requires mails { M.all ≡ M.parts }

@@ -33,6 +33,7 @@ use std::snapshot::Snapshot;
 use std::sync::{Arc, Wait};
 use std::thread;
 use std::thread::{Promise, Scope, Threads};
+use std::time::Clock;
 
 /// The bytes of the stack of each thread of a connection.
 pub(crate) const STACK: usize = 1 << 20;
@@ -127,7 +128,7 @@ impl Connection {
         C: Tally + Send + Sync,
         M: Tally + Send + Sync,
         G: Gate + Sync,
-        R: Threads + Wait + Sync,
+        R: Clock + Threads + Wait + Sync,
     >(
         &self,
         rt: &R,
@@ -244,7 +245,7 @@ fn serve_streams<
     C: Tally + Send + Sync,
     M: Tally + Send + Sync,
     G: Gate + Sync,
-    R: Threads + Wait + Sync,
+    R: Clock + Threads + Wait + Sync,
     I: Read + Drop,
     O: Write + Drop + Send,
     E: HangUp + Sync,
@@ -280,7 +281,7 @@ fn serve_over<
     C: Tally + Send + Sync,
     M: Tally + Send + Sync,
     G: Gate + Sync,
-    R: Threads + Wait + Sync,
+    R: Clock + Threads + Wait + Sync,
     H: ReadHalf + Drop,
     W: WriteHalf + Drop + Send,
     E: HangUp + Sync,
@@ -324,7 +325,7 @@ fn serve_in<
     C: Tally + Send + Sync,
     M: Tally + Send + Sync,
     G: Gate + Sync,
-    R: Threads + Wait + Sync,
+    R: Clock + Threads + Wait + Sync,
     H: ReadHalf + Drop,
     W: WriteHalf + Drop + Send + 's,
     E: HangUp + Sync,
@@ -385,7 +386,7 @@ fn serve_in<
 
 /// Runs the read side of a connection. If the client has ended its stream, or the reads are used up, the write side still writes what
 /// it took. At every other end the stream is ended, which ends the write side too.
-fn run_read_side<C: Tally, M: Tally, G: Gate, R: Wait, H: ReadHalf + Drop, E: HangUp>(
+fn run_read_side<C: Tally, M: Tally, G: Gate, R: Clock + Wait, H: ReadHalf + Drop, E: HangUp>(
     rt: &R,
     alloc: Global,
     house: &House<C, M>,

@@ -168,7 +168,8 @@ impl<C: Tally, M: Tally> Opened<C, M> {
 }
 
 impl<C: Tally, M: Tally> House<C, M> {
-    /// Admits one more connection if there is room. If there is none, it waits for a connection that is about to end.
+    /// Admits one more connection if there is room. If there is none, it waits for the connections that are about to end, but once only
+    /// for each.
     pub(crate) fn enter<R: Clock + Wait>(&self, rt: &R) -> Result<Admission, Full>
         ensures admission { IfOk result
             (λ admission. (admission.most ≡ self.now.most) × (admission.accepts ≡ self.now.accepts)) }
@@ -177,12 +178,15 @@ impl<C: Tally, M: Tally> House<C, M> {
     {
         let (most, accepts) = (self.most, self.accepts);
         let register = self.register.lock(rt);
-        let (mut register, _) = self.freed.wait_timeout_while(
+        let (mut register, waited) = self.freed.wait_timeout_while(
             rt,
             register,
             Duration::from_millis(ROOM_WAIT),
             |register| !register.has_room(most) && register.has_ending(),
         );
+        if waited.timed_out() {
+            register.outlast();
+        }
         register.enter(most, accepts)
     }
 

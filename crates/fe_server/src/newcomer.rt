@@ -10,6 +10,7 @@ use fe_hall::{CallSeat, Gate, Hall, MailSeat, Tally};
 use std::alloc::Global;
 use std::sync::Wait;
 use std::thread::Threads;
+use std::time::Clock;
 
 /// A connection that was admitted, and its seats, before its threads begin. It is not `Drop`, as its connection is not.
 pub(crate) struct Newcomer<C: Tally, M: Tally> {
@@ -68,7 +69,7 @@ impl<C: Tally, M: Tally> Newcomer<C, M> {
 
 impl<C: Tally + Send + Sync, M: Tally + Send + Sync> Newcomer<C, M> {
     /// Serves its client until both sides have ended. At most `turns` reads are made.
-    pub(crate) fn serve<G: Gate + Sync, R: Threads + Wait + Sync>(
+    pub(crate) fn serve<G: Gate + Sync, R: Clock + Threads + Wait + Sync>(
         self,
         rt: &R,
         alloc: Global,

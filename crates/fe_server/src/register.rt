@@ -170,9 +170,22 @@ impl<C: Tally, M: Tally> Register<C, M> {
         self.present < most
     }
 
-    /// Whether a connection is about to end: its client, or one of its own sides, has closed it.
+    /// Whether a connection is about to end: its client, or one of its own sides, has closed it, and nobody waited for that in vain.
     pub(crate) fn has_ending(&self) -> bool {
-        self.handles.iter().any(|handle| handle.has_ended())
+        self.handles.iter().any(|handle| handle.is_ending())
+    }
+
+    /// A newcomer waited in vain: the connections that were about to end are not waited for again.
+    pub(crate) fn outlast(&mut self)
+        ensures admitted { self.new.admitted ≡ self.old.admitted }
+        ensures came { self.new.came ≡ self.old.came }
+        ensures present { self.new.present ≡ self.old.present }
+        ensures over { self.new.over ≡ self.old.over }
+        ensures departed { self.new.departed ≡ self.old.departed }
+    {
+        for handle in &mut self.handles {
+            handle.outlasts();
+        }
     }
 
     /// Admits one more connection, and gives it the next number. At most `most` are there at once and, unless `accepts` is 0, at most

@@ -10,6 +10,8 @@ use std::sync::Arc;
 #[derive(Drop)]
 pub(crate) struct SocketHandle {
     conn: u64,
+    /// A newcomer waited in vain for this connection's end.
+    is_lasting: bool,
     socket: Arc<ClientSocket, Global>,
 }
 
@@ -18,7 +20,11 @@ impl SocketHandle {
     pub(crate) fn of(conn: u64, socket: Arc<ClientSocket, Global>) -> SocketHandle
         ensures { result.conn ≡ conn }
     {
-        SocketHandle { conn, socket }
+        SocketHandle {
+            conn,
+            is_lasting: false,
+            socket,
+        }
     }
 
     pub(crate) fn conn(&self) -> u64
@@ -27,9 +33,16 @@ impl SocketHandle {
         self.conn
     }
 
-    /// Whether the stream takes no more bytes.
-    pub(crate) fn has_ended(&self) -> bool {
-        self.socket.has_ended()
+    /// Whether the connection is about to end: its stream takes no more bytes, and no newcomer waited in vain for its end.
+    pub(crate) fn is_ending(&self) -> bool {
+        !self.is_lasting && self.socket.has_ended()
+    }
+
+    /// A newcomer waited for the connections that were about to end, and this one has not ended.
+    pub(crate) fn outlasts(&mut self)
+        ensures { self.new.conn ≡ self.old.conn }
+    {
+        self.is_lasting = self.is_lasting || self.socket.has_ended();
     }
 
     /// Ends the stream.

@@ -356,6 +356,21 @@ impl<C: Tally, M: Tally> Shared<C, M> {
         None
     }
 
+    /// Whether all entries that were made before are stored and posted.
+    pub fn is_durable(&self, made: &Made) -> bool
+        ensures { IsTrue result ↔ (made.now ≤ self.now.front.durable) }
+    {
+        self.front.durable() >= made.place
+    }
+
+    /// Whether the read side of a connection that waits has to go on waiting: something of what was made before is left to take, and
+    /// since it was noted that the side waits, its write side has taken nothing.
+    pub fn is_stuck(&self, conn: u64, made: &Made) -> bool
+        ensures { IsTrue result → ¬ IsDrained self.now.front self.now.stopped conn made.now }
+    {
+        !self.is_drained(conn, made.place) && self.watchers.is_still(conn)
+    }
+
     /// How many mails were made, also those that met a full box.
     pub fn mails_made(&self) -> u64 {
         self.front.books().mails
@@ -374,6 +389,7 @@ impl<C: Tally, M: Tally> Shared<C, M> {
             Some(mail) => {
                 let more = self.front.has_mail(conn);
                 seat.take(&mut self.mails, &mail, more);
+                self.watchers.note_move(conn);
                 Some(Taking::Mail { mail, more })
             }
             None => self.end_of_mails(seat),
