@@ -2,14 +2,16 @@
 
 import fcntl
 import os
+import resource
 import socket
 import struct
+import subprocess
 import termios
 import time
 
 from . import wire
 from .crowds import adding, made, memory_of, served, threads_of
-from .harness import Server, Skipped, holds, preload, same, until, within
+from .harness import Held, Server, Skipped, holds, preload, same, until, within
 
 READFE = 16
 
@@ -181,6 +183,64 @@ def until_there(server):
     end = time.monotonic() + 30
     while not os.path.exists(server.socket):
         holds(time.monotonic() < end, "there is no socket")
+
+
+def two_at_one_socket(place):
+    """of two servers at one socket's path, the first or both slow between bind and listen, one serves, and the other ends with `femem: socket`"""
+    for name, is_slow in (("first", False), ("both", True)):
+        held = [Held(place, "listen", f"{name}{number}") for number in range(2)]
+        servers = [Server(place, f"{name}{number}") for number in range(2)]
+        servers[1].socket = servers[0].socket
+        held[0].next()
+        servers[0].start(held[0].env, waits=False)
+        held[0].wait()
+        if is_slow:
+            held[1].next()
+        servers[1].start(held[1].env, waits=False)
+        held[1].wait() if is_slow else until_there(servers[1])
+        held[0].let_go()
+        if is_slow:
+            until_there(servers[0])
+            held[1].let_go()
+        until(lambda: sum(it.is_running() for it in servers) == 1, 30, f"{name}: one of the two ends")
+        winner, other = sorted(servers, key=lambda it: not it.is_running())
+        same(other.ended(), (4, "", "femem: socket\n"), name)
+        winner.attached(7).close()
+        same([it for it in os.listdir(place.folder) if it.endswith(".socket.new")], [], name)
+        winner.stop()
+
+
+def few_descriptors(place):
+    """a server that may open too few files for its socket says so, and one with enough for it serves"""
+    said = []
+    for count in range(4, 16):
+        server = Server(place, f"d{count}", store=place.path("store"))
+        server.start(waits=False, limit=(resource.RLIMIT_NOFILE, count))
+        until(lambda: os.path.exists(server.socket) or not server.is_running(), 30, f"{count} descriptors: it serves or ends")
+        if server.is_running() and can_connect(server):
+            server.attached(7).close()
+            said.append("serves")
+            server.stop()
+        else:
+            status, output, errors = server.ended()
+            same(output, "", f"{count} descriptors")
+            said.append((status, errors))
+            holds(not os.path.exists(server.socket), f"{count} descriptors: a socket is left")
+    socket_fault = (4, "femem: socket\n")
+    before = said[: said.index(socket_fault)]
+    holds(before and set(before) <= {(2, "femem: settings: unreadable\n"), (3, "femem: store device\n")}, said)
+    holds(set(said[len(before) :]) == {socket_fault, "serves"} and said[-1] == "serves", said)
+    same(said[len(before) :], sorted(said[len(before) :], key=lambda it: it == "serves"))
+    return f"{said.count(socket_fault)} of them too few for the socket"
+
+
+def can_connect(server):
+    """Whether a server serves within a moment after its socket's file is there."""
+    try:
+        server.process.wait(0.3)
+    except subprocess.TimeoutExpired:
+        return True
+    return False
 
 
 def long_paths(place):
@@ -367,6 +427,8 @@ CHECKS = (
     last_turn,
     at_the_limit,
     ready_socket,
+    two_at_one_socket,
+    few_descriptors,
     long_paths,
     door_behind_half_closed,
     fault_with_silent_clients,

@@ -187,9 +187,9 @@ class Server:
 class Held:
     """Holds a server's calls of one kind: the environment to start the server in, and the files that hold a call."""
 
-    def __init__(self, place, call):
-        self.asked = place.path("hold")
-        self.mark = place.path("held")
+    def __init__(self, place, call, name=""):
+        self.asked = place.path(f"hold{name}")
+        self.mark = place.path(f"held{name}")
         self.env = {"LD_PRELOAD": preload(place, "streams.c"), "CALL": call, "HOLD": self.asked, "MARK": self.mark}
 
     def next(self):

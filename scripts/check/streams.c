@@ -1,5 +1,5 @@
-/* A preload for one kind of call, named by CALL: read (of stream 0), write (to stream 1), recv, send or fdatasync (of any
-   file). SHORT is the maximum number of bytes for each call; with BREAK every second call is interrupted. The call of
+/* A preload for one kind of call, named by CALL: read (of stream 0), write (to stream 1), recv, send, listen, flock or
+   fdatasync (of any file). SHORT is the maximum number of bytes for each call; with BREAK every second call is interrupted. The call of
    number FAIL, counted from 1, fails with EIO. The next call after the file HOLD is created is held: a recv after its bytes
    came, the others before they begin. The file MARK is created when a call fails or is held; a held call goes on once MARK
    is removed. */
@@ -70,6 +70,7 @@ typedef ssize_t (*writer)(int, const void *, size_t);
 typedef ssize_t (*receiver)(int, void *, size_t, int);
 typedef ssize_t (*sender)(int, const void *, size_t, int);
 typedef int (*syncer)(int);
+typedef int (*listener)(int, int);
 
 ssize_t read(int file, void *bytes, size_t size) {
   REAL(reader, "read");
@@ -98,4 +99,14 @@ ssize_t send(int file, const void *bytes, size_t size, int flags) {
 int fdatasync(int file) {
   REAL(syncer, "fdatasync");
   return fails("fdatasync") ? -1 : real(file);
+}
+
+int flock(int file, int how) {
+  REAL(listener, "flock");
+  return fails("flock") ? -1 : real(file, how);
+}
+
+int listen(int file, int waiting) {
+  REAL(listener, "listen");
+  return fails("listen") ? -1 : real(file, waiting);
 }

@@ -4,8 +4,9 @@ ghost use Rattle.std.specs.Prelude.{◌≡◌, ◌<◌, ◌++◌, codes, length,
 
 use std::alloc::Global;
 use std::fs;
+use std::fs::Metadata;
 use std::net::Net;
-use std::os::unix::fs::FileTypeExt;
+use std::os::unix::fs::{FileTypeExt, MetadataExt};
 use std::os::unix::net::{UnixListener, UnixStream};
 use std::rt::Files;
 
@@ -15,13 +16,17 @@ const BESIDE: &str = ".new";
 /// The most bytes that the path of a socket has on Linux.
 const LONGEST: usize = 107;
 
-/// Binds a listener to a path that does not exist. The file appears there once clients can connect. If the path has no room for
-/// the name beside it, that name is taken, or the file system has no hard links, the path itself is bound.
+/// More connections than any server that starts makes at the other name.
+const VISITORS: u64 = 4096;
+
+/// Binds a listener to a path that does not exist, if the server may open as many files as it needs to serve a client. The file
+/// appears there once clients can connect. If the path has no room for the name beside it, that name is taken, or the file system
+/// has no hard links, the path itself is bound.
 pub(crate) fn bind<R: Files + Net>(rt: &R, alloc: Global, path: &str) -> Option<UnixListener>
     ensures named { IsSome result → 0 < length path.now }
 {
     // The system would make a socket of its own choice.
-    if path.is_empty() || is_taken(rt, path) {
+    if path.is_empty() || is_taken(rt, path) || !has_room(rt) {
         return None;
     }
     match bind_ready(rt, alloc, path) {
@@ -30,15 +35,63 @@ pub(crate) fn bind<R: Files + Net>(rt: &R, alloc: Global, path: &str) -> Option<
     }
 }
 
-/// A listener that is bound to the other name, and then moved to its path.
+/// A listener that is bound to the other name, and then moved to its path. Another server that starts at the same moment takes a
+/// socket that does not listen yet for one that a killed server left, and puts its own there. So this one is the listener only if
+/// what is at the path in the end is what was at the other name when it was reached there.
 fn bind_ready<R: Files + Net>(rt: &R, alloc: Global, path: &str) -> Option<UnixListener> {
     let beside = name_beside(alloc, path)?;
     let listener = bind_beside(rt, beside.as_str())?;
-    let moved = fs::hard_link(rt, beside.as_str(), path);
-    let _ = fs::remove_file(rt, beside.as_str());
-    match moved {
-        Ok(()) => Some(listener),
-        Err(_) => None,
+    let bound = fs::symlink_metadata(rt, beside.as_str()).ok()?;
+    if !is_reached(rt, &listener, beside.as_str()) {
+        return None;
+    }
+    let _ = fs::hard_link(rt, beside.as_str(), path);
+    if is_at(rt, beside.as_str(), &bound) {
+        let _ = fs::remove_file(rt, beside.as_str());
+    }
+    if is_at(rt, path, &bound) {
+        Some(listener)
+    } else {
+        None
+    }
+}
+
+/// Whether a client who connects at a path gets to the listener. All who came until then are sent away.
+fn is_reached<R: Files + Net>(rt: &R, listener: &UnixListener, path: &str) -> bool {
+    if listener.set_nonblocking(true).is_err() {
+        return false;
+    }
+    let _before = visitors(listener);
+    let came = match UnixStream::connect(rt, path) {
+        Ok(_) => visitors(listener),
+        Err(_) => 0,
+    };
+    listener.set_nonblocking(false).is_ok() && came > 0
+}
+
+/// How many connections wait at a listener that does not block. They are closed.
+fn visitors(listener: &UnixListener) -> u64 {
+    for count in 0..VISITORS {
+        if listener.accept().is_err() {
+            return count;
+        }
+    }
+    VISITORS
+}
+
+/// Whether a path has this file.
+fn is_at<R: Files>(rt: &R, path: &str, file: &Metadata) -> bool {
+    match fs::symlink_metadata(rt, path) {
+        Ok(found) => found.dev() == file.dev() && found.ino() == file.ino(),
+        Err(_) => false,
+    }
+}
+
+/// Whether three more files can be opened: the listener, another handle of it, and a connection.
+fn has_room<R: Net>(rt: &R) -> bool {
+    match UnixStream::pair(rt) {
+        Ok((first, _second)) => first.try_clone().is_ok(),
+        Err(_) => false,
     }
 }
 
