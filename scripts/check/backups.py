@@ -8,7 +8,7 @@ import time
 
 from . import store, tables, wire
 from .crowds import adding
-from .harness import Server, holds, same, until, within
+from .harness import Held, Server, holds, same, until, within
 from .looks import Load
 from .model import State
 
@@ -166,7 +166,9 @@ def probed(place):
     holds((status, errors) == (0, "") and text.startswith("stored in 0."), text + errors)
     same(server.looks(), "place 2\n")
     holds("femem_probe_status 0\nfemem_probe_seconds 0." in ran(place, "femem-probe", "--metrics", server.socket)[1], "metrics")
-    same(ran(place, "femem-probe", "--slow", "0", server.socket)[0], 3, "a slow one")
+    counts = place.path("counts")
+    same(ran(place, "femem-probe", "--slow", "0", "--counts", counts, server.socket)[0], 3, "a slow one")
+    same(ran(place, "femem-probe", "--counts", counts, server.socket)[0], 0)
     server.process.send_signal(signal.SIGSTOP)
     begun = time.monotonic()
     status, text, errors = ran(place, "femem-probe", "--limit", "0.5", server.socket)
@@ -174,7 +176,33 @@ def probed(place):
     holds(time.monotonic() - begun < 5, "the limit ends it")
     server.process.send_signal(signal.SIGCONT)
     server.stop()
+    status, text, _ = ran(place, "femem-probe", "--metrics", "--counts", counts, server.socket)
+    numbers = "femem_probes_total 3\nfemem_probes_slow_total 1\nfemem_probes_failed_total 1\n"
+    same((status, text), (4, f"femem_probe_status 4\nfemem_probe_seconds 0.000000\n{numbers}"))
     same(ran(place, "femem-probe", server.socket), (4, "", "no server\n"))
 
 
-CHECKS = (layout, restored, rescued, probed, while_served)
+def slow_sync(place):
+    """a probe of a server whose sync takes more than a second says so, while a report and a look are answered at once"""
+    held = Held(place, "fdatasync")
+    server = Server(place).start(held.env)
+    for seconds, status, words in ((1.2, 3, "slower than 1 s"), (5.5, 1, "nothing was stored within 2 s")):
+        held.next()
+        tool = [sys.executable, os.path.join(TOOLS, "femem-probe"), "--limit", "5" if status == 3 else "2", server.socket]
+        probe = subprocess.Popen(tool, stdin=subprocess.DEVNULL, stdout=subprocess.PIPE, stderr=subprocess.STDOUT, text=True)
+        held.wait()
+        begun = time.monotonic()
+        same(place.run("call", "--socket", server.socket, given=b"report\n")[:2], (0, b"waiting 0\n"), "a report")
+        server.looks()
+        if status == 3:
+            time.sleep(max(begun + seconds - time.monotonic(), 0))
+            held.let_go()
+        said = probe.communicate(timeout=seconds * 10)[0]
+        if status == 1:
+            held.let_go()
+        same(probe.returncode, status, said)
+        holds(words in said, said)
+    server.stop()
+
+
+CHECKS = (layout, restored, rescued, probed, slow_sync, while_served)

@@ -7,6 +7,7 @@ import shutil
 import subprocess
 
 from .harness import Server, Skipped, compiler, holds, same, within
+from .store import JOURNAL
 from .texts import PAGES, TOP, block, split, text_of, told
 
 # Every block of commands in the documents, by its first line: who runs it, or why no check does. Those of docs/store.md and
@@ -32,11 +33,11 @@ BLOCKS = {
         ("femem serve --settings /etc/femem.toml", "deb.py: the unit's line"),
         ("apt install", "deb.py, in a system of its own; the last line here"),
         ("place 5", HERE),
-        ("systemctl is-active femem", "the report lines here; deb.py asks systemd, and runs ss and the probe"),
-        ("  /usr/lib/femem/femem-backup", "deb.py; backups.py under load"),
+        ("systemctl is-active femem", HERE),
+        ("  /usr/lib/femem/femem-backup", HERE),
         ("  systemctl stop femem", HERE),
-        ("systemctl stop femem\n/usr/lib/femem/femem-restore", "deb.py; backups.py"),
-        ("systemctl stop femem\n/usr/lib/femem/femem-rescue", "backups.py"),
+        ("systemctl stop femem\n/usr/lib/femem/femem-restore", HERE),
+        ("systemctl stop femem\n/usr/lib/femem/femem-rescue", HERE),
         ("for at in", HERE),
         ("  printf 'attach 7", HERE),
     ),
@@ -96,38 +97,81 @@ def example_of_commands(place):
 FIRST_PATH = b"attach 7\n1 create cells 2 empty\n2 writeef 1 0 42\n3 readfe 1 0\n4 readxx 1 0\n"
 
 
-def page_of_operating(place):
-    """the operator's page: a server listens, reports, is copied while stopped, is looked at, shows its format, and ends a session"""
-    server = Server(place, "femem").start()
+OPERATING = "docs/operating.md"
+TOOLS = os.path.join(TOP, "packaging", "tools")
+# What stands for systemd here: it starts and stops nothing. deb.py asks the real one.
+SYSTEMCTL = "#!/bin/sh\n[ \"$1\" = is-active ] && echo active || true\n"
+
+
+def shell_of_operator(place, server):
+    """Runs commands of the operator's page, over a server of this check."""
+    os.mkdir(place.path("bin"))
+    os.symlink(place.program, place.path("bin/femem"))
+    os.chmod(place.write("bin/systemctl", SYSTEMCTL.encode()), 0o755)
+    env = {
+        "PATH": f"{place.path('bin')}:/usr/sbin:/sbin:{os.environ['PATH']}",
+        "PYTHONPATH": os.path.join(TOP, "clients", "python"),
+        "FEMEM": place.program,
+        "PYTHONDONTWRITEBYTECODE": "1",
+    }
     moved = {
         "/run/femem/femem.socket": server.socket,
         "/var/lib/femem/femem.store": server.store,
         "/backup/": place.path("copy."),
-        "femem call": f"'{place.program}' call",
-        "femem look": f"'{place.program}' look",
-        "systemctl": ": systemctl",
+        "/usr/lib/femem/": f"{TOOLS}/",
     }
 
-    def runs(words, **how):
+    def runs(words):
         for old, new in moved.items():
             words = words.replace(old, new)
-        return shell(place, words, **how)
+        return shell(place, words, env=env)
 
-    same(runs(block("docs/operating.md", "apt install").splitlines()[-1]), "it serves\n")
+    return runs
+
+
+def page_of_operating(place):
+    """the commands of the operator's page watch a server, copy, restore and rescue its store, show its format, and end a session"""
+    if not shutil.which("ss", path=f"/usr/sbin:/sbin:{os.environ['PATH']}"):
+        raise Skipped("there is no ss")
+    server = Server(place, "femem").start()
+    runs = shell_of_operator(place, server)
+    same(runs(block(OPERATING, "apt install").splitlines()[-1]), "it serves\n")
     same(place.run("call", "--socket", server.socket, given=FIRST_PATH)[::2], (0, b""), "the first path")
-    _, report, observed, *_ = block("docs/operating.md", "systemctl is-active").splitlines()
-    same(runs(report), "waiting 0\n")
-    client = {"PYTHONPATH": os.path.join(TOP, "clients", "python")}
-    holds(runs(observed, env=client).startswith("waiting 0\n"), "what the observer reports")
+    same(runs(block(OPERATING, "  /usr/lib/femem/femem-backup")), "place 5\n", "a backup while it runs")
+    with server.connect():
+        watched(runs(block(OPERATING, "systemctl is-active")))
     server.stop()
-    shown = runs(block("docs/operating.md", "  systemctl stop femem"))
-    wanted = [re.split("  +", it)[0] for it in block("docs/operating.md", "place 5").splitlines()]
-    same(shown.splitlines(), wanted, "look")
+    # (the probe has added two entries)
+    wanted = [re.split("  +", it)[0] for it in block(OPERATING, "place 5").splitlines()]
+    shown = runs(block(OPERATING, "  systemctl stop femem"))
+    same(shown.splitlines(), ["place 7", *wanted[1:]], "look")
     same(place.read("copy.femem.store"), place.read("femem.store"), "the copy")
-    magics = re.findall(">([^<]{8})[^<]{8}<", runs(block("docs/operating.md", "for at in")))
+    magics = re.findall(">([^<]{8})[^<]{8}<", runs(block(OPERATING, "for at in")))
     same(magics, ["FEMEMST2", "." * 8], "the slots' magics")
     server.start()
-    same(runs(block("docs/operating.md", "  printf 'attach 7")), "welcome 7 1\ngoodbye 7\n")
+    same(runs(block(OPERATING, "  printf 'attach 7")), "welcome 7 1\ngoodbye 7\n")
+    server.stop()
+    saves(place, server, runs)
+
+
+def watched(said):
+    """What the commands of "Watching a server" say of a server with one connection."""
+    lines = said.splitlines()
+    same(lines[:3], ["active", "waiting 0", "waiting 0"])
+    holds("femem_sessions 1" in lines, f"metrics: {said}")
+    same(lines[-2], "1", "connections")
+    holds(lines[-1].startswith("stored in 0."), lines[-1])
+
+
+def saves(place, server, runs):
+    """A backup is restored, and a store that is damaged then is rescued."""
+    same(runs(block(OPERATING, "systemctl stop femem\n/usr/lib/femem/femem-restore")), "before: place 9\nnow: place 7\n")
+    same(server.looks().splitlines()[0], "place 7")
+    with open(server.store, "r+b") as file:
+        file.seek(JOURNAL + 5)
+        file.write(b"\x09")
+    told_of = runs(block(OPERATING, "systemctl stop femem\n/usr/lib/femem/femem-rescue"))
+    holds(told_of.startswith(f"damaged at {JOURNAL + 5}") and told_of.endswith("\nplace 0\n"), told_of)
 
 
 def planted_edit(_place):
