@@ -4,6 +4,7 @@ import os
 import shutil
 import stat
 import struct
+import subprocess
 
 from . import store, wire
 from .crowds import adding
@@ -11,7 +12,7 @@ from .faults import Client, answered, goes_on
 from .harness import Held, Server, holds, same, until
 from .model import State
 from .records import Journal
-from .store import GATE, SIZE, TWO
+from .store import AREA, GATE, JOURNAL, SIZE, TWO
 from .stores import full_state
 
 WORK = [("create", b"cells", 2, 1)] + [adding(1, 0, 1)] * 5
@@ -108,6 +109,80 @@ def changed_meanwhile(place):
             os.rename(f"{server.store}.other", server.store)
             goes_on(place, server, client, answered(WORK), "back under its name")
     return f"{len(CHANGES)} changes"
+
+
+def copied_over(path, backup):
+    subprocess.run(["cp", backup, path], check=True)
+
+
+def written_over(path, backup):
+    subprocess.run(["dd", f"if={backup}", f"of={path}", "conv=notrunc", "bs=1M", "status=none"], check=True)
+
+
+def updated_in_place(path, backup):
+    """As `rsync --inplace` does it: only the blocks that differ are written, into the file that is there."""
+    with open(path, "r+b") as file, open(backup, "rb") as old:
+        while True:
+            at, block = old.tell(), old.read(1024)
+            if not block:
+                return
+            file.seek(at)
+            if file.read(1024) != block:
+                file.seek(at)
+                file.write(block)
+
+
+def hole_in_journal(path, _backup):
+    subprocess.run(["fallocate", "--punch-hole", "--offset", str(JOURNAL), "--length", str(AREA), path], check=True)
+
+
+def while_it_starts(place):
+    """a store that is replaced or removed between its opening and the first look at its path, or that has no name, is not served"""
+    whole = bytes(store.device_of(TWO))
+    for name, change in (("replaced", replace), ("removed", os.unlink), ("renamed", rename)):
+        held = Held(place, "flock", name)
+        server = Server(place, name, store=place.write(f"{name}.store", whole), format=False)
+        held.next()
+        server.start(held.env, waits=False)
+        held.wait()
+        change(server.store)
+        held.let_go()
+        same(server.ended(), (3, "", "femem: store device\n"), name)
+        holds(not os.path.exists(server.socket), f"{name}: a socket")
+        same([it for it in files_in(place.folder).values() if len(it) == SIZE and it != whole], [], f"{name}: what was written")
+    # (as a file that is mounted from elsewhere, whose name there is gone)
+    with open(place.write("nameless", whole), "r+b") as file:
+        os.unlink(place.path("nameless"))
+        server = Server(place, "nameless", store=f"/proc/{os.getpid()}/fd/{file.fileno()}", format=False)
+        same(server.start(waits=False).ended(), (3, "", "femem: store device\n"), "a file without a name")
+    server = Server(place, "again", store=place.path("replaced.store"), format=False).start()
+    server.attached(7).close()
+    server.stop()
+
+
+OVERWRITES = {"cp": copied_over, "dd": written_over, "in place": updated_in_place, "a hole": hole_in_journal}
+
+
+def overwritten(place):
+    """a served file is overwritten in place by a backup, or a hole is made in it: no answer follows, and the next start serves the backup"""
+    for number, (name, change) in enumerate(OVERWRITES.items()):
+        server = Server(place, f"o{number}").start()
+        client = Client(server, WORK[:3])
+        holds(client.attempt(), f"{name}: a connection ended")
+        backup = place.write("backup", place.read(os.path.basename(server.store)))
+        client.work = WORK[:5]
+        holds(client.attempt(), f"{name}: a connection ended")
+        same(client.answers, answered(WORK)[:5], name)
+        change(server.store, backup)
+        client.work = WORK
+        holds(client.until_end(), f"{name}: the server goes on, {client.answers}")
+        same(len(client.answers), 5, f"{name}: answers")
+        same(server.ended(), (3, "", "femem: store device\n"), name)
+        os.unlink(server.socket)
+        place_then = "place 0\n" if name == "a hole" else "place 4\narray 1 cells 2\nsession 7 floor 1 kept 3\n"
+        same(server.looks(), place_then, name)
+        server.start().stop()
+    return f"{len(OVERWRITES)} ways"
 
 
 def renamed_in_a_group(place):
@@ -258,4 +333,4 @@ def begun_at_once(place):
         same([file for file in os.listdir(place.folder) if file.startswith(f"store{turn}")], [f"store{turn}"])
 
 
-CHECKS = (changed_meanwhile, renamed_in_a_group, by_other_paths, kept_bytes, nothing_to_keep, modes, left_over, begun_at_once)
+CHECKS = (changed_meanwhile, overwritten, while_it_starts, renamed_in_a_group, by_other_paths, kept_bytes, nothing_to_keep, modes, left_over, begun_at_once)

@@ -154,9 +154,12 @@ def store_refusals(place):
         if "size" in line:
             refused(place, f'socket = "x.socket"\nstore = "{path}"\nformat = true\n', line, 3)
             same(place.read(name), content, name)
-    same(place.run("look", "--store", place.folder), (3, b"", b"femem: store device\n"))
+    os.mkfifo(place.path("pipe"))
+    for path in (place.path("pipe"), "/dev/null", "/dev/zero", place.folder):
+        same(place.run("look", "--store", path), (3, b"", b"femem: store device\n"), f"look at {path}")
+        for form in ("", "format = true\n"):
+            refused(place, f'socket = "x.socket"\nstore = "{path}"\n{form}', "store device", 3)
     refused(place, f'socket = "x.socket"\nstore = "{place.path("no/folder")}"\nformat = true\n', "store device", 3)
-    refused(place, f'socket = "x.socket"\nstore = "{place.folder}"\nformat = true\n', "store device", 3)
     holds(not os.path.exists(place.path("x.socket")), "a refused server made its socket")
 
 

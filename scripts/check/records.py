@@ -50,10 +50,40 @@ def wrote(at, data):
     return [("pwrite", at, data)]
 
 
-# After each sync the server checks the file's size and its path, which says whether it has a name. The first sync also drops the cached pages.
+# After each sync the server checks the file's size and its path, which says whether it has a name, and what it synced before (`compared`).
+# The first sync also drops the cached pages.
 WATCH = [("lseek",), ("readlink",)]
 SYNC = [("fdatasync",)] + WATCH
 FIRST_SYNC = [("fdatasync",), ("fadvise", 0, 0, os.POSIX_FADV_DONTNEED)] + WATCH
+
+
+# How many bytes of a long write are kept, and how short one is that is no group's.
+FIRST, SHORT = 31, 16
+
+
+def compared(calls):
+    """The same calls, with the read behind each sync of a short write of what was synced before: the first bytes of the last long write, with
+    the byte in front of them if that was written alone. What was written over since is not read."""
+    written = synced = (0, 0)
+    is_short = False
+    found = []
+    for call in calls:
+        found.append(call)
+        if call[0] == "pwrite":
+            at, size = call[1], len(call[2])
+            apart = [start + count <= at or at + size <= start for start, count in (written, synced)]
+            synced = synced if apart[1] else (0, 0)
+            is_short = size < SHORT
+            if size >= SHORT:
+                written = (at, min(size, FIRST))
+            elif size == 1 and at + 1 == written[0] and written[1] <= FIRST:
+                written = (at, written[1] + 1)
+            elif not apart[0]:
+                written = (0, 0)
+        elif call == WATCH[-1] and is_short:
+            found += [("pread", *synced)] if synced[1] else []
+            synced = written
+    return found
 
 
 def opening(slot, length):
@@ -310,7 +340,7 @@ def opened(place):
         os.unlink(place.path("record"))
         os.unlink(place.path("record.bytes"))
     calls, _ = recorded(place, bytes(store.SIZE), ())
-    as_said(of_file(calls, "s.store"), reformatting())
+    as_said(of_file(calls, "s.store"), compared(reformatting()))
     holds(place.read("s.store") == bytes(store.device_of(TWO)), "a store that is formatted has the bytes of a new one")
 
 
@@ -339,8 +369,8 @@ def with_zeros(calls):
 
 
 def known(name):
-    """The size and the path of an open file are read from its descriptor."""
-    return [f"fstat {name}", f"readlink {name}"]
+    """The size and the path of an open file are read from its descriptor. Then the file at its path has to be the one that is open."""
+    return [f"fstat {name}", f"readlink {name}", f"stat {name}", f"fstat {name}"]
 
 
 def new_file(name):
@@ -354,8 +384,9 @@ def renamed(old, new):
 
 
 def listening():
-    """Once the store is open, the socket is made under a temporary name, and gets its own name when it listens."""
-    return [f"stat s.socket{MISSING}", f"stat s.socket.new{MISSING}", "link s.socket.new s.socket", "unlink s.socket.new"]
+    """Once the store is open, the socket is made under a temporary name, and gets its own name when it listens. Then that has to be the same."""
+    moved = ["stat s.socket.new", "link s.socket.new s.socket", "stat s.socket.new", "unlink s.socket.new", "stat s.socket"]
+    return [f"stat s.socket{MISSING}", f"stat s.socket.new{MISSING}", *moved]
 
 
 def opened_at(name):
@@ -369,7 +400,7 @@ def made(place):
     server.stop()
     calls = [call for call in calls_of(place.path("record")) if call.file != "s.toml"]
     wanted = [f"open s.store {os.O_RDWR} 0{MISSING}", f"stat s.store.new{MISSING}", *new_file("s.store.new")]
-    wanted += in_lines("s.store.new", FIRST_SYNC + HEADERS + formatting()) + renamed("s.store.new", "s.store")
+    wanted += in_lines("s.store.new", compared(FIRST_SYNC + HEADERS + formatting())) + renamed("s.store.new", "s.store")
     wanted += opened_at("s.store") + [f"stat s.store.new{MISSING}"] + in_lines("s.store", opening(0, 24)) + listening()
     as_said(with_zeros(calls), wanted)
     holds(place.read("s.store") == bytes(store.device_of(TWO)), "a store that is made has the bytes of a new one")
@@ -385,7 +416,7 @@ def kept(place):
     wanted += in_lines("s.store", FIRST_SYNC + HEADERS + [("pread", 0, store.SIZE)])
     wanted += [f"stat s.store.before-format{MISSING}", f"stat s.store.new{MISSING}", *new_file("s.store.new")]
     wanted += in_lines("s.store.new", wrote(0, bytes(device)) + FIRST_SYNC) + renamed("s.store.new", "s.store.before-format")
-    wanted += in_lines("s.store", SYNC + HEADERS + formatting()) + listening()
+    wanted += in_lines("s.store", compared(SYNC + HEADERS + formatting())) + listening()
     as_said(with_zeros(calls), wanted)
     holds(place.read("s.store.before-format") == bytes(device), "the copy has all bytes")
     same(store.read_store(place.read("s.store"))[2].looks(), "place 0\n")
@@ -449,7 +480,7 @@ def appended(place):
     wanted += old.group(entries[5]) + finishing(0, new, entries[2:6])
     for entry in entries[6:]:
         wanted += new.group(entry)
-    as_said(of_file(calls, "s.store"), wanted)
+    as_said(of_file(calls, "s.store"), compared(wanted))
     asked = {(7, number): request for number, request in enumerate(work, 1)}
     same(left_in_time(calls, "s.store", base, asked), 9, "replies")
     replies = [at for at, call in enumerate(calls) if call.kind == "send"]
@@ -475,7 +506,7 @@ def migrated(place):
     for entry, piece in zip(entries[2:5], slices(0, image)):
         wanted += old.group(entry) + piece
     wanted += old.group(entries[5]) + finishing(0, new, entries[2:6]) + new.group(entries[6])
-    as_said(of_file(calls, "s.store"), wanted)
+    as_said(of_file(calls, "s.store"), compared(wanted))
 
 
 def migrated_by_a_name(place):
@@ -494,7 +525,7 @@ def migrated_by_a_name(place):
     wanted += sum(slices(1, image), []) + finishing(1, new, [])
     wanted += new.group(entries[1]) + new.group(entries[2])
     same(len(slices(1, image)), 2)
-    as_said(of_file(calls, "s.store"), wanted)
+    as_said(of_file(calls, "s.store"), compared(wanted))
 
 
 class Asker(threading.Thread):

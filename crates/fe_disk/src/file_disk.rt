@@ -1,9 +1,10 @@
 //! A disk that is a file of the operating system.
-ghost use Rattle.std.specs.Prelude.{◌≡◌, ◌≢◌, ℕ, [], IfOk, IfErr, IsErrOf};
+ghost use Rattle.std.specs.Prelude.{◌≡◌, ◌≢◌, ◌-◌, ◌^◌, ◌<◌, ◌≤◌, ℕ, [], length, IsTrue, IfOk, IfErr, IsErrOf, OnOk};
 ghost use Rattle.fe_disk.specs.declared.file_fault.FileFault.TheVariants.{WrongSize, Device};
 
 use crate::faults::{count, fault};
 use crate::names::sync_folder;
+use crate::samples::Samples;
 use crate::watch::Watch;
 use crate::{Calls, DeviceFault, Disk, FileFault};
 use std::fs::{File, OpenOptions};
@@ -31,7 +32,8 @@ const MODE: u32 = 0o600;
 ///
 /// A disk that writes holds an advisory lock on its file for as long as it lives, so no other disk writes the file
 /// meanwhile. A sync succeeds only if the file afterwards still has its size and the path by which it was opened:
-/// what is written into a file that was cut, renamed, replaced or removed is lost.
+/// what is written into a file that was cut, renamed, replaced or removed is lost. The file must also still have what
+/// was synced before, as far as `Samples` knows it: a program that overwrote the file in place has overwritten that too.
 ///
 /// Nothing is claimed about what a file gives or keeps, so it is not honest.
 #[derive(Drop)]
@@ -43,10 +45,14 @@ pub struct FileDisk {
     is_settled: bool,
     // The path that the file of a disk that writes has to keep.
     watch: Option<Watch>,
+    // The bytes that the file has to have.
+    samples: Samples,
 }
 
 impl FileDisk {
-    ghost use Rattle.fe_disk.specs.FileDisk.{file_size, fault_count};
+    ghost use Rattle.fe_disk.specs.FileDisk.{file_size, fault_count, calls_of};
+    ghost use Rattle.fe_disk.specs.Outcome.{Asks};
+    ghost use Rattle.fe_disk.specs.within.Samples.{StaysRight, IsOf};
 
     /// Makes a file of this many zero bytes, which only its owner may read and write, and syncs it and its folder. If
     /// a file has the path already, it stays as it is and the call fails. If a later step fails, the new file stays,
@@ -60,7 +66,7 @@ impl FileDisk {
         ensures failures { IfOk result (λ disk. fault_count disk ≡ 0) }
         ensures refused { IfErr result (λ fault. fault ≡ Device) }
     {
-        match FileDisk::over(made(rt, path, size as u64), size, true) {
+        match FileDisk::over(rt, path, made(rt, path, size as u64), size, true) {
             Ok(disk) => Ok(disk),
             Err(_) => Err(FileFault::Device),
         }
@@ -73,7 +79,7 @@ impl FileDisk {
         ensures wrong { (found : ℕ) → IsErrOf result (WrongSize found) → found ≢ size }
     {
         match OpenOptions::new().read(true).write(true).open(rt, path) {
-            Ok(file) => FileDisk::over(locked(file), size, true),
+            Ok(file) => FileDisk::over(rt, path, locked(file), size, true),
             Err(error) => Err(unopened(&error)),
         }
     }
@@ -96,13 +102,19 @@ impl FileDisk {
             Err(error) => return Err(unopened(&error)),
         }
         match File::open(rt, path) {
-            Ok(file) => FileDisk::over(above_streams(file), size, false),
+            Ok(file) => FileDisk::over(rt, path, above_streams(file), size, false),
             Err(error) => Err(unopened(&error)),
         }
     }
 
-    // The disk over a file that was opened.
-    fn over(file: io::Result<File>, size: usize, is_watched: bool) -> Result<FileDisk, FileFault>
+    // The disk over a file that was opened by a path.
+    fn over<R: Files<File = File>>(
+        rt: &R,
+        path: &str,
+        file: io::Result<File>,
+        size: usize,
+        is_watched: bool,
+    ) -> Result<FileDisk, FileFault>
         ensures size { IfOk result (λ disk. file_size disk ≡ size) }
         ensures failures { IfOk result (λ disk. fault_count disk ≡ 0) }
         ensures wrong { (found : ℕ) → IsErrOf result (WrongSize found) → found ≢ size }
@@ -113,11 +125,18 @@ impl FileDisk {
         let Ok(metadata) = file.metadata() else {
             return Err(FileFault::Device);
         };
+        if !metadata.is_file() {
+            return Err(FileFault::Device);
+        }
         let found = metadata.len();
         if found != size as u64 {
             return Err(FileFault::WrongSize { found });
         }
         let watch = is_watched.then(|| Watch::of(&file));
+        // (a file that was replaced or removed meanwhile would keep the path that the system has for it)
+        if is_watched && !is_at(rt, path, &file) {
+            return Err(FileFault::Device);
+        }
         Ok(FileDisk {
             file,
             size,
@@ -125,7 +144,45 @@ impl FileDisk {
             failures: 0,
             is_settled: false,
             watch,
+            samples: Samples::NONE,
         })
+    }
+
+    // Writes into the file, and takes a sample of what was written.
+    fn put(&mut self, at: usize, bytes: &[u8]) -> Result<(), DeviceFault>
+        requires count { self.old.failures < 2 ^ 64 - 1 }
+        requires calls { self.old.calls.writes < 2 ^ 64 - 1 }
+        ensures device { Asks file_size fault_count calls_of (λ disk. ⊥) 0 1 0 result self.old self.new }
+        ensures noted { OnOk result (StaysRight at bytes.now self.old.samples.written self.new.samples.written) }
+        ensures kept { OnOk result (StaysRight at bytes.now self.old.samples.synced self.new.samples.synced) }
+        ensures long { OnOk result (16 ≤ length bytes.now → IsOf at bytes.now self.new.samples.written) }
+    {
+        self.calls.writes += 1;
+        let outcome = self.file.write_all_at(bytes, at as u64);
+        if outcome.is_ok() {
+            self.samples.note(at, bytes);
+        } else {
+            self.samples = Samples::NONE;
+        }
+        count(&mut self.failures, outcome)
+    }
+
+    // Syncs the file, and asks whether it is still the one that was opened, with what was synced before.
+    fn settle(&mut self) -> Result<(), DeviceFault>
+        requires count { self.old.failures < 2 ^ 64 - 1 }
+        requires calls { self.old.calls.syncs < 2 ^ 64 - 1 }
+        ensures device { Asks file_size fault_count calls_of (λ disk. ⊥) 0 0 1 result self.old self.new }
+        // Only `Samples::confirm` makes it so, once it has found in the file what was synced before.
+        ensures compared { OnOk result
+            (IsTrue self.old.samples.is_short → self.new.samples.synced ≡ self.old.samples.written) }
+    {
+        self.calls.syncs += 1;
+        let outcome = settled(&self.file, self.is_settled);
+        if outcome.is_err() || !self.is_there() || !self.samples.confirm(&self.file) {
+            return Err(fault(&mut self.failures));
+        }
+        self.is_settled = true;
+        Ok(())
     }
 
     // The file has its size, a name and its path; or it is not watched.
@@ -150,6 +207,16 @@ impl FileDisk {
             Ok(found) => found.nlink() > 0,
             Err(_) => false,
         }
+    }
+}
+
+// Whether the path leads to the file, which still has a name.
+fn is_at<R: Files<File = File>>(rt: &R, path: &str, file: &File) -> bool {
+    match (fs::metadata(rt, path), file.metadata()) {
+        (Ok(found), Ok(own)) => {
+            found.dev() == own.dev() && found.ino() == own.ino() && own.nlink() > 0
+        }
+        _ => false,
     }
 }
 
@@ -263,21 +330,13 @@ impl Disk for FileDisk {
         if self.failures == u64::MAX || self.calls.writes == u64::MAX {
             return Err(fault(&mut self.failures));
         }
-        self.calls.writes += 1;
-        let outcome = self.file.write_all_at(bytes, at as u64);
-        count(&mut self.failures, outcome)
+        self.put(at, bytes)
     }
 
     fn sync(&mut self) -> Result<(), DeviceFault> {
         if self.failures == u64::MAX || self.calls.syncs == u64::MAX {
             return Err(fault(&mut self.failures));
         }
-        self.calls.syncs += 1;
-        let outcome = settled(&self.file, self.is_settled);
-        if outcome.is_err() || !self.is_there() {
-            return Err(fault(&mut self.failures));
-        }
-        self.is_settled = true;
-        Ok(())
+        self.settle()
     }
 }

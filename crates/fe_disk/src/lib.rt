@@ -15,7 +15,10 @@ mod liar;
 mod memory_disk;
 mod names;
 mod policy;
+mod read_back;
 mod record;
+mod sample;
+mod samples;
 mod watch;
 
 pub use calls::Calls;

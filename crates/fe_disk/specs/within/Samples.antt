@@ -1,0 +1,33 @@
+-- What a `Sample` says of the bytes of a file.
+use Rattle.std.specs.Prelude.{◌≡◌, ◌⊎◌, ℕ, ◌+◌, ◌≤◌, List, ◌∷◌, length, take, min}
+use Rattle.fe_disk.specs.Disk.{bytes_at, after_write}
+use Rattle.fe_disk.specs.declared.sample.Sample.{Sample}
+
+-- the bytes of a sample
+abbrev pub taken : Sample → List ℕ
+taken sample = take sample.length sample.bytes
+
+-- The file has the bytes of the sample where they were taken.
+abbrev pub Holds : List ℕ → Sample → Type 0
+Holds image sample = bytes_at image sample.at sample.length ≡ taken sample
+
+-- If the one sample was right before a write, the other is right after it.
+abbrev pub StaysRight : ℕ → List ℕ → Sample → Sample → Type 0
+StaysRight at bytes old new =
+    (image : List ℕ) → at + length bytes ≤ length image → Holds image old → Holds (after_write image at bytes) new
+
+-- The sample has the first bytes of a write, 31 or fewer.
+pub record IsOf (at : ℕ) (bytes : List ℕ) (sample : Sample) : Type 0 where
+  pub start : sample.at ≡ at
+  pub count : sample.length ≡ min (length bytes) 31
+  pub same : taken sample ≡ take sample.length bytes
+
+-- A byte came in front of the sample.
+pub record Precedes (byte : ℕ) (old new : Sample) : Type 0 where
+  pub start : new.at + 1 ≡ old.at
+  pub count : new.length ≡ old.length + 1
+  pub same : taken new ≡ byte ∷ taken old
+
+-- No byte of this range belongs to the sample.
+abbrev pub IsApart : Sample → ℕ → ℕ → Type 0
+IsApart sample at n = (sample.at + sample.length ≤ at) ⊎ (at + n ≤ sample.at)
