@@ -489,25 +489,25 @@ class Client:
     def _call(self, request: Request[T], timeout: Timeout) -> T:
         ticket: Ticket[T] = Ticket(request)
         seconds = self.timeout if timeout is DEFAULT else self._seconds(timeout)
+        until = None if seconds is None else time.monotonic() + seconds
         try:
-            gate = _new_gate()
-            gate.acquire()
-            ticket.finished = gate.release
             worker = self._worker
             lease = worker.lease
-            if lease is not None and not worker.is_led():
+            if lease is not None and not worker.asked and not worker.lead.locked():
                 # No interruption comes between the lock's taking and the block.
                 events = self._core.events
                 begun = 0.0 if events is None else time.monotonic()
                 with worker.lead:
-                    is_done = worker.lease is lease and lease.call(ticket)
+                    is_done = worker.lease is lease and lease.call(ticket, until)
                 if is_done:
                     if events is not None:
                         events.emit("answered", time.monotonic() - begun)
-                    return _result(ticket)
+                    return ticket.result if ticket.error is None else _result(ticket)  # type: ignore[return-value]
             elif get_ident() == worker.own_thread:
                 self._check_thread()
-            self._ask(partial(self._core.take_on, ticket, seconds))
+            gate = _new_gate()
+            gate.acquire()
+            self._ask(partial(self._core.take_on, ticket, until, gate.release))
             worker.wait_at(gate)
             return _result(ticket)
         except errors.FememError:
@@ -542,9 +542,11 @@ class Client:
             step = next(steps)
             while isinstance(step, (Batch, Wait)) and step.key is None:
                 tickets: List[Ticket[Any]] = [Ticket(request) for request in step.requests]
-                if not self._ask_here(tickets):
-                    job.asked = tickets
+                job.until = None if step.seconds is None else time.monotonic() + step.seconds
+                job.asked = tickets  # an interruption takes back what waits
+                if not self._ask_here(tickets, job.until):
                     break
+                job.asked, job.until = [], None
                 if isinstance(step, Batch):
                     step = steps.send([ticket.result if ticket.error is None else ticket.error for ticket in tickets])
                 elif tickets[0].error is None:
@@ -560,15 +562,17 @@ class Client:
         job.begun = step
         return False
 
-    def _ask_here(self, tickets: List[Ticket[Any]]) -> bool:
+    def _ask_here(self, tickets: List[Ticket[Any]], until: Optional[float]) -> bool:
         """Asks them over lent numbers, if there are enough. Whether all are done."""
         worker = self._worker
         lease = worker.lease
-        if lease is None or worker.is_led():
+        if lease is None or worker.asked or worker.lead.locked():
             return False
         # No interruption comes between the lock's taking and the block.
         with worker.lead:
-            return worker.lease is lease and (lease.call(tickets[0]) if len(tickets) == 1 else lease.call_all(tickets))
+            if worker.lease is not lease:
+                return False
+            return lease.call(tickets[0], until) if len(tickets) == 1 else lease.call_all(tickets)
 
     def _abandon(self, job: Job[Any]) -> None:
         """Takes back, or undoes, a job that no caller waits for. Calling it twice has the effect of once."""

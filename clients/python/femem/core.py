@@ -195,16 +195,21 @@ class Core:
                 ticket.taken = True
                 ticket.sent_at = now
                 ticket.asked_at = 0.0 if self.events is None else self.events.now()
-                assert ticket.request is not None
-                ticket.asks_first = ticket.request.may_wait  # as it was sent
                 self._asked_at = now
                 self.is_idle = False
         if tickets:
             self._heard(now)
 
-    def take_on(self, ticket: Ticket[Any], timeout: Optional[float], now: float) -> None:
-        """As `take`, for a ticket that may have been taken back from a caller."""
-        if ticket.taken and not ticket.done and timeout is not None:
+    def take_on(
+        self, ticket: Ticket[Any], until: Optional[float], finished: Callable[[], None], now: float
+    ) -> None:
+        """As `take`, until a time, for a ticket that may have been taken back from a caller, and may be done."""
+        if ticket.done:
+            finished()
+            return
+        ticket.finished = finished
+        timeout = None if until is None else max(0.0, until - now)
+        if ticket.taken and timeout is not None:
             self.is_urgent = True
             self._timeouts.add(now + timeout, ticket)
         self.take((ticket,), timeout, now)
@@ -355,14 +360,17 @@ class Core:
         if self.phase is _DOWN or self.phase is _ENDED:
             return
         try:
-            is_heard = False
-            for reply in self._decoder.feed(piece):
+            at, is_heard, replies = 0, False, self._decoder.feed(piece)
+            while at < len(replies):
+                reply = replies[at]
                 if type(reply) is Answer and self.phase is _READY:
-                    is_heard = self._flow.answered(reply) or is_heard
+                    at, ends = self._flow.answered_all(replies, at)
+                    is_heard = ends or is_heard
                 else:
                     self._take(reply, now)
                     if self.failure is not None:
                         return
+                    at += 1
             if is_heard:
                 self._heard(now)
         except errors.FememError as failure:
@@ -550,10 +558,12 @@ class Core:
                     ticket.ends_with_process = True
             if step.key is not None:
                 tickets[0].key = step.key
-            if step.seconds is not None and tickets[0].taken and not tickets[0].done:
-                self._timeouts.add(now + step.seconds, tickets[0])  # its caller had asked it
+            seconds = step.seconds if job.until is None else max(0.0, job.until - now)  # if its caller has begun the step
+            job.until = None
+            if seconds is not None and tickets[0].taken and not tickets[0].done:
+                self._timeouts.add(now + seconds, tickets[0])
             self._await(job, step, tickets)
-            self.take(tickets, step.seconds, now)
+            self.take(tickets, seconds, now)
             return
         ticket: Ticket[Any] = Ticket(None)
         self._await(job, step, [ticket])

@@ -3,13 +3,13 @@
 from __future__ import annotations
 
 from collections import deque
-from typing import Any, Deque, Dict, List, Optional, Sequence, Set
+from typing import Any, Deque, Dict, List, Optional, Sequence, Set, Tuple
 
 from . import errors, frames
 from .errors import AnswerError, ProtocolError
 from .events import Events
-from .frames import append_under
-from .requests import of_frame
+from .frames import NOWAIT, Answer, append_under, pack_number
+from .requests import of_frame, read_done, read_value
 from .sessionfile import SessionFile
 from .sessionstate import Asked, Contradiction
 from .tickets import Ticket
@@ -161,18 +161,24 @@ class Flow:
             self._cancel(ticket, now)
 
     def _send_queue(self, window: Window[Ticket[Any]], now: float) -> None:
-        queue, file, to_send = self._queue, self._file, self._to_send
-        for _ in range(min(len(queue), window.room())):
-            ticket = queue.popleft()
-            request = ticket.request
-            assert request is not None
-            ticket.number = number = window.give(ticket)
-            if file is not None:
-                file.asked(number, Asked(request.frame, ticket.key, ticket.ends_with_process))
+        queue, to_send = self._queue, self._to_send
+        tickets = [queue.popleft() for _ in range(min(len(queue), window.room()))]
+        number = window.give(tickets)
+        if self._file is not None:
+            for at, ticket in enumerate(tickets, number):
+                assert ticket.request is not None
+                self._file.asked(at, Asked(ticket.request.frame, ticket.key, ticket.ends_with_process))
+        for ticket in tickets:
+            ticket.number = number
             ticket.sent_at = now
             if ticket.cancel_sent:
                 ticket.cancel_sent = False
-            append_under(to_send, request.frame, number, ticket.asks_first)
+            here = len(to_send)
+            to_send += ticket.request.frame  # type: ignore[union-attr]
+            pack_number(to_send, here + 5, number)
+            if ticket.asks_first:
+                to_send[here + 4] = NOWAIT
+            number += 1
 
     def _has_new(self) -> bool:
         """Whether the queue has a request that was not sent yet. The others are known to wait."""
@@ -263,7 +269,34 @@ class Flow:
 
     # Replies.
 
-    def answered(self, answer: frames.Answer) -> bool:
+    def answered_all(self, replies: Sequence[frames.Reply], first: int) -> Tuple[int, bool]:
+        """Takes the answers from the first of these on. Where they end, and whether one of them ended a request."""
+        window = self.window
+        assert window is not None
+        unanswered, kept, ended = window.unanswered, window.answers, self._ended
+        is_plain = self._file is None and self._events is None
+        is_heard = False
+        for at in range(first, len(replies)):
+            answer = replies[at]
+            if type(answer) is not Answer:
+                return at, is_heard
+            number, code, value, _ = answer
+            ticket = unanswered.get(number) if is_plain else None
+            read = ticket.request.read if ticket is not None and ticket.request is not None else None
+            if ticket is not None and (code == frames.VALUE and read is read_value or code == frames.DONE and read is read_done):
+                # As `answered`, for nearly all there are.
+                del unanswered[number]
+                kept[number] = answer
+                if code == frames.VALUE:
+                    ticket.result = value
+                ticket.done = True
+                ended.append(ticket)
+                is_heard = True
+            else:
+                is_heard = self.answered(answer) or is_heard
+        return len(replies), is_heard
+
+    def answered(self, answer: Answer) -> bool:
         """Whether it ended a request. Otherwise it came before."""
         assert self.window is not None
         ticket = self.window.answer(answer)

@@ -18,6 +18,9 @@ LONGEST_REPORT = 262_144
 
 READFE, READFF, READXX, WRITEEF, WRITEFF, WRITEXF, PURGE, INT_FETCH_ADD = range(16, 24)
 
+# The kind of an access, and of one that does not wait.
+ACCESS, NOWAIT = 5, 11
+
 VALUE, DONE, ARRAY, NO_ARRAY, BAD_INDEX = 1, 2, 3, 4, 5
 NAME_TAKEN, ARRAY_LIMIT, WORD_LIMIT, BAD_NAME, BAD_LENGTH, NOT_NOW = 6, 7, 8, 9, 10, 11
 
@@ -54,7 +57,7 @@ pack_access = struct.Struct(">IBQBQIQ").pack
 
 def access(number: int, code: int, array: int, index: int, operand: int, nowait: bool) -> bytes:
     """`struct.error` if an argument is not a whole number or has too many bits."""
-    return pack_access(30, 11 if nowait else 5, number, code, array, index, operand)
+    return pack_access(30, NOWAIT if nowait else ACCESS, number, code, array, index, operand)
 
 
 pack_number = struct.Struct(">Q").pack_into
@@ -69,7 +72,7 @@ def append_under(stream: bytearray, frame: bytes, number: int, nowait: bool = Fa
     stream += frame
     pack_number(stream, at, number)
     if nowait:
-        stream[at - 1] = 11
+        stream[at - 1] = NOWAIT
 
 
 def cancel(number: int) -> bytes:

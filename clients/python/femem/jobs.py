@@ -100,8 +100,9 @@ class Job(Ticket[T]):
         self.gives_back = gives_back
         # The tickets of the current step.
         self.asked: List[Ticket[Any]] = []
-        # The step that its caller has begun by itself, with its tickets.
+        # The step that its caller has begun by itself, with its tickets, and when that is over.
         self.begun: Optional[Step] = None
+        self.until: Optional[float] = None
         self.is_interrupted = False
         # Whether its caller no longer waits; `undo` then makes steps that undo what was done.
         self.is_abandoned = False

@@ -12,7 +12,7 @@ from typing import Any, Callable, Dict, Generic, SupportsIndex, Tuple, TypeVar, 
 
 from . import frames
 from .errors import ANSWER_ERRORS, BadLength, BadName, ProtocolError
-from .frames import VALUE, pack_access
+from .frames import ACCESS, NOWAIT, VALUE, pack_access
 
 T = TypeVar("T")
 
@@ -52,18 +52,18 @@ class Request(Generic[T]):
         return self.read(answer)
 
 
-def _value(answer: frames.Answer) -> int:
+def read_value(answer: frames.Answer) -> int:
     if answer.code != VALUE:
         raise ProtocolError(f"answer {answer.code} to a request for a value")
     return answer.value
 
 
-def _done(answer: frames.Answer) -> None:
+def read_done(answer: frames.Answer) -> None:
     if answer.code != frames.DONE:
         raise ProtocolError(f"answer {answer.code} to a request that is done")
 
 
-def _array(answer: frames.Answer) -> Array:
+def read_array(answer: frames.Answer) -> Array:
     if answer.code != frames.ARRAY:
         raise ProtocolError(f"answer {answer.code} to a request for an array")
     return Array(answer.value, answer.length)
@@ -104,15 +104,15 @@ def create(name: Union[str, bytes], length: int, full: bool = False) -> Request[
         raise TypeError(f"length is not a whole number: {length!r}") from None
     if not 0 <= size < 2**32:
         raise BadLength(f"{size}")
-    return Request(frames.create(0, spelled, size, _flag(full, "full")), _array)
+    return Request(frames.create(0, spelled, size, _flag(full, "full")), read_array)
 
 
 def find(name: Union[str, bytes]) -> Request[Array]:
-    return Request(frames.find(0, _name_bytes(name)), _array)
+    return Request(frames.find(0, _name_bytes(name)), read_array)
 
 
 def remove(array: ArrayLike) -> Request[None]:
-    return Request(frames.remove(0, _id(array)), _done)
+    return Request(frames.remove(0, _id(array)), read_done)
 
 
 def _id(array: ArrayLike) -> int:
@@ -127,7 +127,7 @@ def _access(
         nowait = _flag(nowait, "nowait")
     try:
         id: Any = array.id if isinstance(array, Array) else array
-        frame = pack_access(30, 11 if nowait else 5, 0, code, id, index, operand)
+        frame = pack_access(30, NOWAIT if nowait else ACCESS, 0, code, id, index, operand)
     except (struct.error, TypeError):
         # One of them is wrong: this raises for which.
         at, value = number_of_bits(index, 32, "index"), number_of_bits(operand, 64, "value")
@@ -137,14 +137,14 @@ def _access(
 
 # For each operation: its name, how its answer is read, and whether it may wait.
 OPERATIONS: Dict[int, Tuple[str, Callable[[frames.Answer], Any], bool]] = {
-    frames.READFE: ("readfe", _value, True),
-    frames.READFF: ("readff", _value, True),
-    frames.READXX: ("readxx", _value, False),
-    frames.WRITEEF: ("writeef", _done, True),
-    frames.WRITEFF: ("writeff", _done, True),
-    frames.WRITEXF: ("writexf", _done, False),
-    frames.PURGE: ("purge", _done, False),
-    frames.INT_FETCH_ADD: ("int_fetch_add", _value, True),
+    frames.READFE: ("readfe", read_value, True),
+    frames.READFF: ("readff", read_value, True),
+    frames.READXX: ("readxx", read_value, False),
+    frames.WRITEEF: ("writeef", read_done, True),
+    frames.WRITEFF: ("writeff", read_done, True),
+    frames.WRITEXF: ("writexf", read_done, False),
+    frames.PURGE: ("purge", read_done, False),
+    frames.INT_FETCH_ADD: ("int_fetch_add", read_value, True),
 }
 
 
@@ -186,7 +186,7 @@ def of_frame(frame: bytes) -> Request[Any]:
     if kind in (5, 11):
         _, read, may_wait = OPERATIONS[frame[13]]
         return Request(frame, read, may_wait and kind == 5)
-    return Request(frame, _done if kind == 4 else _array)
+    return Request(frame, read_done if kind == 4 else read_array)
 
 
 def _in_words(frame: bytes) -> str:

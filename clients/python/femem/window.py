@@ -43,7 +43,8 @@ class Window(Generic[T]):
         self.asked = floor
         self.unanswered: Dict[int, T] = {}  # ascending, since numbers are given in order
         self._next = floor
-        self._answers: Dict[int, Union[frames.Answer, str]] = {}
+        # What ended each number from the floor on that has no request now.
+        self.answers: Dict[int, Union[frames.Answer, str]] = {}
         # Whether floors between the current one and the one asked for may be reported.
         self._several = False
 
@@ -64,25 +65,25 @@ class Window(Generic[T]):
         window.unanswered = unanswered
         for number in range(floor, next):
             if number not in unanswered:
-                window._answers[number] = answers.get(number, _NOT_KEPT)
+                window.answers[number] = answers.get(number, _NOT_KEPT)
         return window
 
     def room(self) -> int:
         """How many more requests it has numbers for."""
         return self.asked + _WINDOW - self._next
 
-    def give(self, item: T) -> int:
-        """The next number, for this request. There must be room."""
-        number = self._next
-        self._next += 1
-        self.unanswered[number] = item
-        return number
+    def give(self, items: Sequence[T]) -> int:
+        """The next numbers, for these requests. Returns the first one. There must be room."""
+        first = self._next
+        self._next = end = first + len(items)
+        self.unanswered.update(zip(range(first, end), items))
+        return first
 
     def lent(self, tickets: Sequence[Optional[T]]) -> None:
         """Notes that the next numbers were used for these. `None`: its answer was read elsewhere."""
         for item in tickets:
             if item is None:
-                self._answers[self._next] = _SETTLED_OTHERWISE
+                self.answers[self._next] = _SETTLED_OTHERWISE
             else:
                 self.unanswered[self._next] = item
             self._next += 1
@@ -99,16 +100,16 @@ class Window(Generic[T]):
         """The request of this answer, or `None` if it came before. `ProtocolError` if none is due, or if it differs."""
         number = answer.number
         if number in self.unanswered:
-            self._answers[number] = answer
+            self.answers[number] = answer
             return self.unanswered.pop(number)
-        kept = self._answers.get(number)
+        kept = self.answers.get(number)
         if kept != answer and kept is not _NOT_KEPT:
             raise ProtocolError(f"an answer to number {number} that is not due")
         return None
 
     def end(self, number: int) -> T:
         """The number ends without an answer: it was withdrawn or refused. It is not used again."""
-        self._answers[number] = _SETTLED_OTHERWISE
+        self.answers[number] = _SETTLED_OTHERWISE
         return self.unanswered.pop(number)
 
     def next_floor(self) -> Optional[int]:
@@ -136,7 +137,7 @@ class Window(Generic[T]):
         """
         if len(self.unanswered) > _MOST_HOLDING or self._next - self.lowest() < _HELD_BACK:
             return []
-        low = min(self._next - _RECENT, max(self._answers, default=0))
+        low = min(self._next - _RECENT, max(self.answers, default=0))
         return [item for number, item in self.unanswered.items() if number < low]
 
     def lower_half(self) -> List[T]:
@@ -152,8 +153,8 @@ class Window(Generic[T]):
             raise ProtocolError(f"floor {floor}, where {self.floor} stands and {self.asked} is asked for")
         self.floor = floor
         self._several = self._several and floor != self.asked
-        for number in [number for number in self._answers if number < floor]:
-            del self._answers[number]
+        for number in [number for number in self.answers if number < floor]:
+            del self.answers[number]
 
     def welcomed(self, floor: int) -> None:
         """The session was attached again, with this floor.

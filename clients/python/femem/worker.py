@@ -25,7 +25,7 @@ from . import errors, registry
 from .core import Core, Phase
 from .lease import READ_TIME, Lease
 from .sides import Sides
-from .tickets import Ticket
+from .tickets import Ticket, nobody
 
 if TYPE_CHECKING:
     from .client import Client
@@ -91,8 +91,9 @@ class Worker:
         self._longest_sleep = longest_sleep
         self._waits_for_server = waits_for_server
         self._has_connected = False
-        # What callers ask, in order: the thread calls each with the time.
-        self._asked: Deque[Callable[[float], object]] = deque()
+        # What callers ask, in order: the thread calls each with the time. A caller that finds something here asks the thread
+        # too, and so one that finds `lead` locked.
+        self.asked: Deque[Callable[[float], object]] = deque()
         # Where the thread sleeps, so that a caller knows how to wake it.
         self._is_asleep = False
         self._is_at_bell = False
@@ -128,12 +129,12 @@ class Worker:
 
     def ask(self, what: Callable[[float], object]) -> None:
         """Makes the thread do something. The step that counts is the append."""
-        self._asked.append(what)
+        self.asked.append(what)
         # Only the thread says where it sleeps, and it checks the list before that: an interruption here loses no call.
         if self._is_at_bell:
             self.ring()
         elif self._is_asleep:
-            self._wake()
+            self._signal(self._waker)
         if self.is_over:
             with self._ending:
                 self._do_what_is_asked()
@@ -158,12 +159,6 @@ class Worker:
         except RuntimeError:
             pass  # another caller has rung
 
-    def _wake(self) -> None:
-        try:
-            self._waker.send(b"w")
-        except OSError:
-            pass  # it is awake, or has ended
-
     def end_soon(self) -> None:
         """Ends it without waiting: a temporary session too, if the server is there within a second."""
         self.ask(self._depart if self.is_temporary else self._close)
@@ -184,17 +179,13 @@ class Worker:
     def _close(self, now: float) -> None:
         self.core.close()
 
-    def is_led(self) -> bool:
-        """Whether a caller must ask the thread: others have asked before, or one uses the connection now."""
-        return bool(self._asked) or self.lead.locked()
-
     def is_own_thread(self) -> bool:
         return get_ident() == self.own_thread
 
     # The thread: it does what callers ask, connects, reads, and looks at the clock.
 
     def _do_what_is_asked(self) -> None:
-        asked = self._asked
+        asked = self.asked
         self._something_happens()
         while asked:
             try:
@@ -222,6 +213,8 @@ class Worker:
         """Completes all of them, whatever a callback raises."""
         interrupt: Optional[BaseException] = None
         for ticket in tickets:
+            if ticket.finished is nobody:
+                continue
             try:
                 ticket.finished()
             except BaseException as error:
@@ -379,7 +372,7 @@ class Worker:
     def _tick(self) -> bool:
         """Does what callers ask and what is due. Returns whether the client goes on."""
         core = self.core
-        if self._asked:
+        if self.asked:
             self._do_what_is_asked()
         else:
             self._now = time.monotonic()
@@ -398,12 +391,12 @@ class Worker:
         """Sleeps until something is due or comes, or until the end. Returns whether the connection has something."""
         self._is_asleep = True
         seconds = 0.0
-        if not self._asked and not self.core.is_urgent:
+        if not self.asked and not self.core.is_urgent:
             seconds = min(end, self._look_at) - self._now
         came = False
         for file, _ in self._poll.poll(1000.0 * seconds if seconds > 0.0 else 0.0):
             if file == self._woken_number:
-                self._drain()
+                self._drain(self._woken)
             else:
                 came = True
         self._is_asleep = False
@@ -420,7 +413,7 @@ class Worker:
         self._is_at_bell = True
         while core.ended and not core.to_send:
             self._finish(core.take_ended())
-        if seconds > 0.0 and not (self._asked or core.ended or core.to_send or core.is_urgent):
+        if seconds > 0.0 and not (self.asked or core.ended or core.to_send or core.is_urgent):
             lease = self._lend()
             if lease is None:
                 self._bell.acquire(timeout=seconds)
@@ -433,13 +426,14 @@ class Worker:
         """Lets callers ask over the connection themselves, from now on."""
         first, end = self.core.lends()
         if first < end and self._socket is not None:
-            self.lease = Lease(self._socket, first, end)
+            # With further sessions, what waits is asked over one of them.
+            self.lease = Lease(self._socket, first, end, None if self.sides else self._waker)
         return self.lease
 
     def _await_bell(self, lease: Lease, seconds: float) -> None:
         """Sleeps until a caller rings, or the lease was not used for a while, or something is due."""
         used = -1
-        while used < len(lease.tickets) and not self._asked and lease.unfinished() is None:
+        while used < len(lease.tickets) and not self.asked:
             used = len(lease.tickets)
             if self._bell.acquire(timeout=seconds) or time.monotonic() >= self._look_at:
                 break
@@ -447,7 +441,7 @@ class Worker:
     def _take_back(self, lease: Lease) -> None:
         """Ends the lease, and goes on with what its last caller left."""
         self.lease = None
-        is_free = self.lead.acquire(timeout=3 * READ_TIME)
+        is_free = self.lead.acquire(blocking=False) or self._calls_back()
         if not is_free:
             # Its caller is held up, perhaps within a signal handler that waits for this thread.
             self.lead = threading.Lock()
@@ -462,9 +456,22 @@ class Worker:
         if lease.rest:
             core.received(bytes(lease.rest), now)
 
-    def _drain(self) -> None:
+    def _calls_back(self) -> bool:
+        """Ends the wait of the caller that has the lease. Whether that has left it in time."""
+        self._signal(self._woken)
+        is_free = self.lead.acquire(timeout=3 * READ_TIME)
+        self._drain(self._waker)
+        return is_free
+
+    def _signal(self, end: socket.socket) -> None:
         try:
-            self._woken.recv(4096)
+            end.send(b"w")
+        except OSError:
+            pass  # the other end is awake, or has ended
+
+    def _drain(self, end: socket.socket) -> None:
+        try:
+            end.recv(4096)
         except OSError:
             pass
 
@@ -499,7 +506,7 @@ class Worker:
         self._ending = threading.RLock()
         self.lease = None
         self.lead = threading.Lock()  # a caller may have held the other one
-        self._asked.clear()
+        self.asked.clear()
         self._is_forked = True
         for gate in list(self._gates):
             if gate.locked():
