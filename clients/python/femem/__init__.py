@@ -13,7 +13,7 @@
 import logging
 
 from . import requests
-from .client import Client, Pipeline, Recovered
+from .client import Client, Recovered
 from .errors import (
     AnswerError,
     ArrayLimit,
@@ -51,6 +51,7 @@ from .errors import (
 )
 from .observer import Observer
 from .reports import Report, Waiter
+from .pipeline import Pipeline
 from .requests import Array, Request
 
 __version__ = "1.0.0"

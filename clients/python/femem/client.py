@@ -3,7 +3,6 @@
 from __future__ import annotations
 
 import atexit
-import math
 import os
 import threading
 import time
@@ -12,33 +11,24 @@ from concurrent.futures import Future
 from functools import partial
 from threading import get_ident
 from types import TracebackType
-from typing import Any, Callable, Dict, Iterable, Iterator, List, NamedTuple, Optional, Sequence, Type, TypeVar, Union
+from typing import Any, Callable, Dict, Iterable, Iterator, List, NamedTuple, Optional, Sequence, Type, TypeVar
 
-from . import errors, registry, requests, worker
+from . import errors, registry, worker
+from .arguments import DEFAULT, Key, Path, SessionChoice, Timeout
+from .arguments import choose_session, key_bytes, pause_of, request_of, seconds_of, ticket_of
+from .calls import BlockingCalls
 from .core import Core
 from .events import OnEvent
 from .jobs import Batch, Job, Wait, first_of
+from .pipeline import Pipeline
 from .reports import Report
-from .requests import Array, ArrayLike, Request
+from .requests import Request
 from .sessionfile import SessionFile
-from .sides import Sides, count_of, numbers
 from .tickets import Ticket, nobody
+from .waitsessions import WaitSessions, numbers
 from .worker import Worker
 
 T = TypeVar("T")
-
-# How long a client sleeps at most, in seconds.
-_LONGEST_SLEEP = 3600.0
-
-class _Default:
-    """Means "the client's own timeout"."""
-
-
-DEFAULT = _Default()
-Timeout = Union[float, None, _Default]
-
-Path = Union[str, bytes, "os.PathLike[str]"]
-Key = Union[str, bytes, int]
 
 
 class Recovered(NamedTuple):
@@ -56,85 +46,6 @@ class Recovered(NamedTuple):
         return self.future.result(timeout)
 
 
-def seconds_of(timeout: object, what: str = "timeout") -> Optional[float]:
-    """A number of seconds, or `None` for no limit."""
-    if timeout is None:
-        return None
-    if isinstance(timeout, bool) or not isinstance(timeout, (int, float)):
-        raise TypeError(f"{what} is not a number of seconds: {timeout!r}")
-    try:
-        seconds = float(timeout)
-    except OverflowError:
-        seconds = math.nan
-    if math.isnan(seconds):
-        raise ValueError(f"{what} is not a number of seconds: {timeout!r}")
-    return None if seconds == math.inf else seconds
-
-
-def pause_of(probe_interval: object) -> float:
-    """A pause between two looks at the clock, in seconds, greater than 0."""
-    seconds = seconds_of(probe_interval, "probe_interval")
-    if seconds is not None and seconds <= 0.0:
-        raise ValueError(f"probe_interval is more than 0: {probe_interval!r}")
-    return _LONGEST_SLEEP if seconds is None else min(seconds, _LONGEST_SLEEP)
-
-
-def key_bytes(key: Key) -> bytes:
-    """A key as in the session file. Keys that are equal as text are the same key."""
-    if isinstance(key, bool) or not isinstance(key, (str, bytes, int)):
-        raise TypeError(f"a key is a str, bytes or an int: {key!r}")
-    # The value's own spelling, whatever a subclass prints: that of an `IntEnum` differs between versions of Python.
-    if isinstance(key, bytes):
-        spelled = bytes(memoryview(key))
-    else:
-        spelled = (int.__repr__(key) if isinstance(key, int) else str.__str__(key)).encode("utf-8")
-    if not 1 <= len(spelled) <= 1024:
-        raise ValueError(f"a key has 1 to 1024 bytes: {key!r}")
-    return spelled
-
-
-def request_of(request: object) -> Request[Any]:
-    if not isinstance(request, Request):
-        raise TypeError(f"not a request of femem.requests: {request!r}")
-    return request
-
-
-def ticket_of(future: object, core: Core) -> Ticket[Any]:
-    """The ticket of this future, which the core's client made."""
-    owner, ticket = getattr(future, "asked", (None, None))
-    if not isinstance(ticket, Ticket):
-        raise TypeError(f"not a future of submit: {future!r}")
-    if owner is not core:
-        raise ValueError(f"a future of another client: {future!r}")
-    return ticket
-
-
-class SessionChoice(NamedTuple):
-    """Which session a client has: its number, the file that holds it, and whether it ends with the client."""
-
-    path: str
-    session: int
-    file: Optional[SessionFile]
-    is_temporary: bool
-    sessions: int
-
-
-def choose_session(path: Path, session: Optional[int], session_file: Optional[Path], sessions: int) -> SessionChoice:
-    """The given session, or the file's, or one chosen at random that ends with the client."""
-    if not isinstance(path, (str, bytes, os.PathLike)):
-        raise TypeError(f"the path of a socket is a str: {path!r}")
-    number = None if session is None else requests.number_of_bits(session, 64, "session")
-    count = count_of(sessions, session_file is not None)
-    place = os.fsdecode(path)
-    if session_file is None:
-        return SessionChoice(place, registry.temporary(place) if number is None else number, None, number is None, count)
-    file = SessionFile(os.fsdecode(session_file))
-    if number is not None and number != file.session:
-        file.abandon()
-        raise ValueError(f"{file.path} is of session {file.session}, not {number}")
-    return SessionChoice(place, file.session, file, False, count)
-
-
 def end_session(path: str, session: int, sessions: int) -> None:
     """Ends the sessions of a client that was killed."""
     for number in [session, *numbers(session, sessions)]:
@@ -145,7 +56,7 @@ def end_session(path: str, session: int, sessions: int) -> None:
             pass  # it is not kept
 
 
-class Client:
+class Client(BlockingCalls):
     """A session of a femem server, over its Unix socket.
 
     Several threads of one process may use it at once. One client at a time should have a session. It reconnects by itself
@@ -191,7 +102,7 @@ class Client:
                 self._end_session(choice.file, patience)
                 choice = choice._replace(session=choice.file.session)
             self._begin(choice, patience, pause, wait_for_server, on_event)
-            self._open_sides(choice.sessions, patience, pause, on_event)
+            self._open_wait_sessions(choice.sessions, patience, pause, on_event)
         except BaseException:
             if choice.file is not None:
                 choice.file.close()
@@ -236,13 +147,13 @@ class Client:
             self.close()
             raise
 
-    def _open_sides(
+    def _open_wait_sessions(
         self, count: int, patience: Optional[float], pause: float, on_event: Optional[OnEvent]
     ) -> None:
-        sides: List[Client] = []
+        wait_sessions: List[Client] = []
         try:
             for number in numbers(self.session, count):
-                sides.append(
+                wait_sessions.append(
                     Client(
                         self.path,
                         number,
@@ -252,10 +163,10 @@ class Client:
                         on_event=on_event,
                     )
                 )
-                sides[-1]._worker.is_temporary = True
-            self._worker.sides = Sides(sides)
+                wait_sessions[-1]._worker.is_temporary = True
+            self._worker.wait_sessions = WaitSessions(wait_sessions)
         except BaseException:
-            self._worker.sides = Sides(sides)
+            self._worker.wait_sessions = WaitSessions(wait_sessions)
             self.close()
             raise
 
@@ -272,12 +183,6 @@ class Client:
             warnings.warn(f"unclosed {self!r}", ResourceWarning, source=self)
             worker.end_soon()
 
-    def __repr__(self) -> str:
-        failure = self.failure
-        how = self._core.phase.value if failure is None else f"{type(failure).__name__}: {failure}"
-        more = f" and {len(self._sides)} more" if self._sides else ""
-        return f"<femem client of session {self.session}{more} at {self.path}: {how}>"
-
     def __enter__(self) -> Client:
         return self
 
@@ -289,19 +194,8 @@ class Client:
     ) -> None:
         self.close()
 
-    @property
-    def sessions(self) -> List[int]:
-        """The numbers of its sessions, its own first."""
-        return [self.session, *(side.session for side in self._sides)]
-
-    @property
-    def _sides(self) -> Sides[Client]:
-        return self._worker.sides
-
-    @property
-    def failure(self) -> Optional[errors.FememError]:
-        """Why this client can't be used any more, or `None`. Each operation then raises this error."""
-        return self._core.failure
+    def _further(self) -> Sequence[Client]:
+        return list(self._worker.wait_sessions)
 
     def close(self) -> None:
         """Closes the connection. The server keeps the session, unless the client chose it itself; what waits is
@@ -323,72 +217,6 @@ class Client:
         self._ask(lambda now: self._core.leave(now, ticket))
         future.result()
         self.close()
-
-    # Arrays.
-
-    def create(self, name: Union[str, bytes], length: int, full: bool = False, *, timeout: Timeout = DEFAULT) -> Array:
-        """Creates an array of `length` words of value 0, all full or all empty. Never waits.
-
-        Errors: `BadName`, `BadLength`, `NameTaken`, `ArrayLimit`, `WordLimit`; `NoMemory`, and then nothing was made.
-        """
-        return self._call(requests.create(name, length, full), timeout)
-
-    def find(self, name: Union[str, bytes], *, timeout: Timeout = DEFAULT) -> Array:
-        """The array of that name. Never waits. Errors: `BadName`, `NoArray`."""
-        return self._call(requests.find(name), timeout)
-
-    def remove(self, array: ArrayLike, *, timeout: Timeout = DEFAULT) -> None:
-        """Removes the array; what waits on it ends with `NoArray`. Never waits. Errors: `NoArray`."""
-        return self._call(requests.remove(array), timeout)
-
-    # Words. Each may also end with `NoArray` or `BadIndex`.
-
-    def readfe(self, array: ArrayLike, index: int, *, nowait: bool = False, timeout: Timeout = DEFAULT) -> int:
-        """Waits until the word is full, empties it, and returns its value.
-
-        With `nowait`, `NotNow` if it is empty. `TimedOut`: it was taken back, and the word was not touched.
-        """
-        return self._call(requests.readfe(array, index, nowait), timeout)
-
-    def readff(self, array: ArrayLike, index: int, *, nowait: bool = False, timeout: Timeout = DEFAULT) -> int:
-        """Waits until the word is full, leaves it full, and returns its value. `nowait`, `timeout` as in `readfe`."""
-        return self._call(requests.readff(array, index, nowait), timeout)
-
-    def readxx(self, array: ArrayLike, index: int, *, timeout: Timeout = DEFAULT) -> int:
-        """Returns the value, full or empty, and changes nothing. Never waits."""
-        return self._call(requests.readxx(array, index), timeout)
-
-    def writeef(
-        self, array: ArrayLike, index: int, value: int, *, nowait: bool = False, timeout: Timeout = DEFAULT
-    ) -> None:
-        """Waits until the word is empty, and fills it with the value.
-
-        With `nowait`, `NotNow` if it is full. `TimedOut`: it was taken back, and the word was not touched.
-        """
-        return self._call(requests.writeef(array, index, value, nowait), timeout)
-
-    def writeff(
-        self, array: ArrayLike, index: int, value: int, *, nowait: bool = False, timeout: Timeout = DEFAULT
-    ) -> None:
-        """Waits until the word is full, and replaces its value. `nowait`, `timeout` as in `readfe`."""
-        return self._call(requests.writeff(array, index, value, nowait), timeout)
-
-    def writexf(self, array: ArrayLike, index: int, value: int, *, timeout: Timeout = DEFAULT) -> None:
-        """Fills the word with the value, whether it was full or empty. Never waits."""
-        return self._call(requests.writexf(array, index, value), timeout)
-
-    def purge(self, array: ArrayLike, index: int, *, timeout: Timeout = DEFAULT) -> None:
-        """Empties the word and sets its value to 0. Never waits."""
-        return self._call(requests.purge(array, index), timeout)
-
-    def int_fetch_add(
-        self, array: ArrayLike, index: int, value: int, *, nowait: bool = False, timeout: Timeout = DEFAULT
-    ) -> int:
-        """Waits until the word is full, adds the value modulo 2^64, and returns the old value.
-
-        The word stays full. `nowait`, `timeout` as in `readfe`.
-        """
-        return self._call(requests.int_fetch_add(array, index, value, nowait), timeout)
 
     # More at a time.
 
@@ -452,11 +280,6 @@ class Client:
         self._wait_for((ticket,), partial(self._core.take, (ticket,), seconds))
         return _result(ticket)
 
-    def keys(self) -> List[bytes]:
-        """The keys that the session file has: those with an answer first, then those whose request has none yet."""
-        self._with_file()
-        return self._core.keys()
-
     def forget(self, *keys: Key) -> None:
         """Makes the session file drop the keys' answers: the keys will not be used again."""
         self._with_file()
@@ -466,25 +289,12 @@ class Client:
     def _drop(self, key: bytes, now: float) -> None:
         self._core.forget(key)
 
-    def _keyed(self, key: Key, request: Request[T]) -> Ticket[T]:
-        self._with_file()
-        ticket: Ticket[T] = Ticket(request_of(request))
-        ticket.key = key_bytes(key)
-        return ticket
-
-    def _with_file(self) -> None:
-        if self._core.file is None:
-            raise ValueError("a key needs a client with a session file")
-
     # How these are done.
 
     def _check_thread(self) -> None:
         """Raises if this is the client's own thread, which runs the futures' callbacks: it would wait for itself."""
         if self._worker.is_own_thread():
             raise RuntimeError("a callback can't wait for its own client: use submit")
-
-    def _seconds(self, timeout: Timeout) -> Optional[float]:
-        return self.timeout if isinstance(timeout, _Default) else seconds_of(timeout)
 
     def _call(self, request: Request[T], timeout: Timeout) -> T:
         ticket: Ticket[T] = Ticket(request)
@@ -610,89 +420,6 @@ class Client:
 
     def _take_back(self, ticket: Ticket[Any], why: errors.Withdrawn) -> None:
         self._ask(lambda now: self._core.withdraw(ticket, now, why))
-
-
-class Pipeline:
-    """Requests of one client that are asked together: `submit_many` of what its methods collect.
-
-        with client.pipeline() as pipe:
-            pipe.int_fetch_add(hits, 0, 1)
-            pipe.readff(other, 3)
-        pipe.results
-    """
-
-    def __init__(self, client: Client) -> None:
-        self._client = client
-        self._requests: List[Request[Any]] = []
-        # The answers, once asked; errors are in the list too.
-        self.results: List[Any] = []
-
-    def add(self, request: Request[Any]) -> Pipeline:
-        """Adds a request."""
-        self._requests.append(request_of(request))
-        return self
-
-    def create(self, name: Union[str, bytes], length: int, full: bool = False) -> Pipeline:
-        self._requests.append(requests.create(name, length, full))
-        return self
-
-    def find(self, name: Union[str, bytes]) -> Pipeline:
-        self._requests.append(requests.find(name))
-        return self
-
-    def remove(self, array: ArrayLike) -> Pipeline:
-        self._requests.append(requests.remove(array))
-        return self
-
-    def readfe(self, array: ArrayLike, index: int, nowait: bool = False) -> Pipeline:
-        self._requests.append(requests.readfe(array, index, nowait))
-        return self
-
-    def readff(self, array: ArrayLike, index: int, nowait: bool = False) -> Pipeline:
-        self._requests.append(requests.readff(array, index, nowait))
-        return self
-
-    def readxx(self, array: ArrayLike, index: int) -> Pipeline:
-        self._requests.append(requests.readxx(array, index))
-        return self
-
-    def writeef(self, array: ArrayLike, index: int, value: int, nowait: bool = False) -> Pipeline:
-        self._requests.append(requests.writeef(array, index, value, nowait))
-        return self
-
-    def writeff(self, array: ArrayLike, index: int, value: int, nowait: bool = False) -> Pipeline:
-        self._requests.append(requests.writeff(array, index, value, nowait))
-        return self
-
-    def writexf(self, array: ArrayLike, index: int, value: int) -> Pipeline:
-        self._requests.append(requests.writexf(array, index, value))
-        return self
-
-    def purge(self, array: ArrayLike, index: int) -> Pipeline:
-        self._requests.append(requests.purge(array, index))
-        return self
-
-    def int_fetch_add(self, array: ArrayLike, index: int, value: int, nowait: bool = False) -> Pipeline:
-        self._requests.append(requests.int_fetch_add(array, index, value, nowait))
-        return self
-
-    def run(self, *, timeout: Timeout = DEFAULT) -> List[Any]:
-        """Asks what was added since the last time. Returns the answers."""
-        asked, self._requests = self._requests, []
-        self.results = self._client._ask_all(asked, timeout)
-        return self.results
-
-    def __enter__(self) -> Pipeline:
-        return self
-
-    def __exit__(
-        self,
-        kind: Optional[Type[BaseException]],
-        error: Optional[BaseException],
-        trace: Optional[TracebackType],
-    ) -> None:
-        if kind is None:
-            self.run()
 
 
 # Makes the lock at which a caller waits for its answer.

@@ -6,7 +6,7 @@ import time
 from typing import Any, Dict, List, Optional, Set, Tuple
 
 from . import frames, requests
-from .client import seconds_of
+from .arguments import seconds_of
 from .errors import NoArray, NotNow, NotOwner, TimedOut
 from .jobs import Look, Pause, Steps, Wait
 from .operations import Array, Key, Pattern, Tries, batch, end_of, is_full, is_there, left, marked_array

@@ -19,9 +19,10 @@ from types import TracebackType
 from typing import Dict, List, Optional, Tuple, Type
 
 from . import errors, frames, reports
-from .client import Client, Path, seconds_of
+from .arguments import Path, seconds_of
+from .client import Client
 from .reports import Report, Waiter
-from .sides import MOST, numbers
+from .waitsessions import MOST, numbers
 from .operations import PRESENCE
 
 _ARRAY = re.compile(r"array ([0-9]+) ([a-z0-9_]+) ([0-9]+)")

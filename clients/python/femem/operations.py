@@ -11,7 +11,7 @@ from functools import partial
 from typing import TYPE_CHECKING, Any, Callable, Generic, List, Optional, Sequence, TypeVar, overload
 
 from . import frames, requests
-from .client import Key, key_bytes, seconds_of
+from .arguments import Key, key_bytes, seconds_of
 from .core import Core
 from .errors import NameTaken, NoArray, NotNow, OtherPattern
 from .jobs import Batch, Pause, Present, Steps, Wait

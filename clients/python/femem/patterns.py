@@ -34,7 +34,7 @@ class Blocking(operations.Blocking):
         return client
 
     def _perform(self, done: Any, *args: Any, **more: Any) -> Any:
-        job = Job(done.steps(self, *args, **more), getattr(self, done.undo) if done.undo else None)
+        job = Job(done.steps(self, *args, **more), getattr(self, done.undo) if done.undo else None, done.gives_back)
         try:
             return self._client._run_job(job, done.is_light)
         except FememError:
@@ -58,6 +58,9 @@ class Held(Blocking):
     def _begin_with(self) -> Any:
         raise NotImplementedError
 
+    def _end_with(self) -> Any:
+        raise NotImplementedError
+
     def __enter__(self: C) -> C:
         begin = self._begin_with()
         job = Job(begin.steps(self), getattr(self, begin.undo))
@@ -73,7 +76,18 @@ class Held(Blocking):
     def __exit__(
         self, kind: Optional[Type[BaseException]], error: Optional[BaseException], trace: Optional[TracebackType]
     ) -> None:
-        self.release()  # type: ignore[attr-defined]
+        job: Optional[Job[None]] = None
+        try:
+            job = self._release_job()
+            self._client._run_job(job)
+        except FememError:
+            raise
+        except BaseException:
+            self._client._abandon(job or self._release_job())  # it is released in any case
+            raise
+
+    def _release_job(self) -> Job[None]:
+        return Job(self._end_with().steps(self), None, True)
 
 
 class Lock(Opened, Held, locks.Lock):
@@ -82,12 +96,18 @@ class Lock(Opened, Held, locks.Lock):
     def _begin_with(self) -> Any:
         return locks.Lock.acquire
 
+    def _end_with(self) -> Any:
+        return locks.Lock.release
+
 
 class Semaphore(Opened, Held, semaphore.Semaphore):
     __doc__ = semaphore.Semaphore.__doc__
 
     def _begin_with(self) -> Any:
         return semaphore.Semaphore.acquire
+
+    def _end_with(self) -> Any:
+        return semaphore.Semaphore.release
 
 
 class ReadWriteLock(Opened, locks.ReadWriteLock):

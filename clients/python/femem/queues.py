@@ -5,7 +5,7 @@ from __future__ import annotations
 from typing import Any, Optional
 
 from . import frames, requests
-from .client import seconds_of
+from .arguments import seconds_of
 from .jobs import Wait
 from .operations import Array, Key, Pattern, Steps, Tries, end_of, marked_array, once, operation_with, size_of
 from .requests import number_of_bits

@@ -14,7 +14,7 @@ from . import frames
 from .errors import ANSWER_ERRORS, BadLength, BadName, ProtocolError
 from .frames import ACCESS, NOWAIT, VALUE, pack_access
 
-T = TypeVar("T")
+T_co = TypeVar("T_co", covariant=True)
 
 
 @dataclass(frozen=True)
@@ -27,12 +27,12 @@ class Array:
 
 ArrayLike = Union[Array, int]
 
-class Request(Generic[T]):
+class Request(Generic[T_co]):
     """A request. `frame` is its frame under number 0, `read` makes the result of an answer that is not an error."""
 
     __slots__ = ("frame", "read", "may_wait")
 
-    def __init__(self, frame: bytes, read: Callable[[frames.Answer], T], may_wait: bool = False) -> None:
+    def __init__(self, frame: bytes, read: Callable[[frames.Answer], T_co], may_wait: bool = False) -> None:
         self.frame = frame
         self.read = read
         self.may_wait = may_wait
@@ -45,7 +45,7 @@ class Request(Generic[T]):
     def __repr__(self) -> str:
         return f"<femem request: {self.what}>"
 
-    def result(self, answer: frames.Answer) -> T:
+    def result(self, answer: frames.Answer) -> T_co:
         """The result. Raises the answer's error, or `ProtocolError` if the answer can't be to this request."""
         if answer.code in ANSWER_ERRORS:
             raise ANSWER_ERRORS[answer.code](self.what)

@@ -6,25 +6,14 @@ import time
 from typing import Any, Callable, Dict, List, Optional, Sequence, Tuple
 
 from . import frames, requests
-from .errors import BadName, NameTaken, NoArray, NotNow, NotOwner, OtherPattern, TimedOut
+from .errors import BadName, NoArray, NotNow, NotOwner, TimedOut
 from .jobs import Look, Steps, Wait
 from .operations import FIRST_LOOK, LAST_LOOK, Key, Pattern, Tries, batch, end_of, is_full, left
-from .operations import operation, operation_with, shared_array, size_of
+from .operations import operation, operation_with, size_of
 from .reports import Report
 from .requests import Request, number_of_bits
-
-PAGES = 4
-MOST_ATTEMPTS = 16
-LARGEST = 65532
-CHUNK = 32  # slots that are looked at together
-
-# Words of the root and of a page, and what ends a slot.
-JOBS, ROOM = 0, 1
-TAIL, HEAD, FINISHED, FIRST_SLOT = range(4)
-DONE, VOID, DROPPED = range(3)
-
-# In VALUE: nothing was put here. In a claim: the attempt failed. In JOBS: look at all slots.
-NOTHING = 2**64 - 1
+from .workpages import CHUNK, DONE, DROPPED, FINISHED, FIRST_SLOT, HEAD, JOBS, LARGEST, MOST_ATTEMPTS
+from .workpages import NOTHING, PAGES, ROOM, TAIL, Pages
 
 # How long a slot that has a ticket may be without a value, in seconds.
 EMPTY_FOR = 1.0
@@ -72,7 +61,7 @@ class WorkJob(Pattern):
             yield from self._done() if is_done else self._fail()
 
 
-class WorkQueue(Pattern):
+class WorkQueue(Pages):
     """Jobs of 64 bits, each given to one taker at a time until it is done, by clients in Python and in C.
 
     A job whose taker is absent for `away_after` seconds, or has failed, is given to another one, up to `attempts` times; then
@@ -84,97 +73,17 @@ class WorkQueue(Pattern):
 
     def __init__(self, client: Any, name: str, capacity: int, *, attempts: int = 3, away_after: float = 5.0) -> None:
         """`capacity`, at most 65,532, and `attempts`, at most 16, are the same for all who share it. `name` has 1 to 30 bytes."""
-        super().__init__(client, name)
         if not 1 <= len(name.encode()) <= 30:
             raise BadName(f"{name!r} of a work queue has 1 to 30 bytes")
         if size_of(capacity, "capacity") > LARGEST or size_of(attempts, "attempts") > MOST_ATTEMPTS:
             raise ValueError(f"a work queue has {LARGEST} jobs and {MOST_ATTEMPTS} attempts at most")
-        self._slots = -(-capacity // PAGES)
-        self._attempts = attempts
+        super().__init__(client, name, -(-capacity // PAGES), attempts)
         self._away_after = float(away_after)
-        self._root = 0
-        self._pages: List[int] = [0] * PAGES
-        self._putting = self._taking = 0
         self._rescue_at = 0.0
         self._report: Optional[Report] = None
         # Since when sessions were absent, and slots that have a ticket empty.
         self._absent: Dict[int, float] = {}
         self._empty: Dict[int, float] = {}
-
-    # Words.
-
-    def _value_at(self, slot: int) -> int:
-        return FIRST_SLOT + slot * (2 + self._attempts)
-
-    def _end_at(self, slot: int) -> int:
-        return self._value_at(slot) + 1
-
-    def _claim_at(self, slot: int, attempt: int) -> int:
-        return self._value_at(slot) + 2 + attempt
-
-    # Pages.
-
-    def _open(self) -> Steps[None]:
-        if not self._root:
-            root = yield from shared_array(self._name, 2, False)
-            yield from self._find_pages()
-            self._root = root.id
-
-    def _page_name(self, k: int) -> str:
-        return f"{self._name}_{k}"
-
-    def _length(self) -> int:
-        return FIRST_SLOT + self._slots * (2 + self._attempts)
-
-    def _find_pages(self) -> Steps[None]:
-        found = yield from batch([requests.find(self._page_name(k)) for k in range(PAGES)], NoArray)
-        for k, array in enumerate(found):
-            if is_full(array) and array.length != self._length():
-                raise OtherPattern(f"{array} of {self._name} has {array.length} words, not {self._length()}")
-            id = array.id if is_full(array) else 0
-            if id and id not in self._pages:
-                yield from self._begin_page(id)
-            self._pages[k] = id
-
-    def _begin_page(self, page: int) -> Steps[None]:
-        """Fills the first words of a page, in case its maker did not."""
-        yield from batch([requests.writeef(page, k, 0, nowait=True) for k in range(FIRST_SLOT)], NotNow, NoArray)
-
-    def _known(self) -> List[int]:
-        """The pages, oldest first."""
-        return sorted(page for page in self._pages if page)
-
-    def _newest(self) -> int:
-        return max(self._pages)
-
-    def _forget_page(self, page: int) -> None:
-        self._pages = [0 if each == page else each for each in self._pages]
-        self._putting = 0 if self._putting == page else self._putting
-        self._taking = 0 if self._taking == page else self._taking
-
-    def _make_page(self) -> Steps[None]:
-        free = [k for k, page in enumerate(self._pages) if not page]
-        if free:
-            (made,) = yield from batch([requests.create(self._page_name(free[0]), self._length())], NameTaken)
-            if not is_full(made):
-                yield from self._find_pages()
-            else:
-                self._pages[free[0]] = made.id
-                yield from self._begin_page(made.id)
-
-    def _remove_ended(self, page: int) -> Steps[bool]:
-        """Removes the page if all its slots have ended."""
-        for at in range(0, self._slots, CHUNK):
-            ends = yield from self._ends(page, at, min(self._slots, at + CHUNK))
-            if any(isinstance(end, NotNow) for end in ends):
-                return False
-        yield from batch([requests.remove(page), requests.writexf(self._root, ROOM, 0)], NoArray)
-        self._forget_page(page)
-        return True
-
-    def _ends(self, page: int, first: int, end: int) -> Steps[List[Any]]:
-        looks = [requests.readff(page, self._end_at(slot), nowait=True) for slot in range(first, end)]
-        return (yield from batch(looks, NotNow, NoArray))
 
     # Putting.
 
@@ -256,9 +165,6 @@ class WorkQueue(Pattern):
         if not is_full(told) and is_full(head) and head > slot:
             yield from self._tell_all()
         return True
-
-    def _number(self, page: int, slot: int) -> int:
-        return page << 16 | slot
 
     def _tell_all(self) -> Steps[None]:
         yield from batch([requests.writexf(self._root, JOBS, NOTHING)])
@@ -506,24 +412,7 @@ class WorkQueue(Pattern):
         now = time.monotonic()
         return now - self._absent.setdefault(session, now) >= self._away_after
 
-    def _void(self, page: int, slot: int) -> Steps[Any]:
-        """Ends a slot without a value. The value, if there is one after all, or `NOTHING`."""
-        at = self._value_at(slot)
-        asked: List[Request[Any]] = [requests.writeef(page, at, NOTHING, nowait=True), requests.readff(page, at, nowait=True)]
-        _, value = yield from batch(asked, NoArray, NotNow)
-        if is_full(value) and value != NOTHING:
-            return value
-        (ended,) = yield from batch([requests.writeef(page, self._end_at(slot), VOID, nowait=True)], NoArray, NotNow)
-        if is_full(ended):
-            yield from self._finished(page)
-        return NOTHING
-
     # What becomes of a job.
-
-    def _finished(self, page: int) -> Steps[int]:
-        """Counts a slot that has ended. Returns how many had."""
-        (before,) = yield from batch([requests.int_fetch_add(page, FINISHED, 1, nowait=True)], NoArray, NotNow)
-        return int(before) + 1 if is_full(before) else 0
 
     def _end(self, number: int, how: int) -> Steps[None]:
         """Ends a job, and removes its page if this was the last one there."""

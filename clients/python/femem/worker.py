@@ -6,7 +6,6 @@ step: an exception from a signal handler leaves nothing half done, wherever it c
 
 from __future__ import annotations
 
-import errno
 import logging
 import math
 import os
@@ -16,25 +15,23 @@ import struct
 import threading
 import time
 import weakref
-from collections import deque
 from functools import partial
 from threading import get_ident
-from typing import TYPE_CHECKING, Any, Callable, Deque, Optional, Sequence, Set
+from typing import TYPE_CHECKING, Any, Callable, Optional, Sequence, Set
 
 from . import errors, registry
-from .core import Core, Phase
-from .lease import READ_TIME, Lease
-from .sides import Sides
+from .attachment import Phase
+from .connecting import FIRST_PAUSE, LONGEST_PAUSE, is_hopeless, trouble_of
+from .core import Core
+from .lease import READ_TIME
+from .lending import Lender
+from .waitsessions import WaitSessions
 from .tickets import Ticket, nobody
 
 if TYPE_CHECKING:
     from .client import Client
 
 log = logging.getLogger("femem")
-
-# How long the thread waits between attempts to connect, in seconds: at first, and at most.
-FIRST_PAUSE = 0.01
-LONGEST_PAUSE = 0.25
 
 # How long the end of a temporary session may take when its client is closed, in seconds.
 FAREWELL = 1.0
@@ -57,66 +54,38 @@ _LINGER = 0.01
 # make due, except what the core calls urgent.
 _LOOK_AFTER = 0.02
 
-# What says at the first attempt to connect that no server is there.
-_NOT_THERE = (errno.ENOENT, errno.ENOTDIR, errno.EACCES, errno.EPERM, errno.ELOOP)
-
 _NOT_HERE = "a client is of the process that made it"
 
 _READY = Phase.READY
 _IN_AND_OUT = select.POLLIN | select.POLLOUT
 
 
-def trouble_of(path: str, error: OSError) -> str:
-    return f"{path}: {error.strerror or error}"
-
-
-def is_hopeless(error: OSError, waits: bool) -> bool:
-    """Whether the first attempt to connect shows that there is no server. `waits`: whether it may be started later."""
-    # (a path that is too long has no error number)
-    return error.errno is None or error.errno == errno.ENAMETOOLONG or error.errno in _NOT_THERE and not waits
-
-
-class Worker:
+class Worker(Lender):
     """A core, its thread and its connection. `is_temporary`: its session ends with it."""
 
     def __init__(self, path: str, core: Core, longest_sleep: float, is_temporary: bool, waits_for_server: bool) -> None:
+        super().__init__(core)
         self.path = path
-        self.core = core
         self.is_temporary = is_temporary
         # Whether this process chose the session's number.
         self._is_chosen = is_temporary
         self.entry: Optional[registry.Entry] = None
-        self.sides: Sides[Client] = Sides(())
+        self.wait_sessions: WaitSessions[Client] = WaitSessions(())
         self.process = os.getpid()
         self._longest_sleep = longest_sleep
         self._waits_for_server = waits_for_server
         self._has_connected = False
-        # What callers ask, in order: the thread calls each with the time. A caller that finds something here asks the thread
-        # too, and so one that finds `lead` locked.
-        self.asked: Deque[Callable[[float], object]] = deque()
         # Where the thread sleeps, so that a caller knows how to wake it.
         self._is_asleep = False
         self._is_at_bell = False
-        self._bell = threading.Lock()
-        self._bell.acquire()
         self.is_over = False
-        # Numbers that callers use themselves while the thread is at its bell, and whose turn it is.
-        self.lease: Optional[Lease] = None
-        self.lead = threading.Lock()
         # The locks at which callers wait for their answers, for a child to open them, and whether this is the child.
         self._gates: Set[threading.Lock] = set()
         self._is_forked = False
         # The thread's number while it runs.
         self.own_thread = 0
-        # The time as the thread last read it, and when it next checks what is due.
-        self._now = time.monotonic()
-        self._look_at = 0.0
         # Once the thread has ended, callers do its work in its place, one at a time.
         self._ending = threading.RLock()
-        self._socket: Optional[socket.socket] = None
-        self._waker, self._woken = socket.socketpair()
-        self._waker.setblocking(False)
-        self._woken.setblocking(False)
         self._woken_number = self._woken.fileno()
         self._poll = select.poll()
         self._thread = threading.Thread(target=self._run, name=f"femem session {core.session}", daemon=True)
@@ -152,12 +121,6 @@ class Worker:
                 raise errors.Closed(_NOT_HERE)
         finally:
             self._gates.discard(gate)
-
-    def ring(self) -> None:
-        try:
-            self._bell.release()
-        except RuntimeError:
-            pass  # another caller has rung
 
     def end_soon(self) -> None:
         """Ends it without waiting: a temporary session too, if the server is there within a second."""
@@ -244,38 +207,31 @@ class Worker:
             core.to_send.clear()
             self._give_up_connection(self._socket)
 
-    def _give_up_connection(self, connection: socket.socket) -> None:
-        """The next read ends, the thread reconnects, and all is sent again: what was sent is not known."""
-        try:
-            connection.shutdown(socket.SHUT_RDWR)
-        except OSError:
-            pass
-
     def _move_waits(self) -> None:
         """Passes requests that have to wait to further sessions."""
         for ticket in self.core.take_moved():
-            side = self.sides.choose()
+            further = self.wait_sessions.choose()
             asked: Ticket[Any] = Ticket(ticket.request)
-            back = partial(self._has_come_back, side, ticket, asked)
+            back = partial(self._has_come_back, further, ticket, asked)
             asked.finished = partial(self.ask, back)
-            self.core.moved_to(ticket, partial(side._take_back, asked))
-            side._ask(partial(side._core.take, (asked,), None))
+            self.core.moved_to(ticket, partial(further._take_back, asked))
+            further._ask(partial(further._core.take, (asked,), None))
 
-    def _has_come_back(self, side: Client, ticket: Ticket[Any], asked: Ticket[Any], now: float) -> None:
+    def _has_come_back(self, further: Client, ticket: Ticket[Any], asked: Ticket[Any], now: float) -> None:
         """A further session has finished the request. If that session failed, the client ends."""
-        self.sides.give_back(side)
+        self.wait_sessions.give_back(further)
         self.core.has_come_back(ticket, asked)
-        if side.failure is not None:
-            self.core.fail(type(side.failure)(*side.failure.args))
+        if further.failure is not None:
+            self.core.fail(type(further.failure)(*further.failure.args))
 
-    def _close_sides(self) -> None:
+    def _close_wait_sessions(self) -> None:
         """Ends the further sessions, if the server is there; what waits over them is withdrawn in any case."""
         core = self.core
         is_there = isinstance(core.failure, errors.Closed) and (core.has_left or core.was_ready and not self.is_temporary)
-        for side in self.sides:
-            side._worker.is_temporary = is_there
-            side.close()
-            is_there = side._core.has_left
+        for further in self.wait_sessions:
+            further._worker.is_temporary = is_there
+            further.close()
+            is_there = further._core.has_left
 
     def _run(self) -> None:
         self.own_thread = get_ident()
@@ -306,7 +262,7 @@ class Worker:
             self.is_over = True
             self.own_thread = 0
             self._do_what_is_asked()
-        self._close_sides()
+        self._close_wait_sessions()
         self._waker.close()
         self._woken.close()
 
@@ -421,59 +377,6 @@ class Worker:
                 self._await_bell(lease, seconds)
                 self._take_back(lease)
         self._is_at_bell = False
-
-    def _lend(self) -> Optional[Lease]:
-        """Lets callers ask over the connection themselves, from now on."""
-        first, end = self.core.lends()
-        if first < end and self._socket is not None:
-            # With further sessions, what waits is asked over one of them.
-            self.lease = Lease(self._socket, first, end, None if self.sides else self._waker)
-        return self.lease
-
-    def _await_bell(self, lease: Lease, seconds: float) -> None:
-        """Sleeps until a caller rings, or the lease was not used for a while, or something is due."""
-        used = -1
-        while used < len(lease.tickets) and not self.asked:
-            used = len(lease.tickets)
-            if self._bell.acquire(timeout=seconds) or time.monotonic() >= self._look_at:
-                break
-
-    def _take_back(self, lease: Lease) -> None:
-        """Ends the lease, and goes on with what its last caller left."""
-        self.lease = None
-        is_free = self.lead.acquire(blocking=False) or self._calls_back()
-        if not is_free:
-            # Its caller is held up, perhaps within a signal handler that waits for this thread.
-            self.lead = threading.Lock()
-        core = self.core
-        self._now = now = time.monotonic()
-        if not is_free or not lease.is_known:
-            # Before its numbers are noted: a caller that goes on later finds a connection that takes nothing.
-            self._give_up_connection(lease.connection)
-        core.takes_back(list(lease.tickets), now)
-        if is_free:
-            self.lead.release()
-        if lease.rest:
-            core.received(bytes(lease.rest), now)
-
-    def _calls_back(self) -> bool:
-        """Ends the wait of the caller that has the lease. Whether that has left it in time."""
-        self._signal(self._woken)
-        is_free = self.lead.acquire(timeout=3 * READ_TIME)
-        self._drain(self._waker)
-        return is_free
-
-    def _signal(self, end: socket.socket) -> None:
-        try:
-            end.send(b"w")
-        except OSError:
-            pass  # the other end is awake, or has ended
-
-    def _drain(self, end: socket.socket) -> None:
-        try:
-            end.recv(4096)
-        except OSError:
-            pass
 
     def _read(self, connection: socket.socket) -> bool:
         """Reads what came. Returns whether the connection is still up."""

@@ -221,9 +221,9 @@ class Windows(unittest.TestCase):
             word = run(world, core, requests.create("words", 1, True))
             for _ in range(20):
                 tickets = [core.submit(requests.int_fetch_add(word, 0, 1), world.now) for _ in range(size)]
-                self.assertFalse(core._flow._cancelled)
+                self.assertFalse(core._outbox._cancelled)
                 exchange(world, core, 1)
-                self.assertFalse(core._flow._cancelled)
+                self.assertFalse(core._outbox._cancelled)
                 self.assertTrue(all(ticket.done for ticket in tickets))
 
     def test_a_full_window_of_answers_moves(self):
@@ -294,7 +294,7 @@ class Endings(unittest.TestCase):
             world.push(core)
             world.model.post()
             world.pull(core)
-        self.assertNotEqual(core._flow.window.asked, core._flow.window.floor)
+        self.assertNotEqual(core._outbox.window.asked, core._outbox.window.floor)
         ticket = core.leave(world.now)
         world.push(core)
         world.model.post()

@@ -205,7 +205,7 @@ class Files(WithFolder):
         """Acts as if the client's process were killed now."""
         client._core.file.abandon()
         client._core.file = None
-        client._core._flow._file = None
+        client._core._outbox._file = None
         client.close()
 
     @staticmethod

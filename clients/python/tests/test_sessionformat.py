@@ -222,7 +222,7 @@ class Format(WithFolder):
         with Client(self.path, 7) as client:
             word = client.create("word", 1, full=True)
             client.int_fetch_add(word, 0, 1)
-            floor = client._core._flow.window.floor
+            floor = client._core._outbox.window.floor
             next = floor + 20
         number = struct.Struct(">Q").pack
         add = requests.int_fetch_add(word, 0, 5).frame
@@ -263,7 +263,7 @@ class Format(WithFolder):
         server = self.server()
         with Client(self.path, 7) as client:
             word = client.create("word", 1, full=True)
-            floor = client._core._flow.window.floor
+            floor = client._core._outbox.window.floor
         for stands in (0, 5, 32, 40, 70):
             with self.subTest(stands=stands):
                 top = floor + 70
@@ -272,7 +272,7 @@ class Format(WithFolder):
                     model.sessions[7] = (floor + stands, {})
                 with Client(self.path, session_file=self.file) as client:
                     client.int_fetch_add(word, 0, 1, timeout=LONG)
-                    self.assertEqual(client._core._flow.window.floor, top)
+                    self.assertEqual(client._core._outbox.window.floor, top)
                 os.unlink(self.file)
 
     @unittest.skipUnless(shutil.which("strace"), "strace is not installed")

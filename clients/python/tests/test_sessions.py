@@ -26,7 +26,7 @@ def until(condition, seconds=60):
 
 def unanswered(client):
     """The unanswered requests of the client's own session."""
-    return list(client._core._flow.window.unanswered.values())
+    return list(client._core._outbox.window.unanswered.values())
 
 
 class Sessions(WithFolder):
@@ -43,7 +43,7 @@ class Sessions(WithFolder):
                 for index in range(40):
                     self.assertEqual(unanswered(client), [])
                     self.assertEqual(await client.readxx(words, index), 0)
-                    self.assertEqual(client._core._flow._cancelled, set())
+                    self.assertEqual(client._core._outbox._cancelled, set())
                 await asyncio.gather(*[other.writexf(words, index, index) for index in range(1000)])
                 self.assertEqual(await asyncio.gather(*tasks), list(range(1000)))
                 self.assertFalse(client._core.is_busy())
@@ -61,7 +61,7 @@ class Sessions(WithFolder):
                 while len(list(server.model.waiting)) < 128:
                     await asyncio.sleep(0.01)
                 await asyncio.sleep(0.3)
-                self.assertTrue(all(not side._core._flow._cancelled for side in client._sides))
+                self.assertTrue(all(not further._core._outbox._cancelled for further in client._further()))
                 self.assertEqual({session for session, _ in list(server.model.waiting)}, set(client.sessions[1:]))
                 for index in range(128):
                     await client.writeef(words, index, index)

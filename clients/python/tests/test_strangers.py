@@ -37,7 +37,7 @@ class Strangers(unittest.TestCase):
                     world.pull(core, 30)
                 world.model.gone(conn)
                 self.assertEqual(run(world, core, requests.int_fetch_add(array, 0, 1)), 32)
-                self.assertGreaterEqual(core._flow.window.floor, last + 32)
+                self.assertGreaterEqual(core._outbox.window.floor, last + 32)
 
     def test_what_waits_of_the_former_user_is_taken_back(self):
         world = World(1)
@@ -83,7 +83,7 @@ class Strangers(unittest.TestCase):
             world.push(core)
             world.model.post()
             world.pull(core)
-            if core._flow.window.asked != core._flow.window.floor:
+            if core._outbox.window.asked != core._outbox.window.floor:
                 core.to_send.clear()
         tickets = [core.submit(ask(array), world.now) for _ in range(40)]
         world.model.gone(world.links[core][0])

@@ -346,7 +346,7 @@ class Forks(WithFolder):
             while not client.report().waiters:
                 time.sleep(0.01)
             # As in the middle of the thread's send.
-            for sending in [client, *client._sides]:
+            for sending in [client, *client._further()]:
                 with memoryview(sending._core.to_send):
                     self.assertEqual(self.in_child(lambda: client.readxx(word, 0)), "Closed")
                     self.assertEqual(self.in_child(lambda: client.withdraw(waiting)), "None")

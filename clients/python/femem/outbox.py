@@ -22,7 +22,7 @@ _OF_CALL = (frames.BELOW_FLOOR, frames.BEYOND_WINDOW, frames.NUMBER_USED, frames
 _OF_SETTLE = (frames.BELOW_FLOOR, frames.BEYOND_WINDOW, frames.STILL_WAITING, frames.SPENT)
 
 
-class Flow:
+class Outbox:
     """Appends what it sends to `to_send`, and tickets that end to `ended`.
 
     There is no window, and nothing is sent, until `begin`. Requests that would wait go to `moved`, if it is a list.
@@ -42,7 +42,7 @@ class Flow:
         self._file = file
         # Requests under keys that have no answer yet.
         self.keys: Dict[bytes, Ticket[Any]] = {}
-        self._to_send = to_send
+        self.to_send = to_send
         self._ended = ended
         self._queue: Deque[Ticket[Any]] = deque()
         self.start_over()
@@ -161,7 +161,7 @@ class Flow:
             self._cancel(ticket, now)
 
     def _send_queue(self, window: Window[Ticket[Any]], now: float) -> None:
-        queue, to_send = self._queue, self._to_send
+        queue, to_send = self._queue, self.to_send
         tickets = [queue.popleft() for _ in range(min(len(queue), window.room()))]
         number = window.give(tickets)
         if self._file is not None:
@@ -218,13 +218,13 @@ class Flow:
 
     def _settle(self, floor: int, now: float) -> None:
         self._settle_sent = now
-        self._to_send += frames.settle(floor)
+        self.to_send += frames.settle(floor)
 
     def _send(self, ticket: Ticket[Any], now: float) -> None:
         assert ticket.request is not None and ticket.number is not None
         ticket.sent_at = now
         ticket.cancel_sent = False
-        append_under(self._to_send, ticket.request.frame, ticket.number, ticket.asks_first)
+        append_under(self.to_send, ticket.request.frame, ticket.number, ticket.asks_first)
 
     def _cancel(self, ticket: Ticket[Any], now: float) -> None:
         assert ticket.number is not None
@@ -232,7 +232,7 @@ class Flow:
             ticket.cancel_sent = True
             ticket.sent_at = now
             self._cancelled.add(ticket.number)
-            self._to_send += frames.cancel(ticket.number)
+            self.to_send += frames.cancel(ticket.number)
 
     def _end(self, ticket: Ticket[Any], result: Any = None, error: Optional[BaseException] = None) -> None:
         ticket.end(result, error)

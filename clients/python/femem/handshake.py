@@ -26,7 +26,7 @@ def unexpected(refusal: frames.Refusal) -> ProtocolError:
     return ProtocolError(f"number {refusal.number} is refused, {name}, and nothing was sent that could be")
 
 
-class Meeting:
+class Handshake:
     """From the first welcome to a floor from which on no number was used."""
 
     def __init__(self, floor: int, probes: Iterator[int]) -> None:

@@ -33,7 +33,7 @@ def numbers(session: int, count: int) -> List[int]:
     return [int.from_bytes(hashlib.sha256(each).digest()[:8], "big") | 2**63 for each in spelled]
 
 
-class Sides(Generic[C]):
+class WaitSessions(Generic[C]):
     """Clients of one further session each, and how many requests each of them has."""
 
     def __init__(self, clients: Sequence[C]) -> None:

@@ -1,0 +1,189 @@
+"""How a client runs jobs: it asks what a step wants, and goes on with the job once that is done."""
+
+from __future__ import annotations
+
+from functools import partial
+from typing import Any, Callable, List, Optional, Sequence, Set, TypeVar
+
+from . import errors, reports
+from .jobs import Batch, First, Job, Look, Pause, Present, Step, Wait
+from .requests import readff
+from .tickets import Ticket, Timeouts, nobody
+
+T = TypeVar("T")
+
+
+def _thrower(job: Job[Any], error: BaseException) -> Callable[[], Step]:
+    return lambda: job.steps.throw(error)
+
+
+class JobRunner:
+    """The part of a core that runs jobs."""
+
+    failure: Optional[errors.FememError]
+    clock: Callable[[], float]
+    is_urgent: bool
+
+    def __init__(self) -> None:
+        self._presence: Optional[Ticket[int]] = None
+        self._pauses: Set[Ticket[None]] = set()
+        self._timeouts = Timeouts()
+
+    # What the rest of the core does.
+
+    def take(self, tickets: Sequence[Ticket[Any]], timeout: Optional[float], now: float) -> None:
+        raise NotImplementedError
+
+    def report(self, now: float, ticket: Optional[Ticket[reports.Report]] = None) -> Ticket[reports.Report]:
+        raise NotImplementedError
+
+    def withdraw(self, ticket: Ticket[Any], now: float, why: Optional[errors.Withdrawn] = None) -> None:
+        raise NotImplementedError
+
+    def withdraw_all(self, tickets: Sequence[Ticket[Any]], now: float) -> None:
+        raise NotImplementedError
+
+    def _check(self) -> None:
+        raise NotImplementedError
+
+    def _admit(self, tickets: Sequence[Ticket[Any]], now: float) -> Sequence[Ticket[Any]]:
+        raise NotImplementedError
+
+    def _failure_again(self) -> errors.FememError:
+        raise NotImplementedError
+
+    def _end(self, ticket: Ticket[T], result: Optional[T] = None, error: Optional[BaseException] = None) -> None:
+        raise NotImplementedError
+
+    # Jobs.
+
+    def start(self, job: Job[Any], now: float) -> None:
+        """Runs the job. Its caller may have begun a step."""
+        step, job.begun = job.begun, None
+        if self._admit((job,), now):
+            self._advance(job, lambda: next(job.steps) if step is None else step)
+
+    def abandon(self, job: Job[Any], now: float) -> None:
+        """No caller waits for the job any more: takes it back if it waits, and undoes it if it is done.
+
+        One that gives something back is done in any case.
+        """
+        if job.gives_back:
+            self.start(job, now)
+            return
+        job.is_abandoned = True
+        if job.done:
+            self._undo(job, now)
+        else:
+            self.interrupt(job, now)
+
+    def interrupt(self, job: Job[Any], now: float) -> None:
+        """Takes back what the job waits for. It ends with `Withdrawn`, or is done if everything had happened."""
+        if not job.taken:
+            job.taken = True
+            self._end(job, error=errors.Withdrawn("it was not begun"))
+        job.is_interrupted = True
+        for ticket in list(job.asked):
+            if ticket in self._pauses:
+                self._pauses.discard(ticket)
+                self._end(ticket, error=errors.Withdrawn("interrupted"))
+            elif ticket.request is not None and ticket.request.may_wait:
+                self.withdraw(ticket, now)
+
+    def _undo(self, job: Job[Any], now: float) -> None:
+        undo, job.undo = job.undo, None
+        if undo is not None and job.error is None:
+            self.start(Job(undo(job.result)), now)
+
+    def _advance(self, job: Job[Any], go_on: Callable[[], Step]) -> None:
+        """Runs the job to its next step, or to its end."""
+        while True:
+            try:
+                step = go_on()
+            except StopIteration as end:
+                self._end(job, end.value)
+            except Exception as error:
+                self._end(job, error=error)
+            else:
+                try:
+                    self._ask(job, step)
+                except errors.FememError as error:
+                    go_on = _thrower(job, error)
+                    continue
+                return
+            if job.is_abandoned:
+                self._undo(job, self.clock())
+            return
+
+    def _ask(self, job: Job[Any], step: Step) -> None:
+        now = self.clock()
+        self._check()
+        may_wait = isinstance(step, (Wait, First))
+        if job.is_interrupted and (may_wait or isinstance(step, Pause)):
+            raise errors.Withdrawn("interrupted")
+        if isinstance(step, (Batch, Wait, First)):
+            # (the tickets of a step that the caller has begun are there)
+            tickets = job.asked or [Ticket(request) for request in step.requests]
+            if may_wait:
+                for ticket in tickets:
+                    ticket.ends_with_process = True
+            if step.key is not None:
+                tickets[0].key = step.key
+            seconds = step.seconds if job.until is None else max(0.0, job.until - now)  # if its caller has begun the step
+            job.until = None
+            if seconds is not None and tickets[0].taken and not tickets[0].done:
+                self._timeouts.add(now + seconds, tickets[0])
+            self._await(job, step, tickets)
+            self.take(tickets, seconds, now)
+            return
+        only: Ticket[Any] = Ticket(None)
+        self._await(job, step, [only])
+        if isinstance(step, Look):
+            self.report(now, only)
+        elif isinstance(step, Pause):
+            self.is_urgent = True
+            self._pauses.add(only)
+            self._timeouts.add(now + step.seconds, only)
+        else:
+            self._be_present(step, now)
+            self._end(only)
+
+    def _await(self, job: Job[Any], step: Step, tickets: List[Ticket[Any]]) -> None:
+        """Goes on with the job once its tickets are done."""
+        job.asked = tickets
+        left = sum(not ticket.done for ticket in tickets)
+
+        def finished() -> None:
+            nonlocal left
+            left -= 1
+            if left and isinstance(step, First):
+                waiting = [ticket for ticket in tickets if not ticket.done and ticket.taken_back is None]
+                self.withdraw_all(waiting, self.clock())
+            elif not left:
+                self._answer(job, step, tickets)
+
+        for ticket in tickets:
+            ticket.finished = finished
+        if not left:
+            last: Ticket[Any] = Ticket(None, partial(self._answer, job, step, tickets))
+            self._end(last)
+
+    def _answer(self, job: Job[Any], step: Step, tickets: List[Ticket[Any]]) -> None:
+        job.asked = []
+        for ticket in tickets:
+            ticket.finished = nobody  # nothing holds itself
+        if isinstance(step, (Batch, First)):
+            outcomes = [ticket.result if ticket.error is None else ticket.error for ticket in tickets]
+            ends = self.failure is not None
+            self._advance(job, _thrower(job, self._failure_again()) if ends else lambda: job.steps.send(outcomes))
+        elif tickets[0].error is not None:
+            self._advance(job, _thrower(job, tickets[0].error))
+        else:
+            self._advance(job, lambda: job.steps.send(tickets[0].result))
+
+    def _be_present(self, step: Present, now: float) -> None:
+        if self._presence is None or self._presence.done:
+            self._presence = Ticket(readff(step.array, 0))
+            self._presence.is_presence = True
+            self._presence.ends_with_process = True
+            self.take((self._presence,), None, now)
