@@ -92,6 +92,9 @@ static void arguments(femem *client) {
   femem_job job;
   ERROR(femem_queue_open(&queue, client, "calls", CAPACITY + 4, 3, 0), FEMEM_BAD_CALL);
   ERROR(femem_queue_open(&queue, client, "calls", CAPACITY, 4, 0), FEMEM_BAD_CALL);
+  femem_queue_close(queue_opened(client, "empty", 7, 3, 0));
+  ERROR(femem_queue_open(&queue, client, "empty", 8, 3, 0), FEMEM_BAD_CALL); /* its pages would be as long */
+  ERROR(femem_queue_open(&queue, client, "empty", 7, 2, 0), FEMEM_BAD_CALL);
   ERROR(femem_queue_open(&queue, client, "", CAPACITY, 3, 0), FEMEM_BAD_CALL);
   ERROR(femem_queue_open(&queue, client, "a name of more than thirty bytes", CAPACITY, 3, 0), FEMEM_BAD_CALL);
   ERROR(femem_queue_open(&queue, client, "calls", 0, 3, 0), FEMEM_BAD_CALL);

@@ -183,6 +183,8 @@ int64_t fe_moment(int64_t within);
 bool fe_is_past(int64_t end);
 /* Writes as much as the socket accepts. */
 void fe_write_some(femem *client);
+/* Reads once what has come, without waiting. */
+femem_error fe_read_some(femem *client);
 /* Whether this is a forked child's copy of the client, which must not use the connection. */
 bool fe_is_copy(const femem *client);
 /* Writes the output, and waits for bytes once. FEMEM_TIMEOUT if none come before the end. */

@@ -256,7 +256,7 @@ femem_error femem_send_int_fetch_add(femem *client, uint64_t array, uint32_t ind
 femem_error femem_flush(femem *client);
 
 /* The next answer, in order of arrival, within `within` milliseconds. FEMEM_OK if there is one, whatever its error;
-   FEMEM_NOTHING_OUT if none can come; FEMEM_TIMEOUT. */
+   FEMEM_NOTHING_OUT if none can come; FEMEM_TIMEOUT. It reads what has come in each case. */
 femem_error femem_next(femem *client, femem_answer *answer, int64_t within);
 
 /* The answer of that number, within `within` milliseconds. */

@@ -78,8 +78,7 @@ void fe_write_some(femem *client) {
   }
 }
 
-/* Reads once what has come. */
-static femem_error read_some(femem *client) {
+femem_error fe_read_some(femem *client) {
   ssize_t count;
   do count = recv(client->descriptor, client->input + client->input_end, INPUT - client->input_end, 0);
   while (count < 0 && errno == EINTR);
@@ -124,7 +123,7 @@ femem_error fe_step(femem *client, int64_t end) {
   if (events < 0 && errno != EINTR) return system_fault(client, FEMEM_SYSTEM);
   if (events == 0 && !probes) return FEMEM_TIMEOUT;
   if (events == 0) probe(client);
-  return events > 0 && (line.revents & ~POLLOUT) ? read_some(client) : FEMEM_OK;
+  return events > 0 && (line.revents & ~POLLOUT) ? fe_read_some(client) : FEMEM_OK;
 }
 
 static void nap(int64_t microseconds) {

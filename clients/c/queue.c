@@ -24,7 +24,8 @@ femem_error femem_queue_open(femem_queue **queue, femem *client, const char *nam
   made->slots = (capacity + PAGES - 1) / PAGES;
   made->attempts = attempts;
   made->away_after = 1000 * (away_after ? away_after : 5000);
-  femem_error error = fe_shared_array(client, name, 2, &made->root);
+  femem_error error = fe_shared_array(client, name, ROOT_LENGTH, &made->root);
+  if (error == FEMEM_OK) error = fq_begin_root(made, capacity);
   if (error == FEMEM_OK) error = fq_find_pages(made);
   if (error) femem_queue_close(made);
   else *queue = made;
@@ -192,6 +193,8 @@ static femem_error be_present(femem_queue *queue) {
   const slot *place = queue->present ? fe_find(client, queue->present) : NULL;
   if (place) return FEMEM_OK;
   femem_error error = fe_shared_array(client, "presence", 1, &queue->presence);
+  /* Whoever fills the word ends what waits there, and all would look absent. */
+  if (error == FEMEM_OK) error = fq_tell(queue, FEMEM_PURGE, queue->presence, 0, 0);
   if (error) return error;
   femem_request show = fq_read(queue->presence, 0, false);
   return fe_send_request(client, &show, NULL, SEND_ENDS | SEND_UNWANTED, &queue->present);

@@ -11,7 +11,7 @@ enum {
   CHUNK = 32,                 /* slots that are looked at together */
   SEEN = 64
 };
-enum { JOBS, ROOM };                  /* words of the root */
+enum { JOBS, ROOM, CAPACITY_GIVEN, ATTEMPTS_GIVEN, ROOT_LENGTH }; /* words of the root */
 enum { TAIL, HEAD, FINISHED };        /* words of a page */
 enum { ENDED_DONE, ENDED_VOID, ENDED_DROPPED };
 
@@ -56,6 +56,8 @@ femem_error fq_tell(femem_queue *queue, femem_operation operation, uint64_t arra
 uint64_t fq_number(uint64_t page, uint64_t ticket);
 uint64_t fq_page_of(uint64_t number);
 uint64_t fq_slot_of(uint64_t number);
+/* Fills the root's last words, or compares them with what other clients gave: FEMEM_BAD_CALL. */
+femem_error fq_begin_root(femem_queue *queue, uint32_t capacity);
 /* Finds the pages. */
 femem_error fq_find_pages(femem_queue *queue);
 bool fq_is_known(const femem_queue *queue, uint64_t page);

@@ -49,6 +49,18 @@ uint64_t fq_number(uint64_t page, uint64_t ticket) { return page << 16 | ticket;
 uint64_t fq_page_of(uint64_t number) { return number >> 16; }
 uint64_t fq_slot_of(uint64_t number) { return number & 0xffff; }
 
+/* ---- root ---- */
+
+femem_error fq_begin_root(femem_queue *queue, uint32_t capacity) {
+  femem_request asked[] = {fq_fill(queue->root, CAPACITY_GIVEN, capacity),
+                           fq_fill(queue->root, ATTEMPTS_GIVEN, queue->attempts),
+                           fq_read(queue->root, CAPACITY_GIVEN, true), fq_read(queue->root, ATTEMPTS_GIVEN, true)};
+  femem_answer answers[4];
+  femem_error error = fq_together(queue, asked, 4, answers);
+  if (error) return error;
+  return answers[2].value == capacity && answers[3].value == queue->attempts ? FEMEM_OK : FEMEM_BAD_CALL;
+}
+
 /* ---- pages ---- */
 
 static uint32_t page_length(const femem_queue *queue) { return PAGE_HEAD + queue->slots * (2 + queue->attempts); }

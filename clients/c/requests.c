@@ -106,7 +106,11 @@ femem_error femem_flush(femem *client) {
 
 femem_error femem_next(femem *client, femem_answer *answer, int64_t within) {
   if (fe_is_copy(client)) return FEMEM_FORKED;
-  if (client->ready == 0 && client->out == 0) return FEMEM_NOTHING_OUT;
+  if (client->ready == 0 && client->out == 0) {
+    /* What settles, or ends the connection, comes then too: otherwise its descriptor would stay readable. */
+    femem_error error = client->phase == SERVED ? fe_read_some(client) : FEMEM_OK;
+    return error && error != FEMEM_DISCONNECTED ? error : FEMEM_NOTHING_OUT;
+  }
   femem_error error = fe_wait_for(client, fe_any_answered, 0, fe_moment(within));
   if (error == FEMEM_OK) fe_hand_out(client, fe_slot_of(client, client->ready_numbers[client->first_ready]), answer);
   return error;

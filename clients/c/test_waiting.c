@@ -2,6 +2,8 @@
    move out of the way of others. It ends by itself, and prints what failed. */
 #include "scripts.h"
 
+#include <poll.h>
+
 /* Welcomes a client that does not resume. */
 static void meet(int line) {
   welcome(line);
@@ -273,12 +275,52 @@ static void resumed_stays(void) {
   END(server);
 }
 
+/* ---- nothing is out ---- */
+
+static void settling_server(int listener) {
+  int line = take_line(listener);
+  welcome(line);
+  for (unsigned number = 1; number <= 17; number++) {
+    heard(line, add_of, number);
+    if (number == 17) heard(line, settle_of, number);
+    said(line, value_of, number);
+  }
+  rest(50000);
+  said(line, settled_of, 17);
+  heard(line, add_of, 18);
+  said(line, value_of, 18);
+}
+
+static int readable(const femem *client, int within) {
+  return poll(&(struct pollfd){.fd = femem_descriptor(client), .events = POLLIN}, 1, within);
+}
+
+/* A program that polls the descriptor and calls femem_next does not go round without end. */
+static void quiet_descriptor(void) {
+  test = "what comes while nothing is out";
+  pid_t server = begin_at(0, settling_server);
+  femem *client = opened(&resuming);
+  uint64_t value = 0;
+  femem_answer answer = {0};
+  for (int i = 0; i < 17; i++) ERROR(femem_int_fetch_add(client, 1, 0, 1, &value), FEMEM_OK);
+  CHECK(readable(client, 20000) == 1);
+  ERROR(femem_next(client, &answer, 0), FEMEM_NOTHING_OUT);
+  CHECK(readable(client, 0) == 0);
+  ERROR(femem_int_fetch_add(client, 1, 0, 1, &value), FEMEM_OK);
+  END(server);
+  CHECK(readable(client, 20000) == 1);
+  ERROR(femem_next(client, &answer, 0), FEMEM_NOTHING_OUT);
+  CHECK(readable(client, 0) == 0);
+  femem_close(client);
+}
+
 int main(void) {
   setvbuf(stdout, NULL, _IOLBF, 0);
   alarm(200);
   if (!mkdtemp(folder)) return 1;
   snprintf(path, sizeof path, "%s/socket", folder);
-  void (*const tests[])(void) = {out_of_time, late_withdrawals, moves_on, several_move, stopped_move, resumed_stays};
+  void (*const tests[])(void) = {out_of_time, late_withdrawals, moves_on, several_move, stopped_move, resumed_stays,
+                               quiet_descriptor};
   for (size_t i = 0; i < sizeof tests / sizeof *tests; i++) tests[i]();
   unlink(path);
   rmdir(folder);

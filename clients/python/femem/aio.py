@@ -246,7 +246,11 @@ class AsyncClient(AwaitedCalls):
 
     async def _call(self, request: Request[T], timeout: Timeout) -> T:
         ticket = Ticket(request)
-        return await self._told((ticket,), self._submit(ticket, timeout))
+        try:
+            return await self._told((ticket,), self._submit(ticket, timeout))
+        except errors.FememError:
+            del ticket  # the error's traceback has this frame
+            raise
 
     async def _run_job(self, job: Job[T]) -> T:
         """Runs an operation of several steps. A task that is cancelled takes it back, or gets the result if it is done."""
@@ -260,6 +264,9 @@ class AsyncClient(AwaitedCalls):
         """The result of the tickets' future. A task that is cancelled gets it too, unless nothing happened."""
         try:
             return await asyncio.shield(future)
+        except errors.FememError:
+            del tickets, future  # as above
+            raise
         except asyncio.CancelledError:
             if future.cancelled():
                 raise

@@ -7,7 +7,7 @@ from typing import Any, Callable, List, Optional, Sequence, Set, TypeVar
 
 from . import errors, reports
 from .jobs import Batch, First, Job, Look, Pause, Present, Step, Wait
-from .requests import readff
+from .requests import Array, purge, readff
 from .tickets import Ticket, Timeouts, nobody
 
 T = TypeVar("T")
@@ -183,7 +183,19 @@ class JobRunner:
 
     def _be_present(self, step: Present, now: float) -> None:
         if self._presence is None or self._presence.done:
-            self._presence = Ticket(readff(step.array, 0))
-            self._presence.is_presence = True
-            self._presence.ends_with_process = True
-            self.take((self._presence,), None, now)
+            self._show(step.array, now)
+
+    def _show(self, array: Array, now: float) -> None:
+        """Makes a request wait there. Whoever fills the word ends it: then it is emptied, and another one waits."""
+        shown = self._presence = Ticket(readff(array, 0))
+        shown.is_presence = True
+        shown.ends_with_process = True
+        shown.finished = partial(self._is_gone, array)
+        self.take((Ticket(purge(array, 0)), shown), None, now)
+
+    def _is_gone(self, array: Array) -> None:
+        shown = self._presence
+        if shown is not None and shown.done:
+            shown.finished = nobody  # nothing holds itself
+            if shown.error is None and self.failure is None:
+                self._show(array, self.clock())

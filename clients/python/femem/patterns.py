@@ -74,9 +74,12 @@ class Held(Blocking):
             raise
 
     def __exit__(
-        self, kind: Optional[Type[BaseException]], error: Optional[BaseException], trace: Optional[TracebackType]
+        self,
+        kind: Optional[Type[BaseException]],
+        error: Optional[BaseException],
+        trace: Optional[TracebackType],
+        job: Optional[Job[None]] = None,  # no caller gives it
     ) -> None:
-        job: Optional[Job[None]] = None
         try:
             job = self._release_job()
             self._client._run_job(job)

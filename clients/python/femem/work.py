@@ -13,7 +13,7 @@ from .operations import operation, operation_with, size_of
 from .reports import Report
 from .requests import Request, number_of_bits
 from .workpages import CHUNK, DONE, DROPPED, FINISHED, FIRST_SLOT, HEAD, JOBS, LARGEST, MOST_ATTEMPTS
-from .workpages import NOTHING, PAGES, ROOM, TAIL, Pages
+from .workpages import NOTHING, ROOM, TAIL, Pages
 
 # How long a slot that has a ticket may be without a value, in seconds.
 EMPTY_FOR = 1.0
@@ -77,7 +77,7 @@ class WorkQueue(Pages):
             raise BadName(f"{name!r} of a work queue has 1 to 30 bytes")
         if size_of(capacity, "capacity") > LARGEST or size_of(attempts, "attempts") > MOST_ATTEMPTS:
             raise ValueError(f"a work queue has {LARGEST} jobs and {MOST_ATTEMPTS} attempts at most")
-        super().__init__(client, name, -(-capacity // PAGES), attempts)
+        super().__init__(client, name, capacity, attempts)
         self._away_after = float(away_after)
         self._rescue_at = 0.0
         self._report: Optional[Report] = None
@@ -87,7 +87,7 @@ class WorkQueue(Pages):
 
     # Putting.
 
-    @operation
+    @operation_with(light=True)
     def put(self, value: int, timeout: Optional[float] = None, *, key: Optional[Key] = None) -> Steps[None]:
         """Puts a job, a value below 2^64 - 1. Waits for room: `TimedOut`.
 

@@ -16,7 +16,7 @@ LARGEST = 65532
 CHUNK = 32  # slots that are looked at together
 
 # Words of the root and of a page, and what ends a slot.
-JOBS, ROOM = 0, 1
+JOBS, ROOM, CAPACITY, ATTEMPTS, ROOT_LENGTH = range(5)
 TAIL, HEAD, FINISHED, FIRST_SLOT = range(4)
 DONE, VOID, DROPPED = range(3)
 
@@ -27,9 +27,10 @@ NOTHING = 2**64 - 1
 class Pages(Pattern):
     """The arrays of a work queue: a root, and up to four pages of slots."""
 
-    def __init__(self, client: Any, name: str, slots: int, attempts: int) -> None:
+    def __init__(self, client: Any, name: str, capacity: int, attempts: int) -> None:
         super().__init__(client, name)
-        self._slots = slots
+        self._capacity = capacity
+        self._slots = -(-capacity // PAGES)
         self._attempts = attempts
         self._root = 0
         self._pages: List[int] = [0] * PAGES
@@ -51,9 +52,19 @@ class Pages(Pattern):
 
     def _open(self) -> Steps[None]:
         if not self._root:
-            root = yield from shared_array(self._name, 2, False)
+            root = yield from shared_array(self._name, ROOT_LENGTH, False)
+            yield from self._begin_root(root.id)
             yield from self._find_pages()
             self._root = root.id
+
+    def _begin_root(self, root: int) -> Steps[None]:
+        """Fills the root's last words, or compares them with what other clients gave."""
+        given = {CAPACITY: self._capacity, ATTEMPTS: self._attempts}
+        fills = [requests.writeef(root, word, value, nowait=True) for word, value in given.items()]
+        looks = [requests.readff(root, word, nowait=True) for word in given]
+        found = (yield from batch([*fills, *looks], NotNow))[len(fills) :]
+        if found != [*given.values()]:
+            raise OtherPattern(f"{self._name} has {found[0]} jobs and {found[1]} attempts, not {[*given.values()]}")
 
     def _page_name(self, k: int) -> str:
         return f"{self._name}_{k}"

@@ -120,6 +120,40 @@ class Leavings(WithFolder):
                         gc.enable()
 
 
+    def test_a_request_of_asyncio_leaves_no_cycle(self):
+        self.server()
+
+        async def main():
+            async with AsyncClient(self.path, 7) as client:
+                word = await client.create("word", 1, full=True)
+
+                async def fails():
+                    try:
+                        await client.readff(word, 1)
+                    except femem.BadIndex:
+                        pass
+
+                works = (
+                    lambda: client.readff(word, 0),
+                    lambda: client.submit(requests.readff(word, 0)),
+                    lambda: client.submit_many([requests.readff(word, 0)] * 5),
+                    fails,
+                )
+                for number, work in enumerate(works):
+                    with self.subTest(number):
+                        await work()
+                        gc.collect()
+                        gc.disable()
+                        try:
+                            for _ in range(200):
+                                await work()
+                            self.assertLess(gc.collect(), 100)
+                        finally:
+                            gc.enable()
+
+        asyncio.run(main())
+
+
 class Pipelines(WithFolder):
     def test_its_methods_are_those_of_requests(self):
         names = ["create", "find", "remove", *(name for name, _, _ in requests.OPERATIONS.values())]

@@ -144,7 +144,7 @@ def interrupted(work, at):
         frame.f_trace_opcodes = True
         frame.f_trace_lines = False
         if event == "opcode":
-            # No exception can come between the return of a value and its caller.
+            # No exception can come between the return of a value and its caller, or where nothing is done.
             code = frame.f_code.co_code[frame.f_lasti]
             if code not in LAST:
                 count += 1
@@ -167,7 +167,7 @@ def interrupted(work, at):
 
 import dis  # noqa: E402
 
-LAST = {dis.opmap[name] for name in ("RETURN_VALUE", "RETURN_CONST", "RESUME", "CACHE") if name in dis.opmap}
+LAST = {dis.opmap[name] for name in ("RETURN_VALUE", "RETURN_CONST", "RESUME", "CACHE", "NOP") if name in dis.opmap}
 
 
 class Interrupts(WithFolder):

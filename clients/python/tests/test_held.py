@@ -1,0 +1,192 @@
+"""What is held or waits is right after an interruption, whoever fills the words at which clients show themselves."""
+
+import asyncio
+import itertools
+import random
+import signal
+import threading
+import time
+
+import paths  # noqa: F401
+from serving import WithFolder
+from test_unspoilt import Stop, interrupted
+
+import femem
+from femem import Client
+from femem.aio import AsyncClient
+from femem.patterns import Channel, Lock, Semaphore, WorkQueue
+
+LONG = 60
+
+
+def until(holds):
+    end = time.monotonic() + LONG
+    while not holds() and time.monotonic() < end:
+        time.sleep(0.002)
+    return holds()
+
+
+class Interrupted(WithFolder):
+    def test_a_with_block_at_each_bytecode(self):
+        self.server()
+        with Client(self.path, 7) as client, Client(self.path, 8) as other:
+            for kind, sizes in ((Lock, ()), (Semaphore, (1,))):
+                with self.subTest(kind.__name__):
+                    mine, theirs = (kind(each, kind.__name__.lower(), *sizes) for each in (client, other))
+
+                    def use():
+                        with mine:
+                            pass
+
+                    for at in itertools.count(1):
+                        was = interrupted(use, at)
+                        self.assertTrue(theirs.acquire(timeout=LONG), at)
+                        theirs.release()
+                        if not was:
+                            break
+                    self.assertGreater(at, 100)
+                    self.assertIsNone(client.failure)
+
+    def waits(self, client, word):
+        return [w for w in client.report().waiters if w.array == word.id]
+
+    def test_a_wait_at_each_bytecode(self):
+        """Nothing is left waiting, which would take the next value."""
+        self.server()
+        with Client(self.path, 7) as client, Client(self.path, 8) as other:
+            channel = Channel(client, "word")
+            word = client.find("word")
+            works = {
+                "a call": lambda: client.readfe(word, 0, timeout=0.002),
+                "a channel": lambda: channel.get(timeout=0.002),
+            }
+            for name, work in works.items():
+                with self.subTest(name):
+                    for at in itertools.count(1):
+                        client.readxx(word, 0)
+                        try:
+                            was = interrupted(work, at)
+                        except femem.TimedOut:
+                            was = False
+                        self.assertTrue(until(lambda: not self.waits(other, word)), at)
+                        if not was:
+                            break
+                    self.assertGreater(at, 50)
+            other.writeef(word, 0, 5)
+            self.assertEqual(channel.get(timeout=LONG), 5)
+            self.assertIsNone(client.failure)
+
+    def test_signals_within_waits(self):
+        """Each value is got, or its `get` was interrupted. Then nothing waits."""
+        self.server()
+
+        def stop(*_):
+            raise Stop
+
+        before = signal.signal(signal.SIGALRM, stop)
+        self.addCleanup(signal.signal, signal.SIGALRM, before)
+        self.addCleanup(signal.setitimer, signal.ITIMER_REAL, 0)
+        chance, got, stops, last = random.Random(4), [], 0, 400
+        with Client(self.path, 7) as client, Client(self.path, 8) as other:
+            mine, theirs = Channel(client, "word"), Channel(other, "word")
+            ends = threading.Event()
+
+            def put():
+                for value in itertools.count():
+                    if ends.is_set():
+                        break
+                    theirs.put(value)
+                    time.sleep(chance.random() * 1e-3)
+
+            thread = threading.Thread(target=put)
+            thread.start()
+            while stops < last:
+                try:
+                    signal.setitimer(signal.ITIMER_REAL, chance.random() * 3e-3 + 1e-6)
+                    while True:
+                        got.append(mine.get())
+                except Stop:
+                    stops += 1
+                signal.setitimer(signal.ITIMER_REAL, 0)
+            ends.set()
+            while thread.is_alive():
+                try:
+                    got.append(mine.get(timeout=0.05))
+                except femem.TimedOut:
+                    pass
+            thread.join()
+            self.assertEqual(got, sorted(set(got)))
+            self.assertGreater(len(got), last // 2)
+            self.assertLessEqual(got[-1] + 1 - len(got), stops)
+            self.assertEqual(self.waits(other, client.find("word")), [])
+
+    def test_a_release_of_a_task_that_is_cancelled(self):
+        self.server()
+
+        async def main():
+            async with AsyncClient(self.path, 7) as client, AsyncClient(self.path, 8) as other:
+                mine, theirs = femem.aio.Lock(client, "lock"), femem.aio.Lock(other, "lock")
+                for steps in range(20):
+                    await mine.acquire()
+                    task = asyncio.ensure_future(mine.release())
+                    for _ in range(steps):
+                        await asyncio.sleep(0)
+                    task.cancel()
+                    await asyncio.wait([task])
+                    if steps:  # it had begun
+                        self.assertTrue(await theirs.acquire(timeout=LONG))
+                        await theirs.release()
+                    else:
+                        await mine.release()
+
+        asyncio.run(main())
+
+
+class Spoilt(WithFolder):
+    """Somebody fills the word at which clients show that they are there."""
+
+    def test_a_living_owner_is_there(self):
+        self.server()
+        with Client(self.path, 7) as client, Client(self.path, 8) as other, Client(self.path, 9) as third:
+            presence = third.create("presence", 1, full=True)
+            mine, theirs = Lock(client, "lock"), Lock(other, "lock")
+            for _ in range(3):
+                self.assertTrue(mine.acquire(timeout=LONG))
+                self.assertFalse(theirs.acquire(timeout=2.0, takeover_after=1.0))
+                third.writexf(presence, 0, 1)
+                self.assertFalse(theirs.acquire(timeout=2.0, takeover_after=1.0))
+                mine.release()
+            self.assertIsNone(theirs.broke)
+
+    def test_a_taker_is_there(self):
+        self.server()
+        with Client(self.path, 7) as client, Client(self.path, 8) as other, Client(self.path, 9) as third:
+            presence = third.create("presence", 1, full=True)
+            mine, theirs = (WorkQueue(each, "jobs", 8, away_after=1.0) for each in (client, other))
+            mine.put(5)
+            job = mine.take(timeout=LONG)
+            for _ in range(2):
+                with self.assertRaises(femem.TimedOut):
+                    theirs.take(timeout=2.0)
+                third.writexf(presence, 0, 1)
+            job.done()
+
+
+class Sizes(WithFolder):
+    def test_a_work_queue_has_the_sizes_of_the_first_client(self):
+        """Before it has a page, and where the pages would be equally long."""
+        self.server()
+        with Client(self.path, 7) as client:
+            WorkQueue(client, "jobs", 7).aside()
+            for capacity, attempts in ((8, 3), (7, 2), (70, 3)):
+                with self.assertRaises(femem.OtherPattern):
+                    WorkQueue(client, "jobs", capacity, attempts=attempts).put(1)
+            WorkQueue(client, "jobs", 7).put(1)
+            with WorkQueue(client, "jobs", 7).take(timeout=LONG) as job:
+                self.assertEqual(job.value, 1)
+
+
+if __name__ == "__main__":
+    import unittest
+
+    unittest.main()
