@@ -177,7 +177,10 @@ class Shell:
         return self._status
 
     def run(self) -> int:
-        """Takes lines until the input ends, until `quit`, or until the client fails; it raises that error."""
+        """Takes lines until the input ends, until `quit`, or until the client fails; it raises that error.
+
+        Returns the status: that of the last line that failed, if no person typed it.
+        """
         self._observer.report()
         if self._is_terminal:
             prepare_readline(self._completions)
@@ -187,13 +190,13 @@ class Shell:
             try:
                 line = input("femem> " if self._is_terminal else "")
             except EOFError:
-                return 0
+                return 0 if self._is_terminal else self._status
             except KeyboardInterrupt:
                 print()
                 continue
             words = line.split()
             if words and words[0] in ("quit", "exit"):
-                return 0
+                return 0 if self._is_terminal else self._status
             if words:
                 self._take(words)
 
@@ -207,10 +210,12 @@ class Shell:
         try:
             self._do(words)
         except Usage as usage:
+            self._status = USAGE
             print(f"? {usage} ('help' lists what there is)", flush=True)
         except KeyboardInterrupt:
             print(flush=True)
         except (FememError, ValueError) as error:
+            self._status = FAILED
             if isinstance(error, NoArray):
                 self._names.clear()  # another client may have removed it
             if self._own is None or self._own.failure is None:
@@ -353,7 +358,8 @@ class Shell:
         if not lock.acquire(timeout=self._given.timeout):
             raise ValueError(f"{rest[0]} is not free in time")
         try:
-            self._status = subprocess.run(rest[2:]).returncode
+            status = subprocess.run(rest[2:]).returncode
+            self._status = status if status >= 0 else 128 - status  # as a shell says that a signal ended it
         except OSError as error:
             raise Usage(str(error)) from None
         finally:

@@ -102,6 +102,37 @@ class Kills(WithFolder):
                 pass  # it has ended
         self.fail("a process does not end")
 
+    def test_a_client_that_is_stopped_within_a_queue_holds_up_nobody(self):
+        """As by a debugger, or while its machine swaps, at any moment of a put or a get. When it goes on, it is well."""
+
+        def work(k):
+            with Client(self.path, 100 + k) as client:
+                queue, log = BoundedQueue(client, "queue", 4), self.log(f"stopped{k}")
+                while not self.is_enough():
+                    log.add("put", queue.put(k, timeout=BOUND))
+                    log.add("get", queue.get(timeout=BOUND))
+
+        with Client(self.path, 7) as client:
+            queue, stopped = BoundedQueue(client, "queue", 4), [self.fork(work, k) for k in range(3)]
+            for turn in range(24):
+                time.sleep(0.02 * self.chance.random() + 0.03 * (turn < 3))
+                pid = stopped[turn % 3]
+                os.kill(pid, signal.SIGSTOP)
+                try:
+                    if turn % 8 == 7:
+                        self.model.kill()
+                        self.model.start()
+                    for _ in range(3):
+                        queue.put(7, timeout=10)
+                        queue.get(timeout=10)
+                finally:
+                    os.kill(pid, signal.SIGCONT)
+            with open(self.path + ".enough", "w"):
+                pass
+            self.assertEqual([os.waitpid(pid, 0)[1] for pid in stopped], [0] * 3)
+            self.assertEqual(self.log("errors").lines(), [])
+            self.assertGreater(sum(len(self.log(f"stopped{k}").lines()) for k in range(3)), 24)
+
     # Queues.
 
     def put_under_keys(self, k, make):

@@ -95,8 +95,17 @@ class Shell(WithFolder):
                 "no-array: find 'slot'",
             ],
         )
-        self.assertEqual((err, status), ("", 0))
+        self.assertEqual((err, status), ("", 1))
         self.assertEqual(server.model.stored.sessions, {})
+
+    def test_the_status_of_a_script(self):
+        self.server()
+        for lines, due in (
+            (["create one 1 full", "readxx one 0"], 0),
+            (["find nothing", "readxx one 0", "quit"], 1),
+            (["find nothing", "jump"], 2),
+        ):
+            self.assertEqual(self.say(lines)[2], due, lines)
 
     def test_a_session_that_is_named_is_kept(self):
         server = self.server()
@@ -181,6 +190,7 @@ class Shell(WithFolder):
         say = [sys.executable, "-c", "print('inside')"]
         self.assertEqual(self.one(self.path, "lock", "mine", "--", *say), "inside\n")
         self.one(self.path, "lock", "mine", "--", sys.executable, "-c", "import sys; sys.exit(7)", status=7)
+        self.one(self.path, "lock", "mine", "--", "sh", "-c", "kill -9 $$", status=128 + signal.SIGKILL)
         self.one(self.path, "queue", "put", "values", "3", "2")
         self.one(self.path, "queue", "put", "values", "4")
         self.assertIn("timed-out", self.one(self.path, "--timeout", "0.1", "queue", "put", "values", "5", status=1))
