@@ -43,14 +43,15 @@ class Batch:
 class First:
     """Requests that may wait. Once one is answered, or after `seconds`, the others are taken back.
 
-    The outcome is a list as of a batch. Several of them may have happened.
+    The outcome is a list as of a batch. Several of them may have happened. The key is that of the first one.
     """
 
-    key = None
-
-    def __init__(self, requests: Sequence[Request[Any]], seconds: Optional[float] = None) -> None:
+    def __init__(
+        self, requests: Sequence[Request[Any]], seconds: Optional[float] = None, key: Optional[bytes] = None
+    ) -> None:
         self.requests = requests
         self.seconds = seconds
+        self.key = key
 
 
 class Pause:

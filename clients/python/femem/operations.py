@@ -200,6 +200,8 @@ class Tries:
         self._code = code
         self._value = value
         self._is_begun = False
+        # The value that was read under the key.
+        self.value = 0
         if key is not None and core.file is None:
             raise ValueError("a key needs a client with a session file")
 
@@ -222,7 +224,8 @@ class Tries:
         frame, answer = known
         if frame[4] not in (5, 11) or (frame[13], int.from_bytes(frame[26:34], "big")) != (self._code, self._value):
             raise ValueError(f"another request was asked under the key {self.key!r}")
-        if answer.code == frames.DONE:
+        if answer.code == (frames.VALUE if self._code == frames.READFE else frames.DONE):
+            self.value = answer.value
             return frame
         file.forget(self.key)
         return None

@@ -5,8 +5,6 @@ from __future__ import annotations
 from typing import Any, Optional
 
 from . import frames, requests
-from .arguments import seconds_of
-from .jobs import Wait
 from .operations import Array, Key, Pattern, Steps, Tries, end_of, marked_array, once, operation_with, size_of
 from .requests import number_of_bits
 from .ring import SLOTS, Ring
@@ -16,7 +14,7 @@ class BoundedQueue(Pattern):
     """At most `capacity` values of 64 bits, each taken once.
 
     First in, first out, except near a client that was killed, stopped, or gave up waiting. Nobody waits for a client that is
-    stopped or killed. A value whose `get` was answered to a killed client went with it.
+    stopped or killed. A value whose `get` was answered to a killed client went with it, unless it had a key.
     """
 
     MARK = b"fe_ring1"
@@ -55,14 +53,27 @@ class BoundedQueue(Pattern):
             tries.end()
 
     @operation_with(light=True)
-    def get(self, timeout: Optional[float] = None) -> Steps[int]:
-        """Waits for a value, and takes it. `TimedOut` if there is none in time."""
-        return (yield from self._ring.get(self._array or (yield from self._find()), end_of(timeout), False))
+    def get(self, timeout: Optional[float] = None, *, key: Optional[Key] = None) -> Steps[int]:
+        """Waits for a value, and takes it. `TimedOut` if there is none in time.
+
+        With a key, which needs a session file, a value is taken once, and is the same however often this is called again.
+        """
+        return (yield from self._get(end_of(timeout), False, key))
 
     @operation_with(light=True)
-    def get_nowait(self) -> Steps[int]:
+    def get_nowait(self, *, key: Optional[Key] = None) -> Steps[int]:
         """Takes a value. `NotNow` if there is none."""
-        return (yield from self._ring.get(self._array or (yield from self._find()), None, True))
+        return (yield from self._get(None, True, key))
+
+    def _get(self, end: Optional[float], nowait: bool, key: Optional[Key]) -> Steps[int]:
+        words = self._array or (yield from self._find())
+        tries = Tries(self._core, key, frames.READFE, 0)
+        try:
+            if (yield from tries.begin()) is not None:
+                return tries.value
+            return (yield from self._ring.get(words, end, nowait, tries))
+        finally:
+            tries.end()
 
     @operation_with(light=True)
     def qsize(self) -> Steps[int]:
@@ -83,8 +94,7 @@ class Channel(Pattern):
         yield from once(self._core, key, requests.writeef(word, 0, value), timeout)
 
     @operation_with(light=True)
-    def get(self, timeout: Optional[float] = None) -> Steps[int]:
-        """Waits for a value, and takes it. `TimedOut` if there is none in time."""
+    def get(self, timeout: Optional[float] = None, *, key: Optional[Key] = None) -> Steps[int]:
+        """Waits for a value, and takes it. `TimedOut` if there is none in time. With a key, as of a queue."""
         word = self._array or (yield from self._find())
-        value: int = yield Wait(requests.readfe(word, 0), seconds_of(timeout))
-        return value
+        return (yield from once(self._core, key, requests.readfe(word, 0), timeout))

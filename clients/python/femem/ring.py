@@ -169,7 +169,7 @@ class Ring:
 
     # Taking.
 
-    def get(self, words: Array, end: Optional[float], nowait: bool) -> Steps[int]:
+    def get(self, words: Array, end: Optional[float], nowait: bool, tries: Tries) -> Steps[int]:
         is_kept = bool(self._gets)
         ticket = self._gets.popleft() if is_kept else (yield from self._new_ticket(words, HEAD))
         clock = Clock(end)
@@ -178,7 +178,7 @@ class Ring:
             asked = [requests.readfe(words, slot, nowait=True), requests.readff(words, TAIL, nowait=True)]
             if nowait:
                 asked.append(requests.readff(words, SIGNAL, nowait=True))
-            value, tail, *signal = yield from batch(asked, NotNow)
+            value, tail, *signal = yield from batch(asked, NotNow, key=tries.next())
             if is_full(value):
                 return int(value)
             is_late = tail > ticket  # the putter of its value has the ticket
@@ -186,12 +186,12 @@ class Ring:
                 ticket, is_kept = (yield from self._new_ticket(words, HEAD)), False
                 continue
             if not nowait:
-                value, *signal = yield from self._wait_for(words, slot, is_late, clock.pause(is_late))
+                value, *signal = yield from self._wait_for(words, slot, is_late, clock.pause(is_late), tries)
                 if is_full(value):
                     return int(value)
             is_over = nowait or clock.is_over()
             is_told = any(map(is_full, signal)) or nowait and (is_late or time.monotonic() - self._looked_at > TRUST)
-            found = (yield from self._get_anywhere(words, ticket)) if is_told or clock.is_over() or clock.is_due() else None
+            found = (yield from self._get_anywhere(words, ticket, tries)) if is_told or clock.is_over() or clock.is_due() else None
             if found is not None:
                 if not is_late:
                     self._gets.append(ticket)
@@ -202,26 +202,26 @@ class Ring:
             if is_late:
                 ticket = yield from self._new_ticket(words, HEAD)
 
-    def _wait_for(self, words: Array, slot: int, is_late: bool, seconds: float) -> Steps[List[Any]]:
+    def _wait_for(self, words: Array, slot: int, is_late: bool, seconds: float, tries: Tries) -> Steps[List[Any]]:
         """Waits for the slot's value: for a putter that is late that alone, otherwise for the signal too."""
         asked = [requests.readfe(words, slot)]
         if not is_late:
             asked.append(requests.readff(words, SIGNAL))
-        value, *signal = yield First(asked, seconds)
+        value, *signal = yield First(asked, seconds, tries.next())
         if not is_full(value) and (
             not isinstance(value, Withdrawn) or not isinstance(value, TimedOut) and not any(map(is_full, signal))
         ):
             raise value  # the array is gone, or the caller is interrupted
         return [value, *signal]
 
-    def _get_anywhere(self, words: Array, ticket: int) -> Steps[Optional[int]]:
+    def _get_anywhere(self, words: Array, ticket: int, tries: Tries) -> Steps[Optional[int]]:
         """Takes a value from any slot, that of the lowest ticket first."""
         full = [slot for slot, there in (yield from self._look(words, ticket, purges=True)) if is_full(there)]
         while full:
             asked: List[Request[object]] = [requests.readfe(words, full.pop(0), nowait=True)]
             if full:
                 asked.append(requests.writexf(words, SIGNAL, 0))  # for whoever else waits
-            value, *_ = yield from batch(asked, NotNow)
+            value, *_ = yield from batch(asked, NotNow, key=tries.next())
             if is_full(value):
                 return int(value)
         return None

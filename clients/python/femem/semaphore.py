@@ -74,7 +74,7 @@ class Semaphore(Pattern):
     def _acquire(self, end: Optional[float], nowait: bool, key: Optional[Key]) -> Steps[bool]:
         self._adopted = False
         array = yield from self._find()
-        tries = Tries(self._core, key, frames.WRITEEF, self._session)
+        tries, unkeyed = Tries(self._core, key, frames.WRITEEF, self._session), Tries(self._core, None, frames.READFE, 0)
         try:
             done = yield from tries.begin()
             if done is not None:
@@ -84,7 +84,7 @@ class Semaphore(Pattern):
                 rest = left(end)
                 most = time.monotonic() + (pause if rest is None else min(pause, rest))
                 try:
-                    hint = yield from self._ring.get(array, most, nowait)
+                    hint = yield from self._ring.get(array, most, nowait, unkeyed)
                 except (TimedOut, NotNow):
                     if nowait and time.monotonic() - self._looked_at <= TRUST:
                         return False

@@ -155,6 +155,51 @@ class Kills(WithFolder):
                 client.forget(number)
                 number += 1
 
+    def get_under_keys(self, k, make):
+        """A consumer with a session file. A value is got once, in however many lives."""
+        log = self.log(f"got{k}")
+        with Client(self.path, session_file=f"{self.path}.{k}", wait_for_server=True) as client:
+            queue, chance = make(client), random.Random()
+            number = len(log.lines())
+            while True:
+                for key in client.keys():
+                    if key != b"%d" % number:
+                        client.forget(key)
+                try:
+                    value = queue.get(timeout=chance.choice((0.0, 0.003, 0.2)), key=number)
+                except femem.TimedOut:
+                    if self.is_enough() and not client.keys():
+                        return
+                    continue
+                log.add("g", value)
+                client.forget(number)
+                number += 1
+
+    def check_both_under_keys(self, make):
+        """Nothing goes with a killed client on either side."""
+
+        def work(k):
+            (self.put_under_keys if k < 2 else self.get_under_keys)(k, make)
+
+        self.history(work, 4)
+        got = [value for k in (2, 3) for value in self.log(f"got{k}").numbers("g")]
+        with Client(self.path, 7) as client:
+            queue = make(client)
+            try:
+                while True:
+                    got.append(queue.get(timeout=2.0))
+            except femem.TimedOut:
+                pass
+        put = [value for k in (0, 1) for value in self.log(f"put{k}").numbers("p")]
+        self.assertEqual(sorted(got), sorted(put))
+        self.assertGreater(len(put), 20)
+
+    def test_what_goes_through_a_queue_under_keys_comes_once(self):
+        self.check_both_under_keys(lambda client: BoundedQueue(client, "queue", 4))
+
+    def test_what_goes_through_a_channel_under_keys_comes_once(self):
+        self.check_both_under_keys(lambda client: Channel(client, "channel"))
+
     def check_puts_under_keys(self, make):
         got, stop = [], threading.Event()
 
