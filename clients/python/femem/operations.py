@@ -88,16 +88,22 @@ class operation(Generic[P, T]):
 
     `undo` names what undoes its result if no caller waits for it any more. An operation that `gives_back` is done even
     by a task that is to be cancelled. One that is `light` is begun by the caller itself where it can be: interrupted, it
-    may have happened, as a call of the client.
+    may have happened, as a call of the client. `call` names what makes a call of it, with its time, where it is just that.
     """
 
     def __init__(
-        self, steps: Callable[Concatenate[Any, P], Steps[T]], undo: str = "", gives_back: bool = False, light: bool = False
+        self,
+        steps: Callable[Concatenate[Any, P], Steps[T]],
+        undo: str = "",
+        gives_back: bool = False,
+        light: bool = False,
+        call: str = "",
     ) -> None:
         self.steps = steps
         self.undo = undo
         self.gives_back = gives_back
         self.is_light = light
+        self.call = call
         self.__doc__ = steps.__doc__
         self.__wrapped__ = steps
 
@@ -115,9 +121,9 @@ class operation(Generic[P, T]):
 
 
 def operation_with(
-    undo: str = "", gives_back: bool = False, light: bool = False
+    undo: str = "", gives_back: bool = False, light: bool = False, call: str = ""
 ) -> Callable[[Callable[Concatenate[Any, P], Steps[T]]], operation[P, T]]:
-    return lambda steps: operation(steps, undo, gives_back, light)
+    return lambda steps: operation(steps, undo, gives_back, light, call)
 
 
 # Steps that many patterns have.

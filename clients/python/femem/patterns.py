@@ -34,6 +34,9 @@ class Blocking(operations.Blocking):
         return client
 
     def _perform(self, done: Any, *args: Any, **more: Any) -> Any:
+        one = getattr(self, done.call)(*args, **more) if done.call else None
+        if one is not None:
+            return self._client._call(*one)
         job = Job(done.steps(self, *args, **more), getattr(self, done.undo) if done.undo else None, done.gives_back)
         try:
             return self._client._run_job(job, done.is_light)

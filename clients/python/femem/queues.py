@@ -2,12 +2,14 @@
 
 from __future__ import annotations
 
-from typing import Any, Optional
+from typing import Any, Optional, Tuple
 
 from . import frames, requests
 from .operations import Array, Key, Pattern, Steps, Tries, end_of, marked_array, once, operation_with, size_of
-from .requests import number_of_bits
+from .requests import Request, number_of_bits
 from .ring import SLOTS, Ring
+
+Call = Tuple[Request[Any], Optional[float]]
 
 
 class BoundedQueue(Pattern):
@@ -84,7 +86,7 @@ class BoundedQueue(Pattern):
 class Channel(Pattern):
     """One word that hands values on: a value lies there at most, and each is taken once."""
 
-    @operation_with(light=True)
+    @operation_with(light=True, call="_put_call")
     def put(self, value: int, timeout: Optional[float] = None, *, key: Optional[Key] = None) -> Steps[None]:
         """Waits until the last value is taken, and puts this one. `TimedOut` if it is not taken in time.
 
@@ -93,8 +95,14 @@ class Channel(Pattern):
         word = self._array or (yield from self._find())
         yield from once(self._core, key, requests.writeef(word, 0, value), timeout)
 
-    @operation_with(light=True)
+    def _put_call(self, value: int, timeout: Optional[float] = None, key: Optional[Key] = None) -> Optional[Call]:
+        return None if self._array is None or key is not None else (requests.writeef(self._array, 0, value), timeout)
+
+    @operation_with(light=True, call="_get_call")
     def get(self, timeout: Optional[float] = None, *, key: Optional[Key] = None) -> Steps[int]:
         """Waits for a value, and takes it. `TimedOut` if there is none in time. With a key, as of a queue."""
         word = self._array or (yield from self._find())
         return (yield from once(self._core, key, requests.readfe(word, 0), timeout))
+
+    def _get_call(self, timeout: Optional[float] = None, key: Optional[Key] = None) -> Optional[Call]:
+        return None if self._array is None or key is not None else (requests.readfe(self._array, 0), timeout)
