@@ -311,7 +311,7 @@ def try_shell(path):
     )
     out = shell.stdout.splitlines()
     # The patterns' clients keep a request waiting that shows in reports.
-    expect("shell", (shell.returncode, out[1:3], out[-1]), (0, ["done", "value 42"], "done"))
+    expect("shell", (shell.returncode, out[1:3], out[-1]), (1, ["done", "value 42"], "done"))
     expect("shell", (out[0][:6], out[3][:8], out[4]), ("array ", "not-now:", f"waiting {PROCESSES}"))
 
 
