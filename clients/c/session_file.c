@@ -232,7 +232,8 @@ static femem_error open_locked(session_file *file, const char *path) {
     if (!S_ISREG(own.st_mode)) return errno = EINVAL, FEMEM_FILE_FAULT;
     if (flock(file->descriptor, LOCK_EX | LOCK_NB) != 0)
       return errno == EWOULDBLOCK ? FEMEM_FILE_IN_USE : FEMEM_FILE_FAULT;
-    if (stat(path, &there) == 0 && own.st_dev == there.st_dev && own.st_ino == there.st_ino) return FEMEM_OK;
+    if (stat(path, &there) == 0 && own.st_dev == there.st_dev && own.st_ino == there.st_ino)
+      return own.st_nlink == 1 ? FEMEM_OK : (errno = EMLINK, FEMEM_FILE_FAULT); /* its other name would become a copy */
     close(file->descriptor);
     file->descriptor = -1;
   }

@@ -140,6 +140,12 @@ static void no_plain_file(void) {
   CHECK(mkdir(kept_at, 0700) == 0);
   CHECK(OPEN_FILE(FEMEM_FILE_FAULT) == NULL && errno == EISDIR);
   CHECK(rmdir(kept_at) == 0);
+  session_file_close(OPEN_FILE(FEMEM_OK));
+  CHECK(link(kept_at, victim) == 0);
+  CHECK(OPEN_FILE(FEMEM_FILE_FAULT) == NULL && errno == EMLINK);
+  CHECK(unlink(victim) == 0);
+  session_file_close(OPEN_FILE(FEMEM_OK));
+  fresh();
 }
 
 /* What stands at FILE.new is replaced; a link there is not followed. */

@@ -111,7 +111,10 @@ class SessionFile:
             except BlockingIOError:
                 raise SessionInUse(f"{self.path} is another client's") from None
             try:
-                if os.path.samestat(os.stat(self.path), os.fstat(self._file)):
+                own = os.fstat(self._file)
+                if os.path.samestat(os.stat(self.path), own):
+                    if own.st_nlink > 1:
+                        raise SessionFileError(f"{self.path} has another name too, which would become a copy")
                     return
             except FileNotFoundError:
                 pass

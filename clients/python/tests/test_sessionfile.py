@@ -438,6 +438,15 @@ class Files(WithFolder):
             self.assertEqual(told, ["SessionFileError"])
         self.assertTrue(stat.S_ISFIFO(os.stat(self.file).st_mode))
 
+    def test_a_file_with_two_names_is_refused(self):
+        """The next compaction would make two files of it."""
+        SessionFile(self.file).close()
+        os.link(self.file, self.path + ".other")
+        for path in (self.file, self.path + ".other"):
+            self.assertEqual(self.error_of(path), "SessionFileError")
+        os.unlink(self.file)
+        SessionFile(self.path + ".other").abandon()
+
     @staticmethod
     def error_of(path):
         try:
