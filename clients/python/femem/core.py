@@ -355,11 +355,9 @@ class Core(JobRunner, Attachment):
 
     def _admit(self, tickets: Sequence[Ticket[Any]], now: float) -> Sequence[Ticket[Any]]:
         """The tickets that may be asked. The others end here, or have ended before."""
-        admitted: List[Ticket[Any]] = []
-        for ticket in tickets:
-            if not ticket.done and not ticket.taken:
-                ticket.taken = True
-                admitted.append(ticket)
+        admitted = [ticket for ticket in tickets if not ticket.taken and not ticket.done]
+        for ticket in admitted:
+            ticket.taken = True
         if self.failure is not None or self._leaving is not None:
             for ticket in admitted:
                 try:

@@ -165,7 +165,8 @@ class JobRunner:
         for ticket in tickets:
             ticket.finished = finished
         if not left:
-            last: Ticket[Any] = Ticket(None, partial(self._answer, job, step, tickets))
+            last: Ticket[Any] = Ticket(None)
+            last.finished = partial(self._answer, job, step, tickets)
             self._end(last)
 
     def _answer(self, job: Job[Any], step: Step, tickets: List[Ticket[Any]]) -> None:

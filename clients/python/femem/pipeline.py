@@ -7,7 +7,8 @@ from typing import TYPE_CHECKING, Any, List, Optional, Type, Union
 
 from . import requests
 from .arguments import DEFAULT, Timeout, request_of
-from .requests import ArrayLike, Request
+from .frames import INT_FETCH_ADD, PURGE, READFE, READFF, READXX, WRITEEF, WRITEFF, WRITEXF
+from .requests import ArrayLike, Request, access
 
 if TYPE_CHECKING:
     from .client import Client
@@ -46,35 +47,35 @@ class Pipeline:
         return self
 
     def readfe(self, array: ArrayLike, index: int, nowait: bool = False) -> Pipeline:
-        self._requests.append(requests.readfe(array, index, nowait))
+        self._requests.append(access(READFE, array, index, 0, nowait))
         return self
 
     def readff(self, array: ArrayLike, index: int, nowait: bool = False) -> Pipeline:
-        self._requests.append(requests.readff(array, index, nowait))
+        self._requests.append(access(READFF, array, index, 0, nowait))
         return self
 
     def readxx(self, array: ArrayLike, index: int) -> Pipeline:
-        self._requests.append(requests.readxx(array, index))
+        self._requests.append(access(READXX, array, index))
         return self
 
     def writeef(self, array: ArrayLike, index: int, value: int, nowait: bool = False) -> Pipeline:
-        self._requests.append(requests.writeef(array, index, value, nowait))
+        self._requests.append(access(WRITEEF, array, index, value, nowait))
         return self
 
     def writeff(self, array: ArrayLike, index: int, value: int, nowait: bool = False) -> Pipeline:
-        self._requests.append(requests.writeff(array, index, value, nowait))
+        self._requests.append(access(WRITEFF, array, index, value, nowait))
         return self
 
     def writexf(self, array: ArrayLike, index: int, value: int) -> Pipeline:
-        self._requests.append(requests.writexf(array, index, value))
+        self._requests.append(access(WRITEXF, array, index, value))
         return self
 
     def purge(self, array: ArrayLike, index: int) -> Pipeline:
-        self._requests.append(requests.purge(array, index))
+        self._requests.append(access(PURGE, array, index))
         return self
 
     def int_fetch_add(self, array: ArrayLike, index: int, value: int, nowait: bool = False) -> Pipeline:
-        self._requests.append(requests.int_fetch_add(array, index, value, nowait))
+        self._requests.append(access(INT_FETCH_ADD, array, index, value, nowait))
         return self
 
     def run(self, *, timeout: Timeout = DEFAULT) -> List[Any]:

@@ -119,9 +119,10 @@ def _id(array: ArrayLike) -> int:
     return number_of_bits(array.id if isinstance(array, Array) else array, 64, "array")
 
 
-def _access(
+def access(
     code: int, array: ArrayLike, index: int, operand: int = 0, nowait: bool = False
 ) -> Request[Any]:
+    """The request of an operation, by its code (`frames`)."""
     _, read, may_wait = OPERATIONS[code]
     if nowait is not False:
         nowait = _flag(nowait, "nowait")
@@ -149,35 +150,35 @@ OPERATIONS: Dict[int, Tuple[str, Callable[[frames.Answer], Any], bool]] = {
 
 
 def readfe(array: ArrayLike, index: int, nowait: bool = False) -> Request[int]:
-    return _access(frames.READFE, array, index, 0, nowait)
+    return access(frames.READFE, array, index, 0, nowait)
 
 
 def readff(array: ArrayLike, index: int, nowait: bool = False) -> Request[int]:
-    return _access(frames.READFF, array, index, 0, nowait)
+    return access(frames.READFF, array, index, 0, nowait)
 
 
 def readxx(array: ArrayLike, index: int) -> Request[int]:
-    return _access(frames.READXX, array, index)
+    return access(frames.READXX, array, index)
 
 
 def writeef(array: ArrayLike, index: int, value: int, nowait: bool = False) -> Request[None]:
-    return _access(frames.WRITEEF, array, index, value, nowait)
+    return access(frames.WRITEEF, array, index, value, nowait)
 
 
 def writeff(array: ArrayLike, index: int, value: int, nowait: bool = False) -> Request[None]:
-    return _access(frames.WRITEFF, array, index, value, nowait)
+    return access(frames.WRITEFF, array, index, value, nowait)
 
 
 def writexf(array: ArrayLike, index: int, value: int) -> Request[None]:
-    return _access(frames.WRITEXF, array, index, value)
+    return access(frames.WRITEXF, array, index, value)
 
 
 def purge(array: ArrayLike, index: int) -> Request[None]:
-    return _access(frames.PURGE, array, index)
+    return access(frames.PURGE, array, index)
 
 
 def int_fetch_add(array: ArrayLike, index: int, value: int, nowait: bool = False) -> Request[int]:
-    return _access(frames.INT_FETCH_ADD, array, index, value, nowait)
+    return access(frames.INT_FETCH_ADD, array, index, value, nowait)
 
 
 def of_frame(frame: bytes) -> Request[Any]:

@@ -48,10 +48,11 @@ class Ticket(Generic[T]):
     # Whether it is first asked without waiting. If it would wait, another session asks it again.
     asks_first = False
 
-    def __init__(self, request: Optional[Request[T]], finished: Callable[[], None] = nobody) -> None:
+    # Called once it is done.
+    finished: Callable[[], None] = staticmethod(nobody)
+
+    def __init__(self, request: Optional[Request[T]]) -> None:
         self.request = request
-        # Called once it is done.
-        self.finished = finished
 
     def must_end(self) -> bool:
         """Whether the server must end it, whatever other clients do."""
