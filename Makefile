@@ -39,10 +39,10 @@ install: $(PROVED) ## install it: puts the proved program and its man pages belo
 	@for page in out/man/*; do install -D -m 644 $$page $(DESTDIR)$(PREFIX)/share/man/man$${page##*.}/$${page##*/}; done
 	@echo "$(DESTDIR)$(PREFIX)/bin/femem"
 
-deb: ## packages it: out/dist/femem_VERSION_amd64.deb, with the proved program; refuses what is not proved
+deb: ## packages it: six Debian packages in out/dist, with the proved program and the clients; refuses what is not proved
 	@scripts/make_deb $(PROVED) $(DIST) $(RECORD)
 
-dist: ## releases it: package, wheel, C library, checksums and the proof's record in out/dist; refuses what is not proved
+dist: ## releases it: packages, wheel, C library, checksums and the proof's record in out/dist; refuses what is not proved
 	@scripts/dist $(PROVED) $(RECORD) $(DIST)
 
 man: ## makes the man pages in out/man from the documents in docs/
@@ -75,13 +75,13 @@ faults: $(PROGRAM) ## runs every schedule with each allocation refused in turn, 
 check-programs: $(PROGRAM) ## real processes: crowds, kills under load, damaged stores, faults, clients, installations (4 minutes)
 	@scripts/check_programs $(PROGRAM)
 
-check-deb: $(PROGRAM) ## the package, in a clean Debian with its own systemd: installed, killed, removed, purged; needs root (2 minutes)
+check-deb: $(PROGRAM) ## the packages, in a clean Debian with its own systemd: installed, killed, upgraded, purged; needs root (3 minutes)
 	@scripts/check_programs $(PROGRAM) deb
 
 check-hosts: $(PROGRAM) ## a store on two hosts that fail in turn (docs/replication.md); needs root and some packages (2 minutes)
 	@scripts/check_programs $(PROGRAM) hosts
 
-lint-deb: deb ## checks the package with Debian's lintian
+lint-deb: deb ## checks the packages with Debian's lintian
 	@lintian --fail-on error,warning $(DIST)/*.deb
 
 client: ## builds the C client and femem-cli, and runs the tests of both clients; needs no toolchain (1 minute)

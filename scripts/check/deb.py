@@ -1,248 +1,20 @@
-"""The Debian package: built, installed in a clean Debian, run by its unit, removed and purged.
-
-The clean Debian is this machine's own, under an overlay that takes all writes, with its own systemd, in namespaces: the machine
-itself does not change. FEMEM_CLEAN_ROOT can name the root of another Debian to use instead, such as one made by mmdebstrap.
-"""
+"""The Debian packages: built, installed in a clean Debian, run by the unit, upgraded, removed and purged."""
 
 import os
 import random
 import re
-import shutil
-import subprocess
-import tarfile
 import time
 
-from . import store, wire
-from .harness import Skipped, Wrong, holds, same, until, within
+from . import deb_clients, packages, store, wire
+from .clean import DPKG, SOCKET, STORE, Clean, Unit, installed
+from .harness import holds, same, until, within
 from .history import History
 from .kills import Adder, Load, Storm, counted, finish, make_arrays
-from .manuals import pages
 from .model import LIMITS
+from .packages import built
 
-TOP = os.path.normpath(os.path.join(os.path.dirname(os.path.realpath(__file__)), "..", ".."))
-EPOCH = pages.epoch()
 KILLS = 6
 MOST_EXPOSED = 2.5
-STORE = "/var/lib/femem/femem.store"
-SOCKET = "/run/femem/femem.socket"
-# (the index of man pages is not part of the package, and building it takes most of the time)
-DPKG = ("dpkg", "--no-triggers", "--force-unsafe-io")
-
-# OUTER makes the overlay and a control group, INNER the namespaces of what it starts.
-OUTER = r"""
-set -eu
-mount -t tmpfs -o size=2g,mode=755 femem-check "$ROOM"
-mkdir "$ROOM/upper" "$ROOM/work" "$ROOM/root" "$ROOM/group"
-mount -t overlay overlay -o "lowerdir=$CLEAN,upperdir=$ROOM/upper,workdir=$ROOM/work" "$ROOM/root"
-mount -t cgroup2 cgroup2 "$ROOM/group"
-mkdir "$ROOM/group/$GROUP"
-echo $$ > "$ROOM/group/$GROUP/cgroup.procs"
-exec unshare --pid --cgroup --fork --kill-child bash -c "$INNER"
-"""
-INNER = r"""
-set -eu
-root=$ROOM/root
-mount -t proc proc "$root/proc"
-mount --bind "$root/proc/sys" "$root/proc/sys"
-mount -o remount,bind,ro "$root/proc/sys"
-mount -t sysfs -o ro sysfs "$root/sys"
-mount -t cgroup2 cgroup2 "$root/sys/fs/cgroup"
-mount --rbind /dev "$root/dev"
-mount -t tmpfs -o mode=755 tmpfs "$root/run"
-mount -t tmpfs -o mode=1777 tmpfs "$root/tmp"
-cp "$PACKAGE" "$root/srv/femem.deb"
-rm -f "$root"/etc/systemd/system/*.wants/* "$root/usr/sbin/policy-rc.d"
-if [ ! -x "$root/lib/systemd/systemd" ]; then
-  cp /etc/resolv.conf "$root/etc/resolv.conf" || true
-  { chroot "$root" apt-get -q update && chroot "$root" apt-get -q install -y --no-install-recommends systemd; } \
-    || { echo "Debian's package systemd is missing, and can't be installed" >&2; exit 9; }
-fi
-chroot "$root" dpkg --no-triggers -P femem > /dev/null 2>&1 || true
-# (in a root that is only changed no namespace of users can be made, and the unit has one)
-mkdir -p "$root/srv/old"
-cd "$root"
-pivot_root . srv/old
-exec env -i container=other PATH=/usr/sbin:/usr/bin:/sbin:/bin sh -c 'cd / && umount -l /srv/old && exec /lib/systemd/systemd --system --unit=basic.target'
-"""
-
-
-class Clean:
-    """A clean Debian with systemd, in namespaces. Everything in it ends with its first process."""
-
-    def __init__(self, place, package):
-        for word in ("dpkg", "unshare", "nsenter", "mount"):
-            if not shutil.which(word):
-                raise Skipped(f"there is no {word}: the package needs Debian")
-        if os.geteuid() != 0:
-            raise Skipped("its user is not root, who alone may mount a clean Debian")
-        self.place = place
-        self.group = f"femem-check-{os.getpid()}-{random.randrange(10**9)}"
-        self.room = place.path("room")
-        os.mkdir(self.room)
-        env = {
-            "ROOM": self.room, "GROUP": self.group, "INNER": INNER, "PACKAGE": package,
-            "CLEAN": os.environ.get("FEMEM_CLEAN_ROOT", "/"),
-        }
-        self.process = place.start(["unshare", "--mount", "--ipc", "--uts", "bash", "-c", OUTER], "clean", env, group=True)
-
-    def __enter__(self):
-        try:
-            self.first = until(self.child, 120, "the clean Debian begins")
-            until(lambda: self.state() in ("running", "degraded"), 120, "the clean Debian is up")
-        except BaseException:
-            self.ends()
-            raise
-        return self
-
-    def __exit__(self, *_):
-        self.ends()
-
-    def ends(self):
-        """Ends all of it, and removes its control group."""
-        self.process.kill()
-        self.process.wait()
-        script = 'mount -t cgroup2 cgroup2 "$0" && until [ ! -d "$0/$1" ] || find "$0/$1" -depth -type d -exec rmdir {} +; do sleep 0.1; done'
-        subprocess.run(["unshare", "--mount", "sh", "-c", script, self.room, self.group], stderr=subprocess.DEVNULL, timeout=30)
-
-    def child(self):
-        """The first process of the namespaces, once it has become systemd."""
-        if self.process.poll() is not None:
-            raise Wrong(f"there is no clean Debian: {self.said('clean.err')}")
-        with open(f"/proc/{self.process.pid}/task/{self.process.pid}/children", encoding="ascii") as file:
-            found = file.read().split()
-        for it in found:
-            try:
-                with open(f"/proc/{it}/comm", encoding="ascii") as file:
-                    if file.read().strip() == "systemd":
-                        return int(it)
-            except (FileNotFoundError, ProcessLookupError):
-                pass
-        return None
-
-    def said(self, name):
-        return self.place.read(name).decode(errors="replace").strip()[-1500:]
-
-    def path(self, path):
-        """A path in the clean Debian, as seen from this process."""
-        return f"/proc/{self.first}/root{path}"
-
-    def ask(self, *words, env=None):
-        """Runs a command there to its end: its status, output and errors."""
-        how = ["nsenter", f"--target={self.first}", "--mount", "--uts", "--ipc", "--pid", "--cgroup", "--root", "--wd"]
-        given = {"PATH": "/usr/sbin:/usr/bin:/sbin:/bin", "LC_ALL": "C.UTF-8", "DEBIAN_FRONTEND": "noninteractive", **(env or {})}
-        ran = subprocess.run(
-            [*how, "--", "env", "-i", *(f"{name}={value}" for name, value in given.items()), *words],
-            stdin=subprocess.DEVNULL, stdout=subprocess.PIPE, stderr=subprocess.PIPE, timeout=100,
-        )
-        return ran.returncode, ran.stdout.decode(errors="replace"), ran.stderr.decode(errors="replace")
-
-    def do(self, *words, env=None):
-        """Runs a command there that must succeed: its output."""
-        status, output, errors = self.ask(*words, env=env)
-        same(status, 0, f"{' '.join(words)}: {(output + errors)[-1500:]}")
-        return output
-
-    def state(self):
-        if self.process.poll() is not None:
-            raise Wrong(f"the clean Debian has ended: {self.said('clean.err')}")
-        return self.ask("systemctl", "is-system-running")[1].strip()
-
-
-class Unit:
-    """The server run by the unit, for the clients of the other checks."""
-
-    def __init__(self, clean):
-        self.clean = clean
-        self.socket = clean.path(SOCKET)
-        self.store = clean.path(STORE)
-
-    def connect(self, **how):
-        return wire.Connection(self.socket, **how)
-
-    def attached(self, session, **how):
-        conn = self.connect(**how)
-        same(conn.ask(wire.attach(session))[:2], ("welcome", session))
-        return conn
-
-    def shows(self, *names):
-        """What systemd says of the unit."""
-        said = self.clean.do("systemctl", "show", "femem", *(f"--property={it}" for it in names))
-        found = dict(line.split("=", 1) for line in said.splitlines())
-        return tuple(found[it] for it in names)
-
-    def pid(self):
-        return int(self.shows("MainPID")[0])
-
-    def is_up(self):
-        return self.shows("ActiveState", "SubState") == ("active", "running") and os.path.exists(self.socket)
-
-    def waits(self):
-        try:
-            until(self.is_up, 60, "the unit serves")
-        except Wrong as why:
-            raise Wrong(f"{why}: {self.clean.ask('systemctl', 'status', 'femem')[1]}") from None
-
-    def kill(self):
-        """Kills the server, and waits until systemd has started it again."""
-        before = self.pid()
-        self.clean.do("systemctl", "kill", "--signal=KILL", "--kill-whom=main", "femem")
-        until(lambda: self.pid() not in (0, before) and self.is_up(), 60, "the killed server is started again")
-
-    def status(self):
-        """What the kernel says of the server's process."""
-        with open(self.clean.path(f"/proc/{self.pid()}/status"), encoding="ascii") as file:
-            return dict(re.findall(r"^(\w+):\s*(.*)$", file.read(), re.M))
-
-    def settings(self, text):
-        with open(self.clean.path("/etc/femem.toml"), "w", encoding="ascii") as file:
-            file.write(text)
-
-
-def built(place, folder="deb"):
-    """Builds the package of the program under test."""
-    # (a commit made meanwhile would change the time)
-    env = {"SOURCE_DATE_EPOCH": os.environ.get("SOURCE_DATE_EPOCH") or str(EPOCH)}
-    process = place.start([os.path.join(TOP, "scripts", "make_deb"), "--unproved", place.program, place.path(folder)], "make_deb", env)
-    process.wait()
-    same(process.returncode, 0, place.read("make_deb.err").decode())
-    return place.read("make_deb.out").decode().strip()
-
-
-@within(120)
-def package(place):
-    """two builds of the package are equal; it has the program byte for byte, belongs to root, and its settings format no store"""
-    holds(shutil.which("dpkg-deb"), "there is no dpkg-deb on this machine: Debian's package dpkg is missing")
-    made = built(place)
-    with open(made, "rb") as first, open(built(place, "again"), "rb") as second:
-        holds(first.read() == second.read(), "two packages of one program differ")
-    field = lambda name: subprocess.check_output(["dpkg-deb", "--field", made, name], text=True).strip()
-    same((field("Package"), field("Architecture")), ("femem", "amd64"))
-    same(os.path.basename(made), f"femem_{field('Version')}_amd64.deb")
-    tar = subprocess.Popen(["dpkg-deb", "--fsys-tarfile", made], stdout=subprocess.PIPE)
-    found = {}
-    with tarfile.open(fileobj=tar.stdout, mode="r|") as archive:
-        for it in archive:
-            same((it.uid, it.gid, it.mode & 0o022), (0, 0, 0), it.name)
-            found[it.name[1:].rstrip("/")] = archive.extractfile(it).read() if it.isfile() else None
-    same(tar.wait(), 0)
-    with open(place.program, "rb") as program:
-        holds(found["/usr/bin/femem"] == program.read(), "the package has another program")
-    for name in ("man1/femem.1", "man5/femem.toml.5", "man5/femem-format.5"):
-        holds(f"/usr/share/man/{name}.gz" in found, f"there is no {name}")
-    for name in ("operating.md", "settings.md", "formats.md", "patterns.md", "replication.md", "proved.md", "changelog"):
-        holds(found.get(f"/usr/share/doc/femem/{name}.gz"), f"there is no {name}")
-    for name in ("femem-backup", "femem-restore", "femem-rescue", "femem-probe", "storefile.py"):
-        holds(f"/usr/lib/femem/{name}" in found, f"there is no {name}")
-    # (what the maintainer's scripts call)
-    depends = {it.split()[0] for it in re.split(r", | \| ", field("Depends"))}
-    holds({"adduser", "debconf", "libc6"} <= depends, f"it depends on {sorted(depends)}")
-    holds("/var/lib/femem" in found, "there is no folder for the store")
-    settings = found["/etc/femem.toml"].decode()
-    same(re.findall(r"^(?:socket|store) = .*$", settings, re.M), [f'socket = "{SOCKET}"', f'store = "{STORE}"'])
-    holds(not re.search(r"^\s*(format|accepts)\b", settings, re.M), "the settings would format a store")
-    control = subprocess.check_output(["dpkg-deb", "--info", made, "conffiles"], text=True)
-    same(control, "/etc/femem.toml\n")
-    return f"{len(found)} files and folders"
 
 
 def is_whole(unit):
@@ -253,15 +25,6 @@ def is_whole(unit):
     same(clean.do("find", "/var/lib/femem", "-mindepth", "1"), f"{STORE}\n", "what the installation left")
     with open(unit.store, "rb") as file:
         same(store.read_store(file.read())[2].looks(), "place 0\n")
-
-
-def installed(clean):
-    # (as with libpam-tmpdir: a folder for temporary files that root alone may enter)
-    os.makedirs(clean.path("/root/own-tmp"), 0o700, exist_ok=True)
-    clean.do(*DPKG, "--install", "/srv/femem.deb", env={"TMPDIR": "/root/own-tmp"})
-    unit = Unit(clean)
-    unit.waits()
-    return unit
 
 
 def confined(unit):
@@ -406,4 +169,4 @@ def removed(place):
         holds(not os.path.exists(clean.path("/var/lib/femem")), "the store is still there after a purge whose answer was yes")
 
 
-CHECKS = (package, serves, statuses, removed)
+CHECKS = (*packages.CHECKS, serves, statuses, removed, *deb_clients.CHECKS)

@@ -7,6 +7,7 @@ import subprocess
 import sys
 import zipfile
 
+from .clean import NAMES
 from .harness import Server, compiler, holds, same, within
 from .manuals import is_well_formed
 
@@ -92,7 +93,7 @@ def recorded(place, name="record", **changed):
 
 @within(180)
 def dist(place):
-    """`make dist` puts package, wheel, C library, sums and record into one folder, the same ones twice; the wheel's client works"""
+    """`make dist` puts packages, wheel, C library, sums and record into one folder, the same ones twice; the wheel's client works"""
     folder = place.path("dist")
     words = [os.path.join(TOP, "scripts", "dist"), place.program, recorded(place), folder]
     # (a commit made meanwhile would change the time)
@@ -101,7 +102,8 @@ def dist(place):
     with open(os.path.join(folder, "SHA256SUMS"), encoding="ascii") as file:
         sums = dict(reversed(line.split()) for line in file)
     version = pages.version()
-    wanted = {f"femem_{version}_amd64.deb", f"femem-{version}-py3-none-any.whl", f"femem-{version}.tar.gz", f"femem-c-{version}-linux-amd64.tar.gz", "proof"}
+    packages = [f"{it}_{version}_{'all' if it in ('python3-femem', 'femem-doc') else 'amd64'}.deb" for it in NAMES]
+    wanted = {*packages, f"femem-{version}-py3-none-any.whl", f"femem-{version}.tar.gz", f"femem-c-{version}-linux-amd64.tar.gz", "proof"}
     same(set(sums), wanted)
     same(set(os.listdir(folder)), wanted | {"SHA256SUMS"})
     for name, value in sums.items():

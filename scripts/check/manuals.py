@@ -20,6 +20,13 @@ LINES = (
     "femem: store device", "femem: store size N", "femem: store unformatted", "femem: store damaged at N", "femem: memory",
     "femem: strange", "femem: socket", "femem: input", "femem: line N",
 )
+# What an operation does, as the table says it, and not by its name alone.
+OPERATIONS = (
+    "readfe full same empty old value", "readff full same full old value", "readxx any same same old value",
+    "writeef empty operand full done", "writeff full operand full done", "writexf any operand full done", "purge any 0 empty done",
+    "int_fetch_add full (value + operand) mod",
+)
+ALL = (*pages.PAGES, pages.SHELL)
 KEYS = ("socket", "store", "connections", "format", "accepts", "turns")
 FAULTS = re.compile(r'^ *#\[error\("(femem: [^"]+)"\)\]$', re.M)
 
@@ -35,7 +42,8 @@ def made(place):
     process = place.start([os.path.join(pages.TOP, "scripts", "man_pages"), place.path("man")], "man_pages")
     process.wait()
     same(process.returncode, 0, place.read("man_pages.err").decode())
-    return [place.path(f"man/{name}.{number}") for name, number, *_ in pages.PAGES]
+    place.write(f"man/{pages.SHELL[0]}.{pages.SHELL[1]}", pages.page(*pages.SHELL).encode())
+    return [place.path(f"man/{name}.{number}") for name, number, *_ in ALL]
 
 
 def shown(path):
@@ -59,7 +67,7 @@ def warnings(place):
     """`man --warnings` has no warning for any page, at the width of a terminal"""
     for path in made(place):
         is_well_formed(path)
-    return f"{len(pages.PAGES)} pages"
+    return f"{len(ALL)} pages"
 
 
 def words(text):
@@ -67,10 +75,10 @@ def words(text):
 
 
 def told(place):
-    """each word of the documents is in their page, and each command, fault and setting in femem(1) and femem.toml(5)"""
+    """each word of the documents is in their page, and each command, operation, fault and setting in femem(1) and femem.toml(5)"""
     needs_man()
     found = {}
-    for path, (name, number, _, parts, _) in zip(made(place), pages.PAGES):
+    for path, (name, number, _, parts, _) in zip(made(place), ALL):
         found[name], said = shown(path)
         same(said, "", name)
         for document, wanted in parts:
@@ -82,8 +90,10 @@ def told(place):
             # (where rows become paragraphs, the heads of a table's first two columns are not shown)
             heads = words(" ".join(line for line, below in zip(lines, lines[1:]) if re.fullmatch(r"[|\- ]+", below) and "|" in below))
             same(dict(lost - heads), {}, f"{name}({number}) of {document}: what it lacks")
-    for it in (*COMMANDS, *LINES):
+    for it in (*COMMANDS, *LINES, *OPERATIONS):
         holds(it in found["femem"], f"femem(1) does not have: {it}")
+    for it in ("make serve", "examples/femem"):
+        holds(it not in found["femem"], f"femem(1) speaks of {it}, which no package has")
     for it in KEYS:
         holds(re.search(rf"\b{it}\b", found["femem.toml"]), f"femem.toml(5) does not have: {it}")
     # The texts of faults in the source are exactly these lines.

@@ -7,6 +7,7 @@ import signal
 import subprocess
 
 from . import wire
+from .clean import NAMES
 from .clients import output_of
 from .harness import Skipped, compiler, holds, same, until, within
 from .install import done, recorded
@@ -80,8 +81,9 @@ def deb(place):
     said = done(place, [*words, f"RECORD={recorded(place, program='0' * 64)}"], status=2)
     holds("is of another program" in said and not os.path.exists(place.path("dist")), said)
     said = done(place, [*words, f"RECORD={recorded(place)}"])
-    made = said.strip().splitlines()[-1]
+    made, *others = said.split()
     same(os.path.basename(made), f"femem_{pages.version()}_amd64.deb")
+    same(len(others), len(NAMES) - 1, f"other packages: {others}")
     done(place, ["dpkg-deb", "--extract", made, place.path("tree")])
     same(record.sum_of(place.path("tree/usr/bin/femem")), record.sum_of(place.program), "the packed program")
     # without --unproved there is no package without a record

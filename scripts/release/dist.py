@@ -1,4 +1,4 @@
-"""Puts a release into one folder: the Debian package, the Python client's wheel and source archive, the C library's archive, the
+"""Puts a release into one folder: the Debian packages, the Python client's wheel and source archive, the C library's archive, the
 proof's record, and the SHA-256 sums of all of them.
 
 Usage: scripts/dist PROGRAM RECORD FOLDER
@@ -10,7 +10,6 @@ and a C compiler, but no network.
 import gzip
 import io
 import os
-import re
 import shutil
 import subprocess
 import sys
@@ -19,28 +18,9 @@ import tempfile
 import time
 import zipfile
 
-from . import package, pages, record as records
+from . import builds, package, pages, record as records
 
 TOP = pages.TOP
-
-# The hooks of PEP 517, by which `pip` would build the package too.
-BUILD = """
-import importlib, os, sys
-sys.path.insert(0, os.getcwd())
-backend = importlib.import_module(sys.argv[1])
-backend.build_wheel(sys.argv[2])
-backend.build_sdist(sys.argv[2])
-"""
-
-
-def python(folder, env):
-    """The Python client's wheel and source archive."""
-    client = os.path.join(TOP, "clients", "python")
-    with open(os.path.join(client, "pyproject.toml"), encoding="utf-8") as file:
-        backend = re.search(r'^build-backend = "(.*)"$', file.read(), re.M)[1]
-    words = [sys.executable, "-c", BUILD, backend, os.path.abspath(folder)]
-    subprocess.run(words, cwd=client, check=True, stdout=subprocess.DEVNULL, env=env)
-
 
 def dated_wheel(path, epoch):
     """The wheel with the release's time on all of its files."""
@@ -107,7 +87,7 @@ def dist(program, record, folder):
     os.makedirs(folder)
     with open(program, "rb") as first, open(record, "rb") as second:
         package.build(first.read(), folder, second.read())
-    python(folder, {**os.environ, "SOURCE_DATE_EPOCH": str(epoch), "PYTHONDONTWRITEBYTECODE": "1"})
+    builds.python(folder)
     for name in os.listdir(folder):
         if name.endswith(".whl"):
             dated_wheel(os.path.join(folder, name), epoch)

@@ -2,7 +2,7 @@
 
 Usage: scripts/man_pages FOLDER
 
-Each page is a list of sections of documents. A table with narrow columns stays a table; in other tables each row becomes a
+Each page is a list of sections of documents. A section that is given another title is taken up to its first list. A table with narrow columns stays a table; in other tables each row becomes a
 paragraph under its first cell, in which the cells from the third on follow the heads of their columns. The date is that of
 SOURCE_DATE_EPOCH, or of the last commit.
 """
@@ -18,15 +18,20 @@ WIDTH = 70  # columns of text on a terminal of 80
 LONG_PAGE = ".if n .pl 1000i"  # on a terminal: long enough that no table is split over two pages
 LINKS = {"settings.md": "femem.toml(5)", "formats.md": "femem-format(5)"}
 
-# The page, its number, its description in a line, and its documents, each with the sections taken from it, or None for all.
+# The page, its number, its description in a line, and its documents, each with the sections taken from it, or None for all. Where
+# they are a mapping, it has the title that a section gets here.
 PAGES = (
     (
         "femem", 1, "recoverable server of full/empty memory",
-        (("commands.md", None), ("operating.md", ("Starting", "Stopping", "What a server says")), ("schedules.md", None)),
+        (("commands.md", None), ("../README.md", {"Use it": "Operations"}), ("operating.md", ("Starting", "Stopping", "What a server says")), ("schedules.md", None)),
         ("femem.toml(5)", "femem-format(5)"),
     ),
     ("femem.toml", 5, "settings of femem serve", (("settings.md", None),), ("femem(1)", "femem-format(5)")),
     ("femem-format", 5, "frames and store of femem", (("formats.md", None),), ("femem(1)", "femem.toml(5)")),
+)
+# The page of the Python client's shell, which is installed with that client.
+SHELL = (
+    "femem-shell", 1, "shell for a femem server", (("../clients/python/README.md", ("Shell",)),), ("femem(1)", "femem-cli(1)"),
 )
 
 
@@ -56,7 +61,11 @@ def sections_of(lines, wanted):
     for name in wanted:
         begin = body.index(f"## {name}")
         end = next((at for at in range(begin + 1, len(body)) if body[at].startswith("## ")), len(body))
-        found += body[begin:end]
+        section = body[begin:end]
+        if isinstance(wanted, dict):
+            first = next((at for at, line in enumerate(section) if line.startswith("- ")), len(section))
+            section = [f"## {wanted[name]}", *section[1:first]]
+        found += section
     return found
 
 
@@ -106,7 +115,7 @@ def table(lines):
         return aligned(head, rows, ["l"] * len(head))
     widest = widths.index(max(widths))
     left = WIDTH - gaps - (sum(widths) - widths[widest])
-    if len(head) > 2 and left >= 24:
+    if len(head) > 2 and left >= 22:
         return aligned(head, rows, [f"lw({left}n)" if at == widest else "l" for at in range(len(head))], widest)
     return described(head, rows)
 
@@ -198,7 +207,7 @@ def item(mark, body):
 
 def page(name, number, line, parts, others):
     date = time.strftime("%Y-%m-%d", time.gmtime(epoch()))
-    out = ["'\\\" t", f'.\\" Made by scripts/man_pages of {", ".join("docs/" + it for it, _ in parts)}.']
+    out = ["'\\\" t", f'.\\" Made by scripts/man_pages of {", ".join(os.path.normpath(f"docs/{it}") for it, _ in parts)}.']
     out += [".nr HY 0", f'.TH {name.upper()} {number} {date} "femem {version()}"', ".ad l", LONG_PAGE, ".SH NAME", f"{name} \\- {line}"]
     for at, (source, wanted) in enumerate(parts):
         lines = sections_of(document(source), wanted)

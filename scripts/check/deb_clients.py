@@ -1,0 +1,174 @@
+"""The packages of the clients in a clean Debian, the upgrade from the one package that there was before, and a store elsewhere."""
+
+import os
+import re
+import shutil
+import subprocess
+
+from . import store
+from .clean import DPKG, NAMES, SOCKET, STORE, Clean, Unit, installed
+from .harness import compiler, holds, same, until, within
+from .packages import built
+from .texts import TOP, block
+
+CLIENTS = "/var/lib/femem-clients"
+# Where a package may leave something.
+PLACES = "/etc /usr /var /run /root /home /opt /tmp"
+
+
+def as_user(clean, name, words, umask="022"):
+    """A shell's commands there, run by a user who has just logged in."""
+    return clean.ask("runuser", "-u", name, "--", "sh", "-euc", f"umask {umask}; {words}")
+
+
+def did(ran, output):
+    same(ran, (0, output, ""))
+
+
+def compiled(place, clean):
+    """Builds the C client's example in the clean Debian, or else here against the packages' files. Its path there."""
+    source = os.path.join(TOP, "clients", "c", "counter.c")
+    shutil.copy(source, clean.path("/srv/counter.c"))
+    flags = "-std=c11 -D_POSIX_C_SOURCE=200809L"
+    if clean.ask("sh", "-c", "command -v cc pkg-config")[0] == 0:
+        clean.shell(f"cc {flags} -o /srv/counter /srv/counter.c $(pkg-config --cflags --libs femem)")
+        return "/srv/counter"
+    root = place.path("tree")
+    for name in ("libfemem1", "libfemem-dev"):
+        file = next(it for it in os.listdir(built(place)) if it.startswith(f"{name}_"))
+        subprocess.run(["dpkg-deb", "--extract", os.path.join(built(place), file), root], check=True)
+    words = [compiler(), *flags.split(), f"-I{root}/usr/include", "-o", clean.path("/srv/counter"), source]
+    subprocess.run([*words, f"-L{root}/usr/lib/x86_64-linux-gnu", "-lfemem"], check=True)
+    return "/srv/counter"
+
+
+def killed_leaves_nothing(clean):
+    """A killed client of one user, whatever its umask, is ended by the next client, of another user."""
+    for user, command in (("alice", "femem-cli readfe box 0"), ("bob", f"python3 -m femem {SOCKET} readfe box 0")):
+        as_user(clean, user, f"timeout --signal=KILL 2 {command}", "077")
+        left = clean.shell(f"ls {CLIENTS}").split()
+        same(len(left), 1, f"files of sessions after the kill of {command}")
+        same(clean.shell(f"stat -c '%U %G %a' {CLIENTS}/*"), f"{user} femem 660\n", "the file")
+        holds(f"session {left[0]} " in clean.do("femem-cli", "sessions"), "its session is not kept")
+        did(as_user(clean, {"alice": "bob", "bob": "alice"}[user], "femem-cli counter hits"), "1\n")
+        same((clean.shell(f"ls {CLIENTS}"), clean.do("femem-cli", "sessions")), ("", ""), f"what the kill of {command} leaves")
+
+
+@within(240)
+def clients(place):
+    """all packages installed: femem-cli, a C program, Python and the pages work for the group and for nobody else; a kill leaves nothing"""
+    with Clean(place, built(place)) as clean:
+        unit = installed(clean, *NAMES[1:])
+        for name in ("alice", "bob", "carol"):
+            clean.do("useradd", "--no-create-home", name)
+        clean.shell("for it in alice bob; do adduser --quiet $it femem; done")
+        did(as_user(clean, "alice", "femem-cli counter hits +1"), "1\n")
+        status, _, said = as_user(clean, "carol", "femem-cli counter hits +1")
+        holds(status == 4 and "Permission denied" in said, f"a user outside the group: {status} {said}")
+        did(as_user(clean, "alice", "femem-cli create box 1; femem-cli owner none || test $? = 3; ls /run/femem/femem.socket.clients/")[:2] + ("",), "")
+        did(as_user(clean, "bob", "femem-cli lock nightly -- sh -c 'test $FEMEM_GENERATION -gt 0 && echo inside'"), "inside\n")
+        did(as_user(clean, "bob", f"{compiled(place, clean)} {SOCKET} 7 3"), "0\n1\n2\n")
+        clean.do(*DPKG[:1], "--triggers-only", "libc-bin")
+        holds("libfemem.so.1 " in clean.do("ldconfig", "-p"), "ldconfig does not know the library")
+        script = f"from femem import Client\nwith Client('{SOCKET}') as it: print(it.readff(it.find('hits'), 0))"
+        did(as_user(clean, "alice", f'python3 -c "{script}"'), "1\n")
+        holds("value 1" in as_user(clean, "bob", f"femem-shell {SOCKET} readff hits 0")[1], "femem-shell")
+        holds(clean.shell("ls /usr/lib/python3/dist-packages/femem/__pycache__ | wc -l").strip() > "3", "nothing is compiled")
+        killed_leaves_nothing(clean)
+        # (what a stop of the unit leaves is ended as well)
+        as_user(clean, "alice", "timeout --signal=KILL 2 femem-cli readfe box 0")
+        clean.do("systemctl", "stop", "femem")
+        clean.do("systemctl", "start", "femem")
+        unit.waits()
+        did(as_user(clean, "bob", "femem-cli counter hits"), "1\n")
+        same((clean.shell(f"ls {CLIENTS}"), clean.do("femem-cli", "sessions")), ("", ""), "sessions after a stop")
+        clean.do(*DPKG, "--remove", *NAMES[1:])
+        holds(not os.path.exists(clean.path("/usr/lib/python3/dist-packages/femem")), "Python's modules are left")
+
+
+def old_package(place):
+    """The one package that there was: an older version, with documents that femem-doc has now, and nothing for other clients."""
+    tree, folder = place.path("old"), built(place)
+    new = next(it for it in os.listdir(folder) if it.startswith("femem_"))
+    subprocess.run(["dpkg-deb", "--raw-extract", os.path.join(folder, new), tree], check=True)
+    control = os.path.join(tree, "DEBIAN", "control")
+    with open(control, encoding="utf-8") as file:
+        text = re.sub(r"^(Version: ).*$", r"\g<1>0.9.0", file.read(), flags=re.M)
+    with open(control, "w", encoding="utf-8") as file:
+        file.write(text)
+    for name in ("operating.md.gz", "proved.md.gz"):
+        with open(os.path.join(tree, "usr/share/doc/femem", name), "wb") as file:
+            file.write(b"old")
+    os.unlink(os.path.join(tree, "usr/lib/tmpfiles.d/femem.conf"))
+    made = place.path("femem_0.9.0_amd64.deb")
+    words = ["dpkg-deb", "--root-owner-group", "-Znone", "--build", tree, made]
+    subprocess.run(words, check=True, stdout=subprocess.DEVNULL)
+    return made
+
+
+def named(clean):
+    """Every path there that names the project, except what dpkg and debconf keep of any package."""
+    found = clean.shell(f"find {PLACES} -xdev -name '*femem*' -not -path '/var/cache/*' -not -path '/tmp/*' 2> /dev/null || true")
+    return sorted(found.split("\n"))
+
+
+@within(240)
+def upgrades(place):
+    """the one package that there was is upgraded to all six and keeps its store; a stopped server stays stopped; a purge leaves nothing"""
+    with Clean(place, built(place)) as clean:
+        before = named(clean)
+        shutil.copy(old_package(place), clean.path("/srv/old.deb"))
+        clean.do(*DPKG, "--install", "/srv/old.deb")
+        unit = Unit(clean)
+        unit.waits()
+        unit.attached(7).close()
+        first = unit.pid()
+        clean.install(*NAMES)
+        until(lambda: unit.pid() not in (0, first) and unit.is_up(), 60, "the upgrade starts the new program")
+        holds(not os.path.exists(clean.path("/usr/share/doc/femem/operating.md.gz")), "an old document is left")
+        holds(os.path.exists(clean.path("/usr/share/doc/femem/docs/operating.md")), "there is no new document")
+        same(clean.do("femem-cli", "sessions"), "session 7 kept 0 waiting 0\n")
+        same(clean.shell("dpkg --verify femem femem-cli libfemem1 libfemem-dev python3-femem femem-doc"), "", "dpkg --verify")
+        clean.do("systemctl", "stop", "femem")
+        clean.install("femem")
+        same(unit.shows("ActiveState"), ("inactive",), "a stopped server after an upgrade")
+        clean.do("systemctl", "start", "femem")
+        unit.waits()
+        same(store.read_store(open(unit.store, "rb").read())[2].looks(), "place 1\nsession 7 floor 1 kept 0\n")
+        clean.do(*DPKG, "--purge", *NAMES, env={"FEMEM_PURGE_STORE": "yes"})
+        same([it for it in named(clean) if it not in before], [], "what a purge leaves")
+
+
+def sessions(clean, path):
+    return [int(it) for it in re.findall(r"^session (\d+)", clean.do("femem", "look", "--store", path), re.M)]
+
+
+@within(240)
+def elsewhere(place):
+    """the operating page's lines move the store to /srv, and below /home; /var/lib/femem may be a link; the unit then waits for its mount"""
+    with Clean(place, built(place)) as clean:
+        unit = installed(clean, "femem-cli", "libfemem1")
+        lines = block("docs/operating.md", "systemctl stop femem\ninstall ")
+        last = STORE
+        unit.attached(1).close()
+        for session, folder in enumerate(("/srv/femem", "/home/femem/store"), 2):
+            clean.shell("mkdir -p /home/femem")
+            clean.shell(lines.replace("/srv/femem", folder).replace(STORE, last))
+            unit.waits()
+            last = f"{folder}/femem.store"
+            holds(folder in unit.shows("RequiresMountsFor")[0], "the unit does not wait for the folder's mount")
+            unit.attached(session).close()
+            same(sessions(clean, last), list(range(1, session + 1)), f"the store in {folder}")
+        clean.shell("rm -r /etc/systemd/system/femem.service.d; systemctl daemon-reload")
+        # /var/lib/femem as a link to the folder
+        clean.do("systemctl", "stop", "femem")
+        clean.shell("rm -r /var/lib/femem /srv/femem; install -d -o femem -g femem -m 750 /srv/femem; ln -s /srv/femem /var/lib/femem")
+        clean.shell(f"cp -p {last} {STORE}; sed -i 's|^store = .*|store = \"{STORE}\"|' /etc/femem.toml")
+        kept = [it for it in lines.splitlines() if not it.startswith(("install ", "cp ", "sed "))]
+        clean.shell("\n".join(kept))
+        unit.waits()
+        unit.attached(4).close()
+        same(sessions(clean, "/srv/femem/femem.store"), [1, 2, 3, 4], "the store where the link leads")
+
+
+CHECKS = (clients, upgrades, elsewhere)

@@ -1,0 +1,167 @@
+"""The Debian packages as files: what is in them, what they depend on, where their links lead, and what lintian says of them."""
+
+import os
+import re
+import shutil
+import subprocess
+import tarfile
+
+from . import texts
+from .clean import NAMES, SOCKET, STORE
+from .harness import compiler, holds, same, within
+from .manuals import pages
+
+TOP = texts.TOP
+EPOCH = pages.epoch()
+LIBRARIES = "/usr/lib/x86_64-linux-gnu"
+
+# A file or two of each package, and the packages that it must depend on.
+HAS = {
+    "femem": (
+        ("/usr/share/man/man1/femem.1.gz", "/usr/share/man/man5/femem.toml.5.gz", "/usr/share/man/man5/femem-format.5.gz"),
+        ("adduser", "debconf", "libc6"),
+    ),
+    "femem-cli": (("/usr/bin/femem-cli", "/usr/share/man/man1/femem-cli.1.gz"), ("libfemem1", "libc6")),
+    "libfemem1": ((f"{LIBRARIES}/libfemem.so.1", f"{LIBRARIES}/libfemem.so.{pages.version()}"), ("libc6",)),
+    "libfemem-dev": (
+        ("/usr/include/femem.h", f"{LIBRARIES}/libfemem.a", f"{LIBRARIES}/libfemem.so", f"{LIBRARIES}/pkgconfig/femem.pc",
+         "/usr/share/man/man3/libfemem.3.gz"),
+        ("libfemem1",),
+    ),
+    "python3-femem": (("/usr/lib/python3/dist-packages/femem/__init__.py", "/usr/bin/femem-shell"), ("python3",)),
+    "femem-doc": (("/usr/share/doc/femem/docs/operating.md", "/usr/share/doc/femem/examples/lock.txt"), ()),
+}
+TOOLS = ("femem-backup", "femem-restore", "femem-rescue", "femem-probe", "storefile.py", "make-store")
+
+
+def make(place, folder):
+    # (a commit made meanwhile would change the time)
+    env = {"SOURCE_DATE_EPOCH": os.environ.get("SOURCE_DATE_EPOCH") or str(EPOCH)}
+    process = place.start([os.path.join(TOP, "scripts", "make_deb"), "--unproved", place.program, folder], "make_deb", env)
+    process.wait()
+    same(process.returncode, 0, place.read("make_deb.err").decode())
+    return place.read("make_deb.out").decode().split()
+
+
+def built(place):
+    """The folder of the packages of the program under test, which are built once for all checks of a run."""
+    compiler()
+    holds(shutil.which("dpkg-deb"), "there is no dpkg-deb on this machine: Debian's package dpkg is missing")
+    folder = os.path.join(os.path.dirname(place.folder), "packages")
+    if not os.path.isdir(folder):
+        make(place, folder)
+    return folder
+
+
+def files_of(path):
+    """A package's files: their contents, the targets of links, or None for folders. All belong to root, who alone may write them."""
+    tar = subprocess.Popen(["dpkg-deb", "--fsys-tarfile", path], stdout=subprocess.PIPE)
+    found = {}
+    with tarfile.open(fileobj=tar.stdout, mode="r|") as archive:
+        for it in archive:
+            holds((it.uid, it.gid) == (0, 0) and (it.issym() or it.mode & 0o022 == 0), f"{it.name}: owner or mode")
+            content = archive.extractfile(it).read() if it.isfile() else it.linkname or None
+            found[it.name[1:].rstrip("/")] = content
+    tar.stdout.read()
+    same(tar.wait(), 0)
+    return found
+
+
+def field(path, name):
+    return subprocess.check_output(["dpkg-deb", "--field", path, name], text=True).strip()
+
+
+@within(120)
+def package(place):
+    """two builds of the six packages are equal; each has its files and depends on what it needs; the program is there byte for byte"""
+    folder = built(place)
+    names = sorted(os.listdir(folder))
+    same(names, sorted(os.path.basename(it) for it in make(place, place.path("again"))))
+    found = {}
+    for file in names:
+        with open(os.path.join(folder, file), "rb") as first, open(place.path(f"again/{file}"), "rb") as second:
+            holds(first.read() == second.read(), f"two packages {file} differ")
+        path = os.path.join(folder, file)
+        name = field(path, "Package")
+        same(file, f"{name}_{pages.version()}_{field(path, 'Architecture')}.deb")
+        found[name] = files_of(path)
+        depends = {it.split()[0] for it in re.split(r", | \| ", field(path, "Depends")) if it}
+        there, needs = HAS[name]
+        holds(set(needs) <= depends, f"{name} depends on {sorted(depends)}")
+        for it in (*there, f"/usr/share/doc/{name}/changelog.gz", f"/usr/share/doc/{name}/copyright"):
+            holds(found[name].get(it), f"there is no {it} in {name}")
+    same(set(found), set(NAMES))
+    for name in ("femem-cli", "libfemem-dev"):
+        path = os.path.join(folder, f"{name}_{pages.version()}_amd64.deb")
+        holds(f"libfemem1 (= {pages.version()})" in field(path, "Depends"), f"{name} does not need this very libfemem1")
+    alike = [it for name in NAMES for other in NAMES if name < other for it in set(found[name]) & set(found[other]) if found[name][it]]
+    same(alike, [], "files of two packages")
+    of_the_server(place, found["femem"], os.path.join(folder, f"femem_{pages.version()}_amd64.deb"))
+    of_the_library(place, found, os.path.join(folder, f"libfemem1_{pages.version()}_amd64.deb"))
+    return f"{sum(map(len, found.values()))} files and folders"
+
+
+def of_the_server(place, found, path):
+    """The program byte for byte, the tools, a folder for the store, and settings that format none."""
+    with open(place.program, "rb") as program:
+        holds(found["/usr/bin/femem"] == program.read(), "the package has another program")
+    for name in TOOLS:
+        holds(f"/usr/lib/femem/{name}" in found, f"there is no {name}")
+    holds("/var/lib/femem" in found, "there is no folder for the store")
+    settings = found["/etc/femem.toml"].decode()
+    same(re.findall(r"^(?:socket|store) = .*$", settings, re.M), [f'socket = "{SOCKET}"', f'store = "{STORE}"'])
+    holds(not re.search(r"^\s*(format|accepts)\b", settings, re.M), "the settings would format a store")
+    control = subprocess.check_output(["dpkg-deb", "--info", path, "conffiles"], text=True)
+    same(control, "/etc/femem.toml\n")
+
+
+def of_the_library(place, found, path):
+    """The library's name for the linker, and the files by which dpkg has other packages depend on it and ldconfig run."""
+    info = lambda name: subprocess.check_output(["dpkg-deb", "--info", path, name], text=True).strip()
+    same((info("shlibs"), info("triggers")), ("libfemem 1 libfemem1 (>= 1.0.0)", "activate-noawait ldconfig"))
+    for name, file, word in (
+        ("libfemem1", f"{LIBRARIES}/libfemem.so.{pages.version()}", "SONAME"), ("femem-cli", "/usr/bin/femem-cli", "NEEDED"),
+    ):
+        said = subprocess.check_output(["objdump", "-p", place.write("program", found[name][file])], text=True)
+        holds(re.search(rf"{word} +libfemem\.so\.1$", said, re.M), f"{file} has no {word} libfemem.so.1")
+    same(found["libfemem1"][f"{LIBRARIES}/libfemem.so.1"], f"libfemem.so.{pages.version()}")
+    same(found["libfemem-dev"][f"{LIBRARIES}/libfemem.so"], "libfemem.so.1")
+    holds(f"libdir={LIBRARIES}".encode() in found["libfemem-dev"][f"{LIBRARIES}/pkgconfig/femem.pc"], "femem.pc has another folder")
+
+
+def links(place):
+    """each link of a document in the packages, and each page of a manual that another one names, is in one of them"""
+    there, count, missing = {}, 0, []
+    folder = built(place)
+    for file in os.listdir(folder):
+        there.update(files_of(os.path.join(folder, file)))
+    for path, content in there.items():
+        if not path.endswith(".md"):
+            continue
+        for target in re.findall(r"\]\(([^)\s#]+)[^)]*\)", content.decode()):
+            if not re.match(r"[a-z]+:", target):
+                count += 1
+                end = os.path.normpath(os.path.join(os.path.dirname(path), target))
+                missing += [] if end in there else [f"{path}: {target}"]
+    pages_there = {os.path.basename(it)[:-3] for it in there if it.startswith("/usr/share/man/") and it.endswith(".gz")}
+    for name in sorted(pages_there):
+        said = subprocess.run(["zcat"], input=next(there[it] for it in there if it.endswith(f"/{name}.gz")), capture_output=True, check=True)
+        for other, number in re.findall(r"\b((?:lib)?femem[\w.-]*)[\"\\fBRP ]*\(([1-8])\)", said.stdout.decode().replace("\\-", "-")):
+            count += 1
+            missing += [] if f"{other}.{number}" in pages_there else [f"{name}: {other}({number})"]
+    return texts.told(missing, count, 150, "links")
+
+
+@within(300)
+def lint(place):
+    """lintian, where it is installed, finds no error and no warning in the packages"""
+    if not shutil.which("lintian"):
+        return "lintian is not installed here"
+    folder = built(place)
+    words = ["lintian", "--fail-on", "error,warning", *(os.path.join(folder, it) for it in sorted(os.listdir(folder)))]
+    ran = subprocess.run(words, stdout=subprocess.PIPE, stderr=subprocess.STDOUT, text=True, timeout=290, check=False)
+    same((ran.returncode, re.findall(r"^[EW]: .*$", ran.stdout, re.M)), (0, []), ran.stdout)
+    return f"{len(os.listdir(folder))} packages"
+
+
+CHECKS = (package, links, lint)
