@@ -19,8 +19,8 @@ typedef struct options {
   const char *socket, *store, *program, *file, *key;
   uint64_t session;
   bool adopted;                /* a temporary session that this process goes on with */
-  bool has_session, no_wait, json, ends, owners, svg, help, version;
-  int64_t timeout, reconnect, takeover_after, away_after;
+  bool has_session, no_wait, json, ends, owners, svg, once, help, version;
+  int64_t every, timeout, reconnect, takeover_after, away_after;
   int conflict;                /* the status of `lock` and `queue take` that are late */
   uint32_t capacity, attempts;
 } options;
@@ -134,4 +134,5 @@ int do_arrays(command_line *cli, char **words, int count);
 int do_sessions(command_line *cli, char **words, int count);
 int do_report(command_line *cli, char **words, int count);
 int do_graph(command_line *cli, char **words, int count);
+int do_top(command_line *cli, char **words, int count);
 #endif

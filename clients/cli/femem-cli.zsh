@@ -16,7 +16,7 @@ _femem_cli_words() {
     return
   fi
   case $command:$CURRENT in
-    (report|graph|arrays|sessions|forget):*|create:2) ;;
+    (report|graph|top|arrays|sessions|forget):*|create:2) ;;
     *:2) _femem_cli_names ;;
     channel:3) compadd put take ;;
     queue:3) compadd put take aside drop ;;
@@ -37,7 +37,8 @@ _arguments -S \
   '--json[answers as JSON]' '-e[ends a list at the first failure]' \
   '--store[the store]:file:_files' '--program[the program femem]:file:_files' \
   '--owners[with the holders of locks]' '--svg[as a picture]' \
+  '--once[one view]' '--every[how often]:seconds:' \
   '(-h --help)'{-h,--help}'[a summary]' '(-V --version)'{-V,--version}'[the version]' \
   '1:command:(create find remove arrays readfe readff readxx writeef writeff writexf purge int_fetch_add counter channel
-    queue lock owner break forget sessions report graph)' \
+    queue lock owner break forget sessions report graph top)' \
   '*::words:_femem_cli_words'

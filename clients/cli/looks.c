@@ -114,6 +114,7 @@ static FILE *begin_look(const command_line *cli, pid_t *process) {
 static bool parse_line(look *seen, const char *line) {
   array found = {0};
   kept other = {0};
+  if (sscanf(line, "place %" SCNu64, &seen->place) == 1) return true;
   if (sscanf(line, "array %" SCNu64 " %32[a-z0-9_] %" SCNu32, &found.id, found.name, &found.length) == 3) {
     if (seen->arrays < MOST) seen->array[seen->arrays++] = found;
     return true;

@@ -8,7 +8,7 @@ enum { MOST = 64 }; /* arrays, and sessions */
 
 typedef struct array { uint64_t id; uint32_t length; char name[LONGEST_NAME + 1]; } array;
 typedef struct kept { uint64_t session, answers; } kept;
-typedef struct look { int arrays, sessions; array array[MOST]; kept session[MOST]; } look;
+typedef struct look { uint64_t place; int arrays, sessions; array array[MOST]; kept session[MOST]; } look;
 typedef struct waiter { uint64_t array, session, number; uint32_t index; char operation[16]; } waiter;
 
 /* The server's report, which the caller frees. A status. */

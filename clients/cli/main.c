@@ -35,6 +35,7 @@ static const struct { const char *name, *words; int least, most; command run; } 
   {"sessions", "", 1, 1, do_sessions},
   {"report", "", 1, 1, do_report},
   {"graph", "", 1, 1, do_graph},
+  {"top", "", 1, 1, do_top},
 };
 enum { COMMANDS = sizeof commands / sizeof *commands };
 
@@ -43,7 +44,8 @@ static int help(command_line *cli) {
   for (int i = 0; i < COMMANDS; i++) printf("  %s %s\n", commands[i].name, commands[i].words);
   fputs("\n  --socket PATH  --session N  --session-file FILE  --key KEY  --timeout SECONDS  --nowait\n"
         "  --reconnect-timeout SECONDS  --takeover-after SECONDS  -E STATUS  --capacity N  --attempts N\n"
-        "  --away-after SECONDS  --store PATH  --program PATH  --json  -e  --owners  --svg  --help  --version\n\n"
+        "  --away-after SECONDS  --store PATH  --program PATH  --json  -e  --owners  --svg\n"
+        "  --once  --every SECONDS  --help  --version\n\n"
         "Status: 0 done, 1 not in time, 2 usage, 3 refused, 4 no server, 5 another fault. 'man femem-cli' says more.",
         stdout);
   return said(cli);
@@ -62,6 +64,7 @@ static const struct { const char *name; option_kind kind; size_t at; uint64_t mo
   OPTION("--timeout", SECONDS, timeout, 0), OPTION("-t", SECONDS, timeout, 0),
   OPTION("--reconnect-timeout", SECONDS, reconnect, 0),
   OPTION("--takeover-after", SECONDS, takeover_after, 0), OPTION("--away-after", SECONDS, away_after, 0),
+  OPTION("--every", SECONDS, every, 0), OPTION("--once", FLAG, once, 0),
   OPTION("--capacity", NUMBER, capacity, 65532), OPTION("--attempts", NUMBER, attempts, 16),
   OPTION("-E", STATUS, conflict, 255),
   OPTION("--nowait", FLAG, no_wait, 0), OPTION("-n", FLAG, no_wait, 0), OPTION("--json", FLAG, json, 0),
@@ -193,8 +196,8 @@ int main(int count, char **words) {
   const char *socket = getenv("FEMEM_SOCKET"), *store = getenv("FEMEM_STORE");
   command_line cli = {.entry = -1, .stop = -1, .given = {
     .socket = socket && *socket ? socket : DEFAULT_SOCKET, .store = store && *store ? store : DEFAULT_STORE,
-    .program = "femem", .timeout = -1, .reconnect = 30000, .takeover_after = -1, .away_after = -1, .conflict = LATE,
-    .capacity = 1000, .attempts = 3}};
+    .program = "femem", .every = 1000, .timeout = -1, .reconnect = 30000, .takeover_after = -1, .away_after = -1,
+    .conflict = LATE, .capacity = 1000, .attempts = 3}};
   if (count < 1) return USAGE;
   signal(SIGPIPE, SIG_IGN);
   int left_over, status = take_options(&cli, words + 1, &left_over);

@@ -7,6 +7,7 @@ import shutil
 import subprocess
 import sys
 
+from . import tables
 from .harness import Skipped, holds, same
 
 sys.path.insert(0, os.path.normpath(os.path.join(os.path.dirname(os.path.realpath(__file__)), "..")))
@@ -19,12 +20,6 @@ LINES = (
     "femem: settings: unreadable", "femem: settings: not toml", "femem: settings: KEY", "femem: settings: unknown key",
     "femem: store device", "femem: store size N", "femem: store unformatted", "femem: store damaged at N", "femem: memory",
     "femem: strange", "femem: socket", "femem: input", "femem: line N",
-)
-# What an operation does, as the table says it, and not by its name alone.
-OPERATIONS = (
-    "readfe full same empty old value", "readff full same full old value", "readxx any same same old value",
-    "writeef empty operand full done", "writeff full operand full done", "writexf any operand full done", "purge any 0 empty done",
-    "int_fetch_add full (value + operand) mod",
 )
 ALL = (*pages.PAGES, pages.SHELL)
 KEYS = ("socket", "store", "connections", "format", "accepts", "turns")
@@ -90,7 +85,10 @@ def told(place):
             # (where rows become paragraphs, the heads of a table's first two columns are not shown)
             heads = words(" ".join(line for line, below in zip(lines, lines[1:]) if re.fullmatch(r"[|\- ]+", below) and "|" in below))
             same(dict(lost - heads), {}, f"{name}({number}) of {document}: what it lacks")
-    for it in (*COMMANDS, *LINES, *OPERATIONS):
+    # (a cell that is too long for its column goes on in the next line)
+    operations = [" ".join(row).split(" mod ")[0] for row in tables.rows("README.md", "| operation |")]
+    same(len(operations), 8, "operations")
+    for it in (*COMMANDS, *LINES, *operations):
         holds(it in found["femem"], f"femem(1) does not have: {it}")
     for it in ("make serve", "examples/femem"):
         holds(it not in found["femem"], f"femem(1) speaks of {it}, which no package has")
