@@ -1,0 +1,273 @@
+"""The programs of examples/: each result over kills of its processes and of the server, compared with what is computed here; and the
+dashboard and alert rules, compared with the metrics that there are."""
+
+import collections
+import glob
+import json
+import os
+import random
+import re
+import shutil
+import signal
+import subprocess
+import sys
+import time
+
+from . import wire
+from .harness import Server, compiler, holds, same, until, within
+from .manuals import pages  # noqa: F401  (this sets the path of release)
+from .texts import TOP, text_of
+
+from release import builds  # noqa: E402
+
+EXAMPLES = os.path.join(TOP, "examples")
+CLIENT = os.path.join(TOP, "clients", "python")
+
+
+def installed(place):
+    """The C library and femem-cli, built once for all checks of a run. The folder that is their root."""
+    compiler()
+    root = os.path.join(os.path.dirname(place.folder), "built")
+    if not os.path.isdir(root):
+        os.mkdir(place.path("room"))
+        shutil.move(builds.c(place.path("room")), root)
+    return root
+
+
+def environment(place, server):
+    root = installed(place)
+    return {
+        "PATH": f"{root}/usr/bin:{os.environ['PATH']}", "LD_LIBRARY_PATH": root + builds.LIBRARIES, "PYTHONPATH": CLIENT,
+        "PYTHONDONTWRITEBYTECODE": "1", "FEMEM_SOCKET": server.socket, "FEMEM_STORE": server.store,
+    }
+
+
+class Crew:
+    """Processes that are started again until each has ended with status 0. What each life of them printed is kept."""
+
+    def __init__(self, place, env, commands):
+        self.place, self.env, self.commands = place, env, commands
+        self.lives = [0] * len(commands)
+        self.running = [self.begin(who) for who in range(len(commands))]
+        self.kills = 0
+
+    def begin(self, who):
+        self.lives[who] += 1
+        return self.place.start(self.commands[who], f"crew{who}_{self.lives[who]}", self.env, group=True)
+
+    def kill(self):
+        """Kills one that runs, and starts it again."""
+        there = [who for who, process in enumerate(self.running) if process.poll() is None]
+        if there:
+            who = random.choice(there)
+            os.killpg(self.running[who].pid, signal.SIGKILL)
+            self.kills += self.running[who].wait() == -signal.SIGKILL
+            if self.running[who].returncode == -signal.SIGKILL:
+                self.running[who] = self.begin(who)
+
+    def have_ended(self):
+        for who, process in enumerate(self.running):
+            if process.poll() is not None:
+                errors = self.place.read(f"crew{who}_{self.lives[who]}.err").decode()
+                same(process.returncode, 0, f"{self.commands[who]}: {errors[-1000:]}")
+        return all(process.poll() is not None for process in self.running)
+
+    def lines(self, who=None):
+        """What they printed, without a last line that a kill has cut off."""
+        found = []
+        for it in range(len(self.commands)) if who is None else [who]:
+            for life in range(1, self.lives[it] + 1):
+                found += self.place.read(f"crew{it}_{life}.out").decode().split("\n")[:-1]
+        return found
+
+
+def storm(crew, server, kills, every=0.15):
+    """Kills processes, and for each fifth of these the server, while they work; then waits for their end. How often the server."""
+    stops = 0
+    while crew.kills < kills and not crew.have_ended():
+        time.sleep(random.uniform(0, 2 * every))
+        crew.kill()
+        if crew.kills // 5 > stops:
+            stops += 1
+            server.stop()
+            server.start()
+    until(crew.have_ended, 100, "all have ended")
+    holds(crew.kills >= kills // 2 and stops > 0, f"only {crew.kills} kills, and {stops} of the server")
+    return f"{crew.kills} kills, {stops} of the server"
+
+
+def short(_place):
+    """each example is below 60 lines"""
+    paths = [it for kind in ("python", "c", "shell") for it in glob.glob(os.path.join(EXAMPLES, kind, "*.*"))]
+    for path in paths:
+        holds(text_of(os.path.relpath(path, TOP)).count("\n") < 60, f"{path} is long")
+    holds(len(paths) >= 5, f"only {len(paths)} examples")
+    return f"{len(paths)} examples"
+
+
+def chain(number):
+    return 0 if number <= 1 else 1 + chain(3 * number + 1 if number & 1 else number >> 1)
+
+
+@within(200)
+def work_queue(place):
+    """python/work_queue.py: each job is put once, and its result is right, over kills of the producer, three workers and the server"""
+    jobs = 120
+    server = Server(place).start()
+    env = environment(place, server)
+    program = os.path.join(EXAMPLES, "python", "work_queue.py")
+    words = lambda what, who: [sys.executable, program, what, server.socket, place.path(f"session{who}"), str(jobs)]
+    crew = Crew(place, env, [words("produce", 0), *(words("work", who) for who in range(1, 4))])
+    said = storm(crew, server, 30)
+    script = "import sys; from femem import Client\nwith Client(sys.argv[1]) as it:\n"
+    script += f"  at = it.find('results')\n  print([it.readff(at, job, nowait=True) for job in range({jobs})])"
+    got = subprocess.run([sys.executable, "-c", script, server.socket], env={**os.environ, **env}, capture_output=True, check=True, timeout=60)
+    same(json.loads(got.stdout), [chain(job) for job in range(jobs)], "results")
+    numbers = collections.defaultdict(set)
+    for line in crew.lines():
+        number, value, _ = map(int, line.split())
+        numbers[value].add(number)
+    same([value for value, found in numbers.items() if len(found) > 1], [], "values that were put twice")
+    return f"{jobs} jobs, {said}"
+
+
+def alignment(first, second):
+    """The best score of a local alignment, from the whole matrix."""
+    best, above = 0, [0] * (len(second) + 1)
+    for one in first:
+        row = [0]
+        for at, other in enumerate(second):
+            row.append(max(0, above[at] + (3 if one == other else -2), above[at + 1] - 4, row[at] - 4))
+        best, above = max(best, *row), row
+    return best
+
+
+@within(200)
+def wavefront(place):
+    """c/wavefront.c: three of them find the score that the whole matrix gives, over kills of each and of the server"""
+    server = Server(place).start()
+    env = environment(place, server)
+    root, program = installed(place), place.path("wavefront")
+    words = [compiler(), "-std=c11", "-Wall", "-Wextra", "-Werror", f"-I{root}/usr/include", "-o", program]
+    built = subprocess.run(
+        [*words, os.path.join(EXAMPLES, "c", "wavefront.c"), f"-L{root}{builds.LIBRARIES}", "-lfemem"], capture_output=True, text=True, check=False
+    )
+    same((built.returncode, built.stderr), (0, ""))
+    first, second = ("".join(random.choice("ACGT") for _ in range(224)) for _ in range(2))
+    second = second[:60] + first[40:150] + second[170:]
+    crew = Crew(place, env, [[program, server.socket, place.path(f"session{who}"), first, second] for who in range(3)])
+    said = storm(crew, server, 30, 0.1)
+    tiles = {tuple(line.split()[:2]): int(line.split()[2]) for line in crew.lines()}
+    same(len(tiles), (224 // 16) ** 2, "tiles")
+    same(max(tiles.values()), alignment(first, second), "the score")
+    return f"{len(tiles)} tiles, score {max(tiles.values())}, {said}"
+
+
+@within(200)
+def counter(place):
+    """shell/counter.sh: three of them count each of their steps once, over kills of each and of the server"""
+    server = Server(place).start()
+    env = environment(place, server)
+    script = os.path.join(EXAMPLES, "shell", "counter.sh")
+    crew = Crew(place, env, [[script, place.path(f"session{who}"), "30"] for who in range(3)])
+    said = storm(crew, server, 20)
+    last = [list(map(int, place.read(f"crew{who}_{crew.lives[who]}.out").split())) for who in range(3)]
+    same([len(counts) for counts in last], [30] * 3, "counts that the last lives printed")
+    same(sorted(it for counts in last for it in counts), list(range(1, 91)), "the counts")
+    same({int(line) for line in crew.lines()}, set(range(1, 91)), "the counts that all lives printed")
+    same(run(place, env, ["femem-cli", "counter", "steps"]), "90\n")
+    return f"90 steps, {said}"
+
+
+def run(place, env, words, status=0):
+    process = place.start(words, "command", env, group=True)
+    process.wait()
+    same(process.returncode, status, place.read("command.err").decode())
+    return place.read("command.out").decode()
+
+
+def rate_limit(place):
+    """shell/rate_limit.sh: of forty starts at once, as many run as the limit says, also while the server is killed"""
+    server = Server(place).start()
+    env = environment(place, server)
+    script = os.path.join(EXAMPLES, "shell", "rate_limit.sh")
+    # (a window that does not end meanwhile)
+    words = [script, "mails", "7", "100000000", "echo", "sent"]
+    same(run(place, env, words), "sent\n")
+    started = [place.start(words, f"start{it}", env, group=True) for it in range(40)]
+    time.sleep(0.3)
+    server.stop()
+    server.start()
+    until(lambda: all(it.poll() is not None for it in started), 60, "all have ended")
+    ends = collections.Counter(it.returncode for it in started)
+    # (one that begins while there is no server has not counted)
+    holds(set(ends) <= {0, 4, 75} and ends[4] <= 33, f"ends: {ends} {place.read('start0.err').decode()}")
+    same((ends[0], sum(place.read(f"start{it}.out") == b"sent\n" for it in range(40))), (6, 6), "starts that ran")
+    run(place, env, words, 75)
+    return f"{ends[4]} found no server"
+
+
+# The job notes that it is inside, for a while, and what its number was; two at a time would find the folder.
+JOB = 'mkdir inside || { echo two >> wrong; exit 1; }; sleep 0.3; echo "$FEMEM_GENERATION" >> runs; rmdir inside'
+
+
+@within(200)
+def nightly(place):
+    """shell/nightly.sh: each day's job runs once, never two at a time, though four start it and are killed; a killed job runs again"""
+    server = Server(place).start()
+    env = {**environment(place, server), "TAKEOVER_AFTER": "0.5"}
+    script = os.path.join(EXAMPLES, "shell", "nightly.sh")
+    words = lambda day: [script, "backup", str(day), "sh", "-c", JOB]
+    for day in (1, 2):
+        started = [place.start(words(day), f"start{it}", env, group=True) for it in range(4)]
+        until(lambda: all(it.poll() is not None for it in started), 60, "all have ended")
+        same([it.returncode for it in started], [0] * 4, place.read("start0.err").decode())
+    same(len(place.read("runs").split()), 2, "runs of two days")
+    # The first is killed within its job, and the server too; the job goes on, holds the lock, and the day is run again.
+    first = place.start(words(3), "first", env)
+    until(lambda: os.path.exists(place.path("inside")), 30, "the job is inside")
+    first.kill()
+    server.stop()
+    server.start()
+    run(place, env, words(3))
+    runs = [int(it) for it in place.read("runs").split()]
+    same((len(runs) in (3, 4), runs), (True, sorted(set(runs))), "runs of three days, and their numbers, which grow")
+    run(place, env, words(3))
+    same(len(place.read("runs").split()), len(runs), "runs after the day is done")
+    holds(not os.path.exists(place.path("wrong")), "two were inside")
+    same(run(place, env, ["femem-cli", "counter", "backup_day"]), "3\n")
+
+
+METRIC = re.compile(r"\bfemem_[a-z_]+")
+
+
+def monitoring(place):
+    """monitoring/: each metric of the dashboard and of the rules is one that the observer or the probe prints, and each is there"""
+    server = Server(place).start()
+    env = {**os.environ, **environment(place, server), "PATH": f"{place.path('bin')}:{os.environ['PATH']}"}
+    os.mkdir(place.path("bin"))
+    os.symlink(place.program, place.path("bin/femem"))
+    with server.attached(7) as conn, server.attached(8) as other:
+        conn.ask(wire.call(1, ("create", b"cells", 2, 0)))
+        other.send(wire.call(1, ("access", wire.OPS[b"readfe"], 1, 0, 0, 0)))
+        shell = [sys.executable, "-m", "femem", server.socket, "--store", server.store, "metrics"]
+        until(lambda: b"femem_session_waiting{" in subprocess.check_output(shell, env=env), 30, "a request waits")
+        said = subprocess.check_output(shell, env=env).decode()
+    probe = [sys.executable, os.path.join(TOP, "packaging", "tools", "femem-probe"), "--metrics", server.socket]
+    said += subprocess.check_output(probe, env=env).decode()
+    exported = {line.split("{")[0].split(" ")[0] for line in said.splitlines() if not line.startswith("#")}
+    rules = text_of("examples/monitoring/femem-alerts.yml")
+    expressions = re.findall(r"^ +expr: (.*)$", rules, re.M)
+    same(len(expressions), len(re.findall(r"^ +- alert: Femem\w+$", rules, re.M)), "rules and their expressions")
+    alerted = set(METRIC.findall(" ".join(expressions)))
+    with open(os.path.join(EXAMPLES, "monitoring", "femem-dashboard.json"), encoding="utf-8") as file:
+        panels = json.load(file)["panels"]
+    shown = set(METRIC.findall(" ".join(target["expr"] for panel in panels for target in panel["targets"])))
+    same((alerted - exported, shown), (set(), exported), "metrics")
+    tools = shutil.which("promtool")
+    if tools:
+        subprocess.run([tools, "check", "rules", os.path.join(EXAMPLES, "monitoring", "femem-alerts.yml")], check=True, capture_output=True)
+    return f"{len(exported)} metrics, {len(expressions)} rules" + ("" if tools else ", promtool is not installed here")
+
+
+CHECKS = (short, work_queue, wavefront, counter, rate_limit, nightly, monitoring)
