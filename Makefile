@@ -88,7 +88,7 @@ client: ## builds the C client and femem-cli, and runs the tests of both clients
 	@$(MAKE) -s -C clients/c all test
 	@$(MAKE) -s -C clients/cli
 	@python3 -m unittest discover -s clients/python/tests
-	@echo "clients/c/out/libfemem.a and clients/cli/out/femem-cli are built; 'pip install ./clients/python' installs the Python client"
+	@echo "clients/c/out/libfemem.a and clients/cli/out/femem-cli are built; clients/python/README.md says how to install the Python client"
 
 bench: $(PROVED) ## measures a long schedule
 	@bench/run $(PROVED)
