@@ -13,6 +13,7 @@
 #include <signal.h>
 #include <stdlib.h>
 #include <string.h>
+#include <sys/select.h>
 #include <sys/socket.h>
 #include <sys/wait.h>
 #include <unistd.h>
@@ -115,12 +116,22 @@ typedef struct running {
   int pipe[2], line;
 } running;
 
-/* Waits for the holder's message. False if it has ended, or a signal came. */
+/* Waits for the holder's message. False if it has ended, or a signal came: also one that comes just before the wait,
+   since signals are let in by pselect alone. */
 static bool hear(int line, message *told) {
-  ssize_t size;
-  do size = recv(line, told, sizeof *told, MSG_WAITALL);
-  while (size < 0 && errno == EINTR && !last);
-  return size == sizeof *told;
+  sigset_t all, kept;
+  sigfillset(&all);
+  sigprocmask(SIG_BLOCK, &all, &kept);
+  bool readable = false;
+  while (!last && !readable) {
+    fd_set lines;
+    FD_ZERO(&lines);
+    FD_SET(line, &lines);
+    readable = pselect(line + 1, &lines, NULL, NULL, NULL, &kept) > 0;
+  }
+  bool heard = readable && recv(line, told, sizeof *told, MSG_WAITALL) == sizeof *told;
+  sigprocmask(SIG_SETMASK, &kept, NULL);
+  return heard;
 }
 
 static bool start_holder(running *run) {

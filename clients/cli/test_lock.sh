@@ -58,6 +58,17 @@ for signal in TERM:143 INT:130 HUP:129; do
   wait $waiter 2> /dev/null
   is "a waiting lock's status after SIG${signal%:*}" "$? $(cat said)" "${signal#*:} "
 done
+# A signal ends it at any moment of its begin.
+ended=0
+for moment in 000 002 004 006 008 010 012 014 016 018 020 022 024 026 028 030 033 036 040 050; do
+  "$cli" lock night -- echo wrong > /dev/null 2>&1 & waiter=$!
+  sleep 0.$moment
+  kill -TERM $waiter
+  until_so sh -c "! kill -0 $waiter || grep -q zombie /proc/$waiter/status"
+  wait $waiter 2> /dev/null
+  ended=$((ended + ($? == 143)))
+done
+is "waits that a signal ended" $ended 20
 "$cli" lock night -- echo wrong & waiter=$!
 until_so sh -c "'$cli' report | grep writeef"
 kill -KILL $waiter

@@ -52,7 +52,7 @@ is "the status after SIGINT" "$? $(cat said)" "130 "
 cat > command.sh << 'END'
 echo "begins $FEMEM_ATTEMPT" >> events
 touch in
-[ "$FEMEM_ATTEMPT" != 1 ] || { sleep 1.5; echo ends >> events; }
+[ "$FEMEM_ATTEMPT" != 1 ] || { until [ -e go ]; do sleep 0.02; done; echo ends >> events; }
 END
 q 0 "" put 24
 "$cli" --attempts 3 --capacity 8 queue jobs take -- sh command.sh & taker=$!
@@ -60,16 +60,17 @@ until_so [ -e in ]
 kill -KILL $taker
 wait $taker 2> /dev/null
 q 1 "" take -n -- sh command.sh
-q 0 "" take --timeout 20 -- sh command.sh
+touch go
+q 0 "" take --timeout 60 -- sh command.sh
 is "the attempts" "$(tr '\n' ' ' < events)" "begins 1 ends begins 2 "
-rm -f in events
+rm -f in go events
 q 0 "" put 25
 "$cli" --attempts 3 --capacity 8 queue jobs take -- sh -c 'touch in; exec sleep 300' & taker=$!
 until_so [ -e in ]
 all=$(ps -o pid= --ppid $taker)
 kill -KILL $taker $all
 wait $taker 2> /dev/null
-q 0 "2" take --timeout 20 -- sh -c 'echo $FEMEM_ATTEMPT'
+q 0 "2" take --timeout 60 -- sh -c 'echo $FEMEM_ATTEMPT'
 
 # Over restarts of the server, and wrong numbers.
 rm -f in
@@ -79,6 +80,7 @@ until_so [ -e in ]
 kill_server
 sleep 0.3
 start_server
+until_so sh -c "'$cli' report | grep readff" # (its taker is back)
 q 1 "" take --timeout 2 -- echo wrong
 touch go
 wait $taker
