@@ -9,6 +9,8 @@
 #include <time.h>
 #include <unistd.h>
 
+enum { SOONEST = 100 }; /* milliseconds between two pictures */
+
 /* What one picture is compared with. */
 typedef struct pace {
   uint64_t place;              /* the number of entries at the last picture, or 0 */
@@ -113,6 +115,6 @@ int do_top(command_line *cli, char **words, int count) {
     int status = show_once(cli, &now, clears);
     /* (a server that is away is tried again) */
     if (cli->given.once || (status && status != NO_SERVER)) return status;
-    if (nap(cli->stop, cli->given.every)) return DONE;
+    if (nap(cli->stop, cli->given.every < SOONEST ? SOONEST : cli->given.every)) return DONE;
   }
 }

@@ -186,6 +186,7 @@ def run(place, env, words, status=0):
     return place.read("command.out").decode()
 
 
+@within(200)
 def rate_limit(place):
     """shell/rate_limit.sh: of forty starts at once, as many run as the limit says, also while the server is killed"""
     server = Server(place).start()
