@@ -30,7 +30,9 @@ static bool send_all(int to, const void *from, size_t size) {
 
 /* ---- the holder ---- */
 
-/* Keeps the connection until the pipe ends. What waits to show this client is sent again with each connection. */
+/* Keeps the connection until the pipe ends. What waits to show this client is sent again with each connection. A
+   connection that has ended is made again with time for the welcome: the server might read the attach of one that is
+   given up too soon after that of the next one. */
 static void hold(holding *held, int pipe) {
   femem *client = held->cli->client;
   for (;;) {
@@ -39,9 +41,13 @@ static void hold(holding *held, int pipe) {
     if (poll(both, 2, connected ? -1 : 200) < 0 && errno != EINTR) return;
     if (both[0].revents) return;
     femem_answer answer;
-    if (!connected && femem_reconnect(client, 1000) == FEMEM_OK) femem_flush(client);
-    if (connected && both[1].revents && femem_next(client, &answer, 0) == FEMEM_NOTHING_OUT) femem_settle(client);
+    femem_error error = FEMEM_OK;
+    if (!connected || both[1].revents & (POLLHUP | POLLERR)) error = femem_reconnect(client, 5000);
+    else if (both[1].revents) error = femem_next(client, &answer, 0);
+    if (error == FEMEM_NOTHING_OUT) femem_settle(client);
+    if (error == FEMEM_REFUSED_NOT_ATTACHED) femem_reconnect(client, 5000);
     if (held->cli->shown && femem_out(client) == 0) show_presence(held);
+    if (femem_descriptor(client) >= 0) femem_flush(client); /* what a new connection has still to send */
   }
 }
 

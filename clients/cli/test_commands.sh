@@ -136,7 +136,7 @@ gives 2 "" --key k counter hits
 says "--key needs --session-file"
 gives 2 "" lock hits true
 is "the version" "$(x --version)" "femem-cli 1.0.0"
-is "what --help lists" "$(x --help | grep -c '^  [a-z]')" 22
+is "what --help lists" "$(x --help | grep -c '^  [a-z]')" 23
 x counter hits > /dev/full 2> said
 is "the status of a full disk" $? 5
 says "standard output: No space left on device"

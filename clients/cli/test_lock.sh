@@ -60,6 +60,7 @@ for signal in TERM:143 INT:130 HUP:129; do
 done
 # A signal ends it at any moment of its begin.
 ended=0
+trap - TERM # (a child has what it inherits until it runs femem-cli)
 for moment in 000 002 004 006 008 010 012 014 016 018 020 022 024 026 028 030 033 036 040 050; do
   "$cli" lock night -- echo wrong > /dev/null 2>&1 & waiter=$!
   sleep 0.$moment
@@ -68,6 +69,7 @@ for moment in 000 002 004 006 008 010 012 014 016 018 020 022 024 026 028 030 03
   wait $waiter 2> /dev/null
   ended=$((ended + ($? == 143)))
 done
+trap 'exit 1' TERM
 is "waits that a signal ended" $ended 20
 "$cli" lock night -- echo wrong & waiter=$!
 until_so sh -c "'$cli' report | grep writeef"

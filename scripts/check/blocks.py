@@ -32,7 +32,7 @@ BLOCKS = {
     "docs/operating.md": (
         ("femem serve --settings /etc/femem.toml", "deb.py: the unit's line"),
         ("apt install", "deb.py, in a system of its own; the last line here"),
-        ("systemctl stop femem\ninstall ", "deb_clients.py, elsewhere"),
+        ("folder=/srv/femem", "deb_clients.py, elsewhere"),
         ("place 5", HERE),
         ("systemctl is-active femem", HERE),
         ("  /usr/lib/femem/femem-backup", HERE),

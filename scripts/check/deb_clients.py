@@ -148,7 +148,7 @@ def elsewhere(place):
     """the operating page's lines move the store to /srv, and below /home; /var/lib/femem may be a link; the unit then waits for its mount"""
     with Clean(place, built(place)) as clean:
         unit = installed(clean, "femem-cli", "libfemem1")
-        lines = block("docs/operating.md", "systemctl stop femem\ninstall ")
+        lines = block("docs/operating.md", "folder=/srv/femem")
         last = STORE
         unit.attached(1).close()
         for session, folder in enumerate(("/srv/femem", "/home/femem/store"), 2):
@@ -168,7 +168,7 @@ def elsewhere(place):
         clean.shell("\n".join(kept))
         unit.waits()
         unit.attached(4).close()
-        same(sessions(clean, "/srv/femem/femem.store"), [1, 2, 3, 4], "the store where the link leads")
+        same(sessions(clean, "/srv/femem" + "/femem.store"), [1, 2, 3, 4], "the store where the link leads")
 
 
 CHECKS = (clients, upgrades, elsewhere)

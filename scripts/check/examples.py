@@ -81,8 +81,8 @@ class Crew:
         return found
 
 
-def storm(crew, server, kills, every=0.15):
-    """Kills processes, and for each fifth of these the server, while they work; then waits for their end. How often the server."""
+def storm(crew, server, kills, every):
+    """Kills processes, one each `every` seconds, and for each fifth of these the server, while they work; then waits for their end."""
     stops = 0
     while crew.kills < kills and not crew.have_ended():
         time.sleep(random.uniform(0, 2 * every))
@@ -92,7 +92,7 @@ def storm(crew, server, kills, every=0.15):
             server.stop()
             server.start()
     until(crew.have_ended, 100, "all have ended")
-    holds(crew.kills >= kills // 2 and stops > 0, f"only {crew.kills} kills, and {stops} of the server")
+    holds(crew.kills >= 10 and stops > 0, f"only {crew.kills} kills, and {stops} of the server")
     return f"{crew.kills} kills, {stops} of the server"
 
 
@@ -118,7 +118,7 @@ def work_queue(place):
     program = os.path.join(EXAMPLES, "python", "work_queue.py")
     words = lambda what, who: [sys.executable, program, what, server.socket, place.path(f"session{who}"), str(jobs)]
     crew = Crew(place, env, [words("produce", 0), *(words("work", who) for who in range(1, 4))])
-    said = storm(crew, server, 30)
+    said = storm(crew, server, 30, 0.08)
     script = "import sys; from femem import Client\nwith Client(sys.argv[1]) as it:\n"
     script += f"  at = it.find('results')\n  print([it.readff(at, job, nowait=True) for job in range({jobs})])"
     got = subprocess.run([sys.executable, "-c", script, server.socket], env={**os.environ, **env}, capture_output=True, check=True, timeout=60)
@@ -156,7 +156,7 @@ def wavefront(place):
     first, second = ("".join(random.choice("ACGT") for _ in range(224)) for _ in range(2))
     second = second[:60] + first[40:150] + second[170:]
     crew = Crew(place, env, [[program, server.socket, place.path(f"session{who}"), first, second] for who in range(3)])
-    said = storm(crew, server, 30, 0.1)
+    said = storm(crew, server, 30, 0.03)
     tiles = {tuple(line.split()[:2]): int(line.split()[2]) for line in crew.lines()}
     same(len(tiles), (224 // 16) ** 2, "tiles")
     same(max(tiles.values()), alignment(first, second), "the score")
@@ -169,14 +169,14 @@ def counter(place):
     server = Server(place).start()
     env = environment(place, server)
     script = os.path.join(EXAMPLES, "shell", "counter.sh")
-    crew = Crew(place, env, [[script, place.path(f"session{who}"), "30"] for who in range(3)])
-    said = storm(crew, server, 20)
+    crew = Crew(place, env, [[script, place.path(f"session{who}"), "60"] for who in range(3)])
+    said = storm(crew, server, 20, 0.05)
     last = [list(map(int, place.read(f"crew{who}_{crew.lives[who]}.out").split())) for who in range(3)]
-    same([len(counts) for counts in last], [30] * 3, "counts that the last lives printed")
-    same(sorted(it for counts in last for it in counts), list(range(1, 91)), "the counts")
-    same({int(line) for line in crew.lines()}, set(range(1, 91)), "the counts that all lives printed")
-    same(run(place, env, ["femem-cli", "counter", "steps"]), "90\n")
-    return f"90 steps, {said}"
+    same([len(counts) for counts in last], [60] * 3, "counts that the last lives printed")
+    same(sorted(it for counts in last for it in counts), list(range(1, 181)), "the counts")
+    same({int(line) for line in crew.lines()}, set(range(1, 181)), "the counts that all lives printed")
+    same(run(place, env, ["femem-cli", "counter", "steps"]), "180\n")
+    return f"180 steps, {said}"
 
 
 def run(place, env, words, status=0):
