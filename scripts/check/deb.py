@@ -124,9 +124,14 @@ def statuses(place):
         os.mkdir(clean.path("/backup"))
         holds(clean.do("/usr/lib/femem/femem-probe", SOCKET).startswith("stored in "), "a probe")
         same(clean.do("/usr/lib/femem/femem-backup", STORE, "/backup/femem.store"), "place 2\n")
-        connected = clean.do("sh", "-c", f"ss -xH state connected src {SOCKET}.new | wc -l")
+
+        def connections():
+            return int(clean.do("sh", "-c", f"ss -xH state connected src {SOCKET}.new | wc -l"))
+
+        # (the probe's own connection may be there for a moment)
+        until(lambda: connections() == 0, 20, "no connection as ss counts them")
         with unit.connect():
-            same(int(clean.do("sh", "-c", f"ss -xH state connected src {SOCKET}.new | wc -l")), int(connected) + 1, "connections as ss counts them")
+            until(lambda: connections() == 1, 20, "one connection as ss counts them")
         clean.do("systemctl", "stop", "femem")
         same(clean.do("/usr/lib/femem/femem-restore", "/backup/femem.store", STORE), "before: place 2\nnow: place 2\n")
         owner = os.stat(clean.path("/var/lib/femem"))

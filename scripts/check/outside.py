@@ -68,7 +68,7 @@ def is_check(function):
 def all_run(_place):
     """each check in scripts/check is one of its part's, and each part is one that scripts/check_programs runs"""
     programs = text_of("scripts/check_programs")
-    parts = re.findall(r'"(\w+)"', re.search(r"^PARTS = \((.*?)^\)", programs, re.M | re.S)[1] + re.search(r"^NAMED = (.*)$", programs, re.M)[1])
+    parts = re.findall(r'"(\w+)"', re.search(r"^PARTS = \((.*?)^\)", programs, re.M | re.S)[1] + re.search(r"^NAMED = \{(.*?)^\}", programs, re.M | re.S)[1])
     run, there = set(), set()
     for path in glob.glob(os.path.join(TOP, "scripts", "check", "*.py")):
         name = os.path.basename(path).removesuffix(".py")

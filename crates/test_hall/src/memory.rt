@@ -21,6 +21,7 @@ use std::marker::Brand;
 use std::process::Abort;
 use std::sync::Wait;
 use std::sync::ledger::Blank;
+use std::time::Clock;
 
 /// The size of a store's device, in bytes.
 const DEVICE_BYTES: usize = 4_202_496;
@@ -80,7 +81,7 @@ impl ReadHalf for Failing {
 
 /// Reads the client's stream until it fails, and stores what the client asked. `None` if memory ran out; then nothing
 /// is stored.
-fn store<C: Tally, M: Tally, R: Abort + Wait>(
+fn store<C: Tally, M: Tally, R: Abort + Clock + Wait>(
     rt: &R,
     alloc: Global,
     hall: &Hall<C, M>,
@@ -105,7 +106,7 @@ fn store<C: Tally, M: Tally, R: Abort + Wait>(
     }
 }
 
-fn store_as<C: Tally, M: Tally, R: Abort + Wait>(
+fn store_as<C: Tally, M: Tally, R: Abort + Clock + Wait>(
     rt: &R,
     alloc: Global,
     keeper: &mut Keeper<Liar>,
@@ -127,7 +128,7 @@ fn store_as<C: Tally, M: Tally, R: Abort + Wait>(
 }
 
 /// A hall for one group.
-fn store_group<R: Abort + Wait>(
+fn store_group<R: Abort + Clock + Wait>(
     rt: &R,
     alloc: Global,
     keeper: &mut Keeper<Liar>,
@@ -138,7 +139,7 @@ fn store_group<R: Abort + Wait>(
 }
 
 // Stores seven groups, and returns how many bytes of the journal are used afterwards.
-fn used_behind<R: Abort + Wait>(rt: &R, alloc: Global, keeper: &mut Keeper<Liar>) -> u32 {
+fn used_behind<R: Abort + Clock + Wait>(rt: &R, alloc: Global, keeper: &mut Keeper<Liar>) -> u32 {
     for _ in 0..7 {
         let end = match store_group(rt, alloc, keeper) {
             Some(end) => Some(end),
