@@ -15,8 +15,8 @@ Call = Tuple[Request[Any], Optional[float]]
 class BoundedQueue(Pattern):
     """At most `capacity` values of 64 bits, each taken once.
 
-    First in, first out, except near a client that was killed, stopped, or gave up waiting. Nobody waits for a client that is
-    stopped or killed. A value whose `get` was answered to a killed client went with it, unless it had a key.
+    First in, first out, except near a client that was killed, stopped or late, or gave up waiting. Nobody waits for a client
+    that is stopped or killed. A value whose `get` was answered to a killed client went with it, unless it had a key.
     """
 
     MARK = b"fe_ring1"

@@ -147,6 +147,30 @@ class Direct(WithFolder):
                 self.assertEqual(client.readfe(word, 1, timeout=LONG), turn)
                 giver.join()
 
+    def test_a_caller_that_waits_lets_others_call(self):
+        """It waits by itself, and leaves the connection to the thread when that has something to do."""
+        model = self.server().model
+        connections, connect = [], model.connect
+        model.connect = lambda conn: (connections.append(conn), connect(conn))
+        with Client(self.path, 7) as client:
+            word, begun = client.create("word", 2, full=True), len(connections)
+            waited = 0
+            for turn in range(20):
+                client.purge(word, 1)
+                self.warm(client, word)
+                got = []
+                waiter = threading.Thread(target=lambda: got.append(client.readfe(word, 1)))
+                waiter.start()
+                end = time.monotonic() + LONG
+                while not client._worker.lead.locked() and client._worker.lease is not None and time.monotonic() < end:
+                    time.sleep(0)
+                waited += client._worker.lead.locked()
+                client.writexf(word, 1, turn)
+                waiter.join(LONG)
+                self.assertEqual(got, [turn])
+            self.assertGreater(waited, 0)
+            self.assertEqual(len(connections), begun)
+
     def test_errors_are_those_of_any_call(self):
         self.server()
         with Client(self.path, 7) as client:

@@ -89,9 +89,16 @@ class Patterns(WithFolder):
 
         got = self.run_all(work)[0]
         self.assertEqual(sorted(got), sorted(100 * k + value for k in range(1, 5) for value in range(10)))
-        for k in range(1, 5):
-            mine = [value for value in got if value // 100 == k]
-            self.assertEqual(mine, sorted(mine))
+
+    def test_a_queue_is_first_in_first_out(self):
+        """Of puts that have ended. (Of two at the same time, one that is late comes later.)"""
+        self.server()
+        with Client(self.path, 1) as one, Client(self.path, 2) as two:
+            mine, yours = BoundedQueue(one, "queue", 3), BoundedQueue(two, "queue", 3)
+            for turn in range(30):
+                for value in range(3):
+                    mine.put(3 * turn + value)
+                self.assertEqual([(yours, mine)[turn % 2].get() for _ in range(3)], [3 * turn, 3 * turn + 1, 3 * turn + 2])
 
     def test_a_queue_in_time(self):
         self.server()
