@@ -45,10 +45,11 @@ class Owned(Pattern):
 
     def _find(self) -> Steps[Array]:
         """A new array is free, and its count is full."""
-        if self._array is None:
+        while self._array is None:
             array = yield from shared_array(self._name, self.LENGTH, False)
-            yield from batch([requests.writeef(array, self.COUNT, 0, nowait=True)], NotNow)
-            self._array = array
+            (filled,) = yield from batch([requests.writeef(array, self.COUNT, 0, nowait=True)], NotNow, NoArray)
+            if not isinstance(filled, NoArray):  # nobody broke it in between
+                self._array = array
         return self._array
 
     def _acquire(self, end: Optional[float], nowait: bool, patience: Optional[float], key: Optional[Key]) -> Steps[bool]:

@@ -153,15 +153,17 @@ def shared_array(name: str, length: int, full: bool) -> Steps[Array]:
 
 def marked_array(name: str, length: int, mark: bytes, first: Sequence[int] = ()) -> Steps[Array]:
     """As `shared_array`. Word 0 has the mark of its pattern, and the words from 1 on begin with these values."""
-    array = yield from shared_array(name, length, False)
     wanted = int.from_bytes(mark, "big")
-    fills = [requests.writeef(array, 1 + k, value, nowait=True) for k, value in enumerate(first)]
-    looks = [requests.writeef(array, 0, wanted, nowait=True), requests.readff(array, 0, nowait=True)]
-    _, found = yield from batch(looks, NotNow)
-    if found != wanted:
-        raise OtherPattern(f"{name} is the array of another pattern")
-    yield from batch(fills, NotNow)
-    return array
+    while True:
+        array = yield from shared_array(name, length, False)
+        fills = [requests.writeef(array, 1 + k, value, nowait=True) for k, value in enumerate(first)]
+        looks = [requests.writeef(array, 0, wanted, nowait=True), requests.readff(array, 0, nowait=True)]
+        _, found = yield from batch(looks, NotNow, NoArray)
+        if not isinstance(found, NoArray) and found != wanted:
+            raise OtherPattern(f"{name} is the array of another pattern")
+        filled = yield from batch(fills, NotNow, NoArray)
+        if not any(isinstance(each, NoArray) for each in [found, *filled]):
+            return array  # nobody removed it in between
 
 
 def is_there(report: Report, presence: Array, session: int) -> bool:

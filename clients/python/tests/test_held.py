@@ -12,7 +12,7 @@ from serving import WithFolder
 from test_unspoilt import Stop, interrupted
 
 import femem
-from femem import Client
+from femem import Client, requests
 from femem.aio import AsyncClient
 from femem.patterns import Channel, Lock, Semaphore, WorkQueue
 
@@ -170,6 +170,27 @@ class Spoilt(WithFolder):
                     theirs.take(timeout=2.0)
                 third.writexf(presence, 0, 1)
             job.done()
+
+
+    def test_an_array_that_is_removed_as_it_is_found_is_made_again(self):
+        self.server()
+        with Client(self.path, 7) as client:
+            for make in (lambda: Lock(client, "lock"), lambda: femem.patterns.BoundedQueue(client, "queue", 2)):
+                pattern = make()
+                name, pattern._array = pattern._name, None
+                client.remove(client.find(name))
+                steps, removed, outcome = pattern._find(), 0, None
+                try:
+                    while True:
+                        step = steps.send(outcome)
+                        if removed < 2 and step.requests[0].frame[4] in (5, 11):
+                            array = int.from_bytes(step.requests[0].frame[14:22], "big")
+                            (gone,) = client.submit_many([requests.remove(array)])
+                            removed += gone is None
+                        outcome = client.submit_many(step.requests)
+                except StopIteration as end:
+                    self.assertEqual(end.value, client.find(name))
+                self.assertEqual(removed, 2)
 
 
 class Sizes(WithFolder):
