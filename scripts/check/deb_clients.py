@@ -3,6 +3,7 @@
 import os
 import re
 import shutil
+import stat
 import subprocess
 
 from . import store
@@ -12,8 +13,6 @@ from .packages import built
 from .texts import TOP, block
 
 CLIENTS = "/var/lib/femem-clients"
-# Where a package may leave something.
-PLACES = "/etc /usr /var /run /root /home /opt /tmp"
 
 
 def as_user(clean, name, words, umask="022"):
@@ -107,16 +106,21 @@ def old_package(place):
 
 
 def named(clean):
-    """Every path there that names the project, except what dpkg and debconf keep of any package."""
-    found = clean.shell(f"find {PLACES} -xdev -name '*femem*' -not -path '/var/cache/*' -not -path '/tmp/*' 2> /dev/null || true")
-    return sorted(found.split("\n"))
+    """Every path there that names the project and was made in it, except the packages themselves and debconf's cache."""
+    made = f"/proc/{clean.process.pid}/root{clean.room}/upper"
+    found = clean.ask("sh", "-c", "ls -d /run/*femem*")[1].split()
+    for at, folders, files in os.walk(made):
+        paths = [os.path.join(at, it)[len(made):] for it in (*folders, *files) if "femem" in it]
+        # (what is removed of the machine's own files is a device there)
+        found += [it for it in paths if not it.startswith(("/srv/", "/var/cache/")) and not stat.S_ISCHR(os.lstat(made + it).st_mode)]
+    return sorted(found)
 
 
 @within(240)
 def upgrades(place):
     """the one package that there was is upgraded to all six and keeps its store; a stopped server stays stopped; a purge leaves nothing"""
     with Clean(place, built(place)) as clean:
-        before = named(clean)
+        same(named(clean), [], "what is there before")
         shutil.copy(old_package(place), clean.path("/srv/old.deb"))
         clean.do(*DPKG, "--install", "/srv/old.deb")
         unit = Unit(clean)
@@ -135,8 +139,9 @@ def upgrades(place):
         clean.do("systemctl", "start", "femem")
         unit.waits()
         same(store.read_store(open(unit.store, "rb").read())[2].looks(), "place 1\nsession 7 floor 1 kept 0\n")
+        holds(len(named(clean)) > 20, "the packages left no trace")
         clean.do(*DPKG, "--purge", *NAMES, env={"FEMEM_PURGE_STORE": "yes"})
-        same([it for it in named(clean) if it not in before], [], "what a purge leaves")
+        same(named(clean), [], "what a purge leaves")
 
 
 def sessions(clean, path):
