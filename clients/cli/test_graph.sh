@@ -1,5 +1,6 @@
 #!/bin/sh
 # What waits, as a picture, as text for Graphviz and as a live view: of locks that wait for each other, and others.
+SECONDS_AT_MOST=300
 . "$(dirname "$0")/testing.sh"
 command -v python3 > /dev/null || { echo "$0: there is no python3" >&2; exit 1; }
 
@@ -85,7 +86,7 @@ wait $top 2> /dev/null
 is "top's status after SIGTERM" $? 143
 until_so sh -c "[ -z \"\$('$cli' --program '$program' sessions | grep -v 'session 90')\" ]"
 if command -v script > /dev/null; then
-  timeout 20 script -qec "timeout 1 '$cli' --program '$program' top --every 0.1" typed > /dev/null < /dev/null
+  timeout -k 5 20 script -qec "timeout 1 '$cli' --program '$program' top --every 0.1" typed > /dev/null < /dev/null
   is "a terminal is cleared" "$(tr -d '\r' < typed | grep -c "$(printf '\033')\[2J" | sed 's/[1-9][0-9]*/many/')" many
 fi
 done_testing
