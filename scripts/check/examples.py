@@ -55,11 +55,11 @@ class Crew:
         self.lives[who] += 1
         return self.place.start(self.commands[who], f"crew{who}_{self.lives[who]}", self.env, group=True)
 
-    def kill(self):
-        """Kills one that runs, and starts it again."""
+    def kill(self, who=None):
+        """Kills one that runs, or the given one, and starts it again."""
         there = [who for who, process in enumerate(self.running) if process.poll() is None]
-        if there:
-            who = random.choice(there)
+        if there and who in (None, *there):
+            who = random.choice(there) if who is None else who
             os.killpg(self.running[who].pid, signal.SIGKILL)
             self.kills += self.running[who].wait() == -signal.SIGKILL
             if self.running[who].returncode == -signal.SIGKILL:
@@ -118,6 +118,9 @@ def work_queue(place):
     program = os.path.join(EXAMPLES, "python", "work_queue.py")
     words = lambda what, who: [sys.executable, program, what, server.socket, place.path(f"session{who}"), str(jobs)]
     crew = Crew(place, env, [words("produce", 0), *(words("work", who) for who in range(1, 4))])
+    for _ in range(3):
+        time.sleep(random.uniform(0.2, 0.6))
+        crew.kill(0)
     said = storm(crew, server, 30, 0.08)
     script = "import sys; from femem import Client\nwith Client(sys.argv[1]) as it:\n"
     script += f"  at = it.find('results')\n  print([it.readff(at, job, nowait=True) for job in range({jobs})])"
