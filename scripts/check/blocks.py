@@ -52,7 +52,7 @@ BLOCKS = {
         ("femem_queue_open(", HERE),
     ),
     "clients/python/README.md": (
-        ("pip install", HERE),
+        ("python3 -m venv", HERE),
         ("from femem import", "the client's own test_readme.py"),
         ("import threading", "test_readme.py"),
         *[("from femem import", "test_readme.py")] * 3,
@@ -278,17 +278,16 @@ def page_of_cli(place):
 @within(110)
 def page_of_python(place):
     """the commands of the Python client's page install it; its shell does what the page shows, against a server"""
-    words = block("clients/python/README.md", "pip install").strip()
-    pip = ["python3", "-m", "pip", "--version"]
+    words = block("clients/python/README.md", "python3 -m venv").strip()
+    pip = ["python3", "-m", "ensurepip", "--version"]
     if subprocess.run(pip, stdin=subprocess.DEVNULL, capture_output=True, timeout=60, check=False).returncode:
-        raise Skipped("there is no pip")
+        raise Skipped("there is no venv, of Debian's package python3-venv")
     ignored = shutil.ignore_patterns("__pycache__", "build", "*.egg-info")
     shutil.copytree(os.path.join(TOP, "clients", "python"), place.path("clients/python"), ignore=ignored)
     shutil.copy(os.path.join(TOP, "LICENSE"), place.folder)
-    made = place.path("site")
-    shell(place, f"python3 -m {words} --quiet --no-index --no-build-isolation --disable-pip-version-check --target '{made}'")
+    shell(place, words, env={"PIP_NO_INDEX": "1", "PIP_QUIET": "1", "PIP_DISABLE_PIP_VERSION_CHECK": "1"})
     server = Server(place).start()
-    env = {"PYTHONPATH": made}
+    env = {"PATH": f"{place.path('femem-env/bin')}:{os.environ['PATH']}"}
     lines = re.findall(r"`(create slot 2|writeef slot 0 42|readfe slot 0 nowait)`", text_of("clients/python/README.md"))
     same(len(lines), 3, "lines of the shell on its page")
     use = "python3 -m femem '{}' --session 7 {}"
