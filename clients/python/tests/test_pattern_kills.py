@@ -47,6 +47,10 @@ class Kills(WithFolder):
     def log(self, name):
         return Log(os.path.join(self.folder, name + ".log"))
 
+    def has_put(self, count, *names):
+        """Whether more values than that are in these logs."""
+        return lambda: sum(len(self.log(name).numbers("p")) for name in names) > count
+
     def is_enough(self):
         return os.path.exists(self.path + ".enough")
 
@@ -64,14 +68,14 @@ class Kills(WithFolder):
         finally:
             os._exit(status)
 
-    def history(self, work, count, killed=None, server_kills=2):
+    def history(self, work, count, killed=None, server_kills=2, has_enough=lambda: True):
         """`count` processes run `work(k)` until it is enough. Those in `killed` are killed and started again."""
         running = {k: self.fork(work, k) for k in range(count)}
         killed = list(range(count)) if killed is None else killed
         kills, begin = 0, time.monotonic()
         server_at = [begin + self.SECONDS * (k + 1) / (server_kills + 1) for k in range(server_kills)]
-        # (on a busy machine a kill takes long)
-        while time.monotonic() < begin + self.SECONDS or kills < 12 and time.monotonic() < begin + BOUND:
+        # (on a busy machine a kill takes long, and so does what is done between two kills)
+        while time.monotonic() < begin + self.SECONDS or not (kills >= 12 and has_enough()) and time.monotonic() < begin + BOUND:
             time.sleep(0.02 + 0.12 * self.chance.random())
             k = self.chance.choice(killed)
             os.kill(running[k], signal.SIGKILL)
@@ -181,7 +185,7 @@ class Kills(WithFolder):
         def work(k):
             (self.put_under_keys if k < 2 else self.get_under_keys)(k, make)
 
-        self.history(work, 4)
+        self.history(work, 4, has_enough=self.has_put(20, "put0", "put1"))
         got = [value for k in (2, 3) for value in self.log(f"got{k}").numbers("g")]
         with Client(self.path, 7) as client:
             queue = make(client)
@@ -217,7 +221,7 @@ class Kills(WithFolder):
         for thread in threads:
             thread.start()
         try:
-            self.history(lambda k: self.put_under_keys(k, make), 3)
+            self.history(lambda k: self.put_under_keys(k, make), 3, has_enough=self.has_put(50, "put0", "put1", "put2"))
         finally:
             stop.set()
             for thread in threads:
@@ -270,7 +274,7 @@ class Kills(WithFolder):
                     except femem.TimedOut:
                         pass
 
-        kills = self.history(work, 6)
+        kills = self.history(work, 6, has_enough=self.has_put(50, "w0", "w2", "w4"))
         with Client(self.path, 1) as client:
             queue = BoundedQueue(client, "queue", 4)
             got = [queue.get(timeout=BOUND) for _ in range(queue.qsize())]
@@ -307,7 +311,7 @@ class Kills(WithFolder):
                 while not self.is_enough():
                     work(held, k)
 
-        self.history(run, 4)
+        self.history(run, 4, has_enough=lambda: len(self.log("held").lines()) > 20)
         self.assertGreater(len(self.log("held").lines()), 20)
 
     def test_a_lock(self):
@@ -425,7 +429,7 @@ class Kills(WithFolder):
                         continue
                     log.add("d", job.value)
 
-        kills = self.history(work, 5)
+        kills = self.history(work, 5, has_enough=self.has_put(20, "put0", "put1"))
         put = sorted(value for k in range(2) for value in self.log(f"put{k}").numbers("p"))
         with Client(self.path, 1) as client:
             queue = WorkQueue(client, "jobs", 32, attempts=16, away_after=0.5)
