@@ -35,9 +35,11 @@ const STORE: [(usize, &'static [u8]); 4] = [
     (4111, &[1]),
 ];
 
-/// The number of entries in a group, 80 bytes each. After the fourth group a checkpoint is due; the seventh group
-/// fits only after it.
-const ENTRIES: usize = 2000;
+/// How many connections attach, one after the other, and how often each does. That is a group of 2,000 entries, 80 bytes each. After
+/// the fourth group a checkpoint is due; the seventh group fits only after it. (A read side with 64 messages waits for nobody.)
+const CONNECTIONS: u64 = 40;
+
+const ATTACHES: usize = 50;
 
 /// The bytes used in the journal after the checkpoint: one group with everything since the checkpoint began, and the
 /// seventh. There is one group less in it if the checkpoint began only after the fifth, because memory was refused.
@@ -48,7 +50,7 @@ const USED_LATER: u32 = 320_010;
 /// A client that attaches again and again.
 fn stream(alloc: Global) -> Result<Vec<u8>, AllocError> {
     let mut bytes = Vec::new(alloc);
-    for _ in 0..ENTRIES {
+    for _ in 0..ATTACHES {
         put_said(&mut bytes, Say::Attach(7))?;
     }
     Ok(bytes)
@@ -79,8 +81,29 @@ impl ReadHalf for Failing {
     }
 }
 
-/// Reads the client's stream until it fails, and stores what the client asked. `None` if memory ran out; then nothing
-/// is stored.
+/// Reads a client's stream until it fails. `None` if memory ran out.
+fn take<C: Tally, M: Tally, R: Abort + Clock + Wait>(
+    rt: &R,
+    alloc: Global,
+    hall: &Hall<C, M>,
+    conn: u64,
+) -> Option<()> {
+    let bytes = stream(alloc).ok()?;
+    let (seat, _) = hall.connect(rt, conn).ok()?;
+    let mut half = Failing {
+        half: MemoryRead::new(bytes, 4096),
+    };
+    let (_, _, end) = read_side(rt, alloc, hall, seat, &mut half, &Open, None);
+    match end {
+        ReadEnd::Device => Some(()),
+        _ => {
+            assert!(rt; end == ReadEnd::NoMemory);
+            None
+        }
+    }
+}
+
+/// Reads the stream of each client, and stores what they asked. `None` if memory ran out; then nothing is stored.
 fn store<C: Tally, M: Tally, R: Abort + Clock + Wait>(
     rt: &R,
     alloc: Global,
@@ -88,22 +111,11 @@ fn store<C: Tally, M: Tally, R: Abort + Clock + Wait>(
     keeper: &mut Keeper<Liar>,
     stored: &mut StoreSeat<M>,
 ) -> Option<CommitEnd> {
-    let bytes = stream(alloc).ok()?;
-    let (seat, _) = hall.connect(rt, 1).ok()?;
-    let mut half = Failing {
-        half: MemoryRead::new(bytes, 4096),
-    };
-    let (_, _, end) = read_side(rt, alloc, hall, seat, &mut half, &Open, None);
-    match end {
-        ReadEnd::Device => {
-            hall.stop(rt);
-            Some(commit_side(rt, hall, keeper, stored).end())
-        }
-        _ => {
-            assert!(rt; end == ReadEnd::NoMemory);
-            None
-        }
+    for conn in 1..=CONNECTIONS {
+        take(rt, alloc, hall, conn)?;
     }
+    hall.stop(rt);
+    Some(commit_side(rt, hall, keeper, stored).end())
 }
 
 fn store_as<C: Tally, M: Tally, R: Abort + Clock + Wait>(
