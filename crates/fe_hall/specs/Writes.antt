@@ -11,7 +11,6 @@ use Rattle.fe_shared.specs.declared.standing.Standing.{Standing}
 use Rattle.fe_shared.specs.declared.standing.Standing.TheVariants as standing
 use Rattle.fe_shared.specs.declared.taking.Taking.{Taking}
 use Rattle.fe_shared.specs.declared.taking.Taking.TheVariants as taking
-use Rattle.fe_shared.specs.Briefs.{last_of}
 use Rattle.fe_shared.specs.Seats.{WriteSeat}
 
 -- how many receipts a side keeps at most
@@ -22,12 +21,12 @@ most_receipts = 1024
 abbrev pub receipts_of : List Mail → List Receipt
 receipts_of mails = take most_receipts (filter_map receipt_of mails)
 
--- These mails of a connection were taken: its seat counts them and has the last of them, and the receipts are those of their first
--- answers.
+-- These mails of a connection were taken, just these and in this order: its seat has them and counts them, and the receipts are those
+-- of their first answers.
 pub record AreTaken (before after : WriteSeat) (kept : List Receipt) (mails : List Mail) : Type 0 where
   pub conn : after.conn ≡ before.conn
   pub count : after.mails ≡ before.mails + length mails
-  pub last : after.last ≡ last_of before.last mails
+  pub taken : after.taken ≡ before.taken ++ mails
   pub receipts : kept ≡ receipts_of mails
 
 -- mails that are written at once: all but the last of them are spelled in less than 64 KiB
@@ -85,7 +84,7 @@ receipts_with receipts mails = take most_receipts (receipts ++ filter_map receip
 pub record TakesOn (before after : WriteSeat) (kept kept_after : List Receipt) (mails : List Mail) : Type 0 where
   pub conn : after.conn ≡ before.conn
   pub count : after.mails ≡ before.mails + length mails
-  pub last : after.last ≡ last_of before.last mails
+  pub taken : after.taken ≡ before.taken ++ mails
   pub receipts : kept_after ≡ receipts_with kept mails
 
 -- why a side ends that has no mail: not for a fault of its half, and not because memory is short

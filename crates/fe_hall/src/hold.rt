@@ -18,8 +18,8 @@ use crate::baton::Grip;
 use fe_front::BELLS;
 use fe_history::{Chronicle, History, StoreSeat, Tally};
 use fe_shared::{
-    CallSeat, Cutting, HasStopped, Made, MailSeat, Posted, Rest, Shared, Standing, Taking,
-    Unconnected, Unposted,
+    CallSeat, ConnectRight, Cutting, HasStopped, Made, MailSeat, Posted, Rest, Shared, Standing,
+    Taking, Unconnected, Unposted,
 };
 use fe_state::Batch;
 use fe_wire::ClientMessage;
@@ -117,7 +117,11 @@ impl<'a, C: Tally, M: Tally> Hold<'a, C, M> {
     }
 
     /// The event that a connection comes (`Shared::connect`).
-    pub(crate) fn connect(&mut self, conn: u64) -> Result<(CallSeat<C>, MailSeat<M>), Unconnected>
+    pub(crate) fn connect(
+        &mut self,
+        right: &ConnectRight,
+        conn: u64,
+    ) -> Result<(CallSeat<C>, MailSeat<M>), Unconnected>
         requires fresh { self.old.used ≡ false }
         ensures used { self.new.used ≡ true }
         ensures step { OnOk result
@@ -127,7 +131,7 @@ impl<'a, C: Tally, M: Tally> Hold<'a, C, M> {
         ensures mails { IfOk result (λ seats. seats.1 ≡ first_write_seat conn) }
     {
         self.used = true;
-        self.shared.connect(conn)
+        self.shared.connect(right, conn)
     }
 
     /// The event of a message, if there is room for it (`Shared::handle`).
@@ -144,7 +148,7 @@ impl<'a, C: Tally, M: Tally> Hold<'a, C, M> {
             × Takes (under self.old.shared).front seat.old.conn message.now es (under self.new.shared).front }
         ensures other { result ≢ Some Standing.Served → (under self.new.shared).front ≡ (under self.old.shared).front }
         ensures seat { MatchOption result (seat.new ≡ seat.old)
-            (λ s. seat.new ≡ message_answered seat.old message.now s) }
+            (λ s. seat.new ≡ message_answered seat.old message.now (under self.new.shared).front.service.state.place s) }
     {
         self.used = true;
         self.shared.handle(alloc, message, seat)
@@ -260,15 +264,23 @@ impl<'a, C: Tally, M: Tally> Hold<'a, C, M> {
         self.shared.unwatch(conn)
     }
 
-    /// Whether a read side need not wait for what was made before (`Shared::rest`). This is no event of the front.
-    pub(crate) fn rest(&mut self, seat: &CallSeat<C>, made: &Made) -> Option<Rest>
+    /// Whether a read side need not wait for what comes of its messages (`Shared::rest`). This is no event of the front.
+    pub(crate) fn rest(&mut self, seat: &CallSeat<C>) -> Option<Rest>
         ensures same { self.new.used ≡ self.old.used }
         ensures own { IfSome result (λ rest. rest.conn ≡ seat.now.conn) }
         ensures drained { IfSome result (λ rest. rest.short ≡ false
-            → IsDrained (under self.old.shared).front (under self.old.shared).stopped seat.now.conn made.now) }
+            → IsDrained (under self.old.shared).front (under self.old.shared).stopped seat.now.conn seat.now.place) }
         ensures front { (under self.new.shared).front ≡ (under self.old.shared).front }
     {
-        self.shared.rest(seat, made)
+        self.shared.rest(seat)
+    }
+
+    /// Whether a read side may hand on more (`Shared::may_go_on`). This is no event of the front.
+    pub(crate) fn may_go_on(&mut self, conn: u64, made: &Made) -> bool
+        ensures same { self.new.used ≡ self.old.used }
+        ensures front { (under self.new.shared).front ≡ (under self.old.shared).front }
+    {
+        self.shared.may_go_on(conn, made)
     }
 
     /// The history learns what was cut and stored (`Shared::teach`).

@@ -6,7 +6,7 @@ ghost use Rattle.fe_shared.specs.Seats.{first_read_seat, first_write_seat};
 use crate::connection::Connection;
 use crate::house::House;
 use crate::register::{Admission, NoNewcomer};
-use fe_hall::{CallSeat, Gate, Hall, MailSeat, Tally};
+use fe_hall::{CallSeat, ConnectRight, Gate, Hall, MailSeat, Tally};
 use std::alloc::Global;
 use std::sync::Wait;
 use std::thread::Threads;
@@ -52,11 +52,12 @@ impl<C: Tally, M: Tally> Newcomer<C, M> {
     pub(crate) fn of<R: Wait>(
         rt: &R,
         hall: &Hall<C, M>,
+        right: &ConnectRight,
         connection: Connection,
     ) -> Result<Newcomer<C, M>, Unserved>
         ensures connection { IfOk result (λ newcomer. newcomer.connection ≡ connection) }
     {
-        match hall.connect(rt, connection.conn()) {
+        match hall.connect(rt, right, connection.conn()) {
             Ok((calls, mails)) => Ok(Newcomer {
                 connection,
                 calls,

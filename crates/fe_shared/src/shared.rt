@@ -1,6 +1,6 @@
 //! What is under the lock of a hall: the front, with a ledger of its calls and one of the mails that were taken.
 
-ghost use Rattle.std.specs.Prelude.{IsNone, ◌≡◌, ◌≢◌, ◌+◌, ◌-◌, ◌^◌, ◌≤◌, ◌⊎◌, ◌↔◌, ℕ, List, [], true, false, Ok, Err, Some, None, IsTrue, IsErr, IfOk, OnOk, OnErr, IfSome, MatchOption, nat_lt};
+ghost use Rattle.std.specs.Prelude.{IsNone, ◌≡◌, ◌≢◌, ◌+◌, ◌≤◌, ◌↔◌, ℕ, List, [], true, false, Ok, Err, Some, None, IsTrue, IsErr, IfOk, OnOk, OnErr, IfSome, MatchOption};
 ghost use Rattle.fe_state.specs.declared.entry.Entry.{Entry};
 ghost use Rattle.fe_front.specs.Front.{has_room, is_connected};
 ghost use Rattle.fe_mail.specs.Books.{AddUp};
@@ -17,6 +17,7 @@ mod batches;
 
 use crate::call_seat::CallSeat;
 use crate::mail_seat::MailSeat;
+use crate::pace::Paces;
 use crate::seats::Seats;
 use crate::standing::Standing;
 use crate::taking::Taking;
@@ -51,6 +52,7 @@ pub struct Shared<C: Tally, M: Tally> {
     /// How many connections were made.
     made: u64,
     watchers: Watchers,
+    paces: Paces,
     stopped: bool,
     ghost open: { IsOpen front.books },
     ghost calls_agree: { calls.total ≡ front.books.calls },
@@ -74,6 +76,7 @@ impl<C: Tally, M: Tally> Drop for Shared<C, M> {
             posted: _,
             made: _,
             watchers,
+            paces,
             stopped: _,
         } = self;
         drop(front);
@@ -83,6 +86,7 @@ impl<C: Tally, M: Tally> Drop for Shared<C, M> {
         drop(spare_mails);
         drop(history);
         drop(watchers);
+        drop(paces);
     }
 }
 
@@ -100,6 +104,10 @@ impl<C: Tally, M: Tally> Model for Shared<C, M> {
 
     ghost invariant = { λ s. IsMarked s.front s.posted s.history };
 }
+
+/// The right to make connections in a hall. There is one, which the hall gives to whoever begins it.
+#[derive(Drop)]
+pub struct ConnectRight(());
 
 /// Shows that a hall was stopped. Only `Shared::stop` makes one.
 #[derive(Clone, Copy)]
@@ -152,25 +160,25 @@ impl SeatMissing {
 }
 
 impl<C: Tally, M: Tally> Shared<C, M> {
-    /// A front that is as it began, with no connection made.
+    /// A front that is as it began, with no connection made, and the right to make some.
     pub fn new(
         alloc: Global,
         front: Front,
         calls: Blank,
         mails: Blank,
         history: History<M>,
-    ) -> Shared<C, M>
+    ) -> (Shared<C, M>, ConnectRight)
         requires begun { IsBegun front history }
         requires legal { IsLegal history }
         requires calls { (calls.name ≡ C.name) × (calls.parts ≡ C.parts) × (C.all ≡ C.parts)
             × (C.all ≡ most_connections + 1) }
         requires mails { (mails.name ≡ M.name) × (mails.parts ≡ M.parts) × (M.all ≡ M.parts)
             × (M.all ≡ most_connections + 1) }
-        ensures { result.front ≡ front }
+        ensures { result.0.front ≡ front }
     {
         let (called, spare_calls) = calls.open::<C>();
         let (taken, spare_mails) = mails.open::<M>();
-        Shared {
+        let shared = Shared {
             front,
             calls: called,
             mails: taken,
@@ -180,12 +188,18 @@ impl<C: Tally, M: Tally> Shared<C, M> {
             posted: 0,
             made: 0,
             watchers: Watchers::new(alloc),
+            paces: Paces::new(alloc),
             stopped: false,
-        }
+        };
+        (shared, ConnectRight(()))
     }
 
     /// Makes a connection with an empty box, and the seats of its two sides.
-    pub fn connect(&mut self, conn: u64) -> Result<(CallSeat<C>, MailSeat<M>), Unconnected>
+    pub fn connect(
+        &mut self,
+        _right: &ConnectRight,
+        conn: u64,
+    ) -> Result<(CallSeat<C>, MailSeat<M>), Unconnected>
         ensures step { OnOk result (FrontStep self.old.front (event.Connect conn) [] self.new.front) }
         ensures err { OnErr result (self.new.front ≡ self.old.front) }
         ensures in_use { (result ≡ Err Unconnected.InUse) ↔ (is_connected self.old.front conn ≡ true) }
@@ -209,6 +223,7 @@ impl<C: Tally, M: Tally> Shared<C, M> {
         let calls = self.spare_calls.split_off(1, 0);
         let mails = self.spare_mails.split_off(1, 0);
         self.made += 1;
+        self.paces.begin(conn);
         Ok((CallSeat::new(calls, conn), MailSeat::new(mails, conn)))
     }
 
@@ -224,16 +239,16 @@ impl<C: Tally, M: Tally> Shared<C, M> {
     fn take_message(&mut self, alloc: Global, message: ClientMessage, seat: &mut CallSeat<C>)
         requires room { IsTrue (has_room self.old.front) }
         requires more { IsTrue (takes_more self.old.front.books) }
-        requires few { IsTrue (nat_lt seat.old.taken (2 ^ 64 - 1)) }
         ensures taken { (es : List Entry) × Takes self.old.front seat.old.conn message es self.new.front }
-        ensures seat { seat.new ≡ message_taken seat.old message }
+        ensures seat { seat.new ≡ message_taken seat.old message self.new.front.service.state.place }
         ensures still { self.new.stopped ≡ self.old.stopped }
     {
         // It names what is always true of the front (`docs/DECISIONS.md`, "Toolchain").
         let _ = self.front.state();
         let conn = seat.conn();
-        seat.take(&mut self.calls, &message);
         take_message(alloc, &mut self.front, conn, message);
+        seat.take(&mut self.calls, &message, self.front.state().place());
+        self.paces.note_message(conn);
     }
 
     /// Handles a message, or records in its seat why not. If there is no room for it, does nothing and returns `None`.
@@ -247,12 +262,11 @@ impl<C: Tally, M: Tally> Shared<C, M> {
             → (es : List Entry) × Takes self.old.front seat.old.conn message.now es self.new.front }
         ensures other { result ≢ Some Standing.Served → self.new.front ≡ self.old.front }
         ensures seat { MatchOption result (seat.new ≡ seat.old)
-            (λ s. seat.new ≡ message_answered seat.old message.now s) }
+            (λ s. seat.new ≡ message_answered seat.old message.now self.new.front.service.state.place s) }
         // Each other answer has its reason, and stopped comes first.
         ensures stopped { (result ≡ Some Standing.Stopped) ↔ (self.old.stopped ≡ true) }
         ensures gone { result ≡ Some Standing.Gone → is_connected self.old.front seat.old.conn ≡ false }
-        ensures spent { result ≡ Some Standing.Spent
-            → (takes_more self.old.front.books ≡ false) ⊎ (nat_lt seat.old.taken (2 ^ 64 - 1) ≡ false) }
+        ensures spent { result ≡ Some Standing.Spent → takes_more self.old.front.books ≡ false }
         ensures full { result ≡ None → has_room self.old.front ≡ false }
         ensures still { self.new.stopped ≡ self.old.stopped }
     {
@@ -265,10 +279,6 @@ impl<C: Tally, M: Tally> Shared<C, M> {
             return Some(Standing::Gone);
         }
         if !self.takes_more() {
-            seat.tell(&self.calls, Standing::Spent);
-            return Some(Standing::Spent);
-        }
-        if !seat.counts_more() {
             seat.tell(&self.calls, Standing::Spent);
             return Some(Standing::Spent);
         }
@@ -337,16 +347,16 @@ impl<C: Tally, M: Tally> Shared<C, M> {
         self.is_over(conn) || self.front.durable() >= place && !self.front.has_mail(conn)
     }
 
-    /// Whether the read side of a connection need not wait for what comes of what was made before. `None`: it is noted that it waits.
-    pub fn rest(&mut self, seat: &CallSeat<C>, made: &Made) -> Option<Rest>
+    /// Whether the read side of a connection need not wait for what comes of its messages. `None`: it is noted that it waits.
+    pub fn rest(&mut self, seat: &CallSeat<C>) -> Option<Rest>
         ensures own { IfSome result (λ rest. rest.conn ≡ seat.now.conn) }
         ensures drained { IfSome result (λ rest. rest.short ≡ false
-            → IsDrained self.old.front self.old.stopped seat.now.conn made.now) }
+            → IsDrained self.old.front self.old.stopped seat.now.conn seat.now.place) }
         ensures front { self.new.front ≡ self.old.front }
         ensures still { self.new.stopped ≡ self.old.stopped }
     {
         let conn = seat.conn();
-        if self.is_drained(conn, made.place) {
+        if self.is_drained(conn, seat.place()) {
             let _ = self.watchers.remove(conn);
             return Some(Rest { conn, short: false });
         }
@@ -354,6 +364,20 @@ impl<C: Tally, M: Tally> Shared<C, M> {
             return Some(Rest { conn, short: true });
         }
         None
+    }
+
+    /// Whether the read side of a connection may hand on more: its write side is close behind, or has taken what came of all that was
+    /// made before, or there is no memory to note that it waits. If not, it is noted.
+    pub fn may_go_on(&mut self, conn: u64, made: &Made) -> bool
+        ensures waits { result ≡ false → ¬ IsDrained self.old.front self.old.stopped conn made.now }
+        ensures front { self.new.front ≡ self.old.front }
+        ensures still { self.new.stopped ≡ self.old.stopped }
+    {
+        if self.paces.is_close(conn) || self.is_drained(conn, made.place) {
+            let _ = self.watchers.remove(conn);
+            return true;
+        }
+        !self.watchers.add(conn)
     }
 
     /// Whether all entries that were made before are stored and posted.
@@ -372,7 +396,9 @@ impl<C: Tally, M: Tally> Shared<C, M> {
     }
 
     /// How many mails were made, also those that met a full box.
-    pub fn mails_made(&self) -> u64 {
+    pub fn mails_made(&self) -> u64
+        ensures { result ≡ self.now.front.books.mails }
+    {
         self.front.books().mails
     }
 
@@ -390,6 +416,7 @@ impl<C: Tally, M: Tally> Shared<C, M> {
                 let more = self.front.has_mail(conn);
                 seat.take(&mut self.mails, &mail, more);
                 self.watchers.note_move(conn);
+                self.paces.note_mail(conn);
                 Some(Taking::Mail { mail, more })
             }
             None => self.end_of_mails(seat),
@@ -437,6 +464,7 @@ impl<C: Tally, M: Tally> Shared<C, M> {
     pub fn leave_by_reader(&mut self, seat: &mut CallSeat<C>)
         ensures step { (count : ℕ) × FrontStep self.old.front (event.Gone seat.old.conn count) [] self.new.front }
         ensures seat { seat.new ≡ record seat.old { departed = true } }
+        ensures still { self.new.stopped ≡ self.old.stopped }
     {
         self.drop_connection(seat.conn());
         seat.depart(&self.calls);
@@ -446,6 +474,7 @@ impl<C: Tally, M: Tally> Shared<C, M> {
     pub fn leave_by_writer(&mut self, seat: &mut MailSeat<M>)
         ensures step { (count : ℕ) × FrontStep self.old.front (event.Gone seat.old.conn count) [] self.new.front }
         ensures seat { seat.new ≡ record seat.old { departed = true } }
+        ensures still { self.new.stopped ≡ self.old.stopped }
     {
         self.drop_connection(seat.conn());
         seat.depart(&self.mails);
@@ -460,6 +489,7 @@ impl<C: Tally, M: Tally> Shared<C, M> {
         ensures step { self.old.stopped ≡ false
             → (count : ℕ) × FrontStep self.old.front (event.Gone seat.old.conn count) [] self.new.front }
         ensures stopped { self.old.stopped ≡ true → self.new.front ≡ self.old.front }
+        ensures still { self.new.stopped ≡ self.old.stopped }
     {
         if self.stopped {
             seat.tell(&self.calls, Standing::Stopped);
@@ -503,9 +533,11 @@ impl<C: Tally, M: Tally> Shared<C, M> {
             posted: _,
             made: _,
             watchers,
+            paces,
             stopped: _,
         } = self;
         drop(watchers);
+        drop(paces);
         drop(history);
         let books = front.books();
         drop(front);
