@@ -8,15 +8,6 @@ pub left_all : (turns : Option ℕ) (made : ℕ) → made ≡ 0 → AreLeft turn
 left_all None made none = tt
 left_all (Some turns) made none = omega (arith, none)
 
--- one read more, of those that are left or of any number
-pub left_less : (turns : Option ℕ) (k made next : ℕ) → 0 < k → next ≡ made + 1 → AreLeft turns (Some k) made → AreLeft turns (Some (k - 1)) next
-left_less None k made next some one left = absurd left
-left_less (Some turns) k made next some one left = omega (arith, some, one, left)
-
-pub left_any : (turns : Option ℕ) (made next : ℕ) → AreLeft turns None made → AreLeft turns None next
-left_any None made next left = tt
-left_any (Some turns) made next left = absurd left
-
 -- all were made
 pub left_none : (turns : Option ℕ) (before now : ℕ) → before ≤ now → AreLeft turns (Some 0) (now - before) → (most : ℕ) × (turns ≡ Some most) × (now ≡ before + most)
 left_none None before now more left = absurd left

@@ -1,5 +1,5 @@
 ghost use Rattle.std.specs.Prelude.{◌≡◌, ◌≤◌, ◌∷◌, ◌++◌, [], ◌+◌, ℕ, IfOk, IfErr, OnOk, OnErr, length, true};
-ghost use Rattle.fe_shared.specs.Seats.{HasRested, ReadSeat, TookNoMessage, WriteSeat, first_read_seat, first_write_seat, message_answered, taking_answered, most_connections};
+ghost use Rattle.fe_shared.specs.Seats.{HasRested, ReadSeat, TookNoMessage, WriteSeat, message_answered, taking_answered, most_connections};
 ghost use mathlib.Core.List.{IsPrefix};
 ghost use Rattle.fe_history.specs.Acts.{WasStoredLast};
 ghost use Rattle.fe_shared.specs.Holds.{IsCutIn};
@@ -10,8 +10,8 @@ use crate::hold::Lock;
 use fe_front::{BELLS, Front};
 use fe_history::{Chronicle, Gathered, History, NewHistory, Receipt, StoreSeat, Tally};
 use fe_shared::{
-    CallSeat, ConnectRight, Cutting, HasStopped, Made, MailSeat, Posted, Shared, Standing, Taking,
-    Unconnected, Unposted,
+    CallSeat, ConnectRight, Cutting, HasStopped, Made, MailSeat, NewSeats, Posted, Shared,
+    Standing, Taking, Unconnected, Unposted,
 };
 use fe_state::Batch;
 use fe_wire::ClientMessage;
@@ -84,15 +84,14 @@ impl<C: Tally, M: Tally> Hall<C, M> {
         }
     }
 
-    /// Makes a connection with this number, and returns the seats of its two sides. Only who has the right to it can.
+    /// Makes a connection with this number, and returns its seats. Only who has the right to it can.
     pub fn connect<R: Wait>(
         &self,
         rt: &R,
         right: &ConnectRight,
         conn: u64,
-    ) -> Result<(CallSeat<C>, MailSeat<M>), Unconnected>
-        ensures calls { IfOk result (λ seats. seats.0 ≡ first_read_seat conn) }
-        ensures mails { IfOk result (λ seats. seats.1 ≡ first_write_seat conn) }
+    ) -> Result<NewSeats<C, M>, Unconnected>
+        ensures { IfOk result (λ seats. seats ≡ conn) }
     {
         self.lock.enter(rt).connect(right, conn)
     }

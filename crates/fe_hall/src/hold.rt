@@ -12,14 +12,14 @@ ghost use mathlib.Core.List.{IsPrefix};
 ghost use Rattle.fe_history.specs.Acts.{WasStoredLast};
 ghost use Rattle.fe_shared.specs.Marks.{MayBeTold};
 ghost use Rattle.fe_shared.specs.Holds.{Cuts, IsCutIn, IsDrained, IsUnposted, Leaves, TakesMail};
-ghost use Rattle.fe_shared.specs.Seats.{HasRested, ReadSeat, TookNoMessage, WriteSeat, first_read_seat, first_write_seat, message_answered, taking_answered, posts_more};
+ghost use Rattle.fe_shared.specs.Seats.{HasRested, ReadSeat, TookNoMessage, WriteSeat, message_answered, taking_answered, posts_more};
 
 use crate::baton::Grip;
 use fe_front::BELLS;
 use fe_history::{Chronicle, History, StoreSeat, Tally};
 use fe_shared::{
-    CallSeat, ConnectRight, Cutting, HasStopped, Made, MailSeat, Posted, Rest, Shared, Standing,
-    Taking, Unconnected, Unposted,
+    CallSeat, ConnectRight, Cutting, HasStopped, Made, MailSeat, NewSeats, Posted, Rest, Shared,
+    Standing, Taking, Unconnected, Unposted,
 };
 use fe_state::Batch;
 use fe_wire::ClientMessage;
@@ -121,14 +121,13 @@ impl<'a, C: Tally, M: Tally> Hold<'a, C, M> {
         &mut self,
         right: &ConnectRight,
         conn: u64,
-    ) -> Result<(CallSeat<C>, MailSeat<M>), Unconnected>
+    ) -> Result<NewSeats<C, M>, Unconnected>
         requires fresh { self.old.used ≡ false }
         ensures used { self.new.used ≡ true }
         ensures step { OnOk result
             (FrontStep (under self.old.shared).front (event.Connect conn) [] (under self.new.shared).front) }
         ensures err { OnErr result ((under self.new.shared).front ≡ (under self.old.shared).front) }
-        ensures calls { IfOk result (λ seats. seats.0 ≡ first_read_seat conn) }
-        ensures mails { IfOk result (λ seats. seats.1 ≡ first_write_seat conn) }
+        ensures seats { IfOk result (λ seats. seats ≡ conn) }
     {
         self.used = true;
         self.shared.connect(right, conn)

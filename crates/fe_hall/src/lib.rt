@@ -28,8 +28,8 @@ pub use fe_history::{
     Account, Act, Gathered, History, NewHistory, Receipt, ReceiptList, Receipts, StoreSeat, Tally,
 };
 pub use fe_shared::{
-    CallSeat, ConnectRight, HasStopped, MailLog, MailSeat, MessageLog, SeatMissing, Seats,
-    Standing, Unconnected,
+    CallSeat, ConnectRight, HasStopped, MailLog, MailSeat, MessageLog, NewSeats, SeatMissing,
+    Seats, Standing, Unconnected,
 };
 pub use hall::Hall;
 pub use halves::{Gate, HalfFault, MemoryRead, MemoryWrite, Open, ReadHalf, WriteHalf};

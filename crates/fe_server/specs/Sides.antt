@@ -16,7 +16,7 @@ use Rattle.fe_shared.specs.Seats.{HasDeparted, HasRested, ReadSeat, WriteSeat}
 pub record HasHandled {H : Type 0} (tells : H → Type 0) (told : H → List ℕ) (reads_of : H → ℕ) (turns : ℕ) (old new : H) (seat left : ReadSeat) (sent : List ClientMessage) (end : ReadEnd) : Type 0 where
   pub own : left.conn ≡ seat.conn
   pub handled : tells old → told old ≡ [] → reads.HandlesStream (told new) seat left sent end
-  pub turns : end ≡ read_end.Turns → (reads_of new ≡ reads_of old + turns) ⊎ (reads_of new ≡ reads_of old)
+  pub made : end ≡ read_end.Turns → (reads_of new ≡ reads_of old + turns) ⊎ (reads_of new ≡ reads_of old)
   pub few : reads_of new ≤ reads_of old + turns
   pub hall : reads.IsTold end left.standing
   pub departed : end ≢ read_end.Stopped → HasDeparted left

@@ -8,6 +8,7 @@ mod call_seat;
 mod mail_log;
 mod mail_seat;
 mod message_log;
+mod new_seats;
 mod pace;
 mod seats;
 mod shared;
@@ -20,6 +21,7 @@ pub use call_seat::CallSeat;
 pub use mail_log::MailLog;
 pub use mail_seat::MailSeat;
 pub use message_log::MessageLog;
+pub use new_seats::NewSeats;
 pub use seats::Seats;
 pub use shared::{
     AllDurable, ConnectRight, CutBatch, Cutting, FullBook, HasStopped, Made, NotOut, Posted, Rest,

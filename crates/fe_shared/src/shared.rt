@@ -11,12 +11,13 @@ ghost use mathlib.Core.List.{IsPrefix};
 ghost use Rattle.fe_history.specs.Acts.{IsLegal};
 ghost use Rattle.fe_shared.specs.Marks.{IsBegun, MayBeTold};
 ghost use Rattle.fe_shared.specs.Holds.{Ends, IsDrained, IsOver, TakesMail};
-ghost use Rattle.fe_shared.specs.Seats.{HasRested, IsOpen, TookNoMessage, first_read_seat, first_write_seat, message_taken, message_answered, taking_answered, takes_more, most_connections};
+ghost use Rattle.fe_shared.specs.Seats.{HasRested, IsOpen, TookNoMessage, message_taken, message_answered, taking_answered, takes_more, most_connections};
 
 mod batches;
 
 use crate::call_seat::CallSeat;
 use crate::mail_seat::MailSeat;
+use crate::new_seats::NewSeats;
 use crate::pace::Paces;
 use crate::seats::Seats;
 use crate::standing::Standing;
@@ -194,12 +195,12 @@ impl<C: Tally, M: Tally> Shared<C, M> {
         (shared, ConnectRight(()))
     }
 
-    /// Makes a connection with an empty box, and the seats of its two sides.
+    /// Makes a connection with an empty box, and its seats.
     pub fn connect(
         &mut self,
         _right: &ConnectRight,
         conn: u64,
-    ) -> Result<(CallSeat<C>, MailSeat<M>), Unconnected>
+    ) -> Result<NewSeats<C, M>, Unconnected>
         ensures step { OnOk result (FrontStep self.old.front (event.Connect conn) [] self.new.front) }
         ensures err { OnErr result (self.new.front ≡ self.old.front) }
         ensures in_use { (result ≡ Err Unconnected.InUse) ↔ (is_connected self.old.front conn ≡ true) }
@@ -207,8 +208,7 @@ impl<C: Tally, M: Tally> Shared<C, M> {
         ensures made { OnOk result (self.new.made ≡ self.old.made + 1) }
         ensures unmade { OnErr result (self.new.made ≡ self.old.made) }
         ensures still { self.new.stopped ≡ self.old.stopped }
-        ensures calls { IfOk result (λ seats. seats.0 ≡ first_read_seat conn) }
-        ensures mails { IfOk result (λ seats. seats.1 ≡ first_write_seat conn) }
+        ensures seats { IfOk result (λ seats. seats ≡ conn) }
     {
         if self.front.connected(conn) {
             return Err(Unconnected::InUse);
@@ -224,7 +224,7 @@ impl<C: Tally, M: Tally> Shared<C, M> {
         let mails = self.spare_mails.split_off(1, 0);
         self.made += 1;
         self.paces.begin(conn);
-        Ok((CallSeat::new(calls, conn), MailSeat::new(mails, conn)))
+        Ok(NewSeats::new(calls, mails, conn))
     }
 
     /// Whether one message more stays within the books of a hall.

@@ -10,8 +10,8 @@ use crate::stage::{PARTS, hall_over};
 use crate::tests::store_after;
 use fe_disk::MemoryDisk;
 use fe_hall::{
-    CallSeat, ConnectRight, Hall, MailSeat, NewHistory, Receipt, ReceiptList, Tally, Unclosed,
-    Unconnected, close,
+    ConnectRight, Hall, NewHistory, NewSeats, Receipt, ReceiptList, Tally, Unclosed, Unconnected,
+    close,
 };
 use fe_keeper::Keeper;
 use fe_state::{Answer, Request, named};
@@ -102,7 +102,7 @@ fn connect<C: Tally, M: Tally, R: Wait>(
     hall: &Hall<C, M>,
     right: &ConnectRight,
     connections: u64,
-) -> Result<(CallSeat<C>, MailSeat<M>), Unconnected> {
+) -> Result<NewSeats<C, M>, Unconnected> {
     let seats = hall.connect(rt, right, 1)?;
     for k in 1..connections {
         drop(hall.connect(rt, right, k.saturating_add(1))?);
@@ -131,9 +131,10 @@ fn close_as<C: Tally, M: Tally, R: Abort + Wait>(
     let (hall, seat, right) = hall_over::<C, M>(alloc, keeper.state(), calls, mails, history)
         .ok()
         .expect(rt, "a hall");
-    let (calls, mails) = connect(rt, &hall, &right, connections)
+    let seats = connect(rt, &hall, &right, connections)
         .ok()
         .expect(rt, "connected");
+    let (calls, mails) = seats.begin();
     let (calls, mails) = (calls.into_seats(), mails.into_seats());
     let seen = hall.history();
     match close(hall, calls, mails, sent, receipts, seen, seat, keeper) {

@@ -92,7 +92,7 @@ fn take<C: Tally, M: Tally, R: Abort + Clock + Wait>(
     conn: u64,
 ) -> Option<()> {
     let bytes = stream(alloc).ok()?;
-    let (seat, _) = hall.connect(rt, right, conn).ok()?;
+    let (seat, _) = hall.connect(rt, right, conn).ok()?.begin();
     let mut half = Failing {
         half: MemoryRead::new(bytes, 4096),
     };

@@ -275,9 +275,10 @@ fn serve_one<
 >(rt: &'s R, alloc: Global, scope: &Scope<'s, E>, stage: &'s Stage<C, M>, conn: u64)
     requires { (C.all ≡ C.parts) × (M.all ≡ M.parts) }
 {
-    let Ok((calls, mails)) = stage.hall.connect(rt, &stage.right, conn) else {
+    let Ok(seats) = stage.hall.connect(rt, &stage.right, conn) else {
         return;
     };
+    let (calls, mails) = seats.begin();
     let reading = scope.spawn(
         move ||
             requires { C.all ≡ C.parts }
