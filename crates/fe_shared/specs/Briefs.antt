@@ -7,7 +7,7 @@ use Rattle.fe_shared.specs.declared.brief.Brief.TheVariants as brief
 
 abbrev pub brief_of : Mail → Brief
 brief_of (mail.Welcome session floor) = brief.Welcome session floor
-brief_of (mail.Answer session number answer place) = brief.Answer (record { session = session; number = number; answer = answer; place = place })
+brief_of (mail.Answer session number answer place) = brief.Answer session number answer place
 brief_of (mail.Withdrawn number) = brief.Withdrawn number
 brief_of (mail.Settled floor) = brief.Settled floor
 brief_of (mail.Goodbye session) = brief.Goodbye session

@@ -2,17 +2,34 @@ ghost use Rattle.std.specs.Prelude.{◌≡◌};
 ghost use Rattle.fe_shared.specs.Briefs.{brief_of};
 
 use fe_front::{Mail, Refusal};
-use fe_history::Receipt;
+use fe_state::Answer;
 
 /// A mail, without the text of a report.
 #[derive(Clone, Copy)]
 pub enum Brief {
-    Welcome { session: u64, floor: u64 },
-    Answer(Receipt),
-    Withdrawn { number: u64 },
-    Settled { floor: u64 },
-    Goodbye { session: u64 },
-    Refused { number: u64, refusal: Refusal },
+    Welcome {
+        session: u64,
+        floor: u64,
+    },
+    Answer {
+        session: u64,
+        number: u64,
+        answer: Answer,
+        place: u64,
+    },
+    Withdrawn {
+        number: u64,
+    },
+    Settled {
+        floor: u64,
+    },
+    Goodbye {
+        session: u64,
+    },
+    Refused {
+        number: u64,
+        refusal: Refusal,
+    },
     Report,
 }
 
@@ -31,12 +48,12 @@ impl Brief {
                 number,
                 answer,
                 place,
-            } => Brief::Answer(Receipt {
+            } => Brief::Answer {
                 session: *session,
                 number: *number,
                 answer: *answer,
                 place: *place,
-            }),
+            },
             Mail::Withdrawn { number } => Brief::Withdrawn { number: *number },
             Mail::Settled { floor } => Brief::Settled { floor: *floor },
             Mail::Goodbye { session } => Brief::Goodbye { session: *session },

@@ -9,6 +9,7 @@ ghost use Rattle.fe_front.specs.Step.{FrontStep};
 ghost use Rattle.fe_messages.specs.Taking.{Takes};
 ghost use mathlib.Core.List.{IsPrefix};
 ghost use Rattle.fe_history.specs.Acts.{IsLegal};
+ghost use Rattle.fe_history.specs.Rules.{Hears};
 ghost use Rattle.fe_shared.specs.Marks.{IsBegun, MayBeTold};
 ghost use Rattle.fe_shared.specs.Holds.{Ends, IsDrained, IsOver, TakesMail};
 ghost use Rattle.fe_shared.specs.Seats.{HasRested, IsOpen, TookNoMessage, first_read_seat, first_write_seat, message_taken, message_answered, taking_answered, takes_more, most_connections};
@@ -24,7 +25,7 @@ use crate::unconnected::Unconnected;
 use crate::watchers::Watchers;
 pub use batches::{AllDurable, CutBatch, Cutting, FullBook, NotOut, Posted, Uncut, Unposted};
 use fe_front::{BELLS, Books, Front};
-use fe_history::{Account, History, Tally};
+use fe_history::{Account, Chronicle, History, Tally};
 use fe_messages::take_message;
 use fe_wire::ClientMessage;
 use std::alloc::Global;
@@ -44,7 +45,7 @@ pub struct Shared<C: Tally, M: Tally> {
     mails: Book<M>,
     spare_calls: Share<C>,
     spare_mails: Share<M>,
-    /// What was cut, and what was stored, at least as far as it is posted.
+    /// What was cut, what connections asked for, and what was stored, at least as far as it is posted.
     history: History<M>,
     /// How many batches were posted.
     posted: u64,
@@ -221,31 +222,44 @@ impl<C: Tally, M: Tally> Shared<C, M> {
     }
 
     /// A message of a connection is its event, or its refusal is mailed.
-    fn take_message(&mut self, alloc: Global, message: ClientMessage, seat: &mut CallSeat<C>)
+    fn take_message(
+        &mut self,
+        alloc: Global,
+        chronicle: &Chronicle<M>,
+        message: ClientMessage,
+        seat: &mut CallSeat<C>,
+    )
         requires room { IsTrue (has_room self.old.front) }
         requires more { IsTrue (takes_more self.old.front.books) }
         requires few { IsTrue (nat_lt seat.old.taken (2 ^ 64 - 1)) }
         ensures taken { (es : List Entry) × Takes self.old.front seat.old.conn message es self.new.front }
         ensures seat { seat.new ≡ message_taken seat.old message }
+        ensures heard { Hears self.old.history seat.old.conn message self.new.history }
         ensures still { self.new.stopped ≡ self.old.stopped }
     {
         // It names what is always true of the front (`docs/DECISIONS.md`, "Toolchain").
         let _ = self.front.state();
         let conn = seat.conn();
+        self.history.hear(chronicle, &self.mails, conn, &message);
         seat.take(&mut self.calls, &message);
         take_message(alloc, &mut self.front, conn, message);
     }
 
-    /// Handles a message, or records in its seat why not. If there is no room for it, does nothing and returns `None`.
+    /// Handles a message, or records in its seat why not. If there is no room for it, does nothing and returns `None`. The history hears
+    /// which session the message asks for.
     pub fn handle(
         &mut self,
         alloc: Global,
+        chronicle: &Chronicle<M>,
         message: &ClientMessage,
         seat: &mut CallSeat<C>,
     ) -> Option<Standing>
         ensures taken { result ≡ Some Standing.Served
             → (es : List Entry) × Takes self.old.front seat.old.conn message.now es self.new.front }
         ensures other { result ≢ Some Standing.Served → self.new.front ≡ self.old.front }
+        ensures heard { result ≡ Some Standing.Served
+            → Hears self.old.history seat.old.conn message.now self.new.history }
+        ensures unheard { result ≢ Some Standing.Served → self.new.history ≡ self.old.history }
         ensures seat { MatchOption result (seat.new ≡ seat.old)
             (λ s. seat.new ≡ message_answered seat.old message.now s) }
         // Each other answer has its reason, and stopped comes first.
@@ -275,7 +289,7 @@ impl<C: Tally, M: Tally> Shared<C, M> {
         if !self.front.room() {
             return None;
         }
-        self.take_message(alloc, *message, seat);
+        self.take_message(alloc, chronicle, *message, seat);
         Some(Standing::Served)
     }
 
@@ -380,7 +394,7 @@ impl<C: Tally, M: Tally> Shared<C, M> {
     pub fn take_mail(&mut self, seat: &mut MailSeat<M>) -> Option<Taking>
         ensures takes { TakesMail self.old.front self.old.stopped seat.old.conn result self.new.front }
         ensures seat { MatchOption result (seat.new ≡ seat.old) (λ taking. seat.new ≡ taking_answered seat.old taking) }
-        ensures stored { IfSome result (λ taking. MayBeTold taking self.new.history) }
+        ensures stored { IfSome result (λ taking. MayBeTold seat.old.conn taking self.new.history) }
         ensures still { self.new.stopped ≡ self.old.stopped }
     {
         let _ = self.front.state();
@@ -396,7 +410,7 @@ impl<C: Tally, M: Tally> Shared<C, M> {
         }
     }
 
-    /// The history learns what was cut, and what was stored, at least as far as it is posted.
+    /// The history learns what was cut, what connections asked for, and what was stored, at least as far as it is posted.
     pub fn teach(&self, history: &mut History<M>)
         ensures this { IsPrefix history.old history.new }
         ensures that { IsPrefix self.now.history history.new }
