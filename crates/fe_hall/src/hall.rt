@@ -121,7 +121,7 @@ impl<C: Tally, M: Tally> Hall<C, M> {
         let mut hold = self.lock.enter(rt);
         for _ in rt.forever() {
             let mails = hold.shared().mails_made();
-            if let Some(standing) = hold.handle(alloc, message, seat) {
+            if let Some(standing) = hold.handle(alloc, &self.chronicle, message, seat) {
                 let told = hold.shared().mails_made() != mails;
                 hold.end();
                 self.work.notify_one();
@@ -236,7 +236,7 @@ impl<C: Tally, M: Tally> Hall<C, M> {
     ) -> Taking
         ensures seat { seat.new ≡ taking_answered seat.old result }
         ensures this { IsPrefix history.old history.new }
-        ensures told { TakingTold result history.new }
+        ensures told { TakingTold seat.old.conn result history.new }
     {
         let conn = seat.conn();
         let mut hold = self.lock.enter(rt);
@@ -248,7 +248,7 @@ impl<C: Tally, M: Tally> Hall<C, M> {
                 if is_awaited {
                     self.ring(conn);
                 }
-                tell(&self.chronicle, history, &taking);
+                tell(&self.chronicle, history, conn, &taking);
                 return taking;
             }
             if hold.unwatch(conn) {
@@ -348,16 +348,16 @@ impl<C: Tally, M: Tally> Hall<C, M> {
     }
 }
 
-/// Adds what was taken out of a box to the history, if it is an answer.
-fn tell<M: Tally>(chronicle: &Chronicle<M>, history: &mut History<M>, taking: &Taking)
-    requires { MayBeTold taking.now history.old }
+/// Adds what was taken out of the box of a connection to the history, if it is an answer.
+fn tell<M: Tally>(chronicle: &Chronicle<M>, history: &mut History<M>, conn: u64, taking: &Taking)
+    requires { MayBeTold conn taking.now history.old }
     ensures this { IsPrefix history.old history.new }
-    ensures told { TakingTold taking.now history.new }
+    ensures told { TakingTold conn taking.now history.new }
 {
     let Taking::Mail { mail, .. } = taking else {
         return;
     };
-    if let Some(receipt) = Receipt::of(mail) {
+    if let Some(receipt) = Receipt::of(conn, mail) {
         history.tell(chronicle, receipt);
     }
 }

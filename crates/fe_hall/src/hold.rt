@@ -10,6 +10,7 @@ ghost use Rattle.fe_front.specs.Step.{FrontStep};
 ghost use Rattle.fe_messages.specs.Taking.{Takes};
 ghost use mathlib.Core.List.{IsPrefix};
 ghost use Rattle.fe_history.specs.Acts.{WasStoredLast};
+ghost use Rattle.fe_history.specs.Rules.{Hears};
 ghost use Rattle.fe_shared.specs.Marks.{MayBeTold};
 ghost use Rattle.fe_shared.specs.Holds.{Cuts, IsCutIn, IsDrained, IsUnposted, Leaves, TakesMail};
 ghost use Rattle.fe_shared.specs.Seats.{HasRested, ReadSeat, TookNoMessage, WriteSeat, message_answered, taking_answered, posts_more};
@@ -137,6 +138,7 @@ impl<'a, C: Tally, M: Tally> Hold<'a, C, M> {
     pub(crate) fn handle(
         &mut self,
         alloc: Global,
+        chronicle: &Chronicle<M>,
         message: &ClientMessage,
         seat: &mut CallSeat<C>,
     ) -> Option<Standing>
@@ -146,11 +148,13 @@ impl<'a, C: Tally, M: Tally> Hold<'a, C, M> {
             → (es : List Entry)
             × Takes (under self.old.shared).front seat.old.conn message.now es (under self.new.shared).front }
         ensures other { result ≢ Some Standing.Served → (under self.new.shared).front ≡ (under self.old.shared).front }
+        ensures heard { result ≡ Some Standing.Served
+            → Hears (under self.old.shared).history seat.old.conn message.now (under self.new.shared).history }
         ensures seat { MatchOption result (seat.new ≡ seat.old)
             (λ s. seat.new ≡ message_answered seat.old message.now (under self.new.shared).front.service.state.place s) }
     {
         self.used = true;
-        self.shared.handle(alloc, message, seat)
+        self.shared.handle(alloc, chronicle, message, seat)
     }
 
     /// The event that a mail is taken, or why none comes (`Shared::take_mail`).
@@ -160,7 +164,7 @@ impl<'a, C: Tally, M: Tally> Hold<'a, C, M> {
         ensures takes { TakesMail (under self.old.shared).front (under self.old.shared).stopped seat.old.conn result
             (under self.new.shared).front }
         ensures seat { MatchOption result (seat.new ≡ seat.old) (λ taking. seat.new ≡ taking_answered seat.old taking) }
-        ensures stored { IfSome result (λ taking. MayBeTold taking (under self.new.shared).history) }
+        ensures stored { IfSome result (λ taking. MayBeTold seat.old.conn taking (under self.new.shared).history) }
     {
         self.used = true;
         self.shared.take_mail(seat)
@@ -282,7 +286,7 @@ impl<'a, C: Tally, M: Tally> Hold<'a, C, M> {
         self.shared.may_go_on(conn, made)
     }
 
-    /// The history learns what was cut and stored (`Shared::teach`).
+    /// The history learns what was cut and asked for, and what was stored (`Shared::teach`).
     pub(crate) fn teach(&self, history: &mut History<M>)
         ensures this { IsPrefix history.old history.new }
         ensures that { IsPrefix (under self.now.shared).history history.new }

@@ -30,6 +30,6 @@ pub record HasWritten {W : Type 0} (tells : W → Type 0) (got : W → List ℕ)
   pub mails : List Mail
   pub taken : writes.AreTaken seat left receipts.items mails
   pub written : tells old → writes.IsWritten (got old) mails end (got new)
-  pub told : AreTold mails receipts.history
+  pub told : AreTold seat.conn mails receipts.history
   pub hall : writes.IsTold end left.standing
   pub departed : end ≢ write_end.Stopped → left.departed ≡ true

@@ -269,7 +269,7 @@ fn serve_streams<
     ensures wrote { (all : List Told) × AreTaken mails result.2.mails result.2.receipts.items all
         × (IsSome (O.contents writer)
         → IsWritten (known_bytes (O.contents writer)) all result.2.write (known_bytes (O.contents result.1.writer)))
-        × AreTold all result.2.receipts.history }
+        × AreTold mails.conn all result.2.receipts.history }
     ensures departed { result.2.write ≢ WriteEnd.Stopped → result.2.mails.departed ≡ true }
     // It ends for the number of its reads only after all of them, or with none where the writing thread can't be started.
     ensures turns { result.2.read ≡ ReadEnd.Turns → (result.0.reads ≡ turns) ⊎ (result.0.reads ≡ 0) }

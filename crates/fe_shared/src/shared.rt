@@ -9,6 +9,7 @@ ghost use Rattle.fe_front.specs.Step.{FrontStep};
 ghost use Rattle.fe_messages.specs.Taking.{Takes};
 ghost use mathlib.Core.List.{IsPrefix};
 ghost use Rattle.fe_history.specs.Acts.{IsLegal};
+ghost use Rattle.fe_history.specs.Rules.{Hears};
 ghost use Rattle.fe_shared.specs.Marks.{IsBegun, MayBeTold};
 ghost use Rattle.fe_shared.specs.Holds.{Ends, IsDrained, IsOver, TakesMail};
 ghost use Rattle.fe_shared.specs.Seats.{HasRested, IsOpen, TookNoMessage, message_taken, message_answered, taking_answered, takes_more, most_connections};
@@ -26,7 +27,7 @@ use crate::unconnected::Unconnected;
 use crate::watchers::Watchers;
 pub use batches::{AllDurable, CutBatch, Cutting, FullBook, NotOut, Posted, Uncut, Unposted};
 use fe_front::{BELLS, Books, Front};
-use fe_history::{Account, History, Tally};
+use fe_history::{Account, Chronicle, History, Tally};
 use fe_messages::take_message;
 use fe_wire::ClientMessage;
 use std::alloc::Global;
@@ -46,7 +47,7 @@ pub struct Shared<C: Tally, M: Tally> {
     mails: Book<M>,
     spare_calls: Share<C>,
     spare_mails: Share<M>,
-    /// What was cut, and what was stored, at least as far as it is posted.
+    /// What was cut, what connections asked for, and what was stored, at least as far as it is posted.
     history: History<M>,
     /// How many batches were posted.
     posted: u64,
@@ -236,31 +237,44 @@ impl<C: Tally, M: Tally> Shared<C, M> {
     }
 
     /// A message of a connection is its event, or its refusal is mailed.
-    fn take_message(&mut self, alloc: Global, message: ClientMessage, seat: &mut CallSeat<C>)
+    fn take_message(
+        &mut self,
+        alloc: Global,
+        chronicle: &Chronicle<M>,
+        message: ClientMessage,
+        seat: &mut CallSeat<C>,
+    )
         requires room { IsTrue (has_room self.old.front) }
         requires more { IsTrue (takes_more self.old.front.books) }
         ensures taken { (es : List Entry) × Takes self.old.front seat.old.conn message es self.new.front }
         ensures seat { seat.new ≡ message_taken seat.old message self.new.front.service.state.place }
+        ensures heard { Hears self.old.history seat.old.conn message self.new.history }
         ensures still { self.new.stopped ≡ self.old.stopped }
     {
         // It names what is always true of the front (`docs/DECISIONS.md`, "Toolchain").
         let _ = self.front.state();
         let conn = seat.conn();
+        self.history.hear(chronicle, &self.mails, conn, &message);
         take_message(alloc, &mut self.front, conn, message);
         seat.take(&mut self.calls, &message, self.front.state().place());
         self.paces.note_message(conn);
     }
 
-    /// Handles a message, or records in its seat why not. If there is no room for it, does nothing and returns `None`.
+    /// Handles a message, or records in its seat why not. If there is no room for it, does nothing and returns `None`. The history hears
+    /// which session the message asks for.
     pub fn handle(
         &mut self,
         alloc: Global,
+        chronicle: &Chronicle<M>,
         message: &ClientMessage,
         seat: &mut CallSeat<C>,
     ) -> Option<Standing>
         ensures taken { result ≡ Some Standing.Served
             → (es : List Entry) × Takes self.old.front seat.old.conn message.now es self.new.front }
         ensures other { result ≢ Some Standing.Served → self.new.front ≡ self.old.front }
+        ensures heard { result ≡ Some Standing.Served
+            → Hears self.old.history seat.old.conn message.now self.new.history }
+        ensures unheard { result ≢ Some Standing.Served → self.new.history ≡ self.old.history }
         ensures seat { MatchOption result (seat.new ≡ seat.old)
             (λ s. seat.new ≡ message_answered seat.old message.now self.new.front.service.state.place s) }
         // Each other answer has its reason, and stopped comes first.
@@ -285,7 +299,7 @@ impl<C: Tally, M: Tally> Shared<C, M> {
         if !self.front.room() {
             return None;
         }
-        self.take_message(alloc, *message, seat);
+        self.take_message(alloc, chronicle, *message, seat);
         Some(Standing::Served)
     }
 
@@ -406,7 +420,7 @@ impl<C: Tally, M: Tally> Shared<C, M> {
     pub fn take_mail(&mut self, seat: &mut MailSeat<M>) -> Option<Taking>
         ensures takes { TakesMail self.old.front self.old.stopped seat.old.conn result self.new.front }
         ensures seat { MatchOption result (seat.new ≡ seat.old) (λ taking. seat.new ≡ taking_answered seat.old taking) }
-        ensures stored { IfSome result (λ taking. MayBeTold taking self.new.history) }
+        ensures stored { IfSome result (λ taking. MayBeTold seat.old.conn taking self.new.history) }
         ensures still { self.new.stopped ≡ self.old.stopped }
     {
         let _ = self.front.state();
@@ -423,7 +437,7 @@ impl<C: Tally, M: Tally> Shared<C, M> {
         }
     }
 
-    /// The history learns what was cut, and what was stored, at least as far as it is posted.
+    /// The history learns what was cut, what connections asked for, and what was stored, at least as far as it is posted.
     pub fn teach(&self, history: &mut History<M>)
         ensures this { IsPrefix history.old history.new }
         ensures that { IsPrefix self.now.history history.new }

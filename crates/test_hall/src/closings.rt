@@ -44,6 +44,7 @@ enum Closes {
 
 /// The receipt for the first path's write.
 const WRITTEN: Receipt = Receipt {
+    conn: 1,
     session: 7,
     number: 2,
     answer: Answer::Done,
@@ -52,6 +53,7 @@ const WRITTEN: Receipt = Receipt {
 
 /// A receipt that nobody can have, because its place is the store's own.
 const AHEAD: Receipt = Receipt {
+    conn: 1,
     session: 7,
     number: 5,
     answer: Answer::Done,

@@ -2,7 +2,7 @@ use Rattle.std.proofs.Common.{sym, subst, arith}
 use Rattle.std.specs.Prelude.{IsTrue}
 use Rattle.fe_shared.specs.Marks.{SharedState}
 use Rattle.fe_shared.specs.Seats.{takes_more}
-use Rattle.fe_shared.proofs.Marks.{takes_marked}
+use Rattle.fe_shared.proofs.Marks.{heard_marked}
 use Rattle.fe_shared.proofs.Risings.{takes_goes}
 use Rattle.fe_shared.proofs.shared.Shared.take_message.Goals as goal
 
@@ -18,4 +18,4 @@ pub invariant_of-self : goal.invariant_of-self
 invariant_of-self g c =
     let s = c.self.inside in
     let t = c.take_message.ensures.taken in
-    takes_marked s.front c.take_message.new.front c.conn-conn.result c.args.message t.0 s.posted s.history t.2 t.1 c.self.invariant
+    heard_marked s.front c.take_message.new.front c.conn-conn.result c.args.message t.0 s.posted s.history c.hear.new.self c.hear.ensures.heard c.hear.ensures.legal t.2 t.1 c.self.invariant
