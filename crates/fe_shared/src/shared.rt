@@ -240,9 +240,9 @@ impl<C: Tally, M: Tally> Shared<C, M> {
         // It names what is always true of the front (`docs/DECISIONS.md`, "Toolchain").
         let _ = self.front.state();
         let conn = seat.conn();
-        self.history.hear(chronicle, &self.mails, conn, &message);
         seat.take(&mut self.calls, &message);
-        take_message(alloc, &mut self.front, conn, message);
+        let took = take_message(alloc, &mut self.front, conn, message);
+        self.history.hear(chronicle, &self.mails, took);
     }
 
     /// Handles a message, or records in its seat why not. If there is no room for it, does nothing and returns `None`. The history hears
