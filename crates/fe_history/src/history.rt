@@ -13,6 +13,7 @@ use crate::tally::Tally;
 use fe_disk::Disk;
 use fe_front::Front;
 use fe_keeper::Keeper;
+use fe_messages::Took;
 use fe_state::{Answer, Batch, State};
 use fe_wire::ClientMessage;
 use logbook::{Gain, Offer, Opening, Plain, Play, Rule, Seen, Start, Word};
@@ -326,21 +327,17 @@ impl<M: Tally> History<M> {
             .load::<Telling, Nothing>(&mut self.seen, &mut offer);
     }
 
-    /// Adds that a connection asks for a session, if this message of it does. Only what is under the lock of the hall has the book.
-    pub fn hear(
-        &mut self,
-        chronicle: &Chronicle<M>,
-        _mails: &Book<M>,
-        conn: u64,
-        message: &ClientMessage,
-    )
-        ensures heard { Hears self.old conn message.now self.new }
+    /// Adds that a connection asks for a session, if this message of it does, which was handed to a front. Only what is under the lock
+    /// of the hall has the book.
+    pub fn hear(&mut self, chronicle: &Chronicle<M>, _mails: &Book<M>, took: Took)
+        ensures heard { Hears self.old took.conn took.message self.new }
         ensures legal { IsLegal self.new }
     {
         // It names what is always true of a history.
         let _ = &self.seen;
+        let (conn, message) = took.into_parts();
         if let ClientMessage::Attach { session } = message {
-            self.ask(chronicle, conn, *session);
+            self.ask(chronicle, conn, session);
         }
     }
 

@@ -6,6 +6,11 @@ use Rattle.fe_wire.specs.declared.client_message.ClientMessage.{ClientMessage}
 use Rattle.fe_wire.specs.declared.client_message.ClientMessage.TheVariants.{Attach, Call, Cancel, Settle, Bye, Report}
 use Rattle.fe_front.specs.Front.{FrontState}
 
+-- a message of a connection, which was handed to a front
+pub record Took : Type 0 where
+  pub conn : ℕ
+  pub message : ClientMessage
+
 -- a message asks for a session only where that is one of these
 abbrev pub AsksOnly : (ℕ → Type 0) → ClientMessage → Type 0
 AsksOnly asked (Attach session) = asked session

@@ -254,9 +254,9 @@ impl<C: Tally, M: Tally> Shared<C, M> {
         // It names what is always true of the front (`docs/DECISIONS.md`, "Toolchain").
         let _ = self.front.state();
         let conn = seat.conn();
-        self.history.hear(chronicle, &self.mails, conn, &message);
-        take_message(alloc, &mut self.front, conn, message);
+        let took = take_message(alloc, &mut self.front, conn, message);
         seat.take(&mut self.calls, &message, self.front.state().place());
+        self.history.hear(chronicle, &self.mails, took);
         self.paces.note_message(conn);
     }
 

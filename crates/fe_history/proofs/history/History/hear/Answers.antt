@@ -1,4 +1,4 @@
-use Rattle.std.proofs.Common.{◌≡◌, ℕ, List, refl}
+use Rattle.std.proofs.Common.{◌≡◌, ℕ, List, refl, ap, subst}
 use Rattle.fe_wire.specs.declared.client_message.ClientMessage.{ClientMessage}
 use Rattle.fe_wire.specs.declared.client_message.ClientMessage.TheVariants.{Attach, Call, Cancel, Settle, Bye, Report}
 use Rattle.fe_history.specs.declared.act.Act.{Act}
@@ -15,4 +15,6 @@ heard_none acts conn Bye other = refl
 heard_none acts conn Report other = refl
 
 pub returns-in_default-clause-heard : goal.returns-in_default-clause-heard
-returns-in_default-clause-heard g c = let h = c.in_default.not-Attach in heard_none c.args.self.now c.args.conn c.args.message.now h
+returns-in_default-clause-heard g c =
+    subst (λ (m : ClientMessage). Hears c.args.self.now c.args.took.conn m c.args.self.now) (ap (λ (p : ℕ × ClientMessage). p.1) c.into_parts-conn.ensures)
+    (heard_none c.args.self.now c.args.took.conn c.into_parts-conn.result.1 c.in_default.not-Attach)
