@@ -13,14 +13,16 @@ from .texts import TOP, text_of, told
 # The wrong bodies that a reader would fear most. Each must be tried under this name, in whatever crate.
 FEARED = (
     "accepts_trailing_byte", "accepts_unused_bytes", "always_device", "always_mismatch", "answers_from_opening",
-    "append_without_last_sync", "bad_frame_too_early", "books_call_never_made", "books_call_twice", "closes_closed_gate",
-    "closes_over_strange_receipts", "damaged_for_odd_gate", "drops_batch_and_posts", "drops_each_tenth_call",
-    "drops_receipts", "echoes_input", "every_access_waits", "forgets_catch_up", "gate_with_payload", "half_a_cascade",
-    "ignores_open_groups", "invented_answer", "leaves_node_on_word_list", "leaves_replica_changed", "made_up_answer_first",
+    "append_without_last_sync", "attaches_unasked", "bad_frame_too_early", "books_call_never_made", "books_call_twice",
+    "closes_closed_gate", "closes_over_strange_receipts", "damaged_for_odd_gate", "drains_halls_beginning",
+    "drops_batch_and_posts", "drops_each_tenth_call", "drops_receipts", "echoes_input", "ends_before_last_read",
+    "every_access_waits", "forgets_catch_up", "gate_with_payload", "half_a_cascade", "ignores_open_groups",
+    "invented_answer", "leaves_node_on_word_list", "leaves_replica_changed", "made_up_answer_first",
     "mail_before_second_sync", "mails_unsynced_resend", "makes_no_mail", "notes_before_append",
     "opens_gate_without_catch_up", "other_operand", "posts_before_append", "posts_other_answers", "purge_keeps_value",
     "readfe_leaves_full", "removes_array_behind_list", "runs_kept_number_again", "serves_empty_store",
-    "serves_with_other_seats", "side_ends_at_once", "stops_after_one_wake", "takes_cancel_for_bye", "takes_groups_back",
+    "serves_with_other_seats", "side_ends_at_once", "stops_after_one_wake", "stops_by_itself", "takes_cancel_for_bye",
+    "takes_groups_back", "tells_another_connection",
 )
 FUNCTION = re.compile(r"\s*(?:pub(?:\([a-z]+\))? )?(?:const )?(?:unsafe )?fn (\w+)")
 CLAUSE = re.compile(r"\s*(ensures|requires)(?: (\w+))? \{(.*)")

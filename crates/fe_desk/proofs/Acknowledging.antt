@@ -29,9 +29,11 @@ use Rattle.fe_front.specs.Posting as posting
 use Rattle.fe_front.proofs.Keeping.{posted_all-keeps, dropped-keeps}
 use Rattle.fe_front.proofs.Coming.{posted-stays, dropped-stays}
 use Rattle.fe_messages.specs.Answers.{IsFinishedAt, AreAnswered}
+use Rattle.fe_messages.specs.Asking.{HasOnly}
 use Rattle.fe_messages.specs.Mails.{reply_of}
 use Rattle.fe_messages.proofs.Answers.{KeepsBelow, answered-append, answered-split, finished_more, keeps_below, kept_stands}
 use Rattle.fe_messages.proofs.Boxes.{AllIn, all_append, all_weaker, boxes-connected, boxes-dropped, boxes-posted_all}
+use Rattle.fe_messages.proofs.Seated.{has_lost, connected_loses, dropped_loses, posted_loses, posted_entry_loses, message_has, first_has, none_some, some_same}
 use Rattle.fe_desk.specs.declared.handed.Handed.{Handed}
 use Rattle.fe_desk.specs.declared.handed.Handed.TheVariants.{Nothing, Cut, Stored}
 use Rattle.fe_desk.specs.declared.step.Step.{Step}
@@ -45,9 +47,8 @@ use Rattle.fe_desk.specs.Stopping.{MayBegin, StopsMaking, TakesFirst, StopsBefor
 use Rattle.fe_desk.specs.Messages.{left_of, read_by}
 use Rattle.fe_desk.proofs.Emptying.{same_number}
 use Rattle.fe_desk.proofs.Answered.{posts_stand}
-use Rattle.fe_desk.proofs.Messaging.{Makes, KeptStand, StandsTo, message_made, message_stands}
-use Rattle.fe_desk.proofs.Seated.{HasOnly, has_lost, times_lose, connected_loses, dropped_loses, posted_loses, posted_entry_loses, message_has, first_has, none_some, some_same}
-use Rattle.fe_desk.proofs.Holding.{Tells, AllTell, Holds, HoldsAt, Remains, way_remains, remains_hold, first_of}
+use Rattle.fe_desk.proofs.Messaging.{Makes, MayAsk, KeptStand, StandsTo, message_made, message_stands}
+use Rattle.fe_desk.proofs.Holding.{Tells, AllTell, Holds, HoldsAt, Remains, times_lose, way_remains, remains_hold, first_of}
 
 -- ---- a batch is cut
 
@@ -181,11 +182,11 @@ posted_front begun asked f cs batch groups h =
       state = keeps.state ∙ h.state ∙ ap (λ (es : List Entry). after_all begun es) same;
       answered = subst (λ (es : List Entry). AreAnswered begun es) same h.answered;
       way = mark_moves begun groups f batch last;
-      boxes = boxes-posted_all (StandsTo begun groups asked) (λ conn session. asked conn session ≡ true) (HasOnly asked) (λ f has. λ session conn is. has.holders session conn is)
-          (λ f e place has. has_lost asked f (posting.posted_entry f e place) (posted_entry_loses f e place) has) f batch.entries batch.first
+      boxes = boxes-posted_all (StandsTo begun groups asked) (λ conn session. asked conn session ≡ true) (HasOnly (MayAsk asked)) (λ f has. λ session conn is. has.holders session conn is)
+          (λ f e place has. has_lost (MayAsk asked) f (posting.posted_entry f e place) (posted_entry_loses f e place) has) f batch.entries batch.first
           (posts_stand begun asked groups (entries_of last.before) batch.entries [] batch.first answered (ends_with begun groups f batch last) (last.first ∙ last.mark)) h.has h.boxes;
       tell = h.tell;
-      has = has_lost asked f g (posted_loses f batch) h.has;
+      has = has_lost (MayAsk asked) f g (posted_loses f batch) h.has;
     }
 
 posted_holds : (begun : ServerState) (asked : ℕ → ℕ → Bool) (s : Standing) → HoldsAt begun asked s → HoldsAt begun asked (posted s)
@@ -319,7 +320,7 @@ module _ (begun : ServerState) (asked : ℕ → ℕ → Bool) (below : KeepsBelo
       kept_stands begun (entries_of groups) (cut_entries handed ++ f.service.pending) session number k h.answered (below session number)
       (sym (ap (λ (s : ServerState). kept_in (get s.sessions session) number) h.state) ∙ kept) (omega (arith, most, durable))
 
-  made_holds : (f g : FrontState) (es : List Entry) (cs : List Client) (handed : Handed) (groups : List (List Entry)) → Makes f es g → AllIn (StandsTo begun groups asked) g.connections → HasOnly asked g
+  made_holds : (f g : FrontState) (es : List Entry) (cs : List Client) (handed : Handed) (groups : List (List Entry)) → Makes f es g → AllIn (StandsTo begun groups asked) g.connections → HasOnly (MayAsk asked) g
       → Holds begun asked f cs handed groups → Holds begun asked g cs handed groups
   made_holds f g es cs handed groups m boxes has h =
       let before : List Entry = made_entries groups handed f in
@@ -344,7 +345,7 @@ module _ (begun : ServerState) (asked : ℕ → ℕ → Bool) (below : KeepsBelo
       subst (λ (x : Standing). HoldsAt begun asked x) (sym takes.after)
       (made_holds u.front takes.front takes.entries u.clients u.handed u.groups (message_made u.front takes.front conn m takes.entries takes.takes)
       (message_stands begun u.groups asked u.front takes.front conn m takes.entries there.has kept takes.takes there.boxes)
-      (message_has asked u.front takes.front conn m takes.entries asks takes.takes there.has) there)
+      (message_has (MayAsk asked) u.front takes.front conn m takes.entries asks takes.takes there.has) there)
 
   takes_all_holds : (s : Standing) (conn : ℕ) (ms : List ClientMessage) (t : Standing) → AllByRecursion (AsksFor (asked conn)) ms → TakesAll s conn ms t → HoldsAt begun asked s → HoldsAt begun asked t
   takes_all_holds s conn [] t asks takes h = subst (λ (x : Standing). HoldsAt begun asked x) (sym takes) h
@@ -456,5 +457,5 @@ first_holds begun asked s first =
       boxes = λ conn. subst (λ (m : FinMap nat_cmp Connection). AllByRecursion (StandsTo begun s.groups asked conn) (mails_on m conn)) (sym first.front.connections)
           (subst (λ (o : Option Connection). AllByRecursion (StandsTo begun s.groups asked conn) (option_map_or (λ (c : Connection). c.mails) o [])) (sym (get-empty nat_cmp conn)) tt);
       tell = subst (λ (cs : List Client). AllTell begun s.groups asked cs) (sym first.clients) tt;
-      has = first_has asked begun f first.front;
+      has = first_has (MayAsk asked) begun f first.front;
     }

@@ -13,8 +13,10 @@ use Rattle.fe_wire.specs.declared.server_message.ServerMessage.{ServerMessage}
 use Rattle.fe_front.specs.Front.{FrontState}
 use Rattle.fe_front.specs.Steps as front
 use Rattle.fe_messages.specs.Answers.{AreAnswered}
+use Rattle.fe_messages.specs.Asking.{HasOnly}
 use Rattle.fe_messages.specs.Mails.{reply_of, spelled}
 use Rattle.fe_messages.proofs.Boxes.{AllIn, all_append, boxes-taken}
+use Rattle.fe_messages.proofs.Seated.{Loses, itself as loses_nothing, taken_loses, has_lost, both_lose}
 use Rattle.fe_desk.specs.declared.handed.Handed.{Handed}
 use Rattle.fe_desk.specs.declared.handed.Handed.TheVariants.{Nothing, Cut, Stored}
 use Rattle.fe_desk.specs.Mails.{taken_times, emptied_box}
@@ -23,8 +25,7 @@ use Rattle.fe_desk.specs.Acknowledged.{StandsOn, IsOnItsWay, AsksFor, entries_of
 use Rattle.fe_desk.specs.Writing.{StopsWriting, WritesSome}
 use Rattle.fe_desk.specs.within.Keeping.{KeepsFront}
 use Rattle.fe_desk.proofs.Emptying.{all_emptied-keeps, times-keep, itself}
-use Rattle.fe_desk.proofs.Messaging.{StandsTo}
-use Rattle.fe_desk.proofs.Seated.{Loses, HasOnly, has_lost, both_lose, times_lose, all_emptied_loses}
+use Rattle.fe_desk.proofs.Messaging.{MayAsk, StandsTo}
 
 -- ---- what holds
 
@@ -48,10 +49,22 @@ pub record Holds (begun : ServerState) (asked : ℕ → ℕ → Bool) (f : Front
   pub way : IsOnItsWay begun groups f handed
   pub boxes : AllIn (λ conn. StandsOn begun groups (asked conn)) f.connections
   pub tell : AllTell begun groups asked clients
-  pub has : HasOnly asked f
+  pub has : HasOnly (MayAsk asked) f
 
 abbrev pub HoldsAt : ServerState → (ℕ → ℕ → Bool) → Standing → Type 0
 HoldsAt begun asked s = Holds begun asked s.front s.clients s.handed s.groups
+
+-- ---- what is let go
+
+-- mails that are taken let no session go
+pub times_lose : (n : ℕ) (f : FrontState) (conn : ℕ) → Loses f (taken_times n f conn)
+times_lose zero f conn = loses_nothing f
+times_lose (suc n) f conn = both_lose f (front.taken f conn) (taken_times n (front.taken f conn) conn) (taken_loses f conn) (times_lose n (front.taken f conn) conn)
+
+pub all_emptied_loses : (f : FrontState) (cs : List Client) → Loses f (all_emptied f cs)
+all_emptied_loses f [] = loses_nothing f
+all_emptied_loses f (c ∷ cs) =
+    both_lose f (emptied_box f c.conn) (all_emptied (emptied_box f c.conn) cs) (times_lose (length (mails_on f.connections c.conn)) f c.conn) (all_emptied_loses (emptied_box f c.conn) cs)
 
 -- ---- what stays
 
@@ -78,7 +91,7 @@ remains_hold begun asked f g cs ds handed groups same loses boxes tell h =
       way = way_remains begun groups f g handed same.out same.durable h.way;
       boxes = boxes;
       tell = tell;
-      has = has_lost asked f g loses h.has;
+      has = has_lost (MayAsk asked) f g loses h.has;
     }
 
 -- ---- mails are written

@@ -22,7 +22,6 @@ pub mod Growing
 pub mod Stops
 pub mod Goes
 pub mod Acted
-pub mod Seated
 pub mod Answered
 pub mod Messaging
 pub mod Holding

@@ -26,12 +26,17 @@ use Rattle.fe_front.specs.declared.outcome.Outcome.TheVariants as outcome
 use Rattle.fe_front.proofs.Keeping.{Keeps, itself, both, released-keeps, freed-keeps, mailed-keeps}
 use Rattle.fe_front.proofs.Coming.{mailed-stays, cancelled-stays, repeated-stays, released-stays, freed-stays}
 use Rattle.fe_messages.specs.Answers.{IsAnswerIn, AreAnswered}
+use Rattle.fe_messages.specs.Asking.{HasOnly}
 use Rattle.fe_messages.specs.Taking.{Takes}
 use Rattle.fe_messages.proofs.Boxes.{AllIn}
 use Rattle.fe_messages.proofs.Boxing.{again, sent_again, message_boxes}
+use Rattle.fe_messages.proofs.Seated.{addressed_has}
 use Rattle.fe_desk.specs.Acknowledged.{StandsOn, entries_of}
 use Rattle.fe_desk.proofs.Answered.{turns_answered}
-use Rattle.fe_desk.proofs.Seated.{HasOnly, addressed_has}
+
+-- which sessions each connection may ask for
+abbrev pub MayAsk : (ℕ → ℕ → Bool) → ℕ → ℕ → Type 0
+MayAsk asked = λ conn session. asked conn session ≡ true
 
 -- entries were made: they are answered, lead to the state now, and are pending after the others
 pub record Makes (f : FrontState) (es : List Entry) (g : FrontState) : Type 0 where
@@ -175,7 +180,7 @@ module _ (begun : ServerState) (groups : List (List Entry)) (asked : ℕ → ℕ
   KeptStand f = (session number : ℕ) (k : Kept) → kept_at f session number ≡ Some k → k.place < f.durable
       → IsAnswerIn begun (entries_of groups) session number k.answer k.place
 
-  pub message_stands : (f g : FrontState) (conn : ℕ) (m : ClientMessage) (es : List Entry) → HasOnly asked f → KeptStand f → Takes f conn m es g → Stand f → Stand g
+  pub message_stands : (f g : FrontState) (conn : ℕ) (m : ClientMessage) (es : List Entry) → HasOnly (MayAsk asked) f → KeptStand f → Takes f conn m es g → Stand f → Stand g
   message_stands f g conn m es has kept takes all =
       message_boxes StandsTo (λ conn number r. tt) (λ conn number. tt) (λ conn text. tt) f conn
       (λ session number k to is below. (has.sessions conn session (addressed_has f conn number session to), kept session number k is below)) g m es takes all

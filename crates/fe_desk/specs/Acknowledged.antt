@@ -15,9 +15,9 @@ use Rattle.fe_mail.specs.declared.mail.Mail.TheVariants as mail
 use Rattle.fe_seats.specs.Seating.{holder_of}
 use Rattle.fe_wire.specs.Stream.{Decoding}
 use Rattle.fe_wire.specs.declared.client_message.ClientMessage.{ClientMessage}
-use Rattle.fe_wire.specs.declared.client_message.ClientMessage.TheVariants as message
 use Rattle.fe_front.specs.Front.{FrontState}
 use Rattle.fe_messages.specs.Answers.{IsAnswerIn, AreAnswered}
+use Rattle.fe_messages.specs.Asking.{AsksOnly}
 use Rattle.fe_messages.specs.Mails.{reply_of, spelled}
 use Rattle.fe_desk.specs.declared.fault.DeskFault.{DeskFault}
 use Rattle.fe_desk.specs.declared.handed.Handed.{Handed}
@@ -66,12 +66,7 @@ AnswersStand begun groups asked s = AllByRecursion (IsWritten begun groups asked
 
 -- a message asks for a session only where its connection may ask for it
 abbrev pub AsksFor : (ℕ → Bool) → ClientMessage → Type 0
-AsksFor asked (message.Attach session) = asked session ≡ true
-AsksFor asked (message.Call number request) = Unit {0}
-AsksFor asked (message.Cancel number) = Unit {0}
-AsksFor asked (message.Settle floor) = Unit {0}
-AsksFor asked message.Bye = Unit {0}
-AsksFor asked message.Report = Unit {0}
+AsksFor asked m = AsksOnly (λ session. asked session ≡ true) m
 
 -- so does each message that a step's bytes complete
 abbrev pub StepAsksFor : {D : Type 0} → (ℕ → ℕ → Bool) → DeskState D → Step → Type 0

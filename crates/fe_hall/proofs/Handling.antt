@@ -30,30 +30,30 @@ listed_more messages m = ap (λ (ms : List ClientMessage). take most_listed ms) 
     by true = first_with most_listed (filter is_sent messages) m
     by false = ap (λ (ms : List ClientMessage). take most_listed ms) (append-nil (filter is_sent messages))
 
-pub handled_more : (before old new : ReadSeat) (listed list messages : List ClientMessage) (m : ClientMessage) → new ≡ message_taken old m → list ≡ listed_with listed m
+pub handled_more : (before old new : ReadSeat) (listed list messages : List ClientMessage) (m : ClientMessage) (place : ℕ) → new ≡ message_taken old m place → list ≡ listed_with listed m
     → AreHandled before old listed messages → AreHandled before new list (messages ++ m ∷ [])
-handled_more before old new listed list messages m rises lists handled =
+handled_more before old new listed list messages m place rises lists handled =
     record {
       conn = ap (λ (s : ReadSeat). s.conn) rises ∙ handled.conn;
       calls = omega (arith, ap (λ (s : ReadSeat). s.calls) rises, handled.calls, sum_by-append calls_in messages (m ∷ []));
-      taken = omega (arith, ap (λ (s : ReadSeat). s.taken) rises, handled.taken, length-append messages (m ∷ []));
+      all = ap (λ (s : ReadSeat). s.messages) rises ∙ ap (λ (ms : List ClientMessage). ms ++ m ∷ []) handled.all ∙ append_assoc before.messages messages (m ∷ []);
       listed = lists ∙ ap (λ (ms : List ClientMessage). listed_with ms m) handled.listed ∙ sym (listed_more messages m);
     }
 
 -- the message after the first i is handled
 pub handled_next : (before old new : ReadSeat) (listed list earlier messages : List ClientMessage) (i : ℕ) (m : ClientMessage) → i < length messages → m ≡ get_or messages i m
-    → new ≡ message_taken old m → list ≡ listed_with listed m → AreHandled before old listed (earlier ++ take i messages) → AreHandled before new list (earlier ++ take (i + 1) messages)
+    → (place : ℕ) × (new ≡ message_taken old m place) → list ≡ listed_with listed m → AreHandled before old listed (earlier ++ take i messages) → AreHandled before new list (earlier ++ take (i + 1) messages)
 handled_next before old new listed list earlier messages i m lt at rises lists handled =
     let more : (earlier ++ take i messages) ++ m ∷ [] ≡ earlier ++ take (i + 1) messages =
     append_assoc earlier (take i messages) (m ∷ []) ∙ ap (λ (ms : List ClientMessage). earlier ++ ms) (ap (λ (x : ClientMessage). take i messages ++ x ∷ []) at ∙ sym (take_more messages i m lt)) in
-    subst (λ (ms : List ClientMessage). AreHandled before new list ms) more (handled_more before old new listed list (earlier ++ take i messages) m rises lists handled)
+    subst (λ (ms : List ClientMessage). AreHandled before new list ms) more (handled_more before old new listed list (earlier ++ take i messages) m rises.0 rises.1 lists handled)
 
 -- no message was taken
 pub handled_still : (before old new : ReadSeat) (listed list messages : List ClientMessage) → TookNoMessage old new → list ≡ listed → AreHandled before old listed messages → AreHandled before new list messages
 handled_still before old new listed list messages none same handled = record {
   conn = none.conn ∙ handled.conn;
   calls = none.calls ∙ handled.calls;
-  taken = none.taken ∙ handled.taken;
+  all = none.messages ∙ handled.all;
   listed = same ∙ handled.listed;
 }
 

@@ -1,5 +1,5 @@
 -- How far the messages of a stream were handled.
-use Rattle.std.proofs.Common.{◌≡◌, ℕ, zero, suc, ◌+◌, ◌-◌, ◌^◌, ◌<◌, min, Bool, true, false, ◌⊎◌, List, [], ◌∷◌, ◌++◌, length, take, refl, sym, ap, subst, ◌∙◌, append_assoc, zero-add, add-zero, arith, inl, inr, lit<, Option, Some, None, if◌then◌else◌}
+use Rattle.std.proofs.Common.{◌≡◌, ℕ, zero, suc, ◌+◌, ◌-◌, ◌^◌, ◌<◌, min, Bool, true, false, ◌⊎◌, List, [], ◌∷◌, ◌++◌, length, take, refl, sym, ap, subst, ◌∙◌, append_assoc, append-nil, zero-add, add-zero, arith, inl, inr, lit<, Option, Some, None, if◌then◌else◌}
 use Rattle.std.specs.Prelude.{MatchOption}
 use Rattle.std.specs.List.{flat_map, AllByRecursion}
 use Rattle.std.proofs.lemmas.List.{length-append, take_all}
@@ -211,7 +211,7 @@ begins d seat two reads =
       goes_on = by d.is_bad reads.stands;
       messages = [];
       reads = reads;
-      handled = record { conn = refl; calls = sym (add-zero seat.calls); taken = sym (add-zero seat.taken); listed = refl };
+      handled = record { conn = refl; calls = sym (add-zero seat.calls); listed = refl; all = sym (append-nil seat.messages) };
     }
   where
     by : (b : Bool) → StandsAt d.version b d.held reads.rest → b ≡ false

@@ -18,8 +18,6 @@ use Rattle.fe_shared.specs.declared.standing.Standing.{Standing}
 use Rattle.fe_shared.specs.declared.standing.Standing.TheVariants as standing
 use Rattle.fe_shared.specs.declared.taking.Taking.{Taking}
 use Rattle.fe_shared.specs.declared.taking.Taking.TheVariants as taking
-use Rattle.fe_shared.specs.declared.brief.Brief.{Brief}
-use Rattle.fe_shared.specs.Briefs.{brief_of, last_of}
 use Rattle.fe_shared.specs.Seats.{WriteSeat, TookNoMail, mail_taken, taking_answered}
 use Rattle.fe_history.specs.Receipts.{receipt_of}
 use Rattle.fe_hall.specs.Writes.{receipts_with, IsBatch, BreaksOff, MayLackLast, IsWritten, AreTaken, TakesOn, IsNoFault, IsTold, AreSpelled, end_for}
@@ -46,16 +44,11 @@ spelled-append xs ys = flat_map-append (λ m. reply_spelling (reply_of m)) xs ys
 
 -- ---- seat and receipts
 
--- the last of some mails and then of others
-last_among : (last : Option Brief) (ms ns : List Mail) → last_of (last_of last ms) ns ≡ last_of last (ms ++ ns)
-last_among last [] ns = refl
-last_among last (m ∷ ms) ns = last_among (Some (brief_of m)) ms ns
-
 pub takes_none : (s : WriteSeat) (kept : List Receipt) → length kept ≤ 1024 → TakesOn s s kept kept []
 takes_none s kept few = record {
   conn = refl;
   count = let same : s.mails ≡ s.mails + 0 = omega arith in same;
-  last = refl;
+  taken = sym (append-nil s.taken);
   receipts = sym (ap (λ t. take 1024 t) (append-nil kept) ∙ take_all 1024 kept few);
 }
 
@@ -63,38 +56,43 @@ pub takes_on : (a b c : WriteSeat) (kept more all : List Receipt) (ms ns : List 
 takes_on a b c kept more all ms ns one two = record {
   conn = two.conn ∙ one.conn;
   count = omega (arith, one.count, two.count, length-append ms ns);
-  last = two.last ∙ ap (λ (l : Option Brief). last_of l ns) one.last ∙ last_among a.last ms ns;
+  taken = two.taken ∙ ap (λ (t : List Mail). t ++ ns) one.taken ∙ append_assoc a.taken ms ns;
   receipts =
+      let of : Mail → Option Receipt = receipt_of a.conn in
       two.receipts
-      ∙ ap (λ (rs : List Receipt). receipts_with rs ns) one.receipts
-      ∙ take_front 1024 (kept ++ filter_map receipt_of ms) (filter_map receipt_of ns)
-      ∙ ap (λ t. take 1024 t) (append_assoc kept (filter_map receipt_of ms) (filter_map receipt_of ns) ∙ ap (λ t. kept ++ t) (sym (filter_map-append receipt_of ms ns)));
+      ∙ ap (λ (n : ℕ). receipts_with n more ns) one.conn
+      ∙ ap (λ (rs : List Receipt). receipts_with a.conn rs ns) one.receipts
+      ∙ take_front 1024 (kept ++ filter_map of ms) (filter_map of ns)
+      ∙ ap (λ t. take 1024 t) (append_assoc kept (filter_map of ms) (filter_map of ns) ∙ ap (λ t. kept ++ t) (sym (filter_map-append of ms ns)));
 }
 
 pub takes_same : (a b : WriteSeat) (kept same : List Receipt) → length kept ≤ 1024 → TookNoMail a b → same ≡ kept → TakesOn a b kept same []
 takes_same a b kept same few still receipts =
-    let none = takes_none a kept few in record { conn = still.conn; count = still.mails ∙ none.count; last = still.last; receipts = receipts ∙ none.receipts }
+    let none = takes_none a kept few in record { conn = still.conn; count = still.mails ∙ none.count; taken = still.taken ∙ none.taken; receipts = receipts ∙ none.receipts }
 
 -- the seat of a side that took none, after one that is the same
 pub none_since : (a b c : WriteSeat) → b ≡ a → TookNoMail b c → TookNoMail a c
-none_since a b c same none = record { conn = none.conn ∙ ap (λ (s : WriteSeat). s.conn) same; mails = none.mails ∙ ap (λ (s : WriteSeat). s.mails) same; last = none.last ∙ ap (λ (s : WriteSeat). s.last) same }
+none_since a b c same none = record { conn = none.conn ∙ ap (λ (s : WriteSeat). s.conn) same; mails = none.mails ∙ ap (λ (s : WriteSeat). s.mails) same; taken = none.taken ∙ ap (λ (s : WriteSeat). s.taken) same }
 
 -- a mail is taken, and its receipt kept
-pub takes_one : (a b c d : WriteSeat) (kept same all : List Receipt) (m : Mail) (more : Bool) → b ≡ a → same ≡ kept → c ≡ mail_taken b m more → d ≡ c → all ≡ receipts_with same (m ∷ [])
+pub takes_one : (a b c d : WriteSeat) (kept same all : List Receipt) (m : Mail) (more : Bool) → b ≡ a → same ≡ kept → c ≡ mail_taken b m more → d ≡ c → all ≡ receipts_with c.conn same (m ∷ [])
     → TakesOn a d kept all (m ∷ [])
 takes_one a b c d kept same all m more seat receipts taken as_it_was keeps =
     let took : d ≡ mail_taken a m more = as_it_was ∙ taken ∙ ap (λ (s : WriteSeat). mail_taken s m more) seat in
     record {
       conn = ap (λ (s : WriteSeat). s.conn) took;
       count = ap (λ (s : WriteSeat). s.mails) took;
-      last = ap (λ (s : WriteSeat). s.last) took;
-      receipts = keeps ∙ ap (λ (rs : List Receipt). receipts_with rs (m ∷ [])) receipts;
+      taken = ap (λ (s : WriteSeat). s.taken) took;
+      receipts =
+          keeps
+          ∙ ap (λ (s : WriteSeat). receipts_with s.conn same (m ∷ [])) (taken ∙ ap (λ (s : WriteSeat). mail_taken s m more) seat)
+          ∙ ap (λ (rs : List Receipt). receipts_with a.conn rs (m ∷ [])) receipts;
     }
 
 -- all that a side took, and that it took when it leaves
 pub as_taken : {before after left : WriteSeat} {none kept : List Receipt} {mails : List Mail} → TakesOn before after none kept mails → none ≡ [] → TookNoMail after left → AreTaken before left kept mails
-as_taken {mails} takes is still =
-    record { conn = still.conn ∙ takes.conn; count = still.mails ∙ takes.count; last = still.last ∙ takes.last; receipts = takes.receipts ∙ ap (λ (rs : List Receipt). receipts_with rs mails) is }
+as_taken {before} {mails} takes is still =
+    record { conn = still.conn ∙ takes.conn; count = still.mails ∙ takes.count; taken = still.taken ∙ takes.taken; receipts = takes.receipts ∙ ap (λ (rs : List Receipt). receipts_with before.conn rs mails) is }
 
 -- ---- what the hall told
 
@@ -104,7 +102,7 @@ answered_mail s t given m more answered is = answered ∙ ap (λ (g : Taking). t
 
 -- the seat of a side that is told how it stands
 none_at : (s t : WriteSeat) (told : Standing) → t ≡ record s { standing = told } → TookNoMail s t
-none_at s t told is = record { conn = ap (λ (u : WriteSeat). u.conn) is; mails = ap (λ (u : WriteSeat). u.mails) is; last = ap (λ (u : WriteSeat). u.last) is }
+none_at s t told is = record { conn = ap (λ (u : WriteSeat). u.conn) is; mails = ap (λ (u : WriteSeat). u.mails) is; taken = ap (λ (u : WriteSeat). u.taken) is }
 
 -- none came, for this reason
 pub record EndsSo (s t : WriteSeat) (end : WriteEnd) : Type 0 where
@@ -122,20 +120,20 @@ answered_end s t taking.Spent end answered is =
     subst (λ (e : WriteEnd). EndsSo s t e) (same_Some _ _ is) (record { none = none_at s t standing.Spent answered; fine = tt; told = ap (λ (u : WriteSeat). u.standing) answered })
 
 -- a mail without a receipt, and one whose receipt is kept, or is beyond the first
-pub keeps_none : (kept : List Receipt) (m : Mail) → length kept ≤ 1024 → None ≡ receipt_of m → kept ≡ receipts_with kept (m ∷ [])
-keeps_none kept m few none =
+pub keeps_none : (n : ℕ) (kept : List Receipt) (m : Mail) → length kept ≤ 1024 → None ≡ receipt_of n m → kept ≡ receipts_with n kept (m ∷ [])
+keeps_none n kept m few none =
     sym (ap (λ (t : List Receipt). take 1024 t) (append-nil kept) ∙ take_all 1024 kept few) ∙ ap (λ (o : Option Receipt). take 1024 (kept ++ cons_option o [])) none
 
-pub keeps_one : {A E : Type 0} (pushed : Result A E) (kept all : List Receipt) (m : Mail) (r : Receipt) → length kept < 1024 → Some r ≡ receipt_of m → is_ok pushed ≡ true
-    → all ≡ (if is_ok pushed then kept ++ r ∷ [] else kept) → all ≡ receipts_with kept (m ∷ [])
-keeps_one pushed kept all m r few some ok is =
+pub keeps_one : {A E : Type 0} (pushed : Result A E) (n : ℕ) (kept all : List Receipt) (m : Mail) (r : Receipt) → length kept < 1024 → Some r ≡ receipt_of n m → is_ok pushed ≡ true
+    → all ≡ (if is_ok pushed then kept ++ r ∷ [] else kept) → all ≡ receipts_with n kept (m ∷ [])
+keeps_one pushed n kept all m r few some ok is =
     is
     ∙ ap (λ (b : Bool). if b then kept ++ r ∷ [] else kept) ok
     ∙ sym (take_all 1024 (kept ++ r ∷ []) (omega (arith, length-append kept (r ∷ []))))
     ∙ ap (λ (o : Option Receipt). take 1024 (kept ++ cons_option o [])) some
 
-pub keeps_first : (kept : List Receipt) (m : Mail) → length kept ≤ 1024 → 1024 ≤ length kept → kept ≡ receipts_with kept (m ∷ [])
-keeps_first kept m few full = sym (take-append-le 1024 kept (filter_map receipt_of (m ∷ [])) full ∙ take_all 1024 kept few)
+pub keeps_first : (n : ℕ) (kept : List Receipt) (m : Mail) → length kept ≤ 1024 → 1024 ≤ length kept → kept ≡ receipts_with n kept (m ∷ [])
+keeps_first n kept m few full = sym (take-append-le 1024 kept (filter_map (receipt_of n) (m ∷ [])) full ∙ take_all 1024 kept few)
 
 -- ---- batches
 

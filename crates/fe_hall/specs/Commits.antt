@@ -1,5 +1,5 @@
 -- What the committing side of a hall does to the keeper that it is lent.
-use Rattle.std.specs.Prelude.{◌≡◌, ◌⊎◌, ℕ, ◌+◌, ◌≤◌, true, false, List, [], ◌∷◌, ◌++◌, length, map, take, Option, Some, None}
+use Rattle.std.specs.Prelude.{◌≡◌, ◌⊎◌, ℕ, ◌+◌, ◌≤◌, true, false, List, [], ◌∷◌, ◌++◌, length, map, take, Option, Some, None, Result, Ok, Err}
 use mathlib.Core.List.{IsPrefix}
 use Rattle.fe_disk.specs.Disk.{LeavesOnly, Rises}
 use Rattle.fe_state.specs.State.{ServerState, after_all}
@@ -78,6 +78,11 @@ end_of NoMemory = Store NoMemory
 end_of (Mismatch place) = Strange
 end_of (Damaged offset) = Store (Damaged offset)
 end_of Unformatted = Store Unformatted
+
+-- the end that an answer tells; `None`: the side goes on
+abbrev pub end_in : {A : Type 0} → Result A CommitEnd → Option CommitEnd
+end_in (Ok a) = None
+end_in (Err end) = Some end
 
 -- what a batch that was not posted is to the side
 abbrev pub end_of_post : Unposted → CommitEnd

@@ -1,5 +1,5 @@
 -- What a read side makes of the bytes of its stream.
-use Rattle.std.specs.Prelude.{◌≡◌, ◌≢◌, ℕ, ◌+◌, ◌<◌, ◌^◌, ◌-◌, ◌⊎◌, Bool, true, false, ◌&&◌, nat_lt, if◌then◌else◌, min, List, [], ◌∷◌, ◌++◌, length, take, filter, sum_by}
+use Rattle.std.specs.Prelude.{◌≡◌, ◌≢◌, ℕ, ◌+◌, ◌<◌, ◌^◌, ◌-◌, ◌⊎◌, Bool, true, false, ◌&&◌, nat_lt, if◌then◌else◌, min, List, [], ◌∷◌, ◌++◌, length, take, filter, sum_by, Option, Some, None}
 use Rattle.std.specs.List.{flat_map}
 use Rattle.fe_wire.specs.Spelling.{spelling}
 use Rattle.fe_wire.specs.Stream.{Decoding, HasRead, IsStream, IsUnfinished, IsBad}
@@ -34,12 +34,12 @@ most_listed = 1024
 abbrev pub sent_among : List ClientMessage → List ClientMessage
 sent_among messages = take most_listed (filter is_sent messages)
 
--- These messages of a connection were handled: its seat counts them and the calls among them, and the list has the first
--- attaches and calls.
+-- These messages of a connection were handled, just these and in this order: its seat has them and counts the calls among them, and
+-- the list has the first attaches and calls.
 pub record AreHandled (before after : ReadSeat) (list messages : List ClientMessage) : Type 0 where
   pub conn : after.conn ≡ before.conn
   pub calls : after.calls ≡ before.calls + calls_among messages
-  pub taken : after.taken ≡ before.taken + length messages
+  pub all : after.messages ≡ before.messages ++ messages
   pub listed : list ≡ sent_among messages
 
 -- what an end says, where the stream is these messages and this rest, and this many of the messages were handled
@@ -84,6 +84,13 @@ IsTold NoMemory s = Unit {0}
 -- the list, with a message that was handled
 abbrev pub listed_with : List ClientMessage → ClientMessage → List ClientMessage
 listed_with list message = if is_sent message && nat_lt (length list) most_listed then list ++ message ∷ [] else list
+
+-- of the reads that a side may make, `None` for any number, this many are left, once so many were made
+abbrev pub AreLeft : Option ℕ → Option ℕ → ℕ → Type 0
+AreLeft None None made = Unit {0}
+AreLeft None (Some left) made = ⊥
+AreLeft (Some turns) None made = ⊥
+AreLeft (Some turns) (Some left) made = made + left ≡ turns
 
 -- the side ended before a message
 abbrev pub EndsEarly : ReadEnd → Type 0

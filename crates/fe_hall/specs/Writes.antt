@@ -11,24 +11,23 @@ use Rattle.fe_shared.specs.declared.standing.Standing.{Standing}
 use Rattle.fe_shared.specs.declared.standing.Standing.TheVariants as standing
 use Rattle.fe_shared.specs.declared.taking.Taking.{Taking}
 use Rattle.fe_shared.specs.declared.taking.Taking.TheVariants as taking
-use Rattle.fe_shared.specs.Briefs.{last_of}
 use Rattle.fe_shared.specs.Seats.{WriteSeat}
 
 -- how many receipts a side keeps at most
 abbrev pub most_receipts : ℕ
 most_receipts = 1024
 
--- the receipts of the answers among these mails, of the first 1,024 of them
-abbrev pub receipts_of : List Mail → List Receipt
-receipts_of mails = take most_receipts (filter_map receipt_of mails)
+-- the receipts of the answers among these mails to a connection, of the first 1,024 of them
+abbrev pub receipts_of : ℕ → List Mail → List Receipt
+receipts_of conn mails = take most_receipts (filter_map (receipt_of conn) mails)
 
--- These mails of a connection were taken: its seat counts them and has the last of them, and the receipts are those of their first
--- answers.
+-- These mails of a connection were taken, just these and in this order: its seat has them and counts them, and the receipts are those
+-- of their first answers.
 pub record AreTaken (before after : WriteSeat) (kept : List Receipt) (mails : List Mail) : Type 0 where
   pub conn : after.conn ≡ before.conn
   pub count : after.mails ≡ before.mails + length mails
-  pub last : after.last ≡ last_of before.last mails
-  pub receipts : kept ≡ receipts_of mails
+  pub taken : after.taken ≡ before.taken ++ mails
+  pub receipts : kept ≡ receipts_of before.conn mails
 
 -- mails that are written at once: all but the last of them are spelled in less than 64 KiB
 abbrev pub IsBatch : List Mail → Type 0
@@ -77,16 +76,16 @@ end_for taking.Gone = Some Gone
 end_for taking.Stopped = Some Stopped
 end_for taking.Spent = Some Spent
 
--- the receipts of a side, with those of mails that it took next
-abbrev pub receipts_with : List Receipt → List Mail → List Receipt
-receipts_with receipts mails = take most_receipts (receipts ++ filter_map receipt_of mails)
+-- the receipts of the side of a connection, with those of mails that it took next
+abbrev pub receipts_with : ℕ → List Receipt → List Mail → List Receipt
+receipts_with conn receipts mails = take most_receipts (receipts ++ filter_map (receipt_of conn) mails)
 
 -- a side took these mails next
 pub record TakesOn (before after : WriteSeat) (kept kept_after : List Receipt) (mails : List Mail) : Type 0 where
   pub conn : after.conn ≡ before.conn
   pub count : after.mails ≡ before.mails + length mails
-  pub last : after.last ≡ last_of before.last mails
-  pub receipts : kept_after ≡ receipts_with kept mails
+  pub taken : after.taken ≡ before.taken ++ mails
+  pub receipts : kept_after ≡ receipts_with before.conn kept mails
 
 -- why a side ends that has no mail: not for a fault of its half, and not because memory is short
 abbrev pub IsNoFault : WriteEnd → Type 0

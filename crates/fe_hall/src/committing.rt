@@ -1,11 +1,11 @@
 //! The committing side: it stores the batches of a hall, and posts them.
 
-ghost use Rattle.std.specs.Prelude.{◌≡◌, ◌≢◌, ◌↔◌, true, false, Some, None, Ok, Err, OnOk, IfErr};
+ghost use Rattle.std.specs.Prelude.{◌≡◌, ◌≢◌, ◌↔◌, ◌+◌, false, Some, IfOk, IfErr, OnOk, length};
 ghost use Rattle.fe_keeper.specs.Ends.{Rests};
 ghost use Rattle.fe_keeper.specs.Stands.{EachStandsFor};
 ghost use Rattle.fe_keeper.specs.declared.fault.Fault.TheVariants.{Device};
 ghost use Rattle.fe_history.specs.Acts.{IsStored, WasCut};
-ghost use Rattle.fe_hall.specs.Commits.{AreNoted, Commits, IsStill, HasFailed, TellsEnd};
+ghost use Rattle.fe_hall.specs.Commits.{AreNoted, Commits, IsStill, HasFailed, TellsEnd, end_in};
 ghost use Rattle.fe_hall.specs.declared.commit_end.CommitEnd.{CommitEnd};
 
 use crate::breaking::Break;
@@ -14,7 +14,7 @@ use crate::hall::Hall;
 use fe_disk::Disk;
 use fe_history::{History, StoreSeat, Tally};
 use fe_keeper::{Fault, Keeper};
-use fe_shared::{CutBatch, Cutting};
+use fe_shared::{CutBatch, Cutting, Posted};
 use std::sync::Wait;
 
 /// A checkpoint is begun once more bytes of the journal are used than these.
@@ -47,7 +47,7 @@ pub fn commit_side<C: Tally, M: Tally, D: Disk, R: Wait>(
             Cutting::Stopped(all) => return Ended::stopped(all),
             Cutting::Strange(why) => return Ended::broken(Break::of_cut(why), hall.stop(rt)),
         };
-        if let Some(why) = commit(rt, hall, keeper, seat, cut, &cuts) {
+        if let Err(why) = commit(rt, hall, keeper, seat, cut, &cuts) {
             return Ended::broken(why, hall.stop(rt));
         }
         match tend(keeper, slices) {
@@ -66,18 +66,19 @@ fn commit<C: Tally, M: Tally, D: Disk, R: Wait>(
     seat: &mut StoreSeat<M>,
     cut: CutBatch,
     cuts: &History<M>,
-) -> Option<Break>
+) -> Result<Posted, Break>
     requires cut { WasCut cuts.now cut.count cut.batch }
-    ensures commits { (all : Commits D.honest D.moment D.left_since keeper.old keeper.new result)
-        × AreNoted D.moment all.appends result seat.old seat.new }
+    ensures commits { (all : Commits D.honest D.moment D.left_since keeper.old keeper.new (end_in result))
+        × AreNoted D.moment all.appends (end_in result) seat.old seat.new }
     ensures stands { D.honest keeper.new.store.disk → keeper.new.store.has_failed ≡ false
         → EachStandsFor D.may_leave keeper.new.store.disk keeper.new.state }
-    ensures tells { TellsEnd D.failures keeper.old keeper.new result }
-    ensures works { result ≡ None → keeper.old.store.has_failed ≡ false }
-    // It goes on only if it stored what was cut.
-    ensures stored { result ≡ None → IsStored cut.batch keeper.new.state }
+    ensures tells { TellsEnd D.failures keeper.old keeper.new (end_in result) }
+    ensures works { OnOk result (keeper.old.store.has_failed ≡ false) }
+    // It goes on only if it stored what was cut, and posted it.
+    ensures stored { OnOk result (IsStored cut.batch keeper.new.state) }
+    ensures posted { IfOk result (λ posted. posted ≡ cut.batch.first + length cut.batch.entries) }
     // What was not stored, or not posted, is not told as stopped.
-    ensures unstopped { result ≢ Some CommitEnd.Stopped }
+    ensures unstopped { IfErr result (λ end. end ≢ CommitEnd.Stopped) }
     ensures honesty { D.honest keeper.new.store.disk ↔ D.honest keeper.old.store.disk }
 {
     let (batch, count) = cut.into_batch(keeper);
@@ -85,14 +86,14 @@ fn commit<C: Tally, M: Tally, D: Disk, R: Wait>(
         Ok(batch) => {
             if let Err(why) = seat.note(hall.chronicle(), &batch, count, cuts, keeper) {
                 drop(batch);
-                return Some(Break::of_note(why));
+                return Err(Break::of_note(why));
             }
             match hall.post(rt, batch, seat) {
-                Ok(_) => None,
-                Err(why) => Some(Break::of_post(why)),
+                Ok(posted) => Ok(posted),
+                Err(why) => Err(Break::of_post(why)),
             }
         }
-        Err((fault, _)) => Some(Break::of_store(fault)),
+        Err((fault, _)) => Err(Break::of_store(fault)),
     }
 }
 

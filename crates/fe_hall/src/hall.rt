@@ -1,5 +1,5 @@
-ghost use Rattle.std.specs.Prelude.{◌≡◌, ◌≤◌, ◌∷◌, ◌++◌, [], ◌+◌, IfOk, IfErr, OnOk, OnErr, length, true};
-ghost use Rattle.fe_shared.specs.Seats.{HasRested, ReadSeat, TookNoMessage, WriteSeat, first_read_seat, first_write_seat, message_answered, taking_answered, most_connections};
+ghost use Rattle.std.specs.Prelude.{◌≡◌, ◌≤◌, ◌∷◌, ◌++◌, [], ◌+◌, ℕ, IfOk, IfErr, OnOk, OnErr, length, true};
+ghost use Rattle.fe_shared.specs.Seats.{HasRested, ReadSeat, TookNoMessage, WriteSeat, message_answered, taking_answered, most_connections};
 ghost use mathlib.Core.List.{IsPrefix};
 ghost use Rattle.fe_history.specs.Acts.{WasStoredLast};
 ghost use Rattle.fe_shared.specs.Holds.{IsCutIn};
@@ -10,8 +10,8 @@ use crate::hold::Lock;
 use fe_front::{BELLS, Front};
 use fe_history::{Chronicle, Gathered, History, NewHistory, Receipt, StoreSeat, Tally};
 use fe_shared::{
-    CallSeat, Cutting, HasStopped, Made, MailSeat, Posted, Shared, Standing, Taking, Unconnected,
-    Unposted,
+    CallSeat, ConnectRight, Cutting, HasStopped, Made, MailSeat, NewSeats, Posted, Shared,
+    Standing, Taking, Unconnected, Unposted,
 };
 use fe_state::Batch;
 use fe_wire::ClientMessage;
@@ -43,15 +43,15 @@ pub struct Hall<C: Tally, M: Tally> {
 }
 
 impl<C: Tally, M: Tally> Hall<C, M> {
-    /// A hall around a front that is as `Front::new` gave it, and the seat of its committing side. The history begins with the front's
-    /// state. The blanks make its ledgers, of 2^62 + 1 parts each. Where there is no memory the front comes back.
+    /// A hall around a front that is as `Front::new` gave it, the seat of its committing side, and the right to make its connections. The
+    /// history begins with the front's state. The blanks make its ledgers, of 2^62 + 1 parts each. Where there is no memory the front comes back.
     pub fn new(
         alloc: Global,
         front: Front,
         calls: Blank,
         mails: Blank,
         history: NewHistory,
-    ) -> Result<(Hall<C, M>, StoreSeat<M>), (AllocError, Front)>
+    ) -> Result<(Hall<C, M>, StoreSeat<M>, ConnectRight), (AllocError, Front)>
         requires begun { IsBegun front history.acts }
         requires calls { (calls.name ≡ C.name) × (calls.parts ≡ C.parts) × (C.all ≡ C.parts)
             × (C.all ≡ most_connections + 1) }
@@ -65,8 +65,9 @@ impl<C: Tally, M: Tally> Hall<C, M> {
             Ok(bells) => {
                 let (chronicle, begun) = history.named::<M>();
                 let (seen, stored) = (begun.again(), begun.again());
+                let (shared, right) = Shared::new(alloc, front, calls, mails, seen);
                 let hall = Hall {
-                    lock: Lock::new(Shared::new(alloc, front, calls, mails, seen)),
+                    lock: Lock::new(shared),
                     baton: Baton::new(),
                     chronicle,
                     begun,
@@ -74,7 +75,7 @@ impl<C: Tally, M: Tally> Hall<C, M> {
                     room: Condvar::new(),
                     bells,
                 };
-                Ok((hall, StoreSeat::new(stored)))
+                Ok((hall, StoreSeat::new(stored), right))
             }
             Err(_) => {
                 drop(history);
@@ -83,16 +84,16 @@ impl<C: Tally, M: Tally> Hall<C, M> {
         }
     }
 
-    /// Makes a connection with this number, and returns the seats of its two sides.
+    /// Makes a connection with this number, and returns its seats. Only who has the right to it can.
     pub fn connect<R: Wait>(
         &self,
         rt: &R,
+        right: &ConnectRight,
         conn: u64,
-    ) -> Result<(CallSeat<C>, MailSeat<M>), Unconnected>
-        ensures calls { IfOk result (λ seats. seats.0 ≡ first_read_seat conn) }
-        ensures mails { IfOk result (λ seats. seats.1 ≡ first_write_seat conn) }
+    ) -> Result<NewSeats<C, M>, Unconnected>
+        ensures { IfOk result (λ seats. seats ≡ conn) }
     {
-        self.lock.enter(rt).connect(conn)
+        self.lock.enter(rt).connect(right, conn)
     }
 
     /// Tells all sides to end. Entries that are pending are still stored.
@@ -115,12 +116,12 @@ impl<C: Tally, M: Tally> Hall<C, M> {
         seat: &mut CallSeat<C>,
         grip: &mut Grip<'_>,
     ) -> Standing
-        ensures { seat.new ≡ message_answered seat.old message.now result }
+        ensures { (place : ℕ) × (seat.new ≡ message_answered seat.old message.now place result) }
     {
         let mut hold = self.lock.enter(rt);
         for _ in rt.forever() {
             let mails = hold.shared().mails_made();
-            if let Some(standing) = hold.handle(alloc, message, seat) {
+            if let Some(standing) = hold.handle(alloc, &self.chronicle, message, seat) {
                 let told = hold.shared().mails_made() != mails;
                 hold.end();
                 self.work.notify_one();
@@ -155,22 +156,21 @@ impl<C: Tally, M: Tally> Hall<C, M> {
         unreachable!()
     }
 
-    /// Waits until the write side has taken what came of the connection's messages before `made`, except what waits. It waits as long as
-    /// entries are stored, or the write side takes mails: a client that takes none for a second is not waited for. Returns the place
-    /// after all entries made so far.
+    /// Waits until the write side of a connection is close behind its read side, or has taken what came of its messages before `made`,
+    /// except what waits. It waits as long as entries are stored, or the write side takes mails: a client that takes none for a second
+    /// is not waited for. Returns the place after all entries made so far.
     pub(crate) fn await_room<R: Clock + Wait>(
         &self,
         rt: &R,
-        seat: &CallSeat<C>,
+        conn: u64,
         made: &Made,
         grip: &mut Grip<'_>,
     ) -> Made {
-        let conn = seat.conn();
         let bell = &self.bells[(conn % BELLS) as usize];
         let limit = Duration::from_millis(STILL_MILLIS);
         let mut hold = self.lock.enter(rt);
         for _ in rt.forever() {
-            if hold.rest(seat, made).is_some() {
+            if hold.may_go_on(conn, made) {
                 return hold.shared().made();
             }
             grip.give_up();
@@ -198,9 +198,8 @@ impl<C: Tally, M: Tally> Hall<C, M> {
         let conn = seat.conn();
         let mut grip = Grip::none();
         let mut hold = self.lock.enter(rt);
-        let made = hold.shared().made();
         for _ in rt.forever() {
-            if let Some(rest) = hold.rest(seat, &made) {
+            if let Some(rest) = hold.rest(seat) {
                 hold.depart(seat, rest);
                 hold.end();
                 self.ring(conn);
@@ -237,7 +236,7 @@ impl<C: Tally, M: Tally> Hall<C, M> {
     ) -> Taking
         ensures seat { seat.new ≡ taking_answered seat.old result }
         ensures this { IsPrefix history.old history.new }
-        ensures told { TakingTold result history.new }
+        ensures told { TakingTold seat.old.conn result history.new }
     {
         let conn = seat.conn();
         let mut hold = self.lock.enter(rt);
@@ -249,7 +248,7 @@ impl<C: Tally, M: Tally> Hall<C, M> {
                 if is_awaited {
                     self.ring(conn);
                 }
-                tell(&self.chronicle, history, &taking);
+                tell(&self.chronicle, history, conn, &taking);
                 return taking;
             }
             if hold.unwatch(conn) {
@@ -349,16 +348,16 @@ impl<C: Tally, M: Tally> Hall<C, M> {
     }
 }
 
-/// Adds what was taken out of a box to the history, if it is an answer.
-fn tell<M: Tally>(chronicle: &Chronicle<M>, history: &mut History<M>, taking: &Taking)
-    requires { MayBeTold taking.now history.old }
+/// Adds what was taken out of the box of a connection to the history, if it is an answer.
+fn tell<M: Tally>(chronicle: &Chronicle<M>, history: &mut History<M>, conn: u64, taking: &Taking)
+    requires { MayBeTold conn taking.now history.old }
     ensures this { IsPrefix history.old history.new }
-    ensures told { TakingTold taking.now history.new }
+    ensures told { TakingTold conn taking.now history.new }
 {
     let Taking::Mail { mail, .. } = taking else {
         return;
     };
-    if let Some(receipt) = Receipt::of(mail) {
+    if let Some(receipt) = Receipt::of(conn, mail) {
         history.tell(chronicle, receipt);
     }
 }

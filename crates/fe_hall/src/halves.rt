@@ -1,7 +1,8 @@
 //! The two directions of a connection, and the gate that each message passes first.
 
-ghost use Rattle.std.specs.Prelude.{◌≡◌, ◌<◌, ◌≤◌, ◌++◌, [], ℕ, List, length, take, IfOk, OnOk, OnErr};
+ghost use Rattle.std.specs.Prelude.{◌≡◌, ◌<◌, ◌≤◌, ◌+◌, ◌++◌, [], ℕ, List, length, take, IfOk, OnOk, OnErr};
 
+use crate::read_count::ReadCount;
 use std::alloc::Global;
 use std::sync::Wait;
 
@@ -17,6 +18,9 @@ pub trait ReadHalf {
     /// The bytes that were read.
     ghost told: { Self → List ℕ };
 
+    /// How many reads were made of it.
+    ghost reads: { Self → ℕ };
+
     /// Its stream has ended.
     ghost ended: { Self → Type 0 };
 
@@ -30,6 +34,7 @@ pub trait ReadHalf {
         ensures tells { tells self.old → tells self.new }
         ensures told { tells self.old → IfOk result (λ n. told self.new ≡ told self.old ++ take n buffer.new) }
         ensures err { tells self.old → OnErr result (told self.new ≡ told self.old) }
+        ensures reads { reads self.new ≡ reads self.old + 1 }
         ensures ended { IfOk result (λ n. n ≡ 0 → ended self.new) }
         ensures failed { OnErr result (failed self.new) };
 }
@@ -85,6 +90,7 @@ pub struct MemoryRead {
     bytes: Vec<u8>,
     next: usize,
     piece: usize,
+    reads: ReadCount,
     ghost within: { next ≤ length bytes.items },
 }
 
@@ -97,6 +103,7 @@ impl MemoryRead {
             bytes,
             next: 0,
             piece,
+            reads: ReadCount::none(),
         }
     }
 }
@@ -107,6 +114,8 @@ impl ReadHalf for MemoryRead {
     ghost tells = { λ _. Unit {0} };
 
     ghost told = { λ r. take r.next r.bytes.items };
+
+    ghost reads = { λ r. r.reads };
 
     ghost ended = { λ r. 0 < r.piece → r.next ≡ length r.bytes.items };
 
@@ -120,6 +129,7 @@ impl ReadHalf for MemoryRead {
         let end = self.next + count;
         buffer[..count].copy_from_slice(&self.bytes.as_slice()[self.next..end]);
         self.next = end;
+        self.reads.rise();
         Ok(count)
     }
 }

@@ -10,16 +10,17 @@ ghost use Rattle.fe_front.specs.Step.{FrontStep};
 ghost use Rattle.fe_messages.specs.Taking.{Takes};
 ghost use mathlib.Core.List.{IsPrefix};
 ghost use Rattle.fe_history.specs.Acts.{WasStoredLast};
+ghost use Rattle.fe_history.specs.Rules.{Hears};
 ghost use Rattle.fe_shared.specs.Marks.{MayBeTold};
 ghost use Rattle.fe_shared.specs.Holds.{Cuts, IsCutIn, IsDrained, IsUnposted, Leaves, TakesMail};
-ghost use Rattle.fe_shared.specs.Seats.{HasRested, ReadSeat, TookNoMessage, WriteSeat, first_read_seat, first_write_seat, message_answered, taking_answered, posts_more};
+ghost use Rattle.fe_shared.specs.Seats.{HasRested, ReadSeat, TookNoMessage, WriteSeat, message_answered, taking_answered, posts_more};
 
 use crate::baton::Grip;
 use fe_front::BELLS;
 use fe_history::{Chronicle, History, StoreSeat, Tally};
 use fe_shared::{
-    CallSeat, Cutting, HasStopped, Made, MailSeat, Posted, Rest, Shared, Standing, Taking,
-    Unconnected, Unposted,
+    CallSeat, ConnectRight, Cutting, HasStopped, Made, MailSeat, NewSeats, Posted, Rest, Shared,
+    Standing, Taking, Unconnected, Unposted,
 };
 use fe_state::Batch;
 use fe_wire::ClientMessage;
@@ -117,23 +118,27 @@ impl<'a, C: Tally, M: Tally> Hold<'a, C, M> {
     }
 
     /// The event that a connection comes (`Shared::connect`).
-    pub(crate) fn connect(&mut self, conn: u64) -> Result<(CallSeat<C>, MailSeat<M>), Unconnected>
+    pub(crate) fn connect(
+        &mut self,
+        right: &ConnectRight,
+        conn: u64,
+    ) -> Result<NewSeats<C, M>, Unconnected>
         requires fresh { self.old.used ≡ false }
         ensures used { self.new.used ≡ true }
         ensures step { OnOk result
             (FrontStep (under self.old.shared).front (event.Connect conn) [] (under self.new.shared).front) }
         ensures err { OnErr result ((under self.new.shared).front ≡ (under self.old.shared).front) }
-        ensures calls { IfOk result (λ seats. seats.0 ≡ first_read_seat conn) }
-        ensures mails { IfOk result (λ seats. seats.1 ≡ first_write_seat conn) }
+        ensures seats { IfOk result (λ seats. seats ≡ conn) }
     {
         self.used = true;
-        self.shared.connect(conn)
+        self.shared.connect(right, conn)
     }
 
     /// The event of a message, if there is room for it (`Shared::handle`).
     pub(crate) fn handle(
         &mut self,
         alloc: Global,
+        chronicle: &Chronicle<M>,
         message: &ClientMessage,
         seat: &mut CallSeat<C>,
     ) -> Option<Standing>
@@ -143,11 +148,13 @@ impl<'a, C: Tally, M: Tally> Hold<'a, C, M> {
             → (es : List Entry)
             × Takes (under self.old.shared).front seat.old.conn message.now es (under self.new.shared).front }
         ensures other { result ≢ Some Standing.Served → (under self.new.shared).front ≡ (under self.old.shared).front }
+        ensures heard { result ≡ Some Standing.Served
+            → Hears (under self.old.shared).history seat.old.conn message.now (under self.new.shared).history }
         ensures seat { MatchOption result (seat.new ≡ seat.old)
-            (λ s. seat.new ≡ message_answered seat.old message.now s) }
+            (λ s. seat.new ≡ message_answered seat.old message.now (under self.new.shared).front.service.state.place s) }
     {
         self.used = true;
-        self.shared.handle(alloc, message, seat)
+        self.shared.handle(alloc, chronicle, message, seat)
     }
 
     /// The event that a mail is taken, or why none comes (`Shared::take_mail`).
@@ -157,7 +164,7 @@ impl<'a, C: Tally, M: Tally> Hold<'a, C, M> {
         ensures takes { TakesMail (under self.old.shared).front (under self.old.shared).stopped seat.old.conn result
             (under self.new.shared).front }
         ensures seat { MatchOption result (seat.new ≡ seat.old) (λ taking. seat.new ≡ taking_answered seat.old taking) }
-        ensures stored { IfSome result (λ taking. MayBeTold taking (under self.new.shared).history) }
+        ensures stored { IfSome result (λ taking. MayBeTold seat.old.conn taking (under self.new.shared).history) }
     {
         self.used = true;
         self.shared.take_mail(seat)
@@ -260,18 +267,26 @@ impl<'a, C: Tally, M: Tally> Hold<'a, C, M> {
         self.shared.unwatch(conn)
     }
 
-    /// Whether a read side need not wait for what was made before (`Shared::rest`). This is no event of the front.
-    pub(crate) fn rest(&mut self, seat: &CallSeat<C>, made: &Made) -> Option<Rest>
+    /// Whether a read side need not wait for what comes of its messages (`Shared::rest`). This is no event of the front.
+    pub(crate) fn rest(&mut self, seat: &CallSeat<C>) -> Option<Rest>
         ensures same { self.new.used ≡ self.old.used }
         ensures own { IfSome result (λ rest. rest.conn ≡ seat.now.conn) }
         ensures drained { IfSome result (λ rest. rest.short ≡ false
-            → IsDrained (under self.old.shared).front (under self.old.shared).stopped seat.now.conn made.now) }
+            → IsDrained (under self.old.shared).front (under self.old.shared).stopped seat.now.conn seat.now.place) }
         ensures front { (under self.new.shared).front ≡ (under self.old.shared).front }
     {
-        self.shared.rest(seat, made)
+        self.shared.rest(seat)
     }
 
-    /// The history learns what was cut and stored (`Shared::teach`).
+    /// Whether a read side may hand on more (`Shared::may_go_on`). This is no event of the front.
+    pub(crate) fn may_go_on(&mut self, conn: u64, made: &Made) -> bool
+        ensures same { self.new.used ≡ self.old.used }
+        ensures front { (under self.new.shared).front ≡ (under self.old.shared).front }
+    {
+        self.shared.may_go_on(conn, made)
+    }
+
+    /// The history learns what was cut and asked for, and what was stored (`Shared::teach`).
     pub(crate) fn teach(&self, history: &mut History<M>)
         ensures this { IsPrefix history.old history.new }
         ensures that { IsPrefix (under self.now.shared).history history.new }

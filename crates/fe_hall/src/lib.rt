@@ -14,6 +14,7 @@ mod ends;
 mod hall;
 mod halves;
 mod hold;
+mod read_count;
 mod reading;
 mod write_end;
 mod writing;
@@ -27,10 +28,12 @@ pub use fe_history::{
     Account, Act, Gathered, History, NewHistory, Receipt, ReceiptList, Receipts, StoreSeat, Tally,
 };
 pub use fe_shared::{
-    Brief, CallSeat, HasStopped, MailSeat, SeatMissing, Seats, Standing, Unconnected,
+    CallSeat, ConnectRight, HasStopped, MailLog, MailSeat, MessageLog, NewSeats, SeatMissing,
+    Seats, Standing, Unconnected,
 };
 pub use hall::Hall;
 pub use halves::{Gate, HalfFault, MemoryRead, MemoryWrite, Open, ReadHalf, WriteHalf};
+pub use read_count::ReadCount;
 pub use reading::read_side;
 pub use write_end::WriteEnd;
 pub use writing::write_side;

@@ -1,9 +1,9 @@
 //! The read side of a connection: the messages of its stream go to the hall, one after the other.
 
-ghost use Rattle.std.specs.Prelude.{◌≡◌, ◌≢◌, ◌↔◌, ◌<◌, ◌++◌, [], ℕ, List, length, IsNone, IsSome, Some, IfNone, IfSome, OnSome, MatchOption};
+ghost use Rattle.std.specs.Prelude.{◌≡◌, ◌≢◌, ◌↔◌, ◌+◌, ◌<◌, ◌≤◌, ◌++◌, [], ℕ, List, length, Option, IsNone, Some, IsTrue, false, IfNone, IfSome, OnSome, MatchOption};
 ghost use Rattle.fe_wire.specs.declared.client_message.ClientMessage.{ClientMessage as Message};
 ghost use Rattle.fe_shared.specs.Seats.{HasDeparted, HasRested, ReadSeat, TookNoMessage, message_taken};
-ghost use Rattle.fe_hall.specs.Reads.{IsQuietEnd, is_sent, listed_with, AreHandled, EndsEarly, EndsAmong, HandlesStream, IsAt, IsOfMessages, IsTold};
+ghost use Rattle.fe_hall.specs.Reads.{IsQuietEnd, is_sent, listed_with, AreHandled, AreLeft, EndsEarly, EndsAmong, HandlesStream, IsAt, IsOfMessages, IsTold};
 
 use crate::baton::Grip;
 use crate::ends::ReadEnd;
@@ -46,7 +46,10 @@ pub fn read_side<C: Tally, M: Tally, H: ReadHalf, G: Gate, R: Clock + Wait>(
         → HandlesStream (H.told half.new) seat result.0 result.1.items result.2 }
     ensures own { result.0.conn ≡ seat.conn }
     ensures tells { H.tells half.old → H.tells half.new }
-    ensures turns { result.2 ≡ ReadEnd.Turns → IsSome turns }
+    // It ends as `Turns` only after as many reads as it may make, and makes no more.
+    ensures turns { result.2 ≡ ReadEnd.Turns
+        → (most : ℕ) × (turns ≡ Some most) × (H.reads half.new ≡ H.reads half.old + most) }
+    ensures reads { IfSome turns (λ most. H.reads half.new ≤ H.reads half.old + most) }
     ensures ended { result.2 ≡ ReadEnd.Closed → H.ended half.new }
     ensures failed { result.2 ≡ ReadEnd.Device → H.failed half.new }
     // A side ends as `Gone`, `Stopped` or `Spent` only if that was the hall's last answer to it.
@@ -100,7 +103,9 @@ impl<C: Tally> Reading<C> {
             → HandlesStream (H.told half.new) self.old.seat self.new.seat self.new.listed.items result }
         ensures own { self.new.seat.conn ≡ self.old.seat.conn }
         ensures tells { H.tells half.old → H.tells half.new }
-        ensures turns { result ≡ ReadEnd.Turns → IsSome turns }
+        ensures turns { result ≡ ReadEnd.Turns
+            → (most : ℕ) × (turns ≡ Some most) × (H.reads half.new ≡ H.reads half.old + most) }
+        ensures reads { IfSome turns (λ most. H.reads half.new ≤ H.reads half.old + most) }
         ensures ended { result ≡ ReadEnd.Closed → H.ended half.new }
         ensures failed { result ≡ ReadEnd.Device → H.failed half.new }
         ensures told { IsTold result self.new.seat.standing }
@@ -111,10 +116,8 @@ impl<C: Tally> Reading<C> {
         let piece = buffer.as_mut_slice();
         let mut left = turns;
         for _ in rt.forever() {
-            match left {
-                Some(0) => return ReadEnd::Turns,
-                Some(count) => left = Some(count - 1),
-                None => {}
+            if !take_turn(&mut left) {
+                return ReadEnd::Turns;
             }
             if let Some(end) = self.read(rt, hall, half, gate, piece) {
                 return end;
@@ -140,6 +143,7 @@ impl<C: Tally> Reading<C> {
         ensures own { self.new.seat.conn ≡ self.old.seat.conn }
         ensures tells { H.tells half.old → H.tells half.new }
         ensures turns { IfSome result (λ end. end ≢ ReadEnd.Turns) }
+        ensures reads { H.reads half.new ≡ H.reads half.old + 1 }
         ensures ended { IfSome result (λ end. end ≡ ReadEnd.Closed → H.ended half.new) }
         ensures failed { IfSome result (λ end. end ≡ ReadEnd.Device → H.failed half.new) }
         ensures told { IfSome result (λ end. IsTold end self.new.seat.standing) }
@@ -217,7 +221,7 @@ impl<C: Tally> Reading<C> {
         grip: &mut Grip<'_>,
     ) -> Option<ReadEnd>
         ensures own { self.new.seat.conn ≡ self.old.seat.conn }
-        ensures seat { IfNone result (self.new.seat ≡ message_taken self.old.seat message.now) }
+        ensures seat { IfNone result ((place : ℕ) × (self.new.seat ≡ message_taken self.old.seat message.now place)) }
         ensures listed { IfNone result (self.new.listed.items ≡ listed_with self.old.listed.items message.now) }
         ensures untaken { OnSome result (TookNoMessage self.old.seat self.new.seat
             × (self.new.listed.items ≡ self.old.listed.items)) }
@@ -266,11 +270,27 @@ impl<C: Tally> Reading<C> {
             return;
         }
         let made = match &self.made {
-            Some(made) => hall.await_room(rt, &self.seat, made, grip),
+            Some(made) => hall.await_room(rt, self.seat.conn(), made, grip),
             None => hall.made(rt),
         };
         self.run = 1;
         self.made = Some(made);
+    }
+}
+
+/// Takes one of the reads that are left, `None` for any number. Whether there was one.
+fn take_turn(left: &mut Option<u64>) -> bool
+    ensures none { result ≡ false → left.old ≡ Some 0 }
+    ensures next { IsTrue result → (turns : Option ℕ) (made : ℕ) → AreLeft turns left.old made
+        → AreLeft turns left.new (made + 1) }
+{
+    match left {
+        Some(0) => false,
+        Some(count) => {
+            *count -= 1;
+            true
+        }
+        None => true,
     }
 }
 

@@ -39,11 +39,11 @@ pub fn write_side<C: Tally, M: Tally, H: WriteHalf, R: Wait>(
     half: &mut H,
 ) -> (MailSeat<M>, Receipts<M>, WriteEnd)
     // Of the mails that were taken: the seat counts them, the receipts are of the first answers among them, a half that tells its
-    // bytes got their frames, and the history has each answer, after the group of its entry.
+    // bytes got their frames, and the history has each answer as told to this connection, after the group of its entry.
     ensures wrote { (mails : List Told) × AreTaken seat result.0 result.1.items mails
         × (H.tells half.old → IsWritten (H.got half.old) mails result.2 (H.got half.new))
-        × AreTold mails result.1.history }
-    // In that history an answer is the one of its entry, which was stored before.
+        × AreTold seat.conn mails result.1.history }
+    // In that history an answer is the one of its entry, which was stored before, and its connection asked for its session before.
     ensures legal { IsLegal result.1.history }
     ensures own { result.1.conn ≡ result.0.conn }
     ensures tells { H.tells half.old → H.tells half.new }
@@ -96,7 +96,7 @@ impl<M: Tally> Writing<M> {
         ensures wrote { (mails : List Told)
             × TakesOn self.old.seat self.new.seat self.old.receipts.items self.new.receipts.items mails
             × (H.tells half.old → IsWritten (H.got half.old) mails result (H.got half.new))
-            × AreTold mails self.new.history }
+            × AreTold self.old.seat.conn mails self.new.history }
         ensures tells { H.tells half.old → H.tells half.new }
         ensures failed { result ≡ WriteEnd.Device → H.failed half.new }
         ensures told { IsTold result self.new.seat.standing }
@@ -120,7 +120,8 @@ impl<M: Tally> Writing<M> {
         ensures wrote { (mails : List Told)
             × TakesOn self.old.seat self.new.seat self.old.receipts.items self.new.receipts.items mails
             × (H.tells half.old → MatchOption result (H.got half.new ≡ H.got half.old ++ spelled mails)
-            (λ end. IsWritten (H.got half.old) mails end (H.got half.new))) × AreTold mails self.new.history }
+            (λ end. IsWritten (H.got half.old) mails end (H.got half.new)))
+            × AreTold self.old.seat.conn mails self.new.history }
         ensures frames { IfNone result (self.new.frames.items ≡ []) }
         ensures tells { H.tells half.old → H.tells half.new }
         ensures failed { IfSome result (λ end. end ≡ WriteEnd.Device → H.failed half.new) }
@@ -141,7 +142,8 @@ impl<M: Tally> Writing<M> {
         requires { self.old.frames.items ≡ [] }
         ensures took { (mails : List Told)
             × TakesOn self.old.seat self.new.seat self.old.receipts.items self.new.receipts.items mails
-            × IsBatch mails × AreSpelled [] result mails self.new.frames.items × AreTold mails self.new.history }
+            × IsBatch mails × AreSpelled [] result mails self.new.frames.items
+            × AreTold self.old.seat.conn mails self.new.history }
         ensures this { IsPrefix self.old.history self.new.history }
         ensures told { IfErr result (λ end. IsTold end self.new.seat.standing) }
     {
@@ -169,7 +171,7 @@ impl<M: Tally> Writing<M> {
         ensures took { (mails : List Told)
             × TakesOn self.old.seat self.new.seat self.old.receipts.items self.new.receipts.items mails
             × (length mails ≤ 1) × AreSpelled self.old.frames.items result mails self.new.frames.items
-            × AreTold mails self.new.history }
+            × AreTold self.old.seat.conn mails self.new.history }
         ensures more { IfOk result (λ more. more ≡ self.new.seat.more) }
         ensures this { IsPrefix self.old.history self.new.history }
         ensures told { IfErr result (λ end. IsTold end self.new.seat.standing) }
@@ -203,7 +205,8 @@ impl<M: Tally> Writing<M> {
     /// Keeps the receipt of a mail, if it is an answer and among the first.
     fn keep_receipt(&mut self, mail: &Mail)
         requires { vec_len self.old.receipts < 1024 → vec_len self.old.receipts < vec_capacity self.old.receipts }
-        ensures receipts { self.new.receipts.items ≡ receipts_with self.old.receipts.items (mail.now ∷ []) }
+        ensures receipts { self.new.receipts.items
+            ≡ receipts_with self.old.seat.conn self.old.receipts.items (mail.now ∷ []) }
         ensures seat { self.new.seat ≡ self.old.seat }
         ensures history { self.new.history ≡ self.old.history }
         ensures frames { self.new.frames.items ≡ self.old.frames.items }
@@ -211,7 +214,7 @@ impl<M: Tally> Writing<M> {
         if self.receipts.len() >= KEPT {
             return;
         }
-        if let Some(receipt) = Receipt::of(mail) {
+        if let Some(receipt) = Receipt::of(self.seat.conn(), mail) {
             if self.receipts.push(receipt).is_err() {
                 unreachable!();
             }

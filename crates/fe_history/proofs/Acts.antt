@@ -10,7 +10,7 @@ use Rattle.fe_state.specs.declared.entry.Entry.{Entry}
 use Rattle.fe_messages.specs.Answers.{IsAnswerIn}
 use Rattle.fe_messages.proofs.Answers.{answer_more}
 use Rattle.fe_history.specs.declared.act.Act.{Act}
-use Rattle.fe_history.specs.declared.act.Act.TheVariants.{Began, Cut, Stored, Told}
+use Rattle.fe_history.specs.declared.act.Act.TheVariants.{Began, Asked, Cut, Stored, Told}
 use Rattle.fe_history.specs.declared.receipt.Receipt.{Receipt}
 use Rattle.std.specs.List.{filter_map, cons_option}
 use Rattle.std.specs.Prelude.{zero, suc, take, slice_get, Option, Some, None, IfSome, Result, Ok, Err, OnOk, OnErr, false}
@@ -61,6 +61,7 @@ legal_append [] a legal may = absurd legal
 legal_append (Began s ∷ log) a legal may = (legal.0, goes_append s [] log a legal.1 may)
 legal_append (Cut b ∷ log) a legal may = absurd legal
 legal_append (Stored b m ∷ log) a legal may = absurd legal
+legal_append (Asked c s ∷ log) a legal may = absurd legal
 legal_append (Told q ∷ log) a legal may = absurd legal
 
 -- an act of a history may follow those before it
@@ -76,6 +77,7 @@ cuts_append [] ys = refl
 cuts_append (Began s ∷ xs) ys = cuts_append xs ys
 cuts_append (Cut b ∷ xs) ys = ap (λ bs. b ∷ bs) (cuts_append xs ys)
 cuts_append (Stored b m ∷ xs) ys = cuts_append xs ys
+cuts_append (Asked c s ∷ xs) ys = cuts_append xs ys
 cuts_append (Told q ∷ xs) ys = cuts_append xs ys
 
 pub stores_append : (xs ys : List Act) → stores_in (xs ++ ys) ≡ stores_in xs ++ stores_in ys
@@ -83,6 +85,7 @@ stores_append [] ys = refl
 stores_append (Began s ∷ xs) ys = stores_append xs ys
 stores_append (Cut b ∷ xs) ys = stores_append xs ys
 stores_append (Stored b m ∷ xs) ys = ap (λ s. (b, m) ∷ s) (stores_append xs ys)
+stores_append (Asked c s ∷ xs) ys = stores_append xs ys
 stores_append (Told q ∷ xs) ys = stores_append xs ys
 
 pub cuts_rise : (xs ys : List Act) → IsPrefix xs ys → IsPrefix (cuts_in xs) (cuts_in ys)
@@ -107,14 +110,35 @@ pub answer_within : (begun : ServerState) (xs ys : List Batch) (session number :
 answer_within begun xs ys session number answer place p is =
     subst (λ (es : List Entry). IsAnswerIn begun es session number answer place) (sym (entries_append xs p.0) ∙ ap entries_in p.1) (answer_more begun (entries_in xs) (entries_in p.0) session number answer place is)
 
+-- ---- acts of a beginning
+
+-- what is in a beginning is in the whole
+get_rises : {A : Type 0} (xs rest : List A) (k : ℕ) (x : A) → slice_get xs k ≡ Some x → slice_get (xs ++ rest) k ≡ Some x
+get_rises [] rest k x h = absurd cc
+get_rises (y ∷ xs) rest zero x h = h
+get_rises (y ∷ xs) rest (suc k) x h = get_rises xs rest k x h
+
+get_last : {A : Type 0} (xs : List A) (x : A) → slice_get (xs ++ x ∷ []) (length xs) ≡ Some x
+get_last [] x = refl
+get_last (y ∷ xs) x = get_last xs x
+
+pub stands_later : (xs ys : List Act) (a : Act) → IsPrefix xs ys → StandsIn xs a → StandsIn ys a
+stands_later xs ys a p s = (s.0, subst (λ (zs : List Act). slice_get zs s.0 ≡ Some a) p.1 (get_rises xs p.0 s.0 a s.1))
+
+pub stands_last : (xs ys : List Act) (a : Act) → ys ≡ xs ++ a ∷ [] → StandsIn ys a
+stands_last xs ys a is = (length xs, subst (λ (zs : List Act). slice_get zs (length xs) ≡ Some a) (sym is) (get_last xs a))
+
 -- what may be told may be told later
 pub told_may : (xs ys : List Act) (r : Receipt) → IsPrefix xs ys → MayCome xs (Told r) → MayCome ys (Told r)
 told_may [] ys r p may = absurd may
 told_may (Began s ∷ xs) ys r p may =
-    subst (λ (zs : List Act). MayCome zs (Told r)) p.1
-    (answer_within s (batches_of (stores_in xs)) (batches_of (stores_in (xs ++ p.0))) r.session r.number r.answer r.place (stored_rise xs (xs ++ p.0) (p.0, refl)) may)
+    subst (λ (zs : List Act). MayCome zs (Told r)) p.1 (
+      answer_within s (batches_of (stores_in xs)) (batches_of (stores_in (xs ++ p.0))) r.session r.number r.answer r.place (stored_rise xs (xs ++ p.0) (p.0, refl)) may.0,
+      stands_later xs (xs ++ p.0) (Asked r.conn r.session) (p.0, refl) may.1,
+    )
 told_may (Cut b ∷ xs) ys r p may = absurd may
 told_may (Stored b m ∷ xs) ys r p may = absurd may
+told_may (Asked c s ∷ xs) ys r p may = absurd may
 told_may (Told q ∷ xs) ys r p may = absurd may
 
 -- ---- what is always true of cuts and stores
@@ -137,6 +161,10 @@ record IsSound (begun : ServerState) (acts : List Act) : Type 0 where
   pub balanced : IsBalanced acts
   pub ordered : AreInOrder begun.place (cuts_in acts)
 
+still : (xs ys : List Act) → cuts_in xs ≡ cuts_in ys → stores_in xs ≡ stores_in ys → IsBalanced xs → IsBalanced ys
+still xs ys cuts stores (inl all) = inl (sym cuts ∙ all ∙ ap batches_of stores)
+still xs ys cuts stores (inr (b, all)) = inr (b, sym cuts ∙ all ∙ ap (λ (s : List (Batch × ℕ)). batches_of s ++ b ∷ []) stores)
+
 sound_append : (begun : ServerState) (past : List Act) (a : Act) → IsSound begun past → MayFollow begun past a → IsSound begun (past ++ a ∷ [])
 sound_append begun past (Began s) sound may = absurd may
 sound_append begun past (Cut b) sound may =
@@ -151,14 +179,14 @@ sound_append begun past (Stored b m) sound may =
     let stores : batches_of (stores_in (past ++ Stored b m ∷ [])) ≡ batches_of (stores_in past) ++ b ∷ [] =
     ap batches_of (stores_append past (Stored b m ∷ [])) ∙ map-append (λ (s : Batch × ℕ). s.0) (stores_in past) ((b, m) ∷ []) in
     record { balanced = inl (sym cuts ∙ may ∙ sym stores); ordered = subst (λ (bs : List Batch). AreInOrder begun.place bs) cuts sound.ordered }
+sound_append begun past (Asked c s) sound may =
+    let cuts : cuts_in past ≡ cuts_in (past ++ Asked c s ∷ []) = sym (cuts_append past (Asked c s ∷ []) ∙ append-nil (cuts_in past)) in
+    let stores : stores_in past ≡ stores_in (past ++ Asked c s ∷ []) = sym (stores_append past (Asked c s ∷ []) ∙ append-nil (stores_in past)) in
+    record { balanced = still past (past ++ Asked c s ∷ []) cuts stores sound.balanced; ordered = subst (λ (bs : List Batch). AreInOrder begun.place bs) cuts sound.ordered }
 sound_append begun past (Told r) sound may =
     let cuts : cuts_in past ≡ cuts_in (past ++ Told r ∷ []) = sym (cuts_append past (Told r ∷ []) ∙ append-nil (cuts_in past)) in
     let stores : stores_in past ≡ stores_in (past ++ Told r ∷ []) = sym (stores_append past (Told r ∷ []) ∙ append-nil (stores_in past)) in
     record { balanced = still past (past ++ Told r ∷ []) cuts stores sound.balanced; ordered = subst (λ (bs : List Batch). AreInOrder begun.place bs) cuts sound.ordered }
-  where
-    still : (xs ys : List Act) → cuts_in xs ≡ cuts_in ys → stores_in xs ≡ stores_in ys → IsBalanced xs → IsBalanced ys
-    still xs ys cuts stores (inl all) = inl (sym cuts ∙ all ∙ ap batches_of stores)
-    still xs ys cuts stores (inr (b, all)) = inr (b, sym cuts ∙ all ∙ ap (λ (s : List (Batch × ℕ)). batches_of s ++ b ∷ []) stores)
 
 sound_goes : (begun : ServerState) (past acts : List Act) → IsSound begun past → GoesOn begun past acts → IsSound begun (past ++ acts)
 sound_goes begun past [] sound goes = subst (IsSound begun) (sym (append-nil past)) sound
@@ -248,6 +276,7 @@ pub store_may : (v log : List Act) (count moment : ℕ) (batch : Batch) → WasC
 store_may v [] count moment batch was pre legal here = absurd legal
 store_may v (Cut b ∷ log) count moment batch was pre legal here = absurd legal
 store_may v (Stored b m ∷ log) count moment batch was pre legal here = absurd legal
+store_may v (Asked c s ∷ log) count moment batch was pre legal here = absurd legal
 store_may v (Told q ∷ log) count moment batch was pre legal here = absurd legal
 store_may v (Began begun ∷ log) count moment batch (before, size, cut) pre legal here = by (legal_sound begun log (Began begun ∷ log) refl legal).balanced
   where
@@ -270,24 +299,6 @@ store_may v (Began begun ∷ log) count moment batch (before, size, cut) pre leg
         prefix_whole (before ++ batch ∷ []) (cuts_in log) there (omega (arith, one, length-append before (batch ∷ []), as_many, size)) in
         let same = fronts_same (batches_of (stores_in log)) before b batch (sym all ∙ whole) in
         whole ∙ ap (λ (bs : List Batch). bs ++ batch ∷ []) (sym same.0)
-
--- ---- acts of a beginning
-
--- what is in a beginning is in the whole
-get_rises : {A : Type 0} (xs rest : List A) (k : ℕ) (x : A) → slice_get xs k ≡ Some x → slice_get (xs ++ rest) k ≡ Some x
-get_rises [] rest k x h = absurd cc
-get_rises (y ∷ xs) rest zero x h = h
-get_rises (y ∷ xs) rest (suc k) x h = get_rises xs rest k x h
-
-get_last : {A : Type 0} (xs : List A) (x : A) → slice_get (xs ++ x ∷ []) (length xs) ≡ Some x
-get_last [] x = refl
-get_last (y ∷ xs) x = get_last xs x
-
-pub stands_later : (xs ys : List Act) (a : Act) → IsPrefix xs ys → StandsIn xs a → StandsIn ys a
-stands_later xs ys a p s = (s.0, subst (λ (zs : List Act). slice_get zs s.0 ≡ Some a) p.1 (get_rises xs p.0 s.0 a s.1))
-
-pub stands_last : (xs ys : List Act) (a : Act) → ys ≡ xs ++ a ∷ [] → StandsIn ys a
-stands_last xs ys a is = (length xs, subst (λ (zs : List Act). slice_get zs (length xs) ≡ Some a) (sym is) (get_last xs a))
 
 -- with as many stores a beginning has all of them
 pub stores_same : (xs ys : List Act) → IsPrefix xs ys → length (stores_in ys) ≡ length (stores_in xs) → stores_in ys ≡ stores_in xs
@@ -321,33 +332,34 @@ told_option : (o : Option Receipt) (xs ys : List Act) → IsPrefix xs ys → IfS
 told_option None xs ys p told = tt
 told_option (Some r) xs ys p told = stands_later xs ys (Told r) p told
 
-pub was_later : (m : Mail) (xs ys : List Act) → IsPrefix xs ys → WasTold m xs → WasTold m ys
-was_later m xs ys p told = told_option (receipt_of m) xs ys p told
+pub was_later : (n : ℕ) (m : Mail) (xs ys : List Act) → IsPrefix xs ys → WasTold n m xs → WasTold n m ys
+was_later n m xs ys p told = told_option (receipt_of n m) xs ys p told
 
-pub told_later : (ms : List Mail) (xs ys : List Act) → IsPrefix xs ys → AreTold ms xs → AreTold ms ys
-told_later [] xs ys p told = tt
-told_later (m ∷ ms) xs ys p told = (was_later m xs ys p told.0, told_later ms xs ys p told.1)
+pub told_later : (n : ℕ) (ms : List Mail) (xs ys : List Act) → IsPrefix xs ys → AreTold n ms xs → AreTold n ms ys
+told_later n [] xs ys p told = tt
+told_later n (m ∷ ms) xs ys p told = (was_later n m xs ys p told.0, told_later n ms xs ys p told.1)
 
-pub told_both : (ms ns : List Mail) (xs ys : List Act) → IsPrefix xs ys → AreTold ms xs → AreTold ns ys → AreTold (ms ++ ns) ys
-told_both [] ns xs ys p one two = two
-told_both (m ∷ ms) ns xs ys p one two = (was_later m xs ys p one.0, told_both ms ns xs ys p one.1 two)
+-- what was told to a connection, and then to the same
+pub told_both : (n k : ℕ) (ms ns : List Mail) (xs ys : List Act) → k ≡ n → IsPrefix xs ys → AreTold n ms xs → AreTold k ns ys → AreTold n (ms ++ ns) ys
+told_both n k [] ns xs ys same p one two = subst (λ (j : ℕ). AreTold j ns ys) same two
+told_both n k (m ∷ ms) ns xs ys same p one two = (was_later n m xs ys p one.0, told_both n k ms ns xs ys same p one.1 two)
 
 each_option : (o : Option Receipt) (rs : List Receipt) (acts : List Act) → IfSome o (λ r. StandsIn acts (Told r)) → EachTold rs acts → EachTold (cons_option o rs) acts
 each_option None rs acts one all = all
 each_option (Some r) rs acts one all = (one, all)
 
 -- the receipts of mails
-each_of : (ms : List Mail) (acts : List Act) → AreTold ms acts → EachTold (filter_map receipt_of ms) acts
-each_of [] acts told = tt
-each_of (m ∷ ms) acts told = each_option (receipt_of m) (filter_map receipt_of ms) acts told.0 (each_of ms acts told.1)
+each_of : (n : ℕ) (ms : List Mail) (acts : List Act) → AreTold n ms acts → EachTold (filter_map (receipt_of n) ms) acts
+each_of n [] acts told = tt
+each_of n (m ∷ ms) acts told = each_option (receipt_of n m) (filter_map (receipt_of n) ms) acts told.0 (each_of n ms acts told.1)
 
 each_first : (n : ℕ) (rs : List Receipt) (acts : List Act) → EachTold rs acts → EachTold (take n rs) acts
 each_first zero rs acts told = tt
 each_first (suc n) [] acts told = tt
 each_first (suc n) (r ∷ rs) acts told = (told.0, each_first n rs acts told.1)
 
-pub receipts_told : (kept : List Receipt) (ms : List Mail) (acts : List Act) → kept ≡ take 1024 (filter_map receipt_of ms) → AreTold ms acts → EachTold kept acts
-receipts_told kept ms acts is told = subst (λ (rs : List Receipt). EachTold rs acts) (sym is) (each_first 1024 (filter_map receipt_of ms) acts (each_of ms acts told))
+pub receipts_told : (n : ℕ) (kept : List Receipt) (ms : List Mail) (acts : List Act) → kept ≡ take 1024 (filter_map (receipt_of n) ms) → AreTold n ms acts → EachTold kept acts
+receipts_told n kept ms acts is told = subst (λ (rs : List Receipt). EachTold rs acts) (sym is) (each_first 1024 (filter_map (receipt_of n) ms) acts (each_of n ms acts told))
 
 -- the receipts of another side, added to those of one
 pub gathered_told : {A E : Type 0} (added : Result A E) (old new : ReceiptList) (others slice : List Receipt) (xs ys zs : List Act) → slice ≡ others → OnOk added (new ≡ record old { items = old.items ++ slice })
@@ -357,3 +369,7 @@ gathered_told (Ok a) old new others slice xs ys zs same ok err p q one two =
     (each_both old.items others zs (each_later old.items xs zs p one) (each_later others ys zs q two))
 gathered_told (Err e) old new others slice xs ys zs same ok err p q one two =
     subst (λ (rs : List Receipt). EachTold rs zs) (sym (ap (λ (l : ReceiptList). l.items) err)) (each_later old.items xs zs p one)
+
+-- an answer that was told is of a session that its connection had asked for
+pub told_asked : (begun : ServerState) (acts earlier later : List Act) (r : Receipt) → GoesOn begun [] acts → acts ≡ earlier ++ Told r ∷ later → StandsIn earlier (Asked r.conn r.session)
+told_asked begun acts earlier later r goes is = (goes_at begun [] earlier later (Told r) (subst (λ (a : List Act). GoesOn begun [] a) is goes)).1

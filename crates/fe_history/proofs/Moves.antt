@@ -7,7 +7,7 @@ use prog.Atomic.{either}
 use Rattle.logbook.specs.Pages.{Cell, cell, keeps, no_nib, step, Moves, Goes}
 use Rattle.fe_state.specs.declared.batch.Batch.{Batch}
 use Rattle.fe_history.specs.declared.act.Act.{Act}
-use Rattle.fe_history.specs.declared.act.Act.TheVariants.{Cut, Stored, Told}
+use Rattle.fe_history.specs.declared.act.Act.TheVariants.{Began, Asked, Cut, Stored, Told}
 use Rattle.fe_history.specs.declared.receipt.Receipt.{Receipt}
 use Rattle.fe_history.specs.Acts.{IsLegal, MayCome, WasCut, cuts_in, stores_in}
 use Rattle.fe_history.specs.Rules.{IsKept, Adds, AddsNext, CutsAfter, CutsNext, Counts}
@@ -46,6 +46,39 @@ tells_moves v r may cs log kept pre away =
         None,
         tt,
         kept_with (log ++ Told r ∷ []) (length (stores_in log)) (length (cuts_in log)) (told_stores log r) (told_cuts log r) legal',
+        inl (refl, refl),
+        (record { earlier = log; seen = pre; is = refl }, legal'),
+      ),
+    )
+
+-- a connection may ask for a session whenever it likes
+ask_may : (log : List Act) (conn session : ℕ) → IsLegal log → MayCome log (Asked conn session)
+ask_may [] conn session legal = absurd legal
+ask_may (Began s ∷ log) conn session legal = tt
+ask_may (Cut b ∷ log) conn session legal = absurd legal
+ask_may (Stored b n ∷ log) conn session legal = absurd legal
+ask_may (Asked c s ∷ log) conn session legal = absurd legal
+ask_may (Told q ∷ log) conn session legal = absurd legal
+
+asked_stores : (log : List Act) (conn session : ℕ) → length (stores_in log) ≡ length (stores_in (log ++ Asked conn session ∷ []))
+asked_stores log conn session = ap length (sym (stores_append log (Asked conn session ∷ []) ∙ append-nil (stores_in log)))
+
+asked_cuts : (log : List Act) (conn session : ℕ) → length (cuts_in log) ≡ length (cuts_in (log ++ Asked conn session ∷ []))
+asked_cuts log conn session = ap length (sym (cuts_append log (Asked conn session ∷ []) ∙ append-nil (cuts_in log)))
+
+pub asks_moves : (v : List Act) (conn session : ℕ) → IsLegal v → Moves IsKept shown moved 0 (v, (no_nib, None)) (λ n. n) (Adds (step 0 0 0 (Asked conn session)) (v, (no_nib, None)))
+asks_moves v conn session whole cs log kept pre away =
+    let P : List Cell → Type 0 = λ c. (0 < length c) × ((cell c 0).1 ≡ true) × Goes IsKept shown moved 0 (v, (no_nib, None)) (λ n. n) (Adds (step 0 0 0 (Asked conn session)) (v, (no_nib, None))) c log in
+    let legal' : IsLegal (log ++ Asked conn session ∷ []) = legal_append log (Asked conn session) kept.legal (ask_may log conn session kept.legal) in
+    subst P (sym kept.words) (
+      omega arith,
+      refl,
+      (
+        keeps,
+        Asked conn session ∷ [],
+        None,
+        tt,
+        kept_with (log ++ Asked conn session ∷ []) (length (stores_in log)) (length (cuts_in log)) (asked_stores log conn session) (asked_cuts log conn session) legal',
         inl (refl, refl),
         (record { earlier = log; seen = pre; is = refl }, legal'),
       ),

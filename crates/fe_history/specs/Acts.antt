@@ -1,4 +1,4 @@
--- What happened in a hall, in one order: batches were cut and stored, and answers were told.
+-- What happened in a hall, in one order: batches were cut and stored, connections asked for sessions, and answers were told.
 use Rattle.std.specs.Prelude.{◌≡◌, ℕ, ◌+◌, ◌<◌, Bool, List, [], ◌∷◌, ◌++◌, length, map, slice_get, Some, IfSome, MatchBool}
 use Rattle.std.specs.List.{flat_map}
 use mathlib.Core.List.{IsPrefix}
@@ -10,7 +10,7 @@ use Rattle.fe_mail.specs.declared.mail.Mail.{Mail}
 use Rattle.fe_messages.specs.Answers.{IsAnswerIn}
 use Rattle.fe_history.specs.declared.receipt.Receipt.{Receipt}
 use Rattle.fe_history.specs.declared.act.Act.{Act}
-use Rattle.fe_history.specs.declared.act.Act.TheVariants.{Began, Cut, Stored, Told}
+use Rattle.fe_history.specs.declared.act.Act.TheVariants.{Began, Asked, Cut, Stored, Told}
 use Rattle.fe_history.specs.Receipts.{receipt_of}
 
 -- the batches that were cut
@@ -19,6 +19,7 @@ cuts_in [] = []
 cuts_in (Began state ∷ acts) = cuts_in acts
 cuts_in (Cut batch ∷ acts) = batch ∷ cuts_in acts
 cuts_in (Stored batch moment ∷ acts) = cuts_in acts
+cuts_in (Asked conn session ∷ acts) = cuts_in acts
 cuts_in (Told r ∷ acts) = cuts_in acts
 
 -- the batches that were stored, each with the moment at which its append had ended
@@ -27,7 +28,12 @@ stores_in [] = []
 stores_in (Began state ∷ acts) = stores_in acts
 stores_in (Cut batch ∷ acts) = stores_in acts
 stores_in (Stored batch moment ∷ acts) = (batch, moment) ∷ stores_in acts
+stores_in (Asked conn session ∷ acts) = stores_in acts
 stores_in (Told r ∷ acts) = stores_in acts
+
+-- the act is one of these
+abbrev pub StandsIn : List Act → Act → Type 0
+StandsIn acts act = (at : ℕ) × (slice_get acts at ≡ Some act)
 
 -- the batches of stores
 abbrev pub batches_of : List (Batch × ℕ) → List Batch
@@ -42,13 +48,17 @@ abbrev pub place_after : ServerState → List Batch → ℕ
 place_after begun batches = begun.place + length (entries_in batches)
 
 -- What may happen in a hall that began with this state, after these acts: a batch is cut once those before it are stored, and goes on where
--- they end; the batch that was cut is stored; and an answer is told only once its entry is stored, and it is that entry's.
+-- they end; the batch that was cut is stored; a connection asks for a session whenever it likes; and an answer is told only once its
+-- entry is stored, it is that entry's, and it is told to a connection that has asked for its session.
 abbrev pub MayFollow : ServerState → List Act → Act → Type 0
 MayFollow begun past (Began state) = ⊥
 MayFollow begun past (Cut batch) =
     (cuts_in past ≡ batches_of (stores_in past)) × (batch.first ≡ place_after begun (cuts_in past)) × (0 < length batch.entries)
 MayFollow begun past (Stored batch moment) = cuts_in past ≡ batches_of (stores_in past) ++ batch ∷ []
-MayFollow begun past (Told r) = IsAnswerIn begun (entries_in (batches_of (stores_in past))) r.session r.number r.answer r.place
+MayFollow begun past (Asked conn session) = Unit {0}
+MayFollow begun past (Told r) =
+    IsAnswerIn begun (entries_in (batches_of (stores_in past))) r.session r.number r.answer r.place
+    × StandsIn past (Asked r.conn r.session)
 
 -- each act may follow those before it
 abbrev pub GoesOn : ServerState → List Act → List Act → Type 0
@@ -61,6 +71,7 @@ IsLegal [] = ⊥
 IsLegal (Began state ∷ acts) = IsWithinLimits state × GoesOn state [] acts
 IsLegal (Cut batch ∷ acts) = ⊥
 IsLegal (Stored batch moment ∷ acts) = ⊥
+IsLegal (Asked conn session ∷ acts) = ⊥
 IsLegal (Told r ∷ acts) = ⊥
 
 -- an act may come after a history
@@ -69,6 +80,7 @@ MayCome [] a = ⊥
 MayCome (Began state ∷ past) a = MayFollow state past a
 MayCome (Cut batch ∷ past) a = ⊥
 MayCome (Stored batch moment ∷ past) a = ⊥
+MayCome (Asked conn session ∷ past) a = ⊥
 MayCome (Told r ∷ past) a = ⊥
 
 -- a batch was cut, after this many others
@@ -85,23 +97,19 @@ pub record IsStored (batch : Batch) (s : ServerState) : Type 0 where
 abbrev pub WasStoredLast : List Act → Batch → Type 0
 WasStoredLast acts batch = (before : List (Batch × ℕ)) × (moment : ℕ) × (stores_in acts ≡ before ++ (batch, moment) ∷ [])
 
--- the act is one of these
-abbrev pub StandsIn : List Act → Act → Type 0
-StandsIn acts act = (at : ℕ) × (slice_get acts at ≡ Some act)
-
 -- the answer of each receipt was told
 abbrev pub EachTold : List Receipt → List Act → Type 0
 EachTold [] acts = Unit {0}
 EachTold (r ∷ receipts) acts = StandsIn acts (Told r) × EachTold receipts acts
 
--- the mail is no answer, or it was told
-abbrev pub WasTold : Mail → List Act → Type 0
-WasTold mail acts = IfSome (receipt_of mail) (λ r. StandsIn acts (Told r))
+-- the mail is no answer, or it was told to this connection
+abbrev pub WasTold : ℕ → Mail → List Act → Type 0
+WasTold conn mail acts = IfSome (receipt_of conn mail) (λ r. StandsIn acts (Told r))
 
--- each answer among these mails was told
-abbrev pub AreTold : List Mail → List Act → Type 0
-AreTold [] acts = Unit {0}
-AreTold (m ∷ mails) acts = WasTold m acts × AreTold mails acts
+-- each answer among these mails was told to this connection
+abbrev pub AreTold : ℕ → List Mail → List Act → Type 0
+AreTold conn [] acts = Unit {0}
+AreTold conn (m ∷ mails) acts = WasTold conn m acts × AreTold conn mails acts
 
 -- the receipts of the write side of a connection, and a history in which their answers were told
 pub record Receipts : Type 0 where

@@ -11,15 +11,16 @@ use Rattle.fe_wire.specs.declared.client_message.ClientMessage.{ClientMessage}
 use Rattle.fe_wire.specs.declared.client_message.ClientMessage.TheVariants.{Attach, Call}
 use Rattle.fe_history.specs.declared.receipt.Receipt.{Receipt}
 
--- an answer has a receipt, and no other mail has one
-abbrev pub receipt_of : Mail → Option Receipt
-receipt_of (mail.Answer session number answer place) = Some (record { session = session; number = number; answer = answer; place = place })
-receipt_of (mail.Welcome session floor) = None
-receipt_of (mail.Refused number refusal) = None
-receipt_of (mail.Withdrawn number) = None
-receipt_of (mail.Settled floor) = None
-receipt_of (mail.Goodbye session) = None
-receipt_of (mail.Report text) = None
+-- an answer to a connection has a receipt, and no other mail has one
+abbrev pub receipt_of : ℕ → Mail → Option Receipt
+receipt_of conn (mail.Answer session number answer place) =
+    Some (record { conn = conn; session = session; number = number; answer = answer; place = place })
+receipt_of conn (mail.Welcome session floor) = None
+receipt_of conn (mail.Refused number refusal) = None
+receipt_of conn (mail.Withdrawn number) = None
+receipt_of conn (mail.Settled floor) = None
+receipt_of conn (mail.Goodbye session) = None
+receipt_of conn (mail.Report text) = None
 
 -- this is what the state keeps for a number of a session
 abbrev pub Keeps : ServerState → ℕ → ℕ → Kept → Type 0

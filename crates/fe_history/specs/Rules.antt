@@ -4,9 +4,11 @@ use mathlib.Core.List.{IsPrefix}
 use Rattle.logbook.specs.Pages.{Cell, Step, View, Book, Named}
 use Rattle.fe_state.specs.State.{ServerState}
 use Rattle.fe_state.specs.declared.batch.Batch.{Batch}
+use Rattle.fe_wire.specs.declared.client_message.ClientMessage.{ClientMessage}
+use Rattle.fe_wire.specs.declared.client_message.ClientMessage.TheVariants.{Attach, Call, Cancel, Settle, Bye, Report}
 use Rattle.fe_front.specs.Front.{FrontState}
 use Rattle.fe_history.specs.declared.act.Act.{Act}
-use Rattle.fe_history.specs.declared.act.Act.TheVariants.{Began}
+use Rattle.fe_history.specs.declared.act.Act.TheVariants.{Asked, Began}
 use Rattle.fe_history.specs.Acts.{IsLegal, batches_of, cuts_in, place_after, stores_in}
 
 -- the words are how many batches were stored, and how many were cut; and what happened is legal
@@ -46,6 +48,15 @@ pub record ComesAfter (before : List Act) (act : Act) (after : List Act) : Type 
   pub earlier : List Act
   pub seen : IsPrefix before earlier
   pub is : after ≡ earlier ++ act ∷ []
+
+-- what a history gains by a message of a connection: that it asks for a session, if it does
+abbrev pub Hears : List Act → ℕ → ClientMessage → List Act → Type 0
+Hears before conn (Attach session) after = ComesAfter before (Asked conn session) after
+Hears before conn (Call number request) after = after ≡ before
+Hears before conn (Cancel number) after = after ≡ before
+Hears before conn (Settle floor) after = after ≡ before
+Hears before conn Bye after = after ≡ before
+Hears before conn Report after = after ≡ before
 
 -- an act was added
 abbrev pub Adds : Step Act → View Act ℕ → ℕ → View Act ℕ → Type 0

@@ -9,6 +9,8 @@ pub enum Act {
     Cut(Batch),
     /// The batch that was cut last was stored: the moment of the disk at which its append had ended.
     Stored(Batch, u64),
+    /// The connection of this number asked for this session.
+    Asked(u64, u64),
     /// An answer was taken out of its box, to be told to its client.
     Told(Receipt),
 }

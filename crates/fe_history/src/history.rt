@@ -4,7 +4,7 @@ ghost use Rattle.std.specs.Prelude.{◌≡◌, ◌^◌, ◌==◌, ◌<◌, ◌�
 ghost use mathlib.Core.List.{IsPrefix};
 ghost use Rattle.fe_history.specs.declared.act.Act.TheVariants as act;
 ghost use Rattle.fe_history.specs.Acts.{IsLegal, IsStored, MayCome, WasCut, cuts_in, stores_in};
-ghost use Rattle.fe_history.specs.Rules.{ComesAfter, CutsAfter, cuts_of, pending_batch, stores_of};
+ghost use Rattle.fe_history.specs.Rules.{ComesAfter, CutsAfter, Hears, cuts_of, pending_batch, stores_of};
 
 use crate::account::Account;
 use crate::act::Act;
@@ -13,10 +13,13 @@ use crate::tally::Tally;
 use fe_disk::Disk;
 use fe_front::Front;
 use fe_keeper::Keeper;
+use fe_messages::Took;
 use fe_state::{Answer, Batch, State};
+use fe_wire::ClientMessage;
 use logbook::{Gain, Offer, Opening, Plain, Play, Rule, Seen, Start, Word};
 use std::alloc::Global;
 use std::marker::{Model, PhantomData};
+use std::sync::ledger::Book;
 
 /// The rule of the history: its words count the batches that were stored and cut, and each act may follow those before it.
 pub struct Law;
@@ -74,6 +77,31 @@ impl Plain<Receipt, Act, u64> for Telling {
     ghost ask = { λ receipt. Told receipt };
 
     ghost state = { λ receipt. None };
+}
+
+/// The step that adds that a connection asks for a session.
+struct Asking;
+
+impl Play<Act, u64> for Asking {
+    ghost use Rattle.fe_history.specs.Rules.{Adds};
+
+    ghost then = { Adds };
+}
+
+/// The session that a connection asks for.
+#[derive(Clone, Copy)]
+struct Wish {
+    conn: u64,
+    session: u64,
+}
+
+impl Plain<Wish, Act, u64> for Asking {
+    ghost use Rattle.std.specs.Prelude.{None};
+    ghost use Rattle.fe_history.specs.declared.act.Act.TheVariants.{Asked};
+
+    ghost ask = { λ wish. Asked wish.conn wish.session };
+
+    ghost state = { λ wish. None };
 }
 
 /// The step that adds a cut: of all that is pending in a front.
@@ -286,7 +314,7 @@ impl<M: Tally> History<M> {
         self.seen.learn(&other.seen);
     }
 
-    /// Adds an answer, which is that of an entry that was stored before.
+    /// Adds an answer, which is that of an entry that was stored before, to a connection that asked for its session before.
     pub fn tell(&mut self, chronicle: &Chronicle<M>, receipt: Receipt)
         requires { MayCome self.old (act.Told receipt) }
         ensures { ComesAfter self.old (act.Told receipt) self.new }
@@ -297,6 +325,34 @@ impl<M: Tally> History<M> {
         let _ = chronicle
             .stores
             .load::<Telling, Nothing>(&mut self.seen, &mut offer);
+    }
+
+    /// Adds that a connection asks for a session, if this message of it does, which was handed to a front. Only what is under the lock
+    /// of the hall has the book.
+    pub fn hear(&mut self, chronicle: &Chronicle<M>, _mails: &Book<M>, took: Took)
+        ensures heard { Hears self.old took.conn took.message self.new }
+        ensures legal { IsLegal self.new }
+    {
+        // It names what is always true of a history.
+        let _ = &self.seen;
+        let (conn, message) = took.into_parts();
+        if let ClientMessage::Attach { session } = message {
+            self.ask(chronicle, conn, session);
+        }
+    }
+
+    /// Adds that a connection asks for a session.
+    fn ask(&mut self, chronicle: &Chronicle<M>, conn: u64, session: u64)
+        ensures asked { ComesAfter self.old (act.Asked conn session) self.new }
+        ensures legal { IsLegal self.new }
+    {
+        let wish = Wish { conn, session };
+        let mut offer: Offer<Act, u64, Law, Nothing> = self
+            .seen
+            .plain::<Nothing, Wish, Asking>(&wish);
+        let _ = chronicle
+            .stores
+            .load::<Asking, Nothing>(&mut self.seen, &mut offer);
     }
 
     /// Adds a cut of all that is pending in a front, if the history has this many cuts so far. Whether it did.
@@ -366,6 +422,7 @@ impl<M: Tally> History<M> {
         ensures legal { IsLegal self.new }
     {
         let none = Receipt {
+            conn: 0,
             session: 0,
             number: 0,
             answer: Answer::Done,

@@ -1,8 +1,8 @@
 //! What happened in a hall, in the one order that its threads agree on, and what is left of it: the receipts of its answers.
 //!
 //! The history exists in proofs alone. Each thread has a beginning of it, and adds acts that may follow those before them: a batch is
-//! cut, a batch is stored, an answer is handed to a client. A receipt is compared with what the store keeps and with
-//! what clients sent.
+//! cut, a batch is stored, a connection asks for a session, an answer is handed to a connection. A receipt is compared with what the
+//! store keeps and with what clients sent.
 #![tactic(auto)]
 
 mod account;

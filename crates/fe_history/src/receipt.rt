@@ -7,6 +7,8 @@ use fe_state::Answer;
 /// An answer that the write side of a connection took for its client.
 #[derive(Clone, Copy, PartialEq, Eq)]
 pub struct Receipt {
+    /// The number of the connection to which it goes.
+    pub conn: u64,
     pub session: u64,
     pub number: u64,
     pub answer: Answer,
@@ -15,9 +17,9 @@ pub struct Receipt {
 }
 
 impl Receipt {
-    /// What is kept of a mail: an answer has a receipt.
-    pub fn of(mail: &Mail) -> Option<Receipt>
-        ensures { result ≡ receipt_of mail.now }
+    /// What is kept of a mail to a connection: an answer has a receipt.
+    pub fn of(conn: u64, mail: &Mail) -> Option<Receipt>
+        ensures { result ≡ receipt_of conn mail.now }
     {
         match mail {
             Mail::Answer {
@@ -26,6 +28,7 @@ impl Receipt {
                 answer,
                 place,
             } => Some(Receipt {
+                conn,
                 session: *session,
                 number: *number,
                 answer: *answer,

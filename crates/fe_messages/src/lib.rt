@@ -4,6 +4,8 @@
 
 mod reply;
 mod taking;
+mod took;
 
 pub use reply::Reply;
 pub use taking::take_message;
+pub use took::Took;

@@ -7,6 +7,7 @@ ghost use Rattle.fe_messages.specs.Taking.{Takes};
 ghost use Rattle.fe_messages.specs.Enters.{Enters};
 ghost use Rattle.fe_wire.specs.declared.client_message.ClientMessage.TheVariants as Message;
 
+use crate::took::Took;
 use fe_front::Front;
 use fe_mail::{Refusal, ReportText};
 use fe_report::report;
@@ -14,7 +15,17 @@ use fe_wire::ClientMessage;
 use std::alloc::Global;
 
 /// Hands a connection's message to the front. If it is refused, the connection gets a mail that says why.
-pub fn take_message(alloc: Global, front: &mut Front, conn: u64, message: ClientMessage)
+pub fn take_message(alloc: Global, front: &mut Front, conn: u64, message: ClientMessage) -> Took
+    requires room { IsTrue (has_room front.old) }
+    ensures taken { (es : List Entry) × Takes front.old conn message es front.new × Enters front.old es front.new }
+    ensures took { result ≡ record { conn = conn; message = message } }
+{
+    let took = Took::of(conn, &message);
+    hand_over(alloc, front, conn, message);
+    took
+}
+
+fn hand_over(alloc: Global, front: &mut Front, conn: u64, message: ClientMessage)
     requires room { IsTrue (has_room front.old) }
     ensures taken { (es : List Entry) × Takes front.old conn message es front.new × Enters front.old es front.new }
 {

@@ -14,12 +14,12 @@ use Rattle.fe_keeper.specs.Keeper.{KeeperState}
 use Rattle.fe_keeper.specs.Prefix.{LeavesPrefix}
 use Rattle.fe_messages.specs.Answers.{IsAnswerIn}
 use mathlib.Core.List.{IsPrefix}
-use Rattle.fe_history.proofs.Acts.{goes_at, prefix_self, prefix_trans, stores_rise}
+use Rattle.fe_history.proofs.Acts.{goes_at, prefix_self, prefix_trans, stores_rise, told_asked}
 use Rattle.fe_hall.proofs.Committed.{appends_length}
 use Rattle.fe_history.specs.Acts.{Account, EachTold, GoesOn, HasMore, IsAccountOf, IsLegal, StandsIn, batches_of, entries_in, stores_in}
 use Rattle.fe_hall.specs.Commits.{Append, AreAppends, AreNoted, AreNotes, Commits, HoldsSince, noted}
 use Rattle.fe_history.specs.declared.act.Act.{Act}
-use Rattle.fe_history.specs.declared.act.Act.TheVariants.{Began, Told}
+use Rattle.fe_history.specs.declared.act.Act.TheVariants.{Asked, Began, Told}
 use Rattle.fe_hall.specs.declared.commit_end.CommitEnd.{CommitEnd}
 use Rattle.fe_history.specs.declared.receipt.Receipt.{Receipt}
 use Rattle.fe_server.specs.Acknowledged.{IsHeld, IsAcknowledged}
@@ -146,7 +146,7 @@ module _ {D : Type 0} (honest : D → Type 0) (moment : D → ℕ) (left_since :
     answer_is : IsAnswerIn old.state (flat (take (length (stores_in earlier)) stored_groups)) r.session r.number r.answer r.place
     answer_is =
         subst (λ (es : List Entry). IsAnswerIn old.state es r.session r.number r.answer r.place) entries_are
-        (goes_at old.state [] earlier later (Told r) (subst (λ (a : List Act). GoesOn old.state [] a) is goes))
+        (goes_at old.state [] earlier later (Told r) (subst (λ (a : List Act). GoesOn old.state [] a) is goes)).0
 
     told_right : IsAnswerIn old.state (flat (take (length (stores_in earlier)) commits.groups)) r.session r.number r.answer r.place
     told_right =
@@ -192,6 +192,13 @@ module _ {D : Type 0} (honest : D → Type 0) (moment : D → ℕ) (left_since :
         subst (λ (a : Act). (r.place < old.state.place) ⊎ IsHeld moment left_since old.state commits.groups commits.appends new.store.disk (length (stores_in (a ∷ earlier))) r.place) head
         (told_held acts front goes earlier later r tail h fine)
 
+  all_asked : (acts : List Act) → GoesOn old.state [] acts → (earlier later : List Act) (r : Receipt) → Began old.state ∷ acts ≡ earlier ++ Told r ∷ later → StandsIn earlier (Asked r.conn r.session)
+  all_asked acts goes [] later r is = absurd (cc is)
+  all_asked acts goes (e ∷ earlier) later r is =
+      let tail : acts ≡ earlier ++ Told r ∷ later = cc is in
+      let before : StandsIn earlier (Asked r.conn r.session) = told_asked old.state acts earlier later r goes tail in
+      (suc before.0, before.1)
+
   pub acknowledged : (account : Account) (seat : List Act) → AreNoted moment commits.appends (Some end) (Began old.state ∷ []) seat → IsPrefix seat account.history → IsLegal account.history
       → MatchBool account.own (stores_in account.history ≡ stores_in seat) (HasMore (stores_in seat) (stores_in account.history)) → EachTold account.receipts account.history
       → IsAcknowledged honest moment left_since old new end account
@@ -213,6 +220,7 @@ module _ {D : Type 0} (honest : D → Type 0) (moment : D → ℕ) (left_since :
         told = contains_told account.history account.receipts told;
         right = λ alone earlier later r at. all_right whole.0 (front alone) goes earlier later r (begins ∙ at);
         held = λ alone h fine earlier later r at. all_held whole.0 (front alone) goes h fine earlier later r (begins ∙ at);
+        asked = λ earlier later r at. all_asked whole.0 goes earlier later r (begins ∙ at);
       }
 
 -- with what a committing side gave back, and the account of its hall

@@ -8,10 +8,10 @@ use Rattle.fe_state.specs.declared.entry.Entry.{Entry}
 use Rattle.fe_keeper.specs.Keeper.{KeeperState}
 use Rattle.fe_keeper.specs.Prefix.{LeavesPrefix}
 use Rattle.fe_messages.specs.Answers.{IsAnswerIn}
-use Rattle.fe_history.specs.Acts.{Account, HasMore, stores_in}
+use Rattle.fe_history.specs.Acts.{Account, HasMore, StandsIn, stores_in}
 use Rattle.fe_hall.specs.Commits.{Append, AreNotes, Commits}
 use Rattle.fe_history.specs.declared.act.Act.{Act}
-use Rattle.fe_history.specs.declared.act.Act.TheVariants.{Told}
+use Rattle.fe_history.specs.declared.act.Act.TheVariants.{Asked, Told}
 use Rattle.fe_hall.specs.declared.commit_end.CommitEnd.{CommitEnd}
 use Rattle.fe_history.specs.declared.receipt.Receipt.{Receipt}
 
@@ -28,7 +28,8 @@ pub record IsHeld {D : Type 0} (moment : D → ℕ) (left_since : D → ℕ → 
 
 -- A server ended so. It stored groups and noted these of them; its history has the notes in their order, and the answer of each receipt.
 -- If nobody else noted groups in its hall, then each answer that was told is that of its entry in the groups that were stored before, or
--- it was kept from the beginning; and every image since its group was stored has that group.
+-- it was kept from the beginning; and every image since its group was stored has that group. Whoever noted groups, each answer was told
+-- to a connection that had asked for its session before.
 pub record IsAcknowledged {D : Type 0} (honest : D → Type 0) (moment : D → ℕ) (left_since : D → ℕ → List ℕ → Type 0) (old new : KeeperState D) (end : CommitEnd) (account : Account) : Type 0 where
   pub commits : Commits honest moment left_since old new (Some end)
   pub notes : List (Batch × ℕ)
@@ -39,3 +40,5 @@ pub record IsAcknowledged {D : Type 0} (honest : D → Type 0) (moment : D → �
       → IsAnswerIn old.state (flat_map (λ group. group) (take (length (stores_in earlier)) commits.groups)) r.session r.number r.answer r.place
   pub held : account.own ≡ true → honest old.store.disk → old.store.has_failed ≡ false → (earlier later : List Act) (r : Receipt) → account.history ≡ earlier ++ Told r ∷ later
       → (r.place < old.state.place) ⊎ IsHeld moment left_since old.state commits.groups commits.appends new.store.disk (length (stores_in earlier)) r.place
+  pub asked : (earlier later : List Act) (r : Receipt) → account.history ≡ earlier ++ Told r ∷ later
+      → StandsIn earlier (Asked r.conn r.session)

@@ -1,5 +1,5 @@
 -- What the two sides of a connection did with its stream.
-use Rattle.std.specs.Prelude.{◌≡◌, ◌≢◌, ℕ, true, List, []}
+use Rattle.std.specs.Prelude.{◌≡◌, ◌≢◌, ◌⊎◌, ℕ, ◌+◌, ◌≤◌, true, List, []}
 use Rattle.fe_mail.specs.declared.mail.Mail.{Mail}
 use Rattle.fe_wire.specs.declared.client_message.ClientMessage.{ClientMessage}
 use Rattle.fe_history.specs.Acts.{AreTold, Receipts}
@@ -11,10 +11,13 @@ use Rattle.fe_hall.specs.Reads as reads
 use Rattle.fe_hall.specs.Writes as writes
 use Rattle.fe_shared.specs.Seats.{HasDeparted, HasRested, ReadSeat, WriteSeat}
 
--- A read side read a half: what it handled is the front of the stream, if the half tells its bytes and had told none; and it ended so.
-pub record HasHandled {H : Type 0} (tells : H → Type 0) (told : H → List ℕ) (old new : H) (seat left : ReadSeat) (sent : List ClientMessage) (end : ReadEnd) : Type 0 where
+-- A read side read a half, so often at most: what it handled is the front of the stream, if the half tells its bytes and had told none;
+-- and it ended so. It ends for the number of its reads only after all of them, or with none where its client can't be answered.
+pub record HasHandled {H : Type 0} (tells : H → Type 0) (told : H → List ℕ) (reads_of : H → ℕ) (turns : ℕ) (old new : H) (seat left : ReadSeat) (sent : List ClientMessage) (end : ReadEnd) : Type 0 where
   pub own : left.conn ≡ seat.conn
   pub handled : tells old → told old ≡ [] → reads.HandlesStream (told new) seat left sent end
+  pub made : end ≡ read_end.Turns → (reads_of new ≡ reads_of old + turns) ⊎ (reads_of new ≡ reads_of old)
+  pub few : reads_of new ≤ reads_of old + turns
   pub hall : reads.IsTold end left.standing
   pub departed : end ≢ read_end.Stopped → HasDeparted left
   pub rested : reads.IsQuietEnd end → HasRested left
@@ -27,6 +30,6 @@ pub record HasWritten {W : Type 0} (tells : W → Type 0) (got : W → List ℕ)
   pub mails : List Mail
   pub taken : writes.AreTaken seat left receipts.items mails
   pub written : tells old → writes.IsWritten (got old) mails end (got new)
-  pub told : AreTold mails receipts.history
+  pub told : AreTold seat.conn mails receipts.history
   pub hall : writes.IsTold end left.standing
   pub departed : end ≢ write_end.Stopped → left.departed ≡ true

@@ -8,7 +8,7 @@ use crate::entrance::Entrance;
 use crate::house::House;
 use crate::newcomer::{Ended, Newcomer};
 use crate::register::NoMore;
-use fe_hall::{Gate, HasStopped, Tally};
+use fe_hall::{ConnectRight, Gate, HasStopped, Tally};
 use fe_options::Settings;
 use std::alloc::Global;
 use std::io::ErrorKind;
@@ -45,6 +45,7 @@ pub(crate) fn serve_clients<
     alloc: Global,
     house: &House<C, M>,
     entrance: Entrance,
+    right: ConnectRight,
     settings: &Settings,
     gate: &G,
 ) -> AllServed
@@ -68,8 +69,9 @@ pub(crate) fn serve_clients<
                 gate,
                 turns,
             };
-            let no_more = porter.accept_all(scope, &entrance, accepts);
+            let no_more = porter.accept_all(scope, &entrance, &right, accepts);
             house.close_door(rt);
+            drop(right);
             drop(entrance);
             no_more
         },
@@ -96,7 +98,13 @@ impl<
     R: Clock + Threads + Wait + Sync,
 > Porter<'s, C, M, G, R> {
     /// Accepts connections until the server ends or this many came; without end if it is 0.
-    fn accept_all<E>(&self, scope: &Scope<'s, E>, entrance: &Entrance, accepts: u64) -> NoMore
+    fn accept_all<E>(
+        &self,
+        scope: &Scope<'s, E>,
+        entrance: &Entrance,
+        right: &ConnectRight,
+        accepts: u64,
+    ) -> NoMore
         requires calls { C.all ≡ C.parts }
         requires mails { M.all ≡ M.parts }
         ensures { HasEnded accepts result }
@@ -106,7 +114,7 @@ impl<
                 Err(no_more) => return no_more,
                 Ok(running) => match entrance.accept(self.alloc, running) {
                     Err(error) => pause(self.rt, error),
-                    Ok(accepted) => self.welcome(scope, accepted),
+                    Ok(accepted) => self.welcome(scope, right, accepted),
                 },
             }
         }
@@ -114,13 +122,13 @@ impl<
     }
 
     /// Begins to serve a client, if there is room for it and the hall makes its seats.
-    fn welcome<E>(&self, scope: &Scope<'s, E>, accepted: Accepted)
+    fn welcome<E>(&self, scope: &Scope<'s, E>, right: &ConnectRight, accepted: Accepted)
         requires calls { C.all ≡ C.parts }
         requires mails { M.all ≡ M.parts }
     {
         let (rt, house) = (self.rt, self.house);
         match house.enter(rt) {
-            Ok(admission) => match house.connect(rt, Connection::of(accepted, admission)) {
+            Ok(admission) => match house.connect(rt, right, Connection::of(accepted, admission)) {
                 Ok(newcomer) => self.start(scope, newcomer),
                 Err(unserved) => house.refuse(rt, unserved),
             },

@@ -4,7 +4,7 @@
 //! What serves a connection takes any reader and any writer, whose bytes its clauses name. One expression, in `Connection::serve`, knows
 //! that it is a socket.
 
-ghost use Rattle.std.specs.Prelude.{◌≡◌, ◌≢◌, ◌∷◌, ◌++◌, [], List, true, false, IfSome, IsSome, IsTrue};
+ghost use Rattle.std.specs.Prelude.{◌≡◌, ◌≢◌, ◌⊎◌, ◌∷◌, ◌++◌, [], List, true, false, IfSome, IsSome, IsTrue};
 ghost use Rattle.fe_history.specs.Acts.{AreTold};
 ghost use Rattle.fe_mail.specs.declared.mail.Mail.{Mail as Told};
 ghost use Rattle.fe_streams.specs.Incoming.{bytes_read};
@@ -269,8 +269,10 @@ fn serve_streams<
     ensures wrote { (all : List Told) × AreTaken mails result.2.mails result.2.receipts.items all
         × (IsSome (O.contents writer)
         → IsWritten (known_bytes (O.contents writer)) all result.2.write (known_bytes (O.contents result.1.writer)))
-        × AreTold all result.2.receipts.history }
+        × AreTold mails.conn all result.2.receipts.history }
     ensures departed { result.2.write ≢ WriteEnd.Stopped → result.2.mails.departed ≡ true }
+    // It ends for the number of its reads only after all of them, or with none where the writing thread can't be started.
+    ensures turns { result.2.read ≡ ReadEnd.Turns → (result.0.reads ≡ turns) ⊎ (result.0.reads ≡ 0) }
 {
     let (from, to) = (StreamRead::new(reader), StreamWrite::new(writer));
     serve_over(rt, alloc, house, gate, calls, mails, from, to, ends, turns)
@@ -299,7 +301,7 @@ fn serve_over<
 ) -> (H, W, Outcome<C, M>)
     requires one { calls.conn ≡ mails.conn }
     // The front of the client's stream was handled.
-    ensures handled { HasHandled H.tells H.told from result.0 calls result.2.calls result.2.sent.items result.2.read }
+    ensures handled { HasHandled H.tells H.told H.reads turns from result.0 calls result.2.calls result.2.sent.items result.2.read }
     // The client got the frames of the mails that were taken.
     ensures wrote { HasWritten W.tells W.got to result.1 mails result.2.mails result.2.receipts result.2.write }
 {
@@ -308,7 +310,7 @@ fn serve_over<
         rt,
         move |scope| -> (H, W, Outcome<C, M>)
             requires { calls.conn ≡ mails.conn }
-            ensures { HasHandled H.tells H.told from result.0 calls result.2.calls result.2.sent.items result.2.read
+            ensures { HasHandled H.tells H.told H.reads turns from result.0 calls result.2.calls result.2.sent.items result.2.read
                 × HasWritten W.tells W.got to result.1 mails result.2.mails result.2.receipts result.2.write }
         {
             serve_in(
@@ -343,7 +345,7 @@ fn serve_in<
     turns: u64,
 ) -> (H, W, Outcome<C, M>)
     requires one { calls.conn ≡ mails.conn }
-    ensures { HasHandled H.tells H.told from result.0 calls result.2.calls result.2.sent.items result.2.read
+    ensures { HasHandled H.tells H.told H.reads turns from result.0 calls result.2.calls result.2.sent.items result.2.read
         × HasWritten W.tells W.got to result.1 mails result.2.mails result.2.receipts result.2.write }
 {
     let promise = Wrote {
@@ -396,7 +398,7 @@ fn run_read_side<C: Tally, M: Tally, G: Gate, R: Clock + Wait, H: ReadHalf + Dro
     ends: &E,
     turns: u64,
 ) -> (H, CallSeat<C>, Vec<ClientMessage>, ReadEnd)
-    ensures { HasHandled H.tells H.told from result.0 seat result.1 result.2.items result.3 }
+    ensures { HasHandled H.tells H.told H.reads turns from result.0 seat result.1 result.2.items result.3 }
 {
     let mut from = from;
     let (seat, sent, end) = read_side(rt, alloc, house.hall(), seat, &mut from, gate, Some(turns));

@@ -20,7 +20,9 @@ use crate::register::{Admission, Full, NoMore, NoNewcomer, Over, Register, Runni
 use crate::stop_fault::StopFault;
 use fe_disk::Disk;
 use fe_front::Front;
-use fe_hall::{Account, Audit, CommitEnd, Hall, NewHistory, StoreSeat, Tally, commit_side};
+use fe_hall::{
+    Account, Audit, CommitEnd, ConnectRight, Hall, NewHistory, StoreSeat, Tally, commit_side,
+};
 use fe_keeper::Keeper;
 use fe_options::Settings;
 use fe_state::State;
@@ -57,7 +59,7 @@ pub(crate) struct Opened<C: Tally, M: Tally> {
 }
 
 impl<C: Tally, M: Tally> Opened<C, M> {
-    /// A house with no connection, whose front begins with a copy of a state.
+    /// A house with no connection, whose front begins with a copy of a state; and the right to make connections.
     pub(crate) fn new(
         alloc: Global,
         state: &State,
@@ -66,7 +68,7 @@ impl<C: Tally, M: Tally> Opened<C, M> {
         history: NewHistory,
         entrance: &Entrance,
         settings: &Settings,
-    ) -> Result<(Opened<C, M>, StoreSeat<M>), AllocError>
+    ) -> Result<(Opened<C, M>, StoreSeat<M>, ConnectRight), AllocError>
         requires calls { IsBlankOf C.name C.parts C.all calls.name calls.parts }
         requires mails { IsBlankOf M.name M.parts M.all mails.name mails.parts }
         requires history { history.book ≡ M.book }
@@ -88,7 +90,7 @@ impl<C: Tally, M: Tally> Opened<C, M> {
         };
         let begun = Snapshot::of(front.state());
         match Hall::new(alloc, front, calls, mails, history) {
-            Ok((hall, seat)) => {
+            Ok((hall, seat, right)) => {
                 let receipts = hall.no_receipts(alloc);
                 let house = House {
                     hall,
@@ -98,7 +100,7 @@ impl<C: Tally, M: Tally> Opened<C, M> {
                     accepts: settings.accepts,
                     keeps: settings.accepts > 0,
                 };
-                Ok((Opened { house, begun }, seat))
+                Ok((Opened { house, begun }, seat, right))
             }
             Err((short, front)) => {
                 drop(front);
@@ -225,11 +227,12 @@ impl<C: Tally, M: Tally> House<C, M> {
     pub(crate) fn connect<R: Wait>(
         &self,
         rt: &R,
+        right: &ConnectRight,
         connection: Connection,
     ) -> Result<Newcomer<C, M>, Unserved>
         ensures connection { IfOk result (λ newcomer. newcomer.connection ≡ connection) }
     {
-        Newcomer::of(rt, &self.hall, connection)
+        Newcomer::of(rt, &self.hall, right, connection)
     }
 
     pub(crate) fn hall(&self) -> &Hall<C, M> {

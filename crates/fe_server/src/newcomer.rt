@@ -1,12 +1,11 @@
 //! A connection with its seats in the hall.
 
 ghost use Rattle.std.specs.Prelude.{◌≡◌, IfOk};
-ghost use Rattle.fe_shared.specs.Seats.{first_read_seat, first_write_seat};
 
 use crate::connection::Connection;
 use crate::house::House;
 use crate::register::{Admission, NoNewcomer};
-use fe_hall::{CallSeat, Gate, Hall, MailSeat, Tally};
+use fe_hall::{ConnectRight, Gate, Hall, NewSeats, Tally};
 use std::alloc::Global;
 use std::sync::Wait;
 use std::thread::Threads;
@@ -15,10 +14,8 @@ use std::time::Clock;
 /// A connection that was admitted, and its seats, before its threads begin. It is not `Drop`, as its connection is not.
 pub(crate) struct Newcomer<C: Tally, M: Tally> {
     pub(crate) connection: Connection,
-    pub(crate) calls: CallSeat<C>,
-    pub(crate) mails: MailSeat<M>,
-    ghost reads: { calls ≡ first_read_seat connection.admission.conn },
-    ghost writes: { mails ≡ first_write_seat connection.admission.conn },
+    pub(crate) seats: NewSeats<C, M>,
+    ghost own: { seats ≡ connection.admission.conn },
 }
 
 /// Shows that a connection that waited for its thread was served, or that none waited. Only `Newcomer::serve` and `NoNewcomer` make it.
@@ -52,16 +49,13 @@ impl<C: Tally, M: Tally> Newcomer<C, M> {
     pub(crate) fn of<R: Wait>(
         rt: &R,
         hall: &Hall<C, M>,
+        right: &ConnectRight,
         connection: Connection,
     ) -> Result<Newcomer<C, M>, Unserved>
         ensures connection { IfOk result (λ newcomer. newcomer.connection ≡ connection) }
     {
-        match hall.connect(rt, connection.conn()) {
-            Ok((calls, mails)) => Ok(Newcomer {
-                connection,
-                calls,
-                mails,
-            }),
+        match hall.connect(rt, right, connection.conn()) {
+            Ok(seats) => Ok(Newcomer { connection, seats }),
             Err(_) => Err(Unserved { connection }),
         }
     }
@@ -80,11 +74,8 @@ impl<C: Tally + Send + Sync, M: Tally + Send + Sync> Newcomer<C, M> {
         requires calls { C.all ≡ C.parts }
         requires mails { M.all ≡ M.parts }
     {
-        let Newcomer {
-            connection,
-            calls,
-            mails,
-        } = self;
+        let Newcomer { connection, seats } = self;
+        let (calls, mails) = seats.begin();
         let outcome = connection.serve(rt, alloc, house, gate, calls, mails, turns);
         house.leave(rt, connection, outcome);
         Ended(())

@@ -331,18 +331,13 @@ impl<C: Tally, M: Tally> Register<C, M> {
 fn dismiss<C: Tally, M: Tally>(newcomers: Vec<Newcomer<C, M>>) {
     let mut newcomers = newcomers;
     while let Some(newcomer) = newcomers.pop() {
-        let Newcomer {
-            connection,
-            calls,
-            mails,
-        } = newcomer;
+        let Newcomer { connection, seats } = newcomer;
         let Admission {
             conn: _,
             most: _,
             accepts: _,
         } = connection.close();
-        drop(calls);
-        drop(mails);
+        drop(seats);
     }
     newcomers.destroy_empty();
 }

@@ -25,7 +25,7 @@ use crate::serve_fault::ServeFault;
 use crate::served::Served;
 use crate::stop_fault::StopFault;
 use fe_disk::{Disk, FileDisk};
-use fe_hall::{Account, Gate, NewHistory, StoreSeat, Tally};
+use fe_hall::{Account, ConnectRight, Gate, NewHistory, StoreSeat, Tally};
 use fe_keeper::Keeper;
 use fe_options::Settings;
 use fe_store::open_store;
@@ -150,7 +150,7 @@ fn serve_as<
         × IsAcknowledged D.honest D.moment D.left_since keeper (keeper_in result) end (account_in result) }
 {
     let nothing = history.account(alloc);
-    let Ok((opened, seat)) = Opened::<C, M>::new(
+    let Ok((opened, seat, right)) = Opened::<C, M>::new(
         alloc,
         keeper.state(),
         calls,
@@ -162,7 +162,9 @@ fn serve_as<
         return Err(unserved(keeper, nothing));
     };
     drop(nothing);
-    let (keeper, over, seat) = run(rt, alloc, &opened, entrance, settings, keeper, seat, gate);
+    let (keeper, over, seat) = run(
+        rt, alloc, &opened, entrance, right, settings, keeper, seat, gate,
+    );
     closed(opened, over, seat, keeper)
 }
 
@@ -244,6 +246,7 @@ fn run<
     alloc: Global,
     opened: &Opened<C, M>,
     entrance: Entrance,
+    right: ConnectRight,
     settings: &Settings,
     keeper: Keeper<D>,
     seat: StoreSeat<M>,
@@ -267,7 +270,7 @@ fn run<
                 result.0 result.1.end result.2 }
         {
             run_in(
-                rt, alloc, scope, house, entrance, settings, keeper, seat, gate,
+                rt, alloc, scope, house, entrance, right, settings, keeper, seat, gate,
             )
         },
     )
@@ -288,6 +291,7 @@ fn run_in<
     scope: &Scope<'s, E>,
     house: &'s House<C, M>,
     entrance: Entrance,
+    right: ConnectRight,
     settings: &Settings,
     keeper: Keeper<D>,
     seat: StoreSeat<M>,
@@ -311,11 +315,12 @@ fn run_in<
     );
     match committing {
         Ok(thread) => {
-            let served = serve_clients(rt, alloc, house, entrance, settings, gate);
+            let served = serve_clients(rt, alloc, house, entrance, right, settings, gate);
             house.stop(rt, served);
             thread.join(rt)
         }
         Err(refused) => {
+            drop(right);
             house.fall_short(rt);
             (refused.value)()
         }

@@ -2,7 +2,7 @@
 
 ghost use Rattle.std.specs.Prelude.{◌≡◌};
 
-use fe_hall::{HalfFault, ReadHalf, WriteHalf};
+use fe_hall::{HalfFault, ReadCount, ReadHalf, WriteHalf};
 use fe_streams::{Failed, Incoming, write_some};
 use std::io::{Read, Write};
 
@@ -11,6 +11,7 @@ use std::io::{Read, Write};
 pub struct StreamRead<R: Read> {
     incoming: Incoming<R>,
     failure: Option<Failed>,
+    reads: ReadCount,
 }
 
 impl<R: Read> StreamRead<R> {
@@ -18,10 +19,12 @@ impl<R: Read> StreamRead<R> {
     pub fn new(reader: R) -> StreamRead<R>
         ensures reader { result.incoming.reader ≡ reader }
         ensures began { result.incoming.began.value ≡ reader }
+        ensures reads { result.reads ≡ 0 }
     {
         StreamRead {
             incoming: Incoming::new(reader),
             failure: None,
+            reads: ReadCount::none(),
         }
     }
 }
@@ -36,11 +39,14 @@ impl<R: Read> ReadHalf for StreamRead<R> {
 
     ghost told = { λ h. known_bytes (bytes_read (R.remaining h.incoming.began.value) (R.remaining h.incoming.reader)) };
 
+    ghost reads = { λ h. h.reads };
+
     ghost ended = { λ h. IsAtEnd (R.remaining h.incoming.reader) };
 
     ghost failed = { λ h. IsSome h.failure };
 
     fn read(&mut self, buffer: &mut [u8]) -> Result<usize, HalfFault> {
+        self.reads.rise();
         match self.incoming.read_some(buffer) {
             Ok(count) => Ok(count),
             Err(failure) => {

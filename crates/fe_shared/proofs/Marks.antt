@@ -1,5 +1,5 @@
 -- The front under a hall's lock follows the hall's history through each event.
-use Rattle.std.proofs.Common.{◌≡◌, inr, ℕ, ◌+◌, ◌<◌, ◌≤◌, Bool, true, false, List, [], ◌∷◌, ◌++◌, length, Option, Some, None, Result, Ok, Err, OnOk, OnErr, refl, sym, ap, subst, ◌∙◌, arith, append_assoc, length-append}
+use Rattle.std.proofs.Common.{◌≡◌, inr, ℕ, zero, suc, ◌+◌, ◌<◌, ◌≤◌, Bool, true, false, List, [], ◌∷◌, ◌++◌, length, Option, Some, None, Result, Ok, Err, OnOk, OnErr, refl, sym, ap, subst, ◌∙◌, arith, append_assoc, length-append}
 use Rattle.std.proofs.lemmas.Bool.Decides.{nat_tests}
 use Rattle.std.proofs.lemmas.List.{append-nil, map-append}
 use Rattle.std.specs.Prelude.{IfSome, drop, is_some, nat_eq, nat_lt, slice_get, if◌then◌else◌, ◌||◌, Ok as Right}
@@ -17,14 +17,15 @@ use Rattle.fe_state.specs.declared.kept.Kept.{Kept}
 use Rattle.fe_state.proofs.Histories.{after-append}
 use Rattle.fe_mail.specs.Books.{mail_taken}
 use Rattle.fe_mail.specs.Connections.{mails_on, with_mails}
-use Rattle.fe_mail.specs.Mail.{mail_of}
+use Rattle.fe_mail.specs.Mail.{mail_of, session_of}
 use Rattle.fe_mail.specs.declared.connection.Connection.{Connection}
 use Rattle.fe_mail.specs.declared.mail.Mail.{Mail}
 use Rattle.fe_mail.specs.declared.mail.Mail.TheVariants as mail
 use Rattle.fe_wire.specs.declared.client_message.ClientMessage.{ClientMessage}
+use Rattle.fe_wire.specs.declared.client_message.ClientMessage.TheVariants as message
 use Rattle.fe_front.specs.Call.{kept_at}
 use Rattle.fe_front.specs.Front.{FrontState, IsFront}
-use Rattle.fe_front.specs.Posting.{IsOut, posted}
+use Rattle.fe_front.specs.Posting.{IsOut, posted, posted_entry}
 use Rattle.fe_front.specs.Refusals.{addressed}
 use Rattle.fe_front.specs.Steps.{connected, cut, dropped, has_no_cut, taken}
 use Rattle.fe_front.specs.declared.out.Out.{Out}
@@ -34,18 +35,20 @@ use Rattle.fe_messages.specs.Answers.{AreAnswered, IsAnswerIn, TellsAnswerIn}
 use Rattle.fe_messages.specs.Enters.{Enters}
 use Rattle.fe_messages.specs.Taking.{Takes}
 use Rattle.fe_messages.proofs.Answers.{answer_more, answered-append, answered-split, finished_at, keeps_below, kept_stands, legal_answered}
-use Rattle.fe_messages.proofs.Boxes.{AllPosted, all_weaker, boxes-connected, boxes-dropped, boxes-posted_all, boxes-taken}
+use Rattle.fe_messages.specs.Asking.{AsksOnly, HasOnly}
+use Rattle.fe_messages.proofs.Boxes.{AllIn, AllPosted, all_weaker, boxes-connected, boxes-dropped, boxes-posted_all, boxes-taken}
 use Rattle.fe_messages.proofs.Boxing.{message_boxes}
+use Rattle.fe_messages.proofs.Seated.{Loses, addressed_has, connected_loses, dropped_loses, first_has, has_lost, has_more, message_has, posted_entry_loses, posted_loses, taken_loses}
 use Rattle.fe_history.specs.declared.act.Act.{Act}
-use Rattle.fe_history.specs.declared.act.Act.TheVariants.{Began, Cut, Told}
+use Rattle.fe_history.specs.declared.act.Act.TheVariants.{Asked, Began, Cut, Told}
 use Rattle.fe_history.specs.declared.receipt.Receipt.{Receipt}
 use Rattle.fe_shared.specs.declared.taking.Taking.{Taking}
 use Rattle.fe_shared.specs.declared.taking.Taking.TheVariants as taking
 use Rattle.fe_history.specs.Acts.{IsLegal, MayCome, WasCut, WasStoredLast, batches_of, cuts_in, entries_in, stores_in}
-use Rattle.fe_shared.specs.Marks.{BoxesTell, IsBegun, IsMarked, MayBeTold, made_entries, out_batches, out_of}
-use Rattle.fe_history.specs.Rules.{ComesAfter, CutsAfter, pending_batch}
+use Rattle.fe_shared.specs.Marks.{AskedIn, BoxesAsked, BoxesTell, IsBegun, IsMarked, MayBeTold, WasAskedFor, made_entries, out_batches, out_of}
+use Rattle.fe_history.specs.Rules.{ComesAfter, CutsAfter, Hears, pending_batch}
 use Rattle.fe_history.specs.Receipts.{receipt_of}
-use Rattle.fe_history.proofs.Acts.{answer_within, begins_so, cut_few, cuts_append, cuts_rise, entries_append, one_cut, prefix_trans, prefix_whole, stored_cut, stored_rise, told_may}
+use Rattle.fe_history.proofs.Acts.{answer_within, begins_so, cut_few, cuts_append, cuts_rise, entries_append, one_cut, prefix_self, prefix_trans, prefix_whole, stands_last, stands_later, stored_cut, stored_rise, told_may}
 
 -- ---- answers in boxes
 
@@ -76,6 +79,31 @@ posts_tell begun all front (e ∷ es) rest place answered is at = (
     of (Settled session floor) is = tt
     of (Finished session number request answer) is = inr (finished_at begun all front (es ++ rest) session number request answer place answered is at)
 
+-- the mails of entries that are posted are of sessions that those who have them asked for
+posts_asked : (acts : List Act) (es : List Entry) (place : ℕ) → AllPosted (AskedIn acts) (WasAskedFor acts) es place
+posts_asked acts [] place = tt
+posts_asked acts (e ∷ es) place = (λ conn may. of conn e may, posts_asked acts es (place + 1))
+  where
+    of : (conn : ℕ) (e : Entry) → AskedIn acts conn (session_of e) → WasAskedFor acts conn (mail_of e place)
+    of conn (Attached session floor) may = tt
+    of conn (Closed session) may = tt
+    of conn (Settled session floor) may = tt
+    of conn (Finished session number request answer) may = may
+
+-- what was asked for stays asked for
+asked_more : (xs ys : List Act) → IsPrefix xs ys → (conn session : ℕ) → AskedIn xs conn session → AskedIn ys conn session
+asked_more xs ys p conn session asked = stands_later xs ys (Asked conn session) p asked
+
+was_more : (xs ys : List Act) → IsPrefix xs ys → (conn : ℕ) (m : Mail) → WasAskedFor xs conn m → WasAskedFor ys conn m
+was_more xs ys p conn m = by (receipt_of conn m)
+  where
+    by : (o : Option Receipt) → IfSome o (λ r. AskedIn xs conn r.session) → IfSome o (λ r. AskedIn ys conn r.session)
+    by None asked = tt
+    by (Some r) asked = asked_more xs ys p conn r.session asked
+
+boxes_asked_more : (xs ys : List Act) (f : FrontState) → IsPrefix xs ys → BoxesAsked xs f → BoxesAsked ys f
+boxes_asked_more xs ys f p boxes conn = all_weaker (WasAskedFor xs conn) (WasAskedFor ys conn) (was_more xs ys p conn) (mails_on f.connections conn) (boxes conn)
+
 -- ---- events that make nothing
 
 -- a hall begins
@@ -94,10 +122,13 @@ begun_marked f acts (begun, first, begins) legal = record {
   durable = omega (arith, first.durable);
   state = first.state ∙ sym (ap (λ (es : List Entry). after_all begun es) first.pending);
   answered = subst (λ (es : List Entry). AreAnswered begun es) (sym first.pending) tt;
-  boxes = λ conn.
-      let none : mails_on f.connections conn ≡ [] = ap (λ m. mails_on m conn) first.connections ∙ ap (λ o. option_map_or (λ (c : Connection). c.mails) o []) (get-empty nat_cmp conn) in
-      subst (λ (ms : List Mail). AllByRecursion (TellsAnswerIn begun []) ms) (sym none) tt;
+  boxes = λ conn. subst (λ (ms : List Mail). AllByRecursion (TellsAnswerIn begun []) ms) (sym (none conn)) tt;
+  has = first_has (AskedIn acts) begun f first;
+  asked = λ conn. subst (λ (ms : List Mail). AllByRecursion (WasAskedFor acts conn) ms) (sym (none conn)) tt;
 }
+  where
+    none : (conn : ℕ) → mails_on f.connections conn ≡ []
+    none conn = ap (λ m. mails_on m conn) first.connections ∙ ap (λ o. option_map_or (λ (c : Connection). c.mails) o []) (get-empty nat_cmp conn)
 
 -- state, pending entries, the batch that is out and the mark stay
 record Remains (f g : FrontState) : Type 0 where
@@ -106,8 +137,8 @@ record Remains (f g : FrontState) : Type 0 where
   pub out : g.out ≡ f.out
   pub durable : g.durable ≡ f.durable
 
-remains_marked : (f g : FrontState) (count : ℕ) (acts : List Act) → Remains f g → ((begun : ServerState) (es : List Entry) → BoxesTell begun es f → BoxesTell begun es g) → IsMarked f count acts → IsMarked g count acts
-remains_marked f g count acts same boxes m =
+remains_marked : (f g : FrontState) (count : ℕ) (acts : List Act) → Remains f g → Loses f g → ((P : ℕ → Mail → Type 0) → AllIn P f.connections → AllIn P g.connections) → IsMarked f count acts → IsMarked g count acts
+remains_marked f g count acts same loses boxes m =
     let made : made_entries m.posted m.out f ≡ made_entries m.posted m.out g = ap (λ (es : List Entry). entries_in m.posted ++ (entries_in (out_batches m.out) ++ es)) (sym same.pending) in
     record {
       begun = m.begun;
@@ -123,7 +154,9 @@ remains_marked f g count acts same boxes m =
       durable = same.durable ∙ m.durable;
       state = same.state ∙ m.state ∙ ap (λ (es : List Entry). after_all m.begun es) made;
       answered = subst (λ (es : List Entry). AreAnswered m.begun es) made m.answered;
-      boxes = boxes m.begun (entries_in m.posted) m.boxes;
+      boxes = boxes (λ conn. TellsAnswerIn m.begun (entries_in m.posted)) m.boxes;
+      has = has_lost (AskedIn acts) f g loses m.has;
+      asked = boxes (WasAskedFor acts) m.asked;
     }
 
 pub marked_still : (f g : FrontState) (count : ℕ) (acts : List Act) → g ≡ f → IsMarked f count acts → IsMarked g count acts
@@ -133,7 +166,7 @@ pub connected_marked : {A E : Type 0} (f g : FrontState) (conn : ℕ) (result : 
     → IsMarked f count acts → IsMarked g count acts
 connected_marked f g conn (Ok u) count acts is err marked =
     marked_still (connected f conn) g count acts is
-    (remains_marked f (connected f conn) count acts (record { state = refl; pending = refl; out = refl; durable = refl }) (λ begun es. boxes-connected (λ q. TellsAnswerIn begun es) f conn) marked)
+    (remains_marked f (connected f conn) count acts (record { state = refl; pending = refl; out = refl; durable = refl }) (connected_loses f conn) (λ P. boxes-connected P f conn) marked)
 connected_marked f g conn (Err e) count acts ok is marked = marked_still f g count acts is marked
 
 pub gone_marked : (f g : FrontState) (conn count : ℕ) (acts : List Act) → g ≡ dropped f conn → IsMarked f count acts → IsMarked g count acts
@@ -141,15 +174,58 @@ gone_marked f g conn count acts is marked =
     let keeps = dropped-keeps f conn in
     marked_still (dropped f conn) g count acts is
     (remains_marked f (dropped f conn) count acts (record { state = keeps.state; pending = (dropped-stays f conn).pending; out = keeps.out; durable = keeps.durable })
-    (λ begun es. boxes-dropped (λ q. TellsAnswerIn begun es) f conn) marked)
+    (dropped_loses f conn) (λ P. boxes-dropped P f conn) marked)
 
 pub taken_marked : (f g : FrontState) (conn count : ℕ) (acts : List Act) → g ≡ taken f conn → IsMarked f count acts → IsMarked g count acts
 taken_marked f g conn count acts is marked =
-    marked_still (taken f conn) g count acts is (remains_marked f (taken f conn) count acts (by (nat_lt 0 (length (mails_on f.connections conn)))) (λ begun es. boxes-taken (λ q. TellsAnswerIn begun es) f conn) marked)
+    marked_still (taken f conn) g count acts is (remains_marked f (taken f conn) count acts (by (nat_lt 0 (length (mails_on f.connections conn)))) (taken_loses f conn) (λ P. boxes-taken P f conn) marked)
   where
     by : (b : Bool) → Remains f (if b then record f { connections = with_mails f.connections conn (drop 1 (mails_on f.connections conn)); books = mail_taken f.books } else f)
     by true = record { state = refl; pending = refl; out = refl; durable = refl }
     by false = record { state = refl; pending = refl; out = refl; durable = refl }
+
+prefix_self_at : (xs ys : List Act) → ys ≡ xs → IsPrefix xs ys
+prefix_self_at xs ys same = subst (λ (zs : List Act). IsPrefix xs zs) (sym same) (prefix_self xs)
+
+-- a history that goes on
+later_marked : (f : FrontState) (count : ℕ) (acts later : List Act) → IsPrefix acts later → IsLegal later → IsMarked f count acts → IsMarked f count later
+later_marked f count acts later p legal m =
+    let (past, begins) = begins_so m.begun m.past acts later m.begins p in
+    record {
+      begun = m.begun;
+      past = past;
+      begins = begins;
+      is_legal = legal;
+      posted = m.posted;
+      out = m.out;
+      counted = m.counted;
+      stored = prefix_trans m.posted (batches_of (stores_in acts)) (batches_of (stores_in later)) m.stored (stored_rise acts later p);
+      cut = prefix_trans (m.posted ++ out_batches m.out) (cuts_in acts) (cuts_in later) m.cut (cuts_rise acts later p);
+      same_out = m.same_out;
+      durable = m.durable;
+      state = m.state;
+      answered = m.answered;
+      boxes = m.boxes;
+      has = has_more (AskedIn acts) (AskedIn later) f (asked_more acts later p) m.has;
+      asked = boxes_asked_more acts later f p m.asked;
+    }
+
+hears_rises : (acts : List Act) (conn : ℕ) (m : ClientMessage) (later : List Act) → Hears acts conn m later → IsPrefix acts later
+hears_rises acts conn (message.Attach session) later h = prefix_trans acts h.earlier later h.seen (Asked conn session ∷ [], sym h.is)
+hears_rises acts conn (message.Call number request) later h = prefix_self_at acts later h
+hears_rises acts conn (message.Cancel number) later h = prefix_self_at acts later h
+hears_rises acts conn (message.Settle floor) later h = prefix_self_at acts later h
+hears_rises acts conn message.Bye later h = prefix_self_at acts later h
+hears_rises acts conn message.Report later h = prefix_self_at acts later h
+
+-- a message asks for a session that the history heard of
+hears_asks : (acts : List Act) (conn : ℕ) (m : ClientMessage) (later : List Act) → Hears acts conn m later → AsksOnly (AskedIn later conn) m
+hears_asks acts conn (message.Attach session) later h = stands_last h.earlier later (Asked conn session) h.is
+hears_asks acts conn (message.Call number request) later h = tt
+hears_asks acts conn (message.Cancel number) later h = tt
+hears_asks acts conn (message.Settle floor) later h = tt
+hears_asks acts conn message.Bye later h = tt
+hears_asks acts conn message.Report later h = tt
 
 -- a batch that was posted has an entry, or more
 pub posted_few : (f : FrontState) (count : ℕ) (acts : List Act) → IsMarked f count acts → count ≤ f.durable
@@ -159,8 +235,8 @@ posted_few f count acts m =
 
 -- ---- messages that are taken
 
-pub takes_marked : (f g : FrontState) (conn : ℕ) (m : ClientMessage) (es : List Entry) (count : ℕ) (acts : List Act) → Enters f es g → Takes f conn m es g → IsMarked f count acts → IsMarked g count acts
-takes_marked f g conn message es count acts enters takes m =
+takes_marked : (f g : FrontState) (conn : ℕ) (m : ClientMessage) (es : List Entry) (count : ℕ) (acts : List Act) → Enters f es g → Takes f conn m es g → AsksOnly (AskedIn acts conn) m → IsMarked f count acts → IsMarked g count acts
+takes_marked f g conn message es count acts enters takes asks m =
     let begun : ServerState = m.begun in
     let front : List Entry = entries_in m.posted in
     let rest : List Entry = entries_in (out_batches m.out) ++ f.service.pending in
@@ -189,7 +265,17 @@ takes_marked f g conn message es count acts enters takes m =
           subst (λ (xs : List Entry). AreAnswered begun xs) made
           (answered-append begun (made_entries m.posted m.out f) es m.answered (subst (λ (s : ServerState). AreAnswered s es) m.state (legal_answered f.service.state es enters.legal)));
       boxes = message_boxes (λ q. TellsAnswerIn begun front) (λ q number r. tt) (λ q number. tt) (λ q text. tt) f conn kept g message es takes m.boxes;
+      has = message_has (AskedIn acts) f g conn message es asks takes m.has;
+      asked =
+          message_boxes (WasAskedFor acts) (λ q number r. tt) (λ q number. tt) (λ q text. tt) f conn
+          (λ session number k to is below. m.has.sessions conn session (addressed_has f conn number session to)) g message es takes m.asked;
     }
+
+-- a message that the history hears is taken
+pub heard_marked : (f g : FrontState) (conn : ℕ) (m : ClientMessage) (es : List Entry) (count : ℕ) (acts later : List Act) → Hears acts conn m later → IsLegal later → Enters f es g → Takes f conn m es g
+    → IsMarked f count acts → IsMarked g count later
+heard_marked f g conn message es count acts later heard legal enters takes m =
+    takes_marked f g conn message es count later enters takes (hears_asks acts conn message later heard) (later_marked f count acts later (hears_rises acts conn message later heard) legal m)
 
 -- ---- batches that are cut
 
@@ -260,6 +346,8 @@ module _ (f : FrontState) (count : ℕ) (acts : List Act) (m : IsMarked f count 
           state = m.state ∙ ap (λ (es : List Entry). after_all m.begun es) made;
           answered = subst (λ (es : List Entry). AreAnswered m.begun es) made m.answered;
           boxes = m.boxes;
+          has = has_lost (AskedIn later) f h (record { holders = λ session conn is. is; sessions = λ conn session is. is }) (has_more (AskedIn acts) (AskedIn later) f (asked_more acts later rises) m.has);
+          asked = boxes_asked_more acts later f rises m.asked;
         })
 
 -- ---- batches that are posted
@@ -300,6 +388,7 @@ module _ (f g : FrontState) (batch : Batch) (count : ℕ) (acts seat later : Lis
       let posts : AllPosted (λ conn session. Unit {0}) (λ conn. TellsAnswerIn begun (entries_in now)) batch.entries batch.first =
       posts_tell begun (entries_in now) (entries_in m.posted) batch.entries [] batch.first (answered-split begun (entries_in now) (g.service.pending) all).0 entries (omega (arith, same_place.0, first, m.durable)) in
       let old_boxes : BoxesTell begun (entries_in now) f = subst (λ (es : List Entry). BoxesTell begun es f) (sym entries) (boxes_more begun (entries_in m.posted) (entries_in (batch ∷ [])) f m.boxes) in
+      let has : HasOnly (AskedIn later) f = has_more (AskedIn acts) (AskedIn later) f (asked_more acts later p) m.has in
       record {
         begun = begun;
         past = so.0;
@@ -320,6 +409,11 @@ module _ (f g : FrontState) (batch : Batch) (count : ℕ) (acts seat later : Lis
         boxes =
             subst (λ (h : FrontState). BoxesTell begun (entries_in now) h) (sym is)
             (boxes-posted_all (λ conn. TellsAnswerIn begun (entries_in now)) (λ conn session. Unit {0}) (λ h. Unit {0}) (λ h has session conn holds. tt) (λ h e place has. tt) f batch.entries batch.first posts tt old_boxes);
+        has = subst (λ (h : FrontState). HasOnly (AskedIn later) h) (sym is) (has_lost (AskedIn later) f (posted f batch) (posted_loses f batch) has);
+        asked =
+            subst (λ (h : FrontState). BoxesAsked later h) (sym is)
+            (boxes-posted_all (WasAskedFor later) (AskedIn later) (HasOnly (AskedIn later)) (λ h has session conn is. has.holders session conn is)
+            (λ h e place has. has_lost (AskedIn later) h (posted_entry h e place) (posted_entry_loses h e place) has) f batch.entries batch.first (posts_asked later batch.entries batch.first) has (boxes_asked_more acts later f p m.asked));
       }
 
   pub posted_marked : IsMarked g (count + 1) later
@@ -331,33 +425,42 @@ module _ (f g : FrontState) (batch : Batch) (count : ℕ) (acts seat later : Lis
 
 -- ---- what may be told
 
--- what is first in a box may be told
-pub first_may : (f : FrontState) (conn : ℕ) (m : Mail) (more : Bool) (count : ℕ) (acts : List Act) → Some m ≡ slice_get (mails_on f.connections conn) 0 → IsMarked f count acts → MayBeTold (taking.Mail m more) acts
-first_may f conn m more count acts first marked = by m (there (mails_on f.connections conn) first (marked.boxes conn))
-  where
-    there : (ms : List Mail) → Some m ≡ slice_get ms 0 → AllByRecursion (TellsAnswerIn marked.begun (entries_in marked.posted)) ms → TellsAnswerIn marked.begun (entries_in marked.posted) m
-    there [] is all = absurd (cc is)
-    there (x ∷ ms) is all = let same : x ≡ m = cc is in subst (TellsAnswerIn marked.begun (entries_in marked.posted)) same all.0
+-- what is first in a box is as each mail in it
+first_in : (P : Mail → Type 0) (m : Mail) (ms : List Mail) → Some m ≡ slice_get ms 0 → AllByRecursion P ms → P m
+first_in P m [] is all = absurd (cc is)
+first_in P m (x ∷ ms) is all = let same : x ≡ m = cc is in subst P same all.0
 
-    by : (m : Mail) → TellsAnswerIn marked.begun (entries_in marked.posted) m → MayBeTold (taking.Mail m more) acts
-    by (mail.Answer session number answer place) is =
-        subst (λ (zs : List Act). MayCome zs (Told (record { session = session; number = number; answer = answer; place = place }))) (sym marked.begins)
-        (answer_within marked.begun marked.posted (batches_of (stores_in marked.past)) session number answer place
-        (subst (λ (zs : List Act). IsPrefix marked.posted (batches_of (stores_in zs))) marked.begins marked.stored) is)
-    by (mail.Welcome session floor) is = tt
-    by (mail.Refused number refusal) is = tt
-    by (mail.Withdrawn number) is = tt
-    by (mail.Settled floor) is = tt
-    by (mail.Goodbye session) is = tt
-    by (mail.Report text) is = tt
+-- what was asked for, was asked for after the beginning
+asked_behind : (begun : ServerState) (past : List Act) (conn session : ℕ) → AskedIn (Began begun ∷ past) conn session → AskedIn past conn session
+asked_behind begun past conn session (zero, is) = absurd (cc is)
+asked_behind begun past conn session (suc k, is) = (k, is)
+
+-- what is first in a box may be told
+pub first_may : (f : FrontState) (conn : ℕ) (m : Mail) (more : Bool) (count : ℕ) (acts : List Act) → Some m ≡ slice_get (mails_on f.connections conn) 0 → IsMarked f count acts → MayBeTold conn (taking.Mail m more) acts
+first_may f conn m more count acts first marked =
+    by m (first_in (TellsAnswerIn marked.begun (entries_in marked.posted)) m (mails_on f.connections conn) first (marked.boxes conn)) (first_in (WasAskedFor acts conn) m (mails_on f.connections conn) first (marked.asked conn))
+  where
+    by : (m : Mail) → TellsAnswerIn marked.begun (entries_in marked.posted) m → WasAskedFor acts conn m → MayBeTold conn (taking.Mail m more) acts
+    by (mail.Answer session number answer place) is asked =
+        subst (λ (zs : List Act). MayCome zs (Told (record { conn = conn; session = session; number = number; answer = answer; place = place }))) (sym marked.begins) (
+          answer_within marked.begun marked.posted (batches_of (stores_in marked.past)) session number answer place
+              (subst (λ (zs : List Act). IsPrefix marked.posted (batches_of (stores_in zs))) marked.begins marked.stored) is,
+          asked_behind marked.begun marked.past conn session (subst (λ (zs : List Act). AskedIn zs conn session) marked.begins asked),
+        )
+    by (mail.Welcome session floor) is asked = tt
+    by (mail.Refused number refusal) is asked = tt
+    by (mail.Withdrawn number) is asked = tt
+    by (mail.Settled floor) is asked = tt
+    by (mail.Goodbye session) is asked = tt
+    by (mail.Report text) is asked = tt
 
 -- what may be told after some acts may be told later
-pub may_later : (t : Taking) (xs ys : List Act) → IsPrefix xs ys → MayBeTold t xs → MayBeTold t ys
-may_later (taking.Mail mail more) xs ys p may = by (receipt_of mail) may
+pub may_later : (conn : ℕ) (t : Taking) (xs ys : List Act) → IsPrefix xs ys → MayBeTold conn t xs → MayBeTold conn t ys
+may_later conn (taking.Mail mail more) xs ys p may = by (receipt_of conn mail) may
   where
     by : (o : Option Receipt) → IfSome o (λ r. MayCome xs (Told r)) → IfSome o (λ r. MayCome ys (Told r))
     by None may = tt
     by (Some r) may = told_may xs ys r p may
-may_later taking.Gone xs ys p may = tt
-may_later taking.Stopped xs ys p may = tt
-may_later taking.Spent xs ys p may = tt
+may_later conn taking.Gone xs ys p may = tt
+may_later conn taking.Stopped xs ys p may = tt
+may_later conn taking.Spent xs ys p may = tt

@@ -1,4 +1,4 @@
-pub mod Briefs
+pub mod Logs
 pub mod Shown
 pub mod Seats
 pub mod Holds

@@ -9,12 +9,14 @@ use Rattle.fe_state.specs.declared.entry.Entry.{Entry}
 use Rattle.fe_mail.specs.Connections.{mails_on}
 use Rattle.fe_front.specs.Front.{FrontState, IsFirst}
 use Rattle.fe_front.specs.declared.out.Out.{Out}
+use Rattle.fe_mail.specs.declared.mail.Mail.{Mail}
 use Rattle.fe_messages.specs.Answers.{AreAnswered, TellsAnswerIn}
+use Rattle.fe_messages.specs.Asking.{HasOnly}
 use Rattle.fe_history.specs.declared.act.Act.{Act}
-use Rattle.fe_history.specs.declared.act.Act.TheVariants.{Began, Told}
+use Rattle.fe_history.specs.declared.act.Act.TheVariants.{Asked, Began, Told}
 use Rattle.fe_shared.specs.declared.taking.Taking.{Taking}
 use Rattle.fe_shared.specs.declared.taking.Taking.TheVariants as taking
-use Rattle.fe_history.specs.Acts.{IsLegal, MayCome, WasTold, batches_of, cuts_in, entries_in, place_after, stores_in}
+use Rattle.fe_history.specs.Acts.{IsLegal, MayCome, StandsIn, WasTold, batches_of, cuts_in, entries_in, place_after, stores_in}
 use Rattle.fe_history.specs.Receipts.{receipt_of}
 
 -- a front as it begins, in a hall whose history is just this
@@ -34,12 +36,25 @@ out_of batch = record { first = batch.first; length = length batch.entries }
 abbrev pub BoxesTell : ServerState → List Entry → FrontState → Type 0
 BoxesTell begun es f = (conn : ℕ) → AllByRecursion (TellsAnswerIn begun es) (mails_on f.connections conn)
 
+-- which sessions each connection asked for in these acts
+abbrev pub AskedIn : List Act → ℕ → ℕ → Type 0
+AskedIn acts = λ conn session. StandsIn acts (Asked conn session)
+
+-- the mail is no answer, or this connection asked for its session
+abbrev pub WasAskedFor : List Act → ℕ → Mail → Type 0
+WasAskedFor acts conn mail = IfSome (receipt_of conn mail) (λ r. AskedIn acts conn r.session)
+
+-- each answer in a box is of a session that the connection of the box asked for
+abbrev pub BoxesAsked : List Act → FrontState → Type 0
+BoxesAsked acts f = (conn : ℕ) → AllByRecursion (WasAskedFor acts conn) (mails_on f.connections conn)
+
 -- all entries that were made: those of the batches that were posted, of the one that is out, and those that are pending
 abbrev pub made_entries : List Batch → Option Batch → FrontState → List Entry
 made_entries posted out f = entries_in posted ++ (entries_in (out_batches out) ++ f.service.pending)
 
 -- A front whose posted batches, this many, were stored in the history, and whose batch that is out was cut next: its state is the one after
--- all entries that were made, each answered as the table says, and each answer in its boxes is of an entry that was posted.
+-- all entries that were made, each answered as the table says, and each answer in its boxes is of an entry that was posted. A connection
+-- has only sessions that it asked for in that history, and each answer in its box is of one of them.
 pub record IsMarked (f : FrontState) (count : ℕ) (acts : List Act) : Type 0 where
   pub begun : ServerState
   pub past : List Act
@@ -55,6 +70,8 @@ pub record IsMarked (f : FrontState) (count : ℕ) (acts : List Act) : Type 0 wh
   pub state : f.service.state ≡ after_all begun (made_entries posted out f)
   pub answered : AreAnswered begun (made_entries posted out f)
   pub boxes : BoxesTell begun (entries_in posted) f
+  pub has : HasOnly (AskedIn acts) f
+  pub asked : BoxesAsked acts f
 
 -- what is under the lock of a hall, without its ledgers
 pub record SharedState : Type 0 where
@@ -63,16 +80,16 @@ pub record SharedState : Type 0 where
   pub made : ℕ
   pub stopped : Bool
 
--- what came of a look into a box may be told after these acts
-abbrev pub MayBeTold : Taking → List Act → Type 0
-MayBeTold (taking.Mail mail more) acts = IfSome (receipt_of mail) (λ r. MayCome acts (Told r))
-MayBeTold taking.Gone acts = Unit {0}
-MayBeTold taking.Stopped acts = Unit {0}
-MayBeTold taking.Spent acts = Unit {0}
+-- what came of a look into the box of a connection may be told to it after these acts
+abbrev pub MayBeTold : ℕ → Taking → List Act → Type 0
+MayBeTold conn (taking.Mail mail more) acts = IfSome (receipt_of conn mail) (λ r. MayCome acts (Told r))
+MayBeTold conn taking.Gone acts = Unit {0}
+MayBeTold conn taking.Stopped acts = Unit {0}
+MayBeTold conn taking.Spent acts = Unit {0}
 
--- what came of a look into a box was told, if it is an answer
-abbrev pub TakingTold : Taking → List Act → Type 0
-TakingTold (taking.Mail mail more) acts = WasTold mail acts
-TakingTold taking.Gone acts = Unit {0}
-TakingTold taking.Stopped acts = Unit {0}
-TakingTold taking.Spent acts = Unit {0}
+-- what came of a look into the box of a connection was told to it, if it is an answer
+abbrev pub TakingTold : ℕ → Taking → List Act → Type 0
+TakingTold conn (taking.Mail mail more) acts = WasTold conn mail acts
+TakingTold conn taking.Gone acts = Unit {0}
+TakingTold conn taking.Stopped acts = Unit {0}
+TakingTold conn taking.Spent acts = Unit {0}

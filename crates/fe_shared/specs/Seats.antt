@@ -1,12 +1,10 @@
 -- What the sides of connections did, and what the books of a hall may hold.
-use Rattle.std.specs.Prelude.{◌≡◌, ◌⊎◌, ℕ, ◌+◌, ◌-◌, ◌^◌, ◌≤◌, Bool, true, false, ◌&&◌, nat_lt, nat_le, length, Option, Some, None}
+use Rattle.std.specs.Prelude.{◌≡◌, ◌⊎◌, ℕ, ◌+◌, ◌-◌, ◌^◌, ◌≤◌, Bool, true, false, ◌&&◌, nat_lt, nat_le, List, [], ◌∷◌, ◌++◌, length}
 use Rattle.fe_state.specs.declared.batch.Batch.{Batch}
 use Rattle.fe_mail.specs.Books.{Books}
 use Rattle.fe_wire.specs.declared.client_message.ClientMessage.{ClientMessage}
 use Rattle.fe_wire.specs.declared.client_message.ClientMessage.TheVariants.{Attach, Call, Cancel, Settle, Bye, Report}
 use Rattle.fe_mail.specs.declared.mail.Mail.{Mail}
-use Rattle.fe_shared.specs.declared.brief.Brief.{Brief}
-use Rattle.fe_shared.specs.Briefs.{brief_of}
 use Rattle.fe_shared.specs.declared.standing.Standing.{Standing}
 use Rattle.fe_shared.specs.declared.standing.Standing.TheVariants.{Served, Gone, Stopped, Spent}
 use Rattle.fe_shared.specs.declared.taking.Taking.{Taking}
@@ -18,9 +16,10 @@ pub record ReadSeat : Type 0 where
   pub conn : ℕ
   -- how many calls it made
   pub calls : ℕ
-  -- how many of its messages were taken, and the last of them
-  pub taken : ℕ
-  pub last : Option ClientMessage
+  -- its messages that were taken, in their order
+  pub messages : List ClientMessage
+  -- the place after all entries that were made when the last of them was taken
+  pub place : ℕ
   -- how it stood when the hall last answered it
   pub standing : Standing
   -- whether it made its connection gone
@@ -32,9 +31,10 @@ pub record ReadSeat : Type 0 where
 pub record WriteSeat : Type 0 where
   -- the connection's number
   pub conn : ℕ
-  -- how many mails it took, and the last of them
+  -- how many mails it took
   pub mails : ℕ
-  pub last : Option Brief
+  -- the mails that it took, in their order
+  pub taken : List Mail
   -- whether more were in its box then
   pub more : Bool
   -- how it stood when the hall last answered it
@@ -49,10 +49,10 @@ pub record Seats : Type 0 where
 
 -- the seats of the two sides of a connection just made
 abbrev pub first_read_seat : ℕ → ReadSeat
-first_read_seat conn = record { conn = conn; calls = 0; taken = 0; last = None; standing = Served; departed = false; rested = false }
+first_read_seat conn = record { conn = conn; calls = 0; messages = []; place = 0; standing = Served; departed = false; rested = false }
 
 abbrev pub first_write_seat : ℕ → WriteSeat
-first_write_seat conn = record { conn = conn; mails = 0; last = None; more = false; standing = Served; departed = false }
+first_write_seat conn = record { conn = conn; mails = 0; taken = []; more = false; standing = Served; departed = false }
 
 -- the seats of one connection, which booked this many, and of the connections of both
 abbrev pub one_seat : ℕ → Seats
@@ -84,20 +84,20 @@ calls_in (Settle floor) = 0
 calls_in Bye = 0
 calls_in Report = 0
 
--- a message of a read side was taken
-abbrev pub message_taken : ReadSeat → ClientMessage → ReadSeat
-message_taken s m = record s { calls = s.calls + calls_in m; taken = s.taken + 1; last = Some m; standing = Served }
+-- a message of a read side was taken, after which this is the place after all entries
+abbrev pub message_taken : ReadSeat → ClientMessage → ℕ → ReadSeat
+message_taken s m place = record s { calls = s.calls + calls_in m; messages = s.messages ++ m ∷ []; place = place; standing = Served }
 
--- the seat of a read side whose message was answered so
-abbrev pub message_answered : ReadSeat → ClientMessage → Standing → ReadSeat
-message_answered s m Served = message_taken s m
-message_answered s m Gone = record s { standing = Gone }
-message_answered s m Stopped = record s { standing = Stopped }
-message_answered s m Spent = record s { standing = Spent }
+-- the seat of a read side whose message was answered so, at this place
+abbrev pub message_answered : ReadSeat → ClientMessage → ℕ → Standing → ReadSeat
+message_answered s m place Served = message_taken s m place
+message_answered s m place Gone = record s { standing = Gone }
+message_answered s m place Stopped = record s { standing = Stopped }
+message_answered s m place Spent = record s { standing = Spent }
 
 -- a mail was taken for a write side, and whether more are in its box
 abbrev pub mail_taken : WriteSeat → Mail → Bool → WriteSeat
-mail_taken s mail more = record s { mails = s.mails + 1; last = Some (brief_of mail); more = more; standing = Served }
+mail_taken s mail more = record s { mails = s.mails + 1; taken = s.taken ++ mail ∷ []; more = more; standing = Served }
 
 -- the seat of a write side whose box was looked into with this outcome
 abbrev pub taking_answered : WriteSeat → Taking → WriteSeat
@@ -110,13 +110,14 @@ taking_answered s taking.Spent = record s { standing = Spent }
 pub record TookNoMessage (s t : ReadSeat) : Type 0 where
   pub conn : t.conn ≡ s.conn
   pub calls : t.calls ≡ s.calls
-  pub taken : t.taken ≡ s.taken
+  pub messages : t.messages ≡ s.messages
+  pub place : t.place ≡ s.place
 
 -- a write side took no mail in between
 pub record TookNoMail (s t : WriteSeat) : Type 0 where
   pub conn : t.conn ≡ s.conn
   pub mails : t.mails ≡ s.mails
-  pub last : t.last ≡ s.last
+  pub taken : t.taken ≡ s.taken
 
 -- the side made its connection gone, or was told that the hall is stopped
 abbrev pub HasDeparted : ReadSeat → Type 0

@@ -1,12 +1,14 @@
-ghost use Rattle.std.specs.Prelude.{◌≡◌, ◌+◌, ◌-◌, ◌^◌, true, IsTrue, nat_lt};
+ghost use Rattle.std.specs.Prelude.{◌≡◌, ◌+◌, true};
 ghost use Rattle.fe_shared.specs.Seats.{calls_in, first_read_seat, message_taken, most_connections, one_seat};
 
+use crate::message_log::MessageLog;
 use crate::seats::Seats;
 use crate::shared::Rest;
 use crate::standing::Standing;
 use fe_history::Tally;
 use fe_wire::ClientMessage;
 use std::marker::Model;
+use std::snapshot::Snapshot;
 use std::sync::ledger::{Book, Share};
 
 /// The seat of a connection's read side: contracts see the connection's number, and what the side did.
@@ -16,10 +18,9 @@ use std::sync::ledger::{Book, Share};
 pub struct CallSeat<C: Tally> {
     share: Share<C>,
     conn: u64,
-    /// How many messages were taken.
-    taken: u64,
-    /// The last of them.
-    last: Option<ClientMessage>,
+    messages: MessageLog,
+    /// The place after all entries that were made when the last of them was taken.
+    place: u64,
     standing: Standing,
     /// The side made its connection gone.
     departed: bool,
@@ -29,6 +30,7 @@ pub struct CallSeat<C: Tally> {
 
 impl<C: Tally> Model for CallSeat<C> {
     ghost use Rattle.std.specs.Prelude.{◌≡◌, ◌+◌};
+    ghost use Rattle.fe_shared.specs.Logs.{messages_of};
     ghost use Rattle.fe_shared.specs.Seats.{ReadSeat, most_connections};
 
     ghost Value = { ReadSeat };
@@ -36,8 +38,8 @@ impl<C: Tally> Model for CallSeat<C> {
     ghost view = { λ s. record {
       conn = s.conn;
       calls = s.share.amount;
-      taken = s.taken;
-      last = s.last;
+      messages = messages_of s.messages;
+      place = s.place;
       standing = s.standing;
       departed = s.departed;
       rested = s.rested;
@@ -57,8 +59,8 @@ impl<C: Tally> CallSeat<C> {
         CallSeat {
             share,
             conn,
-            taken: 0,
-            last: None,
+            messages: MessageLog::Empty,
+            place: 0,
             standing: Standing::Served,
             departed: false,
             rested: false,
@@ -72,22 +74,22 @@ impl<C: Tally> CallSeat<C> {
         self.conn
     }
 
-    /// Whether it can count one message more.
-    pub(crate) fn counts_more(&self) -> bool
-        ensures { result ≡ nat_lt self.now.taken (2 ^ 64 - 1) }
+    /// The place after all entries that were made when its last message was taken.
+    pub(crate) fn place(&self) -> u64
+        ensures { result ≡ self.now.place }
     {
-        self.taken < u64::MAX
+        self.place
     }
 
-    /// A message is taken. Its calls are counted here and in the book.
-    pub(crate) fn take(&mut self, book: &mut Book<C>, message: &ClientMessage)
-        requires { IsTrue (nat_lt self.old.taken (2 ^ 64 - 1)) }
-        ensures seat { self.new ≡ message_taken self.old message.now }
+    /// A message was taken, after which this is the place after all entries. Its calls are counted here and in the book.
+    pub(crate) fn take(&mut self, book: &mut Book<C>, message: &ClientMessage, place: u64)
+        ensures seat { self.new ≡ message_taken self.old message.now place }
         ensures book { book.new.total ≡ book.old.total + calls_in message.now }
     {
         book.add(&mut self.share, calls_in(message));
-        self.taken += 1;
-        self.last = Some(*message);
+        let before = Snapshot::of(&self.messages);
+        self.messages = MessageLog::Then(before, Snapshot::of(message));
+        self.place = place;
         self.standing = Standing::Served;
     }
 

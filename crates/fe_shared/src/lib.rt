@@ -4,9 +4,12 @@
 //! compared with the seats. What a call shows, and nothing else can make, is a value of a type of its own.
 #![tactic(auto)]
 
-mod brief;
 mod call_seat;
+mod mail_log;
 mod mail_seat;
+mod message_log;
+mod new_seats;
+mod pace;
 mod seats;
 mod shared;
 mod standing;
@@ -14,13 +17,15 @@ mod taking;
 mod unconnected;
 mod watchers;
 
-pub use brief::Brief;
 pub use call_seat::CallSeat;
+pub use mail_log::MailLog;
 pub use mail_seat::MailSeat;
+pub use message_log::MessageLog;
+pub use new_seats::NewSeats;
 pub use seats::Seats;
 pub use shared::{
-    AllDurable, CutBatch, Cutting, FullBook, HasStopped, Made, NotOut, Posted, Rest, SeatMissing,
-    Shared, Uncut, Unposted,
+    AllDurable, ConnectRight, CutBatch, Cutting, FullBook, HasStopped, Made, NotOut, Posted, Rest,
+    SeatMissing, Shared, Uncut, Unposted,
 };
 pub use standing::Standing;
 pub use taking::Taking;

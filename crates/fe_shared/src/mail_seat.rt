@@ -1,12 +1,13 @@
 ghost use Rattle.std.specs.Prelude.{◌≡◌, ◌+◌, true};
 ghost use Rattle.fe_shared.specs.Seats.{first_write_seat, mail_taken, most_connections, one_seat};
 
-use crate::brief::Brief;
+use crate::mail_log::MailLog;
 use crate::seats::Seats;
 use crate::standing::Standing;
 use fe_front::Mail;
 use fe_history::Tally;
 use std::marker::Model;
+use std::snapshot::Snapshot;
 use std::sync::ledger::{Book, Share};
 
 /// The seat of a connection's write side: contracts see the connection's number, and what the side did.
@@ -16,8 +17,7 @@ use std::sync::ledger::{Book, Share};
 pub struct MailSeat<M: Tally> {
     share: Share<M>,
     conn: u64,
-    /// The last mail that was taken.
-    last: Option<Brief>,
+    taken: MailLog,
     /// Whether more mails were in the box when one was taken.
     more: bool,
     standing: Standing,
@@ -27,6 +27,7 @@ pub struct MailSeat<M: Tally> {
 
 impl<M: Tally> Model for MailSeat<M> {
     ghost use Rattle.std.specs.Prelude.{◌≡◌, ◌+◌};
+    ghost use Rattle.fe_shared.specs.Logs.{mails_of};
     ghost use Rattle.fe_shared.specs.Seats.{WriteSeat, most_connections};
 
     ghost Value = { WriteSeat };
@@ -34,7 +35,7 @@ impl<M: Tally> Model for MailSeat<M> {
     ghost view = { λ s. record {
       conn = s.conn;
       mails = s.share.amount;
-      last = s.last;
+      taken = mails_of s.taken;
       more = s.more;
       standing = s.standing;
       departed = s.departed;
@@ -54,7 +55,7 @@ impl<M: Tally> MailSeat<M> {
         MailSeat {
             share,
             conn,
-            last: None,
+            taken: MailLog::Empty,
             more: false,
             standing: Standing::Served,
             departed: false,
@@ -81,7 +82,8 @@ impl<M: Tally> MailSeat<M> {
         ensures book { book.new.total ≡ book.old.total + 1 }
     {
         book.add(&mut self.share, 1);
-        self.last = Some(Brief::of(mail));
+        let before = Snapshot::of(&self.taken);
+        self.taken = MailLog::Then(before, Snapshot::of(mail));
         self.more = more;
         self.standing = Standing::Served;
     }

@@ -1,6 +1,6 @@
 //! What is under the lock of a hall: the front, with a ledger of its calls and one of the mails that were taken.
 
-ghost use Rattle.std.specs.Prelude.{IsNone, ◌≡◌, ◌≢◌, ◌+◌, ◌-◌, ◌^◌, ◌≤◌, ◌⊎◌, ◌↔◌, ℕ, List, [], true, false, Ok, Err, Some, None, IsTrue, IsErr, IfOk, OnOk, OnErr, IfSome, MatchOption, nat_lt};
+ghost use Rattle.std.specs.Prelude.{IsNone, ◌≡◌, ◌≢◌, ◌+◌, ◌≤◌, ◌↔◌, ℕ, List, [], true, false, Ok, Err, Some, None, IsTrue, IsErr, IfOk, OnOk, OnErr, IfSome, MatchOption};
 ghost use Rattle.fe_state.specs.declared.entry.Entry.{Entry};
 ghost use Rattle.fe_front.specs.Front.{has_room, is_connected};
 ghost use Rattle.fe_mail.specs.Books.{AddUp};
@@ -9,14 +9,17 @@ ghost use Rattle.fe_front.specs.Step.{FrontStep};
 ghost use Rattle.fe_messages.specs.Taking.{Takes};
 ghost use mathlib.Core.List.{IsPrefix};
 ghost use Rattle.fe_history.specs.Acts.{IsLegal};
+ghost use Rattle.fe_history.specs.Rules.{Hears};
 ghost use Rattle.fe_shared.specs.Marks.{IsBegun, MayBeTold};
 ghost use Rattle.fe_shared.specs.Holds.{Ends, IsDrained, IsOver, TakesMail};
-ghost use Rattle.fe_shared.specs.Seats.{HasRested, IsOpen, TookNoMessage, first_read_seat, first_write_seat, message_taken, message_answered, taking_answered, takes_more, most_connections};
+ghost use Rattle.fe_shared.specs.Seats.{HasRested, IsOpen, TookNoMessage, message_taken, message_answered, taking_answered, takes_more, most_connections};
 
 mod batches;
 
 use crate::call_seat::CallSeat;
 use crate::mail_seat::MailSeat;
+use crate::new_seats::NewSeats;
+use crate::pace::Paces;
 use crate::seats::Seats;
 use crate::standing::Standing;
 use crate::taking::Taking;
@@ -24,7 +27,7 @@ use crate::unconnected::Unconnected;
 use crate::watchers::Watchers;
 pub use batches::{AllDurable, CutBatch, Cutting, FullBook, NotOut, Posted, Uncut, Unposted};
 use fe_front::{BELLS, Books, Front};
-use fe_history::{Account, History, Tally};
+use fe_history::{Account, Chronicle, History, Tally};
 use fe_messages::take_message;
 use fe_wire::ClientMessage;
 use std::alloc::Global;
@@ -44,13 +47,14 @@ pub struct Shared<C: Tally, M: Tally> {
     mails: Book<M>,
     spare_calls: Share<C>,
     spare_mails: Share<M>,
-    /// What was cut, and what was stored, at least as far as it is posted.
+    /// What was cut, what connections asked for, and what was stored, at least as far as it is posted.
     history: History<M>,
     /// How many batches were posted.
     posted: u64,
     /// How many connections were made.
     made: u64,
     watchers: Watchers,
+    paces: Paces,
     stopped: bool,
     ghost open: { IsOpen front.books },
     ghost calls_agree: { calls.total ≡ front.books.calls },
@@ -74,6 +78,7 @@ impl<C: Tally, M: Tally> Drop for Shared<C, M> {
             posted: _,
             made: _,
             watchers,
+            paces,
             stopped: _,
         } = self;
         drop(front);
@@ -83,6 +88,7 @@ impl<C: Tally, M: Tally> Drop for Shared<C, M> {
         drop(spare_mails);
         drop(history);
         drop(watchers);
+        drop(paces);
     }
 }
 
@@ -100,6 +106,10 @@ impl<C: Tally, M: Tally> Model for Shared<C, M> {
 
     ghost invariant = { λ s. IsMarked s.front s.posted s.history };
 }
+
+/// The right to make connections in a hall. There is one, which the hall gives to whoever begins it.
+#[derive(Drop)]
+pub struct ConnectRight(());
 
 /// Shows that a hall was stopped. Only `Shared::stop` makes one.
 #[derive(Clone, Copy)]
@@ -152,25 +162,25 @@ impl SeatMissing {
 }
 
 impl<C: Tally, M: Tally> Shared<C, M> {
-    /// A front that is as it began, with no connection made.
+    /// A front that is as it began, with no connection made, and the right to make some.
     pub fn new(
         alloc: Global,
         front: Front,
         calls: Blank,
         mails: Blank,
         history: History<M>,
-    ) -> Shared<C, M>
+    ) -> (Shared<C, M>, ConnectRight)
         requires begun { IsBegun front history }
         requires legal { IsLegal history }
         requires calls { (calls.name ≡ C.name) × (calls.parts ≡ C.parts) × (C.all ≡ C.parts)
             × (C.all ≡ most_connections + 1) }
         requires mails { (mails.name ≡ M.name) × (mails.parts ≡ M.parts) × (M.all ≡ M.parts)
             × (M.all ≡ most_connections + 1) }
-        ensures { result.front ≡ front }
+        ensures { result.0.front ≡ front }
     {
         let (called, spare_calls) = calls.open::<C>();
         let (taken, spare_mails) = mails.open::<M>();
-        Shared {
+        let shared = Shared {
             front,
             calls: called,
             mails: taken,
@@ -180,12 +190,18 @@ impl<C: Tally, M: Tally> Shared<C, M> {
             posted: 0,
             made: 0,
             watchers: Watchers::new(alloc),
+            paces: Paces::new(alloc),
             stopped: false,
-        }
+        };
+        (shared, ConnectRight(()))
     }
 
-    /// Makes a connection with an empty box, and the seats of its two sides.
-    pub fn connect(&mut self, conn: u64) -> Result<(CallSeat<C>, MailSeat<M>), Unconnected>
+    /// Makes a connection with an empty box, and its seats.
+    pub fn connect(
+        &mut self,
+        _right: &ConnectRight,
+        conn: u64,
+    ) -> Result<NewSeats<C, M>, Unconnected>
         ensures step { OnOk result (FrontStep self.old.front (event.Connect conn) [] self.new.front) }
         ensures err { OnErr result (self.new.front ≡ self.old.front) }
         ensures in_use { (result ≡ Err Unconnected.InUse) ↔ (is_connected self.old.front conn ≡ true) }
@@ -193,8 +209,7 @@ impl<C: Tally, M: Tally> Shared<C, M> {
         ensures made { OnOk result (self.new.made ≡ self.old.made + 1) }
         ensures unmade { OnErr result (self.new.made ≡ self.old.made) }
         ensures still { self.new.stopped ≡ self.old.stopped }
-        ensures calls { IfOk result (λ seats. seats.0 ≡ first_read_seat conn) }
-        ensures mails { IfOk result (λ seats. seats.1 ≡ first_write_seat conn) }
+        ensures seats { IfOk result (λ seats. seats ≡ conn) }
     {
         if self.front.connected(conn) {
             return Err(Unconnected::InUse);
@@ -209,7 +224,8 @@ impl<C: Tally, M: Tally> Shared<C, M> {
         let calls = self.spare_calls.split_off(1, 0);
         let mails = self.spare_mails.split_off(1, 0);
         self.made += 1;
-        Ok((CallSeat::new(calls, conn), MailSeat::new(mails, conn)))
+        self.paces.begin(conn);
+        Ok(NewSeats::new(calls, mails, conn))
     }
 
     /// Whether one message more stays within the books of a hall.
@@ -221,38 +237,50 @@ impl<C: Tally, M: Tally> Shared<C, M> {
     }
 
     /// A message of a connection is its event, or its refusal is mailed.
-    fn take_message(&mut self, alloc: Global, message: ClientMessage, seat: &mut CallSeat<C>)
+    fn take_message(
+        &mut self,
+        alloc: Global,
+        chronicle: &Chronicle<M>,
+        message: ClientMessage,
+        seat: &mut CallSeat<C>,
+    )
         requires room { IsTrue (has_room self.old.front) }
         requires more { IsTrue (takes_more self.old.front.books) }
-        requires few { IsTrue (nat_lt seat.old.taken (2 ^ 64 - 1)) }
         ensures taken { (es : List Entry) × Takes self.old.front seat.old.conn message es self.new.front }
-        ensures seat { seat.new ≡ message_taken seat.old message }
+        ensures seat { seat.new ≡ message_taken seat.old message self.new.front.service.state.place }
+        ensures heard { Hears self.old.history seat.old.conn message self.new.history }
         ensures still { self.new.stopped ≡ self.old.stopped }
     {
         // It names what is always true of the front (`docs/DECISIONS.md`, "Toolchain").
         let _ = self.front.state();
         let conn = seat.conn();
-        seat.take(&mut self.calls, &message);
-        take_message(alloc, &mut self.front, conn, message);
+        let took = take_message(alloc, &mut self.front, conn, message);
+        seat.take(&mut self.calls, &message, self.front.state().place());
+        self.history.hear(chronicle, &self.mails, took);
+        self.paces.note_message(conn);
     }
 
-    /// Handles a message, or records in its seat why not. If there is no room for it, does nothing and returns `None`.
+    /// Handles a message, or records in its seat why not. If there is no room for it, does nothing and returns `None`. The history hears
+    /// which session the message asks for.
     pub fn handle(
         &mut self,
         alloc: Global,
+        chronicle: &Chronicle<M>,
         message: &ClientMessage,
         seat: &mut CallSeat<C>,
     ) -> Option<Standing>
         ensures taken { result ≡ Some Standing.Served
             → (es : List Entry) × Takes self.old.front seat.old.conn message.now es self.new.front }
         ensures other { result ≢ Some Standing.Served → self.new.front ≡ self.old.front }
+        ensures heard { result ≡ Some Standing.Served
+            → Hears self.old.history seat.old.conn message.now self.new.history }
+        ensures unheard { result ≢ Some Standing.Served → self.new.history ≡ self.old.history }
         ensures seat { MatchOption result (seat.new ≡ seat.old)
-            (λ s. seat.new ≡ message_answered seat.old message.now s) }
+            (λ s. seat.new ≡ message_answered seat.old message.now self.new.front.service.state.place s) }
         // Each other answer has its reason, and stopped comes first.
         ensures stopped { (result ≡ Some Standing.Stopped) ↔ (self.old.stopped ≡ true) }
         ensures gone { result ≡ Some Standing.Gone → is_connected self.old.front seat.old.conn ≡ false }
-        ensures spent { result ≡ Some Standing.Spent
-            → (takes_more self.old.front.books ≡ false) ⊎ (nat_lt seat.old.taken (2 ^ 64 - 1) ≡ false) }
+        ensures spent { result ≡ Some Standing.Spent → takes_more self.old.front.books ≡ false }
         ensures full { result ≡ None → has_room self.old.front ≡ false }
         ensures still { self.new.stopped ≡ self.old.stopped }
     {
@@ -268,14 +296,10 @@ impl<C: Tally, M: Tally> Shared<C, M> {
             seat.tell(&self.calls, Standing::Spent);
             return Some(Standing::Spent);
         }
-        if !seat.counts_more() {
-            seat.tell(&self.calls, Standing::Spent);
-            return Some(Standing::Spent);
-        }
         if !self.front.room() {
             return None;
         }
-        self.take_message(alloc, *message, seat);
+        self.take_message(alloc, chronicle, *message, seat);
         Some(Standing::Served)
     }
 
@@ -337,16 +361,16 @@ impl<C: Tally, M: Tally> Shared<C, M> {
         self.is_over(conn) || self.front.durable() >= place && !self.front.has_mail(conn)
     }
 
-    /// Whether the read side of a connection need not wait for what comes of what was made before. `None`: it is noted that it waits.
-    pub fn rest(&mut self, seat: &CallSeat<C>, made: &Made) -> Option<Rest>
+    /// Whether the read side of a connection need not wait for what comes of its messages. `None`: it is noted that it waits.
+    pub fn rest(&mut self, seat: &CallSeat<C>) -> Option<Rest>
         ensures own { IfSome result (λ rest. rest.conn ≡ seat.now.conn) }
         ensures drained { IfSome result (λ rest. rest.short ≡ false
-            → IsDrained self.old.front self.old.stopped seat.now.conn made.now) }
+            → IsDrained self.old.front self.old.stopped seat.now.conn seat.now.place) }
         ensures front { self.new.front ≡ self.old.front }
         ensures still { self.new.stopped ≡ self.old.stopped }
     {
         let conn = seat.conn();
-        if self.is_drained(conn, made.place) {
+        if self.is_drained(conn, seat.place()) {
             let _ = self.watchers.remove(conn);
             return Some(Rest { conn, short: false });
         }
@@ -354,6 +378,20 @@ impl<C: Tally, M: Tally> Shared<C, M> {
             return Some(Rest { conn, short: true });
         }
         None
+    }
+
+    /// Whether the read side of a connection may hand on more: its write side is close behind, or has taken what came of all that was
+    /// made before, or there is no memory to note that it waits. If not, it is noted.
+    pub fn may_go_on(&mut self, conn: u64, made: &Made) -> bool
+        ensures waits { result ≡ false → ¬ IsDrained self.old.front self.old.stopped conn made.now }
+        ensures front { self.new.front ≡ self.old.front }
+        ensures still { self.new.stopped ≡ self.old.stopped }
+    {
+        if self.paces.is_close(conn) || self.is_drained(conn, made.place) {
+            let _ = self.watchers.remove(conn);
+            return true;
+        }
+        !self.watchers.add(conn)
     }
 
     /// Whether all entries that were made before are stored and posted.
@@ -372,7 +410,9 @@ impl<C: Tally, M: Tally> Shared<C, M> {
     }
 
     /// How many mails were made, also those that met a full box.
-    pub fn mails_made(&self) -> u64 {
+    pub fn mails_made(&self) -> u64
+        ensures { result ≡ self.now.front.books.mails }
+    {
         self.front.books().mails
     }
 
@@ -380,7 +420,7 @@ impl<C: Tally, M: Tally> Shared<C, M> {
     pub fn take_mail(&mut self, seat: &mut MailSeat<M>) -> Option<Taking>
         ensures takes { TakesMail self.old.front self.old.stopped seat.old.conn result self.new.front }
         ensures seat { MatchOption result (seat.new ≡ seat.old) (λ taking. seat.new ≡ taking_answered seat.old taking) }
-        ensures stored { IfSome result (λ taking. MayBeTold taking self.new.history) }
+        ensures stored { IfSome result (λ taking. MayBeTold seat.old.conn taking self.new.history) }
         ensures still { self.new.stopped ≡ self.old.stopped }
     {
         let _ = self.front.state();
@@ -390,13 +430,14 @@ impl<C: Tally, M: Tally> Shared<C, M> {
                 let more = self.front.has_mail(conn);
                 seat.take(&mut self.mails, &mail, more);
                 self.watchers.note_move(conn);
+                self.paces.note_mail(conn);
                 Some(Taking::Mail { mail, more })
             }
             None => self.end_of_mails(seat),
         }
     }
 
-    /// The history learns what was cut, and what was stored, at least as far as it is posted.
+    /// The history learns what was cut, what connections asked for, and what was stored, at least as far as it is posted.
     pub fn teach(&self, history: &mut History<M>)
         ensures this { IsPrefix history.old history.new }
         ensures that { IsPrefix self.now.history history.new }
@@ -437,6 +478,7 @@ impl<C: Tally, M: Tally> Shared<C, M> {
     pub fn leave_by_reader(&mut self, seat: &mut CallSeat<C>)
         ensures step { (count : ℕ) × FrontStep self.old.front (event.Gone seat.old.conn count) [] self.new.front }
         ensures seat { seat.new ≡ record seat.old { departed = true } }
+        ensures still { self.new.stopped ≡ self.old.stopped }
     {
         self.drop_connection(seat.conn());
         seat.depart(&self.calls);
@@ -446,6 +488,7 @@ impl<C: Tally, M: Tally> Shared<C, M> {
     pub fn leave_by_writer(&mut self, seat: &mut MailSeat<M>)
         ensures step { (count : ℕ) × FrontStep self.old.front (event.Gone seat.old.conn count) [] self.new.front }
         ensures seat { seat.new ≡ record seat.old { departed = true } }
+        ensures still { self.new.stopped ≡ self.old.stopped }
     {
         self.drop_connection(seat.conn());
         seat.depart(&self.mails);
@@ -460,6 +503,7 @@ impl<C: Tally, M: Tally> Shared<C, M> {
         ensures step { self.old.stopped ≡ false
             → (count : ℕ) × FrontStep self.old.front (event.Gone seat.old.conn count) [] self.new.front }
         ensures stopped { self.old.stopped ≡ true → self.new.front ≡ self.old.front }
+        ensures still { self.new.stopped ≡ self.old.stopped }
     {
         if self.stopped {
             seat.tell(&self.calls, Standing::Stopped);
@@ -503,9 +547,11 @@ impl<C: Tally, M: Tally> Shared<C, M> {
             posted: _,
             made: _,
             watchers,
+            paces,
             stopped: _,
         } = self;
         drop(watchers);
+        drop(paces);
         drop(history);
         let books = front.books();
         drop(front);

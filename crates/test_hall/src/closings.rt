@@ -10,7 +10,8 @@ use crate::stage::{PARTS, hall_over};
 use crate::tests::store_after;
 use fe_disk::MemoryDisk;
 use fe_hall::{
-    CallSeat, Hall, MailSeat, NewHistory, Receipt, ReceiptList, Tally, Unclosed, Unconnected, close,
+    ConnectRight, Hall, NewHistory, NewSeats, Receipt, ReceiptList, Tally, Unclosed, Unconnected,
+    close,
 };
 use fe_keeper::Keeper;
 use fe_state::{Answer, Request, named};
@@ -43,6 +44,7 @@ enum Closes {
 
 /// The receipt for the first path's write.
 const WRITTEN: Receipt = Receipt {
+    conn: 1,
     session: 7,
     number: 2,
     answer: Answer::Done,
@@ -51,6 +53,7 @@ const WRITTEN: Receipt = Receipt {
 
 /// A receipt that nobody can have, because its place is the store's own.
 const AHEAD: Receipt = Receipt {
+    conn: 1,
     session: 7,
     number: 5,
     answer: Answer::Done,
@@ -99,11 +102,12 @@ fn messages(alloc: Global, said: &[Say]) -> Result<Vec<ClientMessage>, AllocErro
 fn connect<C: Tally, M: Tally, R: Wait>(
     rt: &R,
     hall: &Hall<C, M>,
+    right: &ConnectRight,
     connections: u64,
-) -> Result<(CallSeat<C>, MailSeat<M>), Unconnected> {
-    let seats = hall.connect(rt, 1)?;
+) -> Result<NewSeats<C, M>, Unconnected> {
+    let seats = hall.connect(rt, right, 1)?;
     for k in 1..connections {
-        drop(hall.connect(rt, k.saturating_add(1))?);
+        drop(hall.connect(rt, right, k.saturating_add(1))?);
     }
     Ok(seats)
 }
@@ -126,10 +130,13 @@ fn close_as<C: Tally, M: Tally, R: Abort + Wait>(
     requires history { history.book ≡ M.book }
     requires acts { history.acts ≡ act.Began keeper.state ∷ [] }
 {
-    let (hall, seat) = hall_over::<C, M>(alloc, keeper.state(), calls, mails, history)
+    let (hall, seat, right) = hall_over::<C, M>(alloc, keeper.state(), calls, mails, history)
         .ok()
         .expect(rt, "a hall");
-    let (calls, mails) = connect(rt, &hall, connections).ok().expect(rt, "connected");
+    let seats = connect(rt, &hall, &right, connections)
+        .ok()
+        .expect(rt, "connected");
+    let (calls, mails) = seats.begin();
     let (calls, mails) = (calls.into_seats(), mails.into_seats());
     let seen = hall.history();
     match close(hall, calls, mails, sent, receipts, seen, seat, keeper) {

@@ -2,7 +2,7 @@
 
 use crate::board::{Board, Told};
 use fe_disk::Hold;
-use fe_hall::{HalfFault, ReadHalf, WriteHalf};
+use fe_hall::{HalfFault, ReadCount, ReadHalf, WriteHalf};
 use std::alloc::Global;
 use std::sync::{Mutex, Wait};
 use std::thread;
@@ -23,6 +23,7 @@ pub struct ClientRead<'r, 'b, 'h, R> {
     /// What it is sending, and how much of that was read.
     line: Vec<u8>,
     next: usize,
+    reads: ReadCount,
 }
 
 impl<'r, 'b, 'h, R: Clock + Wait> ClientRead<'r, 'b, 'h, R> {
@@ -42,6 +43,7 @@ impl<'r, 'b, 'h, R: Clock + Wait> ClientRead<'r, 'b, 'h, R> {
             piece,
             line: Vec::new(alloc),
             next: 0,
+            reads: ReadCount::none(),
         }
     }
 
@@ -73,11 +75,14 @@ impl<'r, 'b, 'h, R: Clock + Wait> ReadHalf for ClientRead<'r, 'b, 'h, R> {
 
     ghost told = { λ _. [] };
 
+    ghost reads = { λ r. r.reads };
+
     ghost ended = { λ _. ⊤ };
 
     ghost failed = { λ _. ⊤ };
 
     fn read(&mut self, buffer: &mut [u8]) -> Result<usize, HalfFault> {
+        self.reads.rise();
         if self.next >= self.line.len() && !self.wait()? {
             return Ok(0);
         }

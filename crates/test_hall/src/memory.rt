@@ -12,8 +12,8 @@ use crate::saying::{Say, put_said};
 use crate::stage::{PARTS, hall_over};
 use fe_disk::Liar;
 use fe_hall::{
-    CallSeat, CommitEnd, HalfFault, Hall, MemoryRead, NewHistory, Open, ReadEnd, ReadHalf,
-    StoreSeat, Tally, commit_side, read_side,
+    CallSeat, CommitEnd, ConnectRight, HalfFault, Hall, MemoryRead, NewHistory, Open, ReadEnd,
+    ReadHalf, StoreSeat, Tally, commit_side, read_side,
 };
 use fe_keeper::{Fault, Keeper};
 use std::alloc::{AllocError, Global};
@@ -69,6 +69,8 @@ impl ReadHalf for Failing {
 
     ghost told = { λ _. [] };
 
+    ghost reads = { λ f. ⟦<MemoryRead as ReadHalf>⟧.reads f.half };
+
     ghost ended = { λ _. ⊤ };
 
     ghost failed = { λ _. ⊤ };
@@ -86,10 +88,11 @@ fn take<C: Tally, M: Tally, R: Abort + Clock + Wait>(
     rt: &R,
     alloc: Global,
     hall: &Hall<C, M>,
+    right: &ConnectRight,
     conn: u64,
 ) -> Option<()> {
     let bytes = stream(alloc).ok()?;
-    let (seat, _) = hall.connect(rt, conn).ok()?;
+    let (seat, _) = hall.connect(rt, right, conn).ok()?.begin();
     let mut half = Failing {
         half: MemoryRead::new(bytes, 4096),
     };
@@ -108,11 +111,12 @@ fn store<C: Tally, M: Tally, R: Abort + Clock + Wait>(
     rt: &R,
     alloc: Global,
     hall: &Hall<C, M>,
+    right: &ConnectRight,
     keeper: &mut Keeper<Liar>,
     stored: &mut StoreSeat<M>,
 ) -> Option<CommitEnd> {
     for conn in 1..=CONNECTIONS {
-        take(rt, alloc, hall, conn)?;
+        take(rt, alloc, hall, right, conn)?;
     }
     hall.stop(rt);
     Some(commit_side(rt, hall, keeper, stored).end())
@@ -133,8 +137,14 @@ fn store_as<C: Tally, M: Tally, R: Abort + Clock + Wait>(
     requires history { history.book ≡ M.book }
     requires acts { history.acts ≡ act.Began keeper.old.state ∷ [] }
 {
-    let (hall, mut stored) = hall_over::<C, M>(alloc, keeper.state(), calls, mails, history).ok()?;
-    let end = store(rt, alloc, &hall, keeper, &mut stored);
+    let (hall, mut stored, right) = hall_over::<C, M>(
+        alloc,
+        keeper.state(),
+        calls,
+        mails,
+        history,
+    ).ok()?;
+    let end = store(rt, alloc, &hall, &right, keeper, &mut stored);
     drop(hall);
     end
 }

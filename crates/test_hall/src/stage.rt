@@ -11,8 +11,8 @@ use crate::register::Register;
 use fe_disk::{Disk, Hold};
 use fe_front::Front;
 use fe_hall::{
-    CallSeat, Closing, CommitEnd, Hall, MailSeat, NewHistory, Open, StoreSeat, Tally, commit_side,
-    read_side, write_side,
+    CallSeat, Closing, CommitEnd, ConnectRight, Hall, MailSeat, NewHistory, Open, StoreSeat, Tally,
+    commit_side, read_side, write_side,
 };
 use fe_keeper::Keeper;
 use fe_state::State;
@@ -37,6 +37,7 @@ struct Stage<'a, C: Tally, M: Tally> {
     play: &'a Play,
     hold: &'a Hold,
     hall: Hall<C, M>,
+    right: ConnectRight,
     register: Mutex<Register<C, M>>,
     board: Mutex<Board>,
 }
@@ -96,7 +97,7 @@ fn perform_as<
     requires history { history.book ≡ M.book }
     requires acts { history.acts ≡ act.Began keeper.state ∷ [] }
 {
-    let (hall, seat) = hall_over::<C, M>(alloc, keeper.state(), calls, mails, history)
+    let (hall, seat, right) = hall_over::<C, M>(alloc, keeper.state(), calls, mails, history)
         .ok()
         .expect(rt, "a hall");
     let board = Board::new(alloc, play).ok().expect(rt, "a board");
@@ -105,6 +106,7 @@ fn perform_as<
         play,
         hold,
         hall,
+        right,
         register: Mutex::new(Register::new(alloc, receipts)),
         board: Mutex::new(board),
     };
@@ -144,7 +146,7 @@ pub fn hall_over<C: Tally, M: Tally>(
     calls: Blank,
     mails: Blank,
     history: NewHistory,
-) -> Result<(Hall<C, M>, StoreSeat<M>), AllocError>
+) -> Result<(Hall<C, M>, StoreSeat<M>, ConnectRight), AllocError>
     requires calls { (calls.name ≡ C.name) × (calls.parts ≡ C.parts) × (C.all ≡ C.parts)
         × (C.all ≡ most_connections + 1) }
     requires mails { (mails.name ≡ M.name) × (mails.parts ≡ M.parts) × (M.all ≡ M.parts)
@@ -273,9 +275,10 @@ fn serve_one<
 >(rt: &'s R, alloc: Global, scope: &Scope<'s, E>, stage: &'s Stage<C, M>, conn: u64)
     requires { (C.all ≡ C.parts) × (M.all ≡ M.parts) }
 {
-    let Ok((calls, mails)) = stage.hall.connect(rt, conn) else {
+    let Ok(seats) = stage.hall.connect(rt, &stage.right, conn) else {
         return;
     };
+    let (calls, mails) = seats.begin();
     let reading = scope.spawn(
         move ||
             requires { C.all ≡ C.parts }

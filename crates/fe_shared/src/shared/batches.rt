@@ -91,6 +91,7 @@ impl<C: Tally, M: Tally> Shared<C, M> {
     pub fn cut(&mut self, chronicle: &Chronicle<M>, cuts: &mut History<M>) -> Option<Cutting>
         ensures cuts { Cuts self.old.front self.old.stopped result self.new.front }
         ensures noted { IfSome result (λ cutting. IsCutIn cutting cuts.new) }
+        ensures still { self.new.stopped ≡ self.old.stopped }
     {
         if self.front.has_cut() {
             return Some(self.cut_batch(chronicle, cuts));
@@ -106,6 +107,7 @@ impl<C: Tally, M: Tally> Shared<C, M> {
         requires some { has_no_cut self.old.front ≡ false }
         ensures cuts { Cuts self.old.front self.old.stopped (Some result) self.new.front }
         ensures noted { IsCutIn result cuts.new }
+        ensures still { self.new.stopped ≡ self.old.stopped }
     {
         let _ = self.front.state();
         let count = self.posted;
@@ -143,6 +145,7 @@ impl<C: Tally, M: Tally> Shared<C, M> {
         ensures durable { IfOk result (λ posted. posted ≡ batch.first + length batch.entries) }
         ensures rings { Rings self.old.front self.new.front wakes.old wakes.new }
         ensures err { OnErr result (self.new.front ≡ self.old.front) }
+        ensures still { self.new.stopped ≡ self.old.stopped }
     {
         if !self.posts_more(&batch) {
             drop(batch);

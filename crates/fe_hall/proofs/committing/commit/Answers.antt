@@ -72,7 +72,7 @@ returns-clause-tells g c =
     (fault_tells g.D.Disk.failures c.args.keeper.now c.append.new.self c.in-Err.fault batch.first batch.entries c.in-Err.ensures.ends)
 
 pub returns-in-Ok-post-clause-stored : goal.returns-in-Ok-post-clause-stored
-returns-in-Ok-post-clause-stored g c = λ none.
+returns-in-Ok-post-clause-stored g c =
     let e = c.in-Ok.ensures.appended in
     let new = c.append.new.self in
     let stored : IsStored c.into_batch-batch.result.0 new.state = record { before = c.args.keeper.now.state; continues = e.continues; state_is = e.state } in

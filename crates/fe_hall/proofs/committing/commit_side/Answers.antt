@@ -1,5 +1,5 @@
 use Rattle.std.proofs.Common.{◌≡◌, sym, inl, inr, Option, Some, None, refl, subst, ◌∙◌, rules}
-use Rattle.fe_hall.specs.Commits.{AreNoted, Commits, IsStill, TellsEnd}
+use Rattle.fe_hall.specs.Commits.{AreNoted, Commits, IsStill, TellsEnd, end_in}
 use Rattle.fe_hall.specs.declared.commit_end.CommitEnd.{CommitEnd}
 use Rattle.fe_hall.proofs.Committed.{kept_noted, both_commits, turn_commits, ended_noted, rests_itself, still_itself, still_both}
 use Rattle.fe_hall.proofs.committing.commit_side.Goals as goal
@@ -18,15 +18,15 @@ loop-init g c =
       finite = search rules;
     }
 
-pub returns-in-Some-commit-clause-commits : goal.returns-in-Some-commit-clause-commits
-returns-in-Some-commit-clause-commits g c =
+pub returns-in-Err-clause-commits : goal.returns-in-Err-clause-commits
+returns-in-Err-clause-commits g c =
     let here = c.loop.invariant in
-    let stored = c.in-Some-commit.ensures.commits in
+    let stored = c.in-Err.ensures.commits in
     let old = c.args.keeper.now in
     let new = c.commit.new.keeper in
     subst (λ (end : CommitEnd). (all : Commits g.D.Disk.honest g.D.Disk.moment g.D.Disk.left_since old new (Some end)) × AreNoted g.D.Disk.moment all.appends (Some end) c.args.seat.now c.commit.new.seat)
-    (sym c.broken-in-Some-commit.ensures)
-    (both_commits g.D.Disk.honest g.D.Disk.moment g.D.Disk.left_since old c.loop.keeper new (Some c.in-Some-commit.why) c.args.seat.now c.loop.seat c.commit.new.seat here.still.works here.honesty
+    (sym c.broken-in-Err.ensures)
+    (both_commits g.D.Disk.honest g.D.Disk.moment g.D.Disk.left_since old c.loop.keeper new (Some c.in-Err.why) c.args.seat.now c.loop.seat c.commit.new.seat here.still.works here.honesty
     here.commits.0 here.commits.1 stored.0 stored.1)
 
 pub loop-preserved : goal.loop-preserved
@@ -37,7 +37,7 @@ loop-preserved g c =
     let new = c.tend.new.keeper in
     let here = c.loop.invariant in
     let rests = c.tend.ensures.rests in
-    let none : c.commit.result ≡ None = search rules in
+    let none : end_in c.commit.result ≡ None = search rules in
     let stored : (all : Commits g.D.Disk.honest g.D.Disk.moment g.D.Disk.left_since before after None) × AreNoted g.D.Disk.moment all.appends None c.loop.seat c.commit.new.seat =
     subst (λ (end : Option CommitEnd). (all : Commits g.D.Disk.honest g.D.Disk.moment g.D.Disk.left_since before after end) × AreNoted g.D.Disk.moment all.appends end c.loop.seat c.commit.new.seat) none
     c.commit.ensures.commits in
@@ -49,23 +49,23 @@ loop-preserved g c =
           c.commit.ensures.honesty here.commits.0 here.commits.1 stored.0 stored.1 rests;
       stands = c.tend.ensures.stands;
       still = still_both g.D.Disk.failures old after new (still_both g.D.Disk.failures old before after here.still still) later;
-      begun = inr (later.works ∙ still.works ∙ c.commit.ensures.works none);
+      begun = inr (later.works ∙ still.works ∙ c.in_default.ensures.works);
       honesty = (λ h. here.honesty.0 (c.commit.ensures.honesty.0 (rests.honesty.0 h)), λ h. rests.honesty.1 (c.commit.ensures.honesty.1 (here.honesty.1 h)));
       next = search rules;
       finite = search rules;
     }
 
-pub returns-in-Err-clause-commits : goal.returns-in-Err-clause-commits
-returns-in-Err-clause-commits g c =
+pub returns-in-Err-tend-clause-commits : goal.returns-in-Err-tend-clause-commits
+returns-in-Err-tend-clause-commits g c =
     let before = c.loop.keeper in
     let after = c.commit.new.keeper in
     let here = c.loop.invariant in
-    let none : c.commit.result ≡ None = search rules in
+    let none : end_in c.commit.result ≡ None = search rules in
     let stored : (all : Commits g.D.Disk.honest g.D.Disk.moment g.D.Disk.left_since before after None) × AreNoted g.D.Disk.moment all.appends None c.loop.seat c.commit.new.seat =
     subst (λ (end : Option CommitEnd). (all : Commits g.D.Disk.honest g.D.Disk.moment g.D.Disk.left_since before after end) × AreNoted g.D.Disk.moment all.appends end c.loop.seat c.commit.new.seat) none
     c.commit.ensures.commits in
     let still : IsStill g.D.Disk.failures before after = subst (λ (end : Option CommitEnd). TellsEnd g.D.Disk.failures before after end) none c.commit.ensures.tells in
-    turn_commits g.D.Disk.honest g.D.Disk.moment g.D.Disk.left_since c.args.keeper.now before after c.tend.new.keeper (Some c.broken-in-Err.result) c.args.seat.now c.loop.seat c.commit.new.seat
+    turn_commits g.D.Disk.honest g.D.Disk.moment g.D.Disk.left_since c.args.keeper.now before after c.tend.new.keeper (Some c.broken-in-Err-tend.result) c.args.seat.now c.loop.seat c.commit.new.seat
     here.still.works still.works here.honesty c.commit.ensures.honesty here.commits.0 here.commits.1 stored.0 stored.1 c.tend.ensures.rests
 
 pub returns-in-Stopped-clause-commits : goal.returns-in-Stopped-clause-commits

@@ -1,15 +1,16 @@
-use Rattle.std.proofs.Common.{IsSome, Option, ℕ, refl, subst, ◌∙◌, rules}
+use Rattle.std.proofs.Common.{◌≡◌, ◌+◌, ◌-◌, Option, ℕ, Some, refl, sym, subst, ◌∙◌, arith, rules}
+use Rattle.fe_hall.specs.Reads.{AreLeft}
 use Rattle.fe_hall.specs.declared.ends.ReadEnd.TheVariants.{Turns}
 use Rattle.fe_hall.proofs.Streams.{ends_behind, ends_first}
+use Rattle.fe_hall.proofs.Turns.{left_all, left_few, left_none}
 use Rattle.fe_hall.proofs.reading.Reading.read_all.Goals as goal
-use Rattle.fe_hall.proofs.reading.Reading.read_all.Goals.{in-Some-left, in-None-left}
 
 pub returns-in_default-clause-handled : goal.returns-in_default-clause-handled
 returns-in_default-clause-handled g c = λ tells none at.
     ends_first c.args.self.now.seat c.args.self.now.seat c.args.self.now.listed.items (g.H.ReadHalf.told c.args.half.now) c.args.self.now.decoder none at
 
-pub returns-in-Some-eq0-clause-handled : goal.returns-in-Some-eq0-clause-handled
-returns-in-Some-eq0-clause-handled g c = λ tells none at.
+pub returns-then-not-take_turn-clause-handled : goal.returns-then-not-take_turn-clause-handled
+returns-then-not-take_turn-clause-handled g c = λ tells none at.
     ends_behind c.args.self.now.seat c.loop.self.seat c.loop.self.listed.items (g.H.ReadHalf.told c.loop.half) (g.H.ReadHalf.told c.loop.half) c.loop.self.decoder Turns refl (c.loop.invariant.at tells none at)
     (λ messages rest waits. (refl, waits))
 
@@ -24,8 +25,25 @@ loop-preserved g c = record {
   at = λ tells none at. c.in_default-read.ensures.handled c.args.self.now.seat (c.loop.invariant.tells tells) (c.loop.invariant.at tells none at);
   own = c.read.ensures.own ∙ c.loop.invariant.own;
   left =
-      elim c.match-left.branch [
-        | in-Some-left w ↦ λ _. let some : IsSome c.loop.left = search rules in c.loop.invariant.left some
-        | in-None-left w ↦ λ some. c.loop.invariant.left (subst (λ (o : Option ℕ). IsSome o) w.left-is some)
-      ];
+      let made : g.H.ReadHalf.reads c.read.new.half - g.H.ReadHalf.reads c.args.half.now ≡ g.H.ReadHalf.reads c.loop.half - g.H.ReadHalf.reads c.args.half.now + 1 =
+      omega (arith, c.loop.invariant.more, c.read.ensures.reads) in
+      subst (λ n. AreLeft c.args.turns c.take_turn.new.left n) (sym made) (c.take_turn.ensures.next (search rules) c.args.turns _ c.loop.invariant.left);
+  more = omega (arith, c.loop.invariant.more, c.read.ensures.reads);
 }
+
+pub returns-then-not-take_turn-clause-turns : goal.returns-then-not-take_turn-clause-turns
+returns-then-not-take_turn-clause-turns g c = λ _.
+    let none = c.take_turn.ensures.none (search rules) in
+    left_none c.args.turns (g.H.ReadHalf.reads c.args.half.now) (g.H.ReadHalf.reads c.loop.half) c.loop.invariant.more
+    (subst (λ (o : Option ℕ). AreLeft c.args.turns o (g.H.ReadHalf.reads c.loop.half - g.H.ReadHalf.reads c.args.half.now)) none c.loop.invariant.left)
+
+pub returns-then-not-take_turn-clause-reads : goal.returns-then-not-take_turn-clause-reads
+returns-then-not-take_turn-clause-reads g c =
+    left_few c.args.turns c.loop.left (g.H.ReadHalf.reads c.args.half.now) (g.H.ReadHalf.reads c.loop.half) c.loop.invariant.more c.loop.invariant.left
+
+pub returns-in-Some-read-clause-reads : goal.returns-in-Some-read-clause-reads
+returns-in-Some-read-clause-reads g c =
+    let made : g.H.ReadHalf.reads c.read.new.half - g.H.ReadHalf.reads c.args.half.now ≡ g.H.ReadHalf.reads c.loop.half - g.H.ReadHalf.reads c.args.half.now + 1 =
+    omega (arith, c.loop.invariant.more, c.read.ensures.reads) in
+    left_few c.args.turns c.take_turn.new.left (g.H.ReadHalf.reads c.args.half.now) (g.H.ReadHalf.reads c.read.new.half) (omega (arith, c.loop.invariant.more, c.read.ensures.reads))
+    (subst (λ n. AreLeft c.args.turns c.take_turn.new.left n) (sym made) (c.take_turn.ensures.next (search rules) c.args.turns _ c.loop.invariant.left))

@@ -1,5 +1,5 @@
-use Rattle.std.proofs.Common.{◌≡◌, [], IsSome}
-use Rattle.fe_hall.specs.Reads.{IsAt}
+use Rattle.std.proofs.Common.{◌≡◌, ◌≤◌, ◌-◌, []}
+use Rattle.fe_hall.specs.Reads.{AreLeft, IsAt}
 use Rattle.fe_hall.proofs.reading.Reading.read_all.Given as goal
 
 abbrev pub invariant-loop : goal.invariant-loop
@@ -10,5 +10,6 @@ invariant-loop g l = record {
       → IsAt [] l.initial.self.seat l.initial.self.decoder l.initial.self.seat l.initial.self.listed.items
       → IsAt (g.H.ReadHalf.told l.half) l.initial.self.seat l.self.decoder l.self.seat l.self.listed.items;
   own : l.self.seat.conn ≡ l.initial.self.seat.conn;
-  left : IsSome l.left → IsSome l.fn.turns;
+  left : AreLeft l.fn.turns l.left (g.H.ReadHalf.reads l.half - g.H.ReadHalf.reads l.initial.half);
+  more : g.H.ReadHalf.reads l.initial.half ≤ g.H.ReadHalf.reads l.half;
 }

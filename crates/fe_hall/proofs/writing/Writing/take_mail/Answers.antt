@@ -1,4 +1,4 @@
-use Rattle.std.proofs.Common.{Bool, List, [], ◌∷◌, sym, ap, subst, ◌∙◌, arith, rules}
+use Rattle.std.proofs.Common.{ℕ, Bool, List, [], ◌∷◌, sym, ap, subst, ◌∙◌, arith, rules}
 use Rattle.std.proofs.lemmas.Result.{err_from_is_err_and}
 use Rattle.fe_history.specs.Acts.{WasTold}
 use Rattle.fe_shared.specs.Marks.{TakingTold}
@@ -42,7 +42,8 @@ returns-in-Ok-clause-took g c =
     let takes =
     takes_one s.seat c.make_room.new.self.seat c.take_mail.new.seat c.keep_receipt.new.self.seat s.receipts.items c.make_room.new.self.receipts.items c.keep_receipt.new.self.receipts.items
     m c.in_ok-mail.more r.seat r.receipts took k.seat k.receipts in
-    let told = subst (λ (h : List Act). WasTold m h) (sym k.history) (subst (λ (t : Taking). TakingTold t c.take_mail.new.history) c.in_ok-mail.ensures.mail c.take_mail.ensures.told) in
+    let told = subst (λ (n : ℕ). WasTold n m c.keep_receipt.new.self.history) (ap (λ (s : WriteSeat). s.conn) r.seat) (subst (λ (h : List Act). WasTold c.make_room.new.self.seat.conn m h) (sym k.history)
+    (subst (λ (t : Taking). TakingTold c.make_room.new.self.seat.conn t c.take_mail.new.history) c.in_ok-mail.ensures.mail c.take_mail.ensures.told)) in
     (m ∷ [], takes, omega arith, spelled_one s.frames.items c.keep_receipt.new.self.frames.items c.put-2.new.out.items m c.of.result (k.frames ∙ r.frames) c.of.ensures c.in-Ok.ensures.ok, (told, tt))
 
 pub returns-in-Ok-clause-more : goal.returns-in-Ok-clause-more
@@ -60,5 +61,6 @@ returns-clause-took g c =
     let takes =
     takes_one s.seat c.make_room.new.self.seat c.take_mail.new.seat c.keep_receipt.new.self.seat s.receipts.items c.make_room.new.self.receipts.items c.keep_receipt.new.self.receipts.items
     m c.in_ok-mail.more r.seat r.receipts took k.seat k.receipts in
-    let told = subst (λ (h : List Act). WasTold m h) (sym k.history) (subst (λ (t : Taking). TakingTold t c.take_mail.new.history) c.in_ok-mail.ensures.mail c.take_mail.ensures.told) in
+    let told = subst (λ (n : ℕ). WasTold n m c.keep_receipt.new.self.history) (ap (λ (s : WriteSeat). s.conn) r.seat) (subst (λ (h : List Act). WasTold c.make_room.new.self.seat.conn m h) (sym k.history)
+    (subst (λ (t : Taking). TakingTold c.make_room.new.self.seat.conn t c.take_mail.new.history) c.in_ok-mail.ensures.mail c.take_mail.ensures.told)) in
     (m ∷ [], takes, omega arith, lacks_one s.frames.items c.put-2.new.out.items (m ∷ []) (omega arith) (c.in-Err.ensures.err ∙ k.frames ∙ r.frames), (told, tt))

@@ -9,7 +9,7 @@ use Rattle.fe_hall.proofs.writing.Writing.take_mails.Given as goal
 -- mails were taken, and all of them are spelled; it waits only where there are none, or where more mails are in the box
 abbrev pub invariant-loop : goal.invariant-loop
 invariant-loop g l =
-    ((mails : List Mail) × TakesOn l.fn.self.seat l.self.seat l.fn.self.receipts.items l.self.receipts.items mails × IsBatch mails × (l.self.frames.items ≡ spelled mails) × AreTold mails l.self.history)
+    ((mails : List Mail) × TakesOn l.fn.self.seat l.self.seat l.fn.self.receipts.items l.self.receipts.items mails × IsBatch mails × (l.self.frames.items ≡ spelled mails) × AreTold l.fn.self.seat.conn mails l.self.history)
     × ((l.self.frames.items ≡ []) ⊎ (l.more ≡ l.self.seat.more))
     × IsPrefix l.fn.self.history l.self.history
     × ((goal.iterator-loop g).can_next l.iterator' × (goal.iterator-loop g).is_finite l.iterator')

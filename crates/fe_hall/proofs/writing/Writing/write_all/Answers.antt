@@ -20,7 +20,7 @@ returns-in-Some-write_box-clause-wrote g c =
       i.0 ++ w.0,
       takes_on s.seat l.seat n.seat s.receipts.items l.receipts.items n.receipts.items i.0 w.0 i.1 w.1,
       (λ told. written_more c.in-Some-write_box.end (got c.args.half.now) (got c.loop.half) (got c.write_box.new.half) i.0 w.0 (i.2 told) (w.2 (c.loop.invariant.2 told))),
-      told_both i.0 w.0 l.history n.history c.write_box.ensures.this i.3 w.3,
+      told_both s.seat.conn l.seat.conn i.0 w.0 l.history n.history i.1.conn c.write_box.ensures.this i.3 w.3,
     )
 
 pub loop-preserved : goal.loop-preserved
@@ -35,7 +35,7 @@ loop-preserved g c =
         i.0 ++ w.0,
         takes_on s.seat l.seat n.seat s.receipts.items l.receipts.items n.receipts.items i.0 w.0 i.1 w.1,
         (λ told. wrote_more (got c.args.half.now) (got c.loop.half) (got c.write_box.new.half) i.0 w.0 (i.2 told) (w.2 (c.loop.invariant.2 told))),
-        told_both i.0 w.0 l.history n.history c.write_box.ensures.this i.3 w.3,
+        told_both s.seat.conn l.seat.conn i.0 w.0 l.history n.history i.1.conn c.write_box.ensures.this i.3 w.3,
       ),
       c.in_default.ensures.frames,
       (λ told. c.write_box.ensures.tells (c.loop.invariant.2 told)),

@@ -1,4 +1,6 @@
-use Rattle.std.proofs.Common.{sym, ◌∙◌, arith}
+use Rattle.std.proofs.Common.{ℕ, sym, subst, ◌∙◌, arith}
+use Rattle.fe_shared.specs.Marks.{MayBeTold}
+use Rattle.fe_shared.specs.declared.taking.Taking.TheVariants as taking
 use Rattle.fe_shared.proofs.Marks.{first_may, taken_marked}
 use Rattle.fe_shared.proofs.Risings.{taken_goes}
 use Rattle.fe_shared.proofs.shared.Shared.take_mail.Goals as goal
@@ -18,4 +20,5 @@ invariant_of-self g c =
 pub returns-in-Some-clause-stored : goal.returns-in-Some-clause-stored
 returns-in-Some-clause-stored g c =
     let s = c.self.inside in
-    first_may s.front c.conn-conn.result c.in-Some.mail c.has_mail-more.result s.posted s.history (sym c.in-Some.is ∙ c.take_mail.ensures.mail) c.self.invariant
+    subst (λ (n : ℕ). MayBeTold n (taking.Mail c.in-Some.mail c.has_mail-more.result) s.history) c.conn-conn.ensures
+    (first_may s.front c.conn-conn.result c.in-Some.mail c.has_mail-more.result s.posted s.history (sym c.in-Some.is ∙ c.take_mail.ensures.mail) c.self.invariant)

@@ -1,21 +1,24 @@
 use Rattle.std.proofs.Common.{sym, subst, arith}
 use Rattle.std.specs.Prelude.{IsTrue}
+use Rattle.fe_messages.specs.Asking.{Took}
+use Rattle.fe_history.specs.Rules.{Hears}
 use Rattle.fe_shared.specs.Marks.{SharedState}
 use Rattle.fe_shared.specs.Seats.{takes_more}
-use Rattle.fe_shared.proofs.Marks.{takes_marked}
+use Rattle.fe_shared.proofs.Marks.{heard_marked}
 use Rattle.fe_shared.proofs.Risings.{takes_goes}
 use Rattle.fe_shared.proofs.shared.Shared.take_message.Goals as goal
 
 pub invariant_of-self-inside : goal.invariant_of-self-inside
 invariant_of-self-inside g c =
     let s = c.self.inside in
-    let t = c.take_message.ensures.taken in
+    let t = c.take_message-took.ensures.taken in
     let more : IsTrue (takes_more s.front.books) = subst (λ (x : SharedState). IsTrue (takes_more x.front.books)) (sym c.self.view_is) c.requires.more in
-    let goes = takes_goes s.front c.take_message.new.front c.conn-conn.result c.args.message t.0 c.state.ensures.front s.open more t.1 in
+    let goes = takes_goes s.front c.take_message-took.new.front c.conn-conn.result c.args.message t.0 c.state.ensures.front s.open more t.1 in
     (goes.books, (omega (arith, s.calls_agree, goes.calls, c.take.ensures.book), (omega (arith, s.mails_agree, goes.taken), (s.few, (s.call_parts, (s.mail_parts, tt))))))
 
 pub invariant_of-self : goal.invariant_of-self
 invariant_of-self g c =
     let s = c.self.inside in
-    let t = c.take_message.ensures.taken in
-    takes_marked s.front c.take_message.new.front c.conn-conn.result c.args.message t.0 s.posted s.history t.2 t.1 c.self.invariant
+    let t = c.take_message-took.ensures.taken in
+    let heard = subst (λ (t : Took). Hears s.history t.conn t.message c.hear.new.self) c.take_message-took.ensures.took c.hear.ensures.heard in
+    heard_marked s.front c.take_message-took.new.front c.conn-conn.result c.args.message t.0 s.posted s.history c.hear.new.self heard c.hear.ensures.legal t.2 t.1 c.self.invariant

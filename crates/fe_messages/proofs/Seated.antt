@@ -1,5 +1,5 @@
 -- Sessions and connections let go of each other, and come together only where a connection asks for a session.
-use Rattle.std.proofs.Common.{◌≡◌, ◌⊎◌, inl, inr, ℕ, ◌+◌, Bool, true, false, List, [], ◌∷◌, length, zero, suc, drop, Option, Some, None, refl, sym, ap, subst, ◌∙◌}
+use Rattle.std.proofs.Common.{◌≡◌, ◌⊎◌, inl, inr, ℕ, ◌+◌, Bool, true, false, List, [], ◌∷◌, length, drop, Option, Some, None, refl, sym, ap, subst, ◌∙◌}
 use Rattle.std.specs.Prelude.{nat_lt, is_some, if◌then◌else◌, option_and_then, Ok, Err}
 use Rattle.std.specs.Option.{option_map, option_map_or}
 use Rattle.std.specs.Ordering.{nat_cmp}
@@ -24,7 +24,7 @@ use Rattle.fe_mail.proofs.Lookups.{session_on-with_mails, session_on-with_sessio
 use Rattle.fe_wire.specs.declared.client_message.ClientMessage.{ClientMessage}
 use Rattle.fe_wire.specs.declared.client_message.ClientMessage.TheVariants as message
 use Rattle.fe_front.specs.Front.{FrontState, is_connected}
-use Rattle.fe_front.specs.Steps.{parted, released, freed, departed, withdrawn_from, unboxed, dropped, boxed, overflowed, mailed, connected, attached_to, settled_to, closed_by, cancelled_from, taken, has_no_cut, cut}
+use Rattle.fe_front.specs.Steps.{parted, released, freed, departed, withdrawn_from, unboxed, dropped, boxed, overflowed, mailed, connected, attached_to, settled_to, closed_by, cancelled_from, taken}
 use Rattle.fe_front.specs.Posting.{delivered, vacated, ended, posted_entry, posted_all, posted}
 use Rattle.fe_front.specs.Call.{Called, call_refused_by, kept_at, repeated}
 use Rattle.fe_front.specs.Refusals.{unclosing, and_then, in_window, addressed}
@@ -33,11 +33,9 @@ use Rattle.fe_front.specs.declared.outcome.Outcome.TheVariants as outcome
 use Rattle.fe_state.specs.State.{ServerState}
 use Rattle.fe_front.specs.Front.{IsFirst}
 use Rattle.fe_front.proofs.Agreement.{holder-inserted, holder-beside, holder-removed, holder-left, holder-closing}
+use Rattle.fe_messages.specs.Asking.{AsksOnly, HasOnly}
 use Rattle.fe_messages.specs.Taking.{Takes}
 use Rattle.fe_state.specs.declared.batch.Batch.{Batch}
-use Rattle.fe_desk.specs.Acknowledged.{AsksFor}
-use Rattle.fe_desk.specs.Mails.{taken_times, emptied_box}
-use Rattle.fe_desk.specs.Standing.{Client, all_emptied}
 
 pub none_some : {X P : Type 0} {x : X} → None ≡ Some x → P
 none_some e = cc
@@ -52,7 +50,7 @@ pub record Loses (f g : FrontState) : Type 0 where
   pub holders : (session conn : ℕ) → holder_of g.service.seats session ≡ Some conn → holder_of f.service.seats session ≡ Some conn
   pub sessions : (conn session : ℕ) → session_on g.connections conn ≡ Some session → session_on f.connections conn ≡ Some session
 
-itself : (f : FrontState) → Loses f f
+pub itself : (f : FrontState) → Loses f f
 itself f = record { holders = λ session conn has. has; sessions = λ conn session has. has }
 
 pub both_lose : (f g h : FrontState) → Loses f g → Loses g h → Loses f h
@@ -142,15 +140,6 @@ taken_loses f conn = by (nat_lt 0 (length (mails_on f.connections conn)))
     by true = record { holders = λ q c has. has; sessions = λ q s has. sym (session_on-with_mails f.connections conn _ q) ∙ has }
     by false = itself f
 
-pub times_lose : (n : ℕ) (f : FrontState) (conn : ℕ) → Loses f (taken_times n f conn)
-times_lose zero f conn = itself f
-times_lose (suc n) f conn = both_lose f (taken f conn) (taken_times n (taken f conn) conn) (taken_loses f conn) (times_lose n (taken f conn) conn)
-
-pub all_emptied_loses : (f : FrontState) (cs : List Client) → Loses f (all_emptied f cs)
-all_emptied_loses f [] = itself f
-all_emptied_loses f (c ∷ cs) =
-    both_lose f (emptied_box f c.conn) (all_emptied (emptied_box f c.conn) cs) (times_lose (length (mails_on f.connections c.conn)) f c.conn) (all_emptied_loses (emptied_box f c.conn) cs)
-
 pub connected_loses : (f : FrontState) (conn : ℕ) → Loses f (connected f conn)
 connected_loses f conn = record {
   holders = λ q c has. has;
@@ -211,12 +200,14 @@ nobody sessions seats seated session = ap (option_and_then (λ (seat : Seat). se
 no_session : (m : FinMap nat_cmp Connection) → m ≡ empty → (conn : ℕ) → session_on m conn ≡ None
 no_session m is conn = ap (λ m. session_on m conn) is ∙ ap (option_and_then (λ (c : Connection). c.session)) (get-empty nat_cmp conn)
 
--- a connection has a session, and is had by one, only where its number asked for it
-pub record HasOnly (asked : ℕ → ℕ → Bool) (f : FrontState) : Type 0 where
-  pub holders : (session conn : ℕ) → holder_of f.service.seats session ≡ Some conn → asked conn session ≡ true
-  pub sessions : (conn session : ℕ) → session_on f.connections conn ≡ Some session → asked conn session ≡ true
+-- where more is asked for
+pub has_more : (asked more : ℕ → ℕ → Type 0) (f : FrontState) → ((conn session : ℕ) → asked conn session → more conn session) → HasOnly asked f → HasOnly more f
+has_more asked more f rises has = record {
+  holders = λ session conn is. rises conn session (has.holders session conn is);
+  sessions = λ conn session is. rises conn session (has.sessions conn session is);
+}
 
-module _ (asked : ℕ → ℕ → Bool) where
+module _ (asked : ℕ → ℕ → Type 0) where
   -- nobody has a session at first
   pub first_has : (begun : ServerState) (f : FrontState) → IsFirst begun f → HasOnly asked f
   first_has begun f first = record {
@@ -233,23 +224,23 @@ module _ (asked : ℕ → ℕ → Bool) where
   has_lost_at : (f g h : FrontState) → h ≡ g → Loses f g → HasOnly asked f → HasOnly asked h
   has_lost_at f g h is loses has = subst (λ (x : FrontState). HasOnly asked x) (sym is) (has_lost f g loses has)
 
-  has_attached : (f : FrontState) (conn session : ℕ) → asked conn session ≡ true → HasOnly asked f → HasOnly asked (attached_to f conn session)
+  has_attached : (f : FrontState) (conn session : ℕ) → asked conn session → HasOnly asked f → HasOnly asked (attached_to f conn session)
   has_attached f conn session may has =
       let mid : FrontState = freed (released f conn) session in
       let here : HasOnly asked mid = has_lost (released f conn) mid (freed_loses (released f conn) session) (has_lost f (released f conn) (released_loses f conn) has) in
       let seats = mid.service.seats in
       let m = mid.connections in
-      let holder : (q c : ℕ) → holder_of (insert seats session (record { holder = Some conn; closing = false })) q ≡ Some c → asked c q ≡ true = λ q c is. elim (same_or_other q session) [
+      let holder : (q c : ℕ) → holder_of (insert seats session (record { holder = Some conn; closing = false })) q ≡ Some c → asked c q = λ q c is. elim (same_or_other q session) [
         | inl e ↦
             let who : conn ≡ c = some_same (sym (holder-inserted seats session (record { holder = Some conn; closing = false })) ∙ ap (λ (n : ℕ). holder_of (insert seats session (record { holder = Some conn; closing = false })) n) (sym e) ∙ is) in
-            subst (λ (n : ℕ). asked n q ≡ true) who (subst (λ (n : ℕ). asked conn n ≡ true) (sym e) may)
+            subst (λ (n : ℕ). asked n q) who (subst (λ (n : ℕ). asked conn n) (sym e) may)
         | inr ne ↦ here.holders q c (sym (holder-beside seats session (record { holder = Some conn; closing = false }) q ne) ∙ is)
       ] in
       record {
         holders = holder;
         sessions = λ q s is. elim (same_or_other q conn) [
           | inl e ↦ elim (joined_session m conn session q s e (get m conn) refl is) [
-            | inl which ↦ subst (λ (n : ℕ). asked q n ≡ true) (sym which) (subst (λ (n : ℕ). asked n session ≡ true) (sym e) may)
+            | inl which ↦ subst (λ (n : ℕ). asked q n) (sym which) (subst (λ (n : ℕ). asked n session) (sym e) may)
             | inr had ↦ here.sessions q s had
           ]
           | inr ne ↦ here.sessions q s (sym (session_on-with_session-beside m conn (Some session) q ne) ∙ is)
@@ -291,7 +282,7 @@ module _ (asked : ℕ → ℕ → Bool) where
   refused_has : (f g : FrontState) (conn : ℕ) (m : Mail) → g ≡ mailed f conn m → HasOnly asked f → HasOnly asked g
   refused_has f g conn m is has = has_lost_at f (mailed f conn m) g is (mailed_loses f conn m) has
 
-  pub message_has : (f g : FrontState) (conn : ℕ) (m : ClientMessage) (es : List Entry) → AsksFor (asked conn) m → Takes f conn m es g → HasOnly asked f → HasOnly asked g
+  pub message_has : (f g : FrontState) (conn : ℕ) (m : ClientMessage) (es : List Entry) → AsksOnly (asked conn) m → Takes f conn m es g → HasOnly asked f → HasOnly asked g
   message_has f g conn (message.Attach session) es may (inl step) has = subst (λ (x : FrontState). HasOnly asked x) (sym step.1.front) (has_attached f conn session may has)
   message_has f g conn (message.Attach session) es may (inr (r, why, refused)) has = refused_has f g conn _ refused.front has
   message_has f g conn (message.Call number request) es may (inl (o, step)) has = called_has f g conn step.0 number request o es step.2 has

@@ -1,7 +1,7 @@
 use Rattle.std.proofs.Common.{sym, subst}
 use Rattle.fe_wire.specs.declared.client_message.ClientMessage.{ClientMessage}
 use Rattle.fe_messages.proofs.Entering.{Taken, attach_taken, attach_refused, call_taken, call_refused, cancel_taken, cancel_refused, settle_taken, settle_refused, bye_taken, bye_refused}
-use Rattle.fe_messages.proofs.taking.take_message.Goals as goal
+use Rattle.fe_messages.proofs.taking.hand_over.Goals as goal
 
 pub returns-in-Err : goal.returns-in-Err
 returns-in-Err c = record {

@@ -1,0 +1,48 @@
+ghost use Rattle.std.specs.Prelude.{◌≡◌, ◌+◌};
+ghost use Rattle.fe_shared.specs.Seats.{first_read_seat, first_write_seat, most_connections};
+
+use crate::call_seat::CallSeat;
+use crate::mail_seat::MailSeat;
+use fe_history::Tally;
+use std::marker::Model;
+use std::sync::ledger::Share;
+
+/// The seats of a connection just made, whose two sides have not begun: contracts see the connection's number.
+#[derive(Drop)]
+pub struct NewSeats<C: Tally, M: Tally> {
+    calls: Share<C>,
+    mails: Share<M>,
+    conn: u64,
+}
+
+impl<C: Tally, M: Tally> Model for NewSeats<C, M> {
+    ghost use Rattle.std.specs.Prelude.{◌≡◌, ◌+◌, ℕ};
+    ghost use Rattle.fe_shared.specs.Seats.{most_connections};
+
+    ghost Value = { ℕ };
+
+    ghost view = { λ s. s.conn };
+
+    ghost invariant = { λ s. ((s.calls.parts ≡ 1) × (s.calls.amount ≡ 0) × (C.all ≡ most_connections + 1))
+        × ((s.mails.parts ≡ 1) × (s.mails.amount ≡ 0) × (M.all ≡ most_connections + 1)) };
+}
+
+impl<C: Tally, M: Tally> NewSeats<C, M> {
+    /// Those of a connection just made: one part of each ledger.
+    pub(crate) fn new(calls: Share<C>, mails: Share<M>, conn: u64) -> NewSeats<C, M>
+        requires calls { (calls.parts ≡ 1) × (calls.amount ≡ 0) × (C.all ≡ most_connections + 1) }
+        requires mails { (mails.parts ≡ 1) × (mails.amount ≡ 0) × (M.all ≡ most_connections + 1) }
+        ensures { result ≡ conn }
+    {
+        NewSeats { calls, mails, conn }
+    }
+
+    /// The seats of its two sides, which begin.
+    pub fn begin(self) -> (CallSeat<C>, MailSeat<M>)
+        ensures calls { result.0 ≡ first_read_seat self }
+        ensures mails { result.1 ≡ first_write_seat self }
+    {
+        let NewSeats { calls, mails, conn } = self;
+        (CallSeat::new(calls, conn), MailSeat::new(mails, conn))
+    }
+}
