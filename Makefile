@@ -1,5 +1,5 @@
 # `make help` lists the targets, with what each takes on four processors.
-.PHONY: help run test figures prove install deb dist check-deb check-hosts lint-deb man serve examples faults check-programs client bench \
+.PHONY: help run test figures prove install deb dist check-deb check-minimal check-hosts lint-deb man serve examples faults check-programs client bench \
   bench-serve toolchain
 
 SCHEDULE := examples/first_path.txt
@@ -78,6 +78,9 @@ check-programs: $(PROGRAM) ## real processes: crowds, kills under load, damaged 
 check-deb: $(PROGRAM) ## the packages, in a clean Debian with its own systemd: installed, killed, upgraded, purged; needs root (3 minutes)
 	@scripts/check_programs $(PROGRAM) deb
 
+check-minimal: $(PROGRAM) ## `make run`, `make test` and the pages' commands in a minimal Debian; needs root, debootstrap and a network (10 minutes)
+	@scripts/check_programs $(PROGRAM) minimal
+
 check-hosts: $(PROGRAM) ## a store on two hosts that fail in turn (docs/replication.md); needs root and some packages (2 minutes)
 	@scripts/check_programs $(PROGRAM) hosts
 
@@ -96,6 +99,9 @@ bench: $(PROVED) ## measures a long schedule
 bench-serve: $(PROVED) ## measures a server, and Redis if it is installed
 	@bench/serve/run $(PROVED)
 
+# All that is missing is named at once.
 toolchain:
-	@command -v python3 >/dev/null 2>&1 || { echo "femem: python3 is not on the PATH (on Debian: apt install python3)" >&2; exit 1; }
-	@command -v rt >/dev/null 2>&1 || { echo "femem: 'rt', the command of the Rattle toolchain, is not on the PATH" >&2; exit 1; }
+	@lacks=; \
+	command -v python3 > /dev/null 2>&1 || { lacks=1; echo "femem: python3 is not on the PATH (on Debian: apt install python3)" >&2; }; \
+	command -v rt > /dev/null 2>&1 || { lacks=1; echo "femem: 'rt', the command of the Rattle toolchain, is not on the PATH" >&2; }; \
+	[ -z "$$lacks" ]

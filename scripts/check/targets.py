@@ -1,4 +1,5 @@
-"""The Makefile's targets that no other part runs: `make prove`, `make deb`, `make serve`, and scripts/refuse_each."""
+"""The Makefile's targets that no other part runs: `make prove`, `make deb`, `make serve`, and scripts/refuse_each; and what `make run`
+and `make test` say of a machine that lacks something."""
 
 import os
 import re
@@ -72,6 +73,65 @@ def prove(place):
     holds(not os.path.exists(place.path("seen")), "what is up to date was proved again")
 
 
+# What the gate names if a machine lacks it, and Debian's package of each.
+NEEDS = {
+    "gcc": "gcc", "nm": "binutils", "patch": "patch", "man": "man-db", "dpkg-deb": "dpkg", "pkg-config": "pkgconf", "unshare": "util-linux",
+    "ss": "iproute2",
+}
+# In place of a toolchain that fails: it notes what it is asked, and says why.
+FAILING = """#!/bin/sh
+echo "rt $*" >> "$SEEN"
+echo "rt: a fault of the toolchain"
+echo "0 passed, 1 failed"
+exit 1
+"""
+
+
+def machine(place, without, *scripts):
+    """A folder that has this machine's programs but some, and these scripts. For PATH."""
+    made = place.path("machine")
+    os.mkdir(made)
+    for folder in os.environ["PATH"].split(":"):
+        for name in os.listdir(folder) if os.path.isdir(folder) else ():
+            if name not in without and not os.path.lexists(os.path.join(made, name)):
+                os.symlink(os.path.join(folder, name), os.path.join(made, name))
+    for name, text in scripts:
+        there = os.path.join(made, name)
+        if os.path.lexists(there):
+            os.unlink(there)
+        os.chmod(place.write(f"machine/{name}", text.encode()), 0o755)
+    return made
+
+
+@within(120)
+def lacks(place):
+    """without python3 and the toolchain `make run` and `make test` name both at once; `make test` names what else is missing, and root"""
+    top = copy_of(place)
+    bare = {"PATH": machine(place, {"python3", "rt"}), "SEEN": place.path("seen")}
+    for target in ("run", "test"):
+        said = done(place, ["make", "-C", top, target], env=bare, status=2)
+        same(re.findall(r"^femem: '?(\w+)'?.* is not on the PATH", said, re.M), ["python3", "rt"], said)
+    shutil.rmtree(place.path("machine"))
+    some = machine(place, NEEDS, ("rt", FAILING), ("id", "#!/bin/sh\necho 1000\n"))
+    process = place.start(["make", "-C", top, "test"], "test", {**bare, "PATH": some}, stderr=subprocess.STDOUT, group=True)
+    process.wait()
+    before, _, after = place.read("test.out").decode().partition("rt: a fault of the toolchain")
+    named = re.findall(r"^femem: this machine lacks (\S+) \(on Debian: apt install (\S+)\): checks that need it will count as failed$", before, re.M)
+    same(dict(named), NEEDS, before)
+    holds("femem: this machine lacks root, " in before and after and process.returncode == 2, f"{before} .. {after}")
+    # a fault of the toolchain is passed on, and nothing is proved
+    os.unlink(place.path("seen"))
+    shutil.rmtree(place.path("machine"))
+    kit = place.path("kit/bin")
+    os.makedirs(kit)
+    os.makedirs(place.path("kit/toolchain/bin"))
+    for name in ("bin/rt", "bin/rtlib.py", "bin/rattle", "toolchain/bin/clang"):
+        os.chmod(place.write(f"kit/{name}", FAILING.encode()), 0o755)
+    said = done(place, ["make", "-C", top, "run"], env={**bare, "PATH": f"{kit}:{os.environ['PATH']}"}, status=2)
+    holds("rt: a fault of the toolchain\n" in said, said)
+    same(place.read("seen").decode(), "rt try -- --help\n", "what the toolchain was asked")
+
+
 @within(120)
 def deb(place):
     """`make deb` packs the program that its record names, byte for byte, and no other"""
@@ -135,4 +195,4 @@ def refuse_each(place):
     return f"{found[1]} allocations of {', '.join(chosen)}"
 
 
-CHECKS = (prove, deb, targets, serve, refuse_each)
+CHECKS = (prove, lacks, deb, targets, serve, refuse_each)
