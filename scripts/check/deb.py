@@ -5,7 +5,7 @@ import random
 import re
 import time
 
-from . import deb_clients, packages, store, wire
+from . import deb_clients, deb_pages, packages, store, wire
 from .clean import DPKG, SOCKET, STORE, Clean, Unit, installed
 from .harness import holds, same, until, within
 from .history import History
@@ -174,4 +174,4 @@ def removed(place):
         holds(not os.path.exists(clean.path("/var/lib/femem")), "the store is still there after a purge whose answer was yes")
 
 
-CHECKS = (*packages.CHECKS, serves, statuses, removed, *deb_clients.CHECKS)
+CHECKS = (*packages.CHECKS, serves, statuses, removed, *deb_clients.CHECKS, *deb_pages.CHECKS)

@@ -109,9 +109,35 @@ def named(clean):
     return clean.shell("find /etc /usr /var/lib /run -xdev -maxdepth 5 -name '*femem*' 2> /dev/null || true").split()
 
 
+def keeps_choices(clean, unit):
+    """A server that was stopped and disabled stays so over an upgrade, which makes no store in place of one that is not there."""
+    clean.do("systemctl", "disable", "--now", "femem")
+    os.rename(unit.store, unit.store + ".aside")
+    clean.install("femem")
+    same(unit.shows("ActiveState", "UnitFileState"), ("inactive", "disabled"), "a stopped and disabled server after an upgrade")
+    holds(not os.path.exists(unit.store), "an upgrade made a store")
+    os.rename(unit.store + ".aside", unit.store)
+    clean.do("systemctl", "enable", "--now", "femem")
+    unit.waits()
+
+
+def keeps_waiting(clean, unit):
+    """A client that waits, with a temporary session, is answered after an upgrade, which it does not notice."""
+    clean.shell("femem-cli create box 1; femem-cli readfe box 0 > /srv/read 2>&1 &")
+    waits = lambda: "readfe" in clean.ask("femem-cli", "report")[1]
+    until(waits, 30, "a client waits")
+    before = unit.pid()
+    clean.install(*NAMES)
+    until(lambda: unit.pid() not in (0, before) and unit.is_up(), 60, "the upgrade starts the server again")
+    until(waits, 30, "the client waits after the upgrade")
+    clean.do("femem-cli", "writeef", "box", "0", "42")
+    until(lambda: clean.shell("cat /srv/read") == "42\n", 30, "the client that waited over an upgrade is answered")
+    until(lambda: clean.do("femem-cli", "sessions") == "session 7 kept 0 waiting 0\n", 30, "only session 7 is kept")
+
+
 @within(240)
 def upgrades(place):
-    """the one package that there was is upgraded to all six and keeps its store; a stopped server stays stopped; a purge leaves nothing"""
+    """the one package that there was is upgraded to all six and keeps its store and who waits; a stopped server stays so; a purge leaves nothing"""
     with Clean(place, built(place)) as clean:
         same(named(clean), [], "what is there before")
         shutil.copy(old_package(place), clean.path("/srv/old.deb"))
@@ -126,12 +152,10 @@ def upgrades(place):
         holds(os.path.exists(clean.path("/usr/share/doc/femem/docs/operating.md")), "there is no new document")
         same(clean.do("femem-cli", "sessions"), "session 7 kept 0 waiting 0\n")
         same(clean.shell("dpkg --verify femem femem-cli libfemem1 libfemem-dev python3-femem femem-doc"), "", "dpkg --verify")
-        clean.do("systemctl", "stop", "femem")
-        clean.install("femem")
-        same(unit.shows("ActiveState"), ("inactive",), "a stopped server after an upgrade")
-        clean.do("systemctl", "start", "femem")
-        unit.waits()
-        same(store.read_store(open(unit.store, "rb").read())[2].looks(), "place 1\nsession 7 floor 1 kept 0\n")
+        keeps_choices(clean, unit)
+        with open(unit.store, "rb") as file:
+            same(store.read_store(file.read())[2].looks(), "place 1\nsession 7 floor 1 kept 0\n")
+        keeps_waiting(clean, unit)
         holds(len(named(clean)) > 20, "the packages left no trace")
         clean.do(*DPKG, "--purge", *NAMES, env={"FEMEM_PURGE_STORE": "yes"})
         same(named(clean), [], "what a purge leaves")
