@@ -19,9 +19,14 @@ CLONE = "/srv/clone"
 NEEDS = {"cc": "gcc", "make": "make", "pkg-config": "pkgconf", "ss": "iproute2"}
 
 
+# What a login gives root, and others.
+PATHS = {"root": "/usr/local/sbin:/usr/local/bin:/usr/sbin:/usr/bin:/sbin:/bin"}
+USERS_PATH = "/usr/local/bin:/usr/bin:/bin"
+
+
 def by(clean, name, words, folder="/srv"):
     """A shell's commands there, by a user, in a folder. All must succeed. Their output."""
-    status, output, errors = as_user(clean, name, f"cd {folder}\n{words}")
+    status, output, errors = as_user(clean, name, f"PATH={PATHS.get(name, USERS_PATH)}; cd {folder}\n{words}")
     same(status, 0, f"{name}: {words}\n{(output + errors)[-1500:]}")
     return output
 
@@ -80,7 +85,7 @@ def watches(clean, unit):
             same(status, 0 if seconds and float(seconds[1]) < 1 else 3, f"{name}: the probe says {said}")
     for name in ("root", "femem"):
         holds("femem_sessions 1" in by(clean, name, metrics).splitlines(), f"metrics by {name}")
-    holds(as_user(clean, USER, metrics)[0] != 0, f"{USER} may read the store")
+    holds("femem_sessions" not in as_user(clean, USER, metrics)[1], f"{USER} may read the store")
 
 
 def inline(clean):
@@ -123,7 +128,7 @@ def saves(clean, unit):
 
 
 def removes_arrays(clean):
-    clean.shell("femem-cli arrays | while read -r name _; do femem-cli remove $name < /dev/null; done")
+    by(clean, "root", "femem-cli arrays | while read -r name _; do femem-cli remove $name < /dev/null; done")
 
 
 def of_the_clients(clean, python):

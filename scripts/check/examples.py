@@ -118,9 +118,11 @@ def work_queue(place):
     program = os.path.join(EXAMPLES, "python", "work_queue.py")
     words = lambda what, who: [sys.executable, program, what, server.socket, place.path(f"session{who}"), str(jobs)]
     crew = Crew(place, env, [words("produce", 0), *(words("work", who) for who in range(1, 4))])
-    for _ in range(3):
-        time.sleep(random.uniform(0.2, 0.6))
+    # (the producer still puts: no more than 100 jobs wait)
+    for turn in range(3):
+        until(lambda: len(crew.lines()) > 4 * turn, 60, "jobs are done")
         crew.kill(0)
+    holds(crew.lives[0] > 1, "the producer was not killed while it put jobs")
     said = storm(crew, server, 30, 0.08)
     script = "import sys; from femem import Client\nwith Client(sys.argv[1]) as it:\n"
     script += f"  at = it.find('results')\n  print([it.readff(at, job, nowait=True) for job in range({jobs})])"

@@ -54,13 +54,16 @@ def built(place):
 
 
 def files_of(path):
-    """A package's files: their contents, the targets of links, or None for folders. All belong to root, who alone may write them."""
+    """A package's files: their contents, the targets of links, or None for folders. All belong to root, who alone may write them, and
+    programs and scripts may be run."""
     tar = subprocess.Popen(["dpkg-deb", "--fsys-tarfile", path], stdout=subprocess.PIPE)
     found = {}
     with tarfile.open(fileobj=tar.stdout, mode="r|") as archive:
         for it in archive:
-            holds((it.uid, it.gid) == (0, 0) and (it.issym() or it.mode & 0o022 == 0), f"{it.name}: owner or mode")
             content = archive.extractfile(it).read() if it.isfile() else it.linkname or None
+            runs = it.isdir() or it.name.startswith("./usr/bin/") or it.isfile() and content.startswith(b"#!")
+            same((it.uid, it.gid), (0, 0), f"{it.name}: its owner")
+            holds(it.issym() or it.mode == (0o755 if runs else 0o644), f"{it.name}: its mode is {it.mode:o}")
             found[it.name[1:].rstrip("/")] = content
     tar.stdout.read()
     same(tar.wait(), 0)
