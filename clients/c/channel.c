@@ -28,7 +28,7 @@ void femem_channel_close(femem_channel *channel) { free(channel); }
 static femem_error pass(femem_channel *channel, femem_operation operation, uint64_t operand, const char *key,
                         int64_t within, femem_answer *answer) {
   femem_request request = {.operation = operation, .array = channel->array, .operand = operand};
-  return key ? fe_once(channel->client, key, &request, within, answer)
+  return key ? femem_once_within(channel->client, key, &request, within, answer)
              : fe_call(channel->client, &request, SEND_ENDS, within, answer);
 }
 

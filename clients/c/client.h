@@ -245,9 +245,6 @@ void fe_abandon(femem *client, uint64_t number);
 const kept_key *fe_find_key(const femem *client, const char *key);
 /* Whether it is a key. */
 bool fe_is_key(const char *key);
-/* femem_once with its own time in milliseconds. */
-femem_error fe_once(femem *client, const char *key, const femem_request *request, int64_t within,
-                    femem_answer *answer);
 /* femem_batch with requests that are sent in that way. */
 femem_error fe_batch(femem *client, unsigned how, const femem_request *requests, size_t count, femem_answer *answers);
 

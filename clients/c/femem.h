@@ -283,6 +283,10 @@ enum { FEMEM_KEY = 1024 };
    FEMEM_OTHER_REQUEST if the key has another request. Takes memory for a new key. */
 femem_error femem_once(femem *client, const char *key, const femem_request *request, femem_answer *answer);
 
+/* The same with its own time in milliseconds, in place of `wait`, as femem_call_within has. */
+femem_error femem_once_within(femem *client, const char *key, const femem_request *request, int64_t within,
+                              femem_answer *answer);
+
 /* femem_batch under keys, one for each request. Called again it gives the same answers. */
 femem_error femem_batch_once(femem *client, const char *const *keys, const femem_request *requests, size_t count,
                              femem_answer *answers);

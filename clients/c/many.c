@@ -37,8 +37,8 @@ static femem_error end_once(femem *client, const char *key, int64_t within, feme
   return FEMEM_OK;
 }
 
-femem_error fe_once(femem *client, const char *key, const femem_request *request, int64_t within,
-                    femem_answer *answer) {
+femem_error femem_once_within(femem *client, const char *key, const femem_request *request, int64_t within,
+                              femem_answer *answer) {
   if (fe_is_copy(client)) return FEMEM_FORKED;
   if (!client->file || !fe_is_key(key) || !fe_is_spelled(request)) return FEMEM_BAD_CALL;
   femem_error error = begin_once(client, key, request, &answer->number);
@@ -47,7 +47,7 @@ femem_error fe_once(femem *client, const char *key, const femem_request *request
 }
 
 femem_error femem_once(femem *client, const char *key, const femem_request *request, femem_answer *answer) {
-  return fe_once(client, key, request, client->settings.wait, answer);
+  return femem_once_within(client, key, request, client->settings.wait, answer);
 }
 
 femem_error femem_forget(femem *client, const char *key) {

@@ -47,7 +47,7 @@ femem_error make_request_within(command_line *cli, const femem_request *request,
 }
 
 femem_error make_request(command_line *cli, femem_request request, femem_answer *answer) {
-  if (cli->given.key) return femem_once(cli->client, cli->given.key, &request, answer);
+  if (cli->given.key) return femem_once_within(cli->client, cli->given.key, &request, cli->given.timeout, answer);
   request.no_wait = cli->given.no_wait && request.operation >= FEMEM_READFE;
   return make_request_within(cli, &request, cli->given.timeout, answer);
 }

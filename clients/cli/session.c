@@ -160,8 +160,7 @@ static femem_error open_file(command_line *cli, const femem_settings *settings) 
 int open_client(command_line *cli) {
   if (cli->client) return DONE;
   int64_t most = cli->given.reconnect;
-  femem_settings settings = {.wait = most > 0 ? most : 1000, .reconnect = most > 0 ? most : FEMEM_NEVER};
-  if (cli->given.key) settings.wait = cli->given.timeout == 0 ? 1 : cli->given.timeout;
+  const femem_settings settings = {.wait = most > 0 ? most : 1000, .reconnect = most > 0 ? most : FEMEM_NEVER};
   uint64_t session = cli->given.session;
   femem_error error;
   if (cli->given.file) {

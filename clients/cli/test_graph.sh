@@ -55,8 +55,12 @@ if command -v dot > /dev/null; then
   is "Graphviz draws it" "$? $(grep -c 'class="edge"' drawn.svg)" "0 8"
 fi
 
-# The live view, once.
-x top --once > top
+# The live view, once, also of a server that stands still for a while.
+kill -STOP "$server"
+x top --once > top & once=$!
+sleep 2
+kill -CONT "$server"
+wait $once
 is "top's status" $? 0
 row() { awk -v it="$1" '$1 == it' top | tr -s ' ' | sed 's/ $//'; }
 is "a lock in a cycle" "$(row first | head -n 1)" "first 901 away 7 2 in a cycle"

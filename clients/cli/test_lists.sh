@@ -60,6 +60,18 @@ keyed 0 "" "put 1" channel pipe put 7
 keyed 0 7 "take 1" channel pipe take
 keyed 0 7 "take 1" channel pipe take
 keyed 1 "" "take 2" channel pipe take --timeout 0.2
+# A server that stands still beyond the time: the request is taken back once the server goes on.
+x create cell 1
+for command in "channel pipe take" "readfe cell 0"; do
+  "$cli" --session-file state --key still --timeout 1 $command > got 2> said & still=$!
+  until_so sh -c "'$cli' report | grep readfe || ! kill -0 $still"
+  kill -STOP "$server"
+  sleep 3
+  kill -CONT "$server"
+  wait $still
+  is "$command of a server that stood still" "$? $(cat got)" "1 "
+done
+x remove cell
 keyed 0 "" "put 2" channel pipe put 8
 keyed 0 8 "take 2" channel pipe take
 keyed 0 "" "job 1" queue jobs put 9

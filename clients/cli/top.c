@@ -9,7 +9,7 @@
 #include <time.h>
 #include <unistd.h>
 
-enum { SOONEST = 100 }; /* milliseconds between two pictures */
+enum { SOONEST = 100, SOON = 1000 }; /* milliseconds: between two pictures; until a live view says that the server is away */
 
 /* What one picture is compared with. */
 typedef struct pace {
@@ -70,11 +70,12 @@ static void show_waits(const picture *seen) {
   }
 }
 
-/* Comes back to a server that was away, and takes the answers that were due then. */
+/* Comes back to a server that was away, and takes the answers that were due then. A live view says soon that it is away. */
 static femem_error come_back(command_line *cli) {
   femem_answer answer;
-  femem_error error = femem_descriptor(cli->client) < 0 ? femem_reconnect(cli->client, 1000) : FEMEM_OK;
-  while (error == FEMEM_OK) error = femem_next(cli->client, &answer, 1000);
+  int64_t within = cli->given.reconnect;
+  femem_error error = femem_descriptor(cli->client) < 0 ? femem_reconnect(cli->client, within) : FEMEM_OK;
+  while (error == FEMEM_OK) error = femem_next(cli->client, &answer, within);
   return error == FEMEM_NOTHING_OUT ? FEMEM_OK : error;
 }
 
@@ -109,8 +110,7 @@ int do_top(command_line *cli, char **words, int count) {
   (void)words, (void)count;
   pace now = {0};
   bool clears = !cli->given.once && isatty(STDOUT_FILENO);
-  int64_t most = cli->given.reconnect;
-  if (most > 1000) cli->given.reconnect = 1000;
+  if (!cli->given.once && cli->given.reconnect > SOON) cli->given.reconnect = SOON;
   for (;;) {
     int status = show_once(cli, &now, clears);
     /* (a server that is away is tried again) */

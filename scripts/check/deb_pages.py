@@ -64,12 +64,8 @@ def operating(place):
         same(by(clean, USER, f"printf '{FIRST_PATH.decode()}' | femem call --socket {SOCKET} | tail -n 1"), "4 value 42\n")
         watches(clean, unit)
         inline(clean)
+        by_hand(clean, unit, serves)
         saves(clean, unit)
-        # (the page's first line, by the user that the unit has)
-        clean.do("systemctl", "stop", "femem")
-        first = block(OPERATING, "femem serve --settings /etc/femem.toml").strip()
-        clean.shell(f"install -d -o femem -g femem /run/femem; cd /; runuser -u femem -- {first} > /dev/null 2>&1 & "
-                    f"until [ -S {SOCKET} ]; do sleep 0.05; done; {serves}; kill $(pidof femem)")
 
 
 def watches(clean, unit):
@@ -86,6 +82,16 @@ def watches(clean, unit):
     for name in ("root", "femem"):
         holds("femem_sessions 1" in by(clean, name, metrics).splitlines(), f"metrics by {name}")
     holds("femem_sessions" not in as_user(clean, USER, metrics)[1], f"{USER} may read the store")
+
+
+def by_hand(clean, unit, serves):
+    """The page's first line, by the user that the unit has, and a kill, which leaves the store for the unit."""
+    clean.do("systemctl", "stop", "femem")
+    first = block(OPERATING, "femem serve --settings /etc/femem.toml").strip()
+    clean.shell(f"install -d -o femem -g femem /run/femem; cd /; runuser -u femem -- {first} > /dev/null 2>&1 & "
+                f"until [ -S {SOCKET} ]; do sleep 0.05; done; {serves}; kill $(pidof femem); rm {SOCKET}")
+    clean.do("systemctl", "start", "femem")
+    unit.waits()
 
 
 def inline(clean):
