@@ -75,7 +75,7 @@ faults: $(PROGRAM) ## runs every schedule with each allocation refused in turn, 
 check-programs: $(PROGRAM) ## real processes: crowds, kills under load, damaged stores, faults, clients, installations (4 minutes)
 	@scripts/check_programs $(PROGRAM)
 
-check-deb: $(PROGRAM) ## the packages, in a clean Debian with its own systemd: installed, killed, upgraded, purged; needs root (3 minutes)
+check-deb: $(PROGRAM) ## the packages, in a clean Debian with its own systemd: installed, killed, upgraded, purged; the pages; needs root (4 minutes)
 	@scripts/check_programs $(PROGRAM) deb
 
 check-minimal: $(PROGRAM) ## `make run`, `make test` and the pages' commands in a minimal Debian; needs root, debootstrap and a network (10 minutes)
