@@ -90,7 +90,10 @@ wait $top 2> /dev/null
 is "top's status after SIGTERM" $? 143
 until_so sh -c "[ -z \"\$('$cli' --program '$program' sessions | grep -v 'session 90')\" ]"
 if command -v script > /dev/null; then
-  timeout -k 5 20 script -qec "timeout 1 '$cli' --program '$program' top --every 0.1" typed > /dev/null < /dev/null
+  script -qefc "exec '$cli' --program '$program' top --every 0.1" typed > /dev/null 2>&1 < /dev/null & typing=$!
+  until_so sh -c "grep -q '$(printf '\033')\[2J' typed"
+  kill -TERM $typing
+  wait $typing 2> /dev/null
   is "a terminal is cleared" "$(tr -d '\r' < typed | grep -c "$(printf '\033')\[2J" | sed 's/[1-9][0-9]*/many/')" many
 fi
 done_testing
