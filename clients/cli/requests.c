@@ -5,7 +5,9 @@
 #include <poll.h>
 #include <string.h>
 
-enum { AGAIN = 1000 }; /* milliseconds after which a waiting client looks after its connection */
+/* Milliseconds after which a waiting client looks after its connection; how long a session is taken back; and how often,
+   after a connection was given up: the server may read its attach after that of the next one. */
+enum { AGAIN = 1000, BACK = 5000, TAKEN_BACK = 4 };
 
 /* Waits until something has come from the server, it is time to give up, or the time is over. */
 static void wait_for_bytes(command_line *cli, int64_t rest) {
@@ -21,8 +23,12 @@ static bool is_passing(femem_error error) {
 
 femem_error wait_for(command_line *cli, uint64_t number, int64_t within, femem_answer *answer) {
   int64_t end = moment(within), lost = -1;
-  for (;;) {
+  for (int back = 0;;) {
     femem_error error = femem_wait(cli->client, number, answer, 0);
+    if (error == FEMEM_REFUSED_NOT_ATTACHED && back-- > 0) {
+      error = femem_reconnect(cli->client, BACK);
+      if (error == FEMEM_OK) continue;
+    }
     bool is_lost = is_passing(error) && femem_descriptor(cli->client) < 0;
     if (error != FEMEM_TIMEOUT && !is_lost) return error ? error : answer->error;
     if (cli->stopped || (within >= 0 && left(end) == 0)) break;
@@ -32,6 +38,7 @@ femem_error wait_for(command_line *cli, uint64_t number, int64_t within, femem_a
       continue;
     }
     if (lost < 0) lost = moment(cli->given.reconnect);
+    back = TAKEN_BACK;
     int64_t rest = left(end);
     error = femem_reconnect(cli->client, rest < 0 || rest > AGAIN ? AGAIN : rest);
     if (error && (!is_passing(error) || left(lost) == 0)) return error;

@@ -121,6 +121,19 @@ start_server
 gives 0 "" writeef slot 1 13
 wait $waiter
 is "a waiting read over a restart" "$? $(cat waited)" "0 13"
+# A new server that stands still may read the attach of a connection that was given up after that of the next one.
+for round in 1 2 3; do
+  x readfe slot 0 > waited & waiter=$!
+  until_so sh -c "'$cli' report | grep readfe"
+  kill_server
+  start_server
+  kill -STOP "$server"
+  sleep 3.3
+  kill -CONT "$server"
+  gives 0 "" writeef slot 0 14
+  wait $waiter
+  is "a waiting read over a restart that takes long" "$? $(cat waited)" "0 14"
+done
 gives 0 "" remove slot
 gives 3 "" remove slot
 gives 4 "" --socket /nowhere counter hits

@@ -42,7 +42,7 @@ def prepared(place, clean):
     shutil.copytree(os.path.join(TOP, "clients"), clean.path(f"{CLONE}/clients"), ignore=ignored)
     shutil.copy(os.path.join(TOP, "LICENSE"), clean.path(CLONE))
     clean.shell(
-        f"useradd --create-home {USER}; chown -R {USER} {CLONE}; mkdir /backup; rm -f /var/lib/man-db/auto-update;"
+        f"id -u {USER} > /dev/null 2>&1 || useradd --create-home {USER}; chown -R {USER} {CLONE}; mkdir /backup; rm -f /var/lib/man-db/auto-update;"
         "echo 'APT::Get::Assume-Yes \"true\"; APT::Install-Recommends \"false\"; Dpkg::Use-Pty \"false\";' > /etc/apt/apt.conf.d/99check"
     )
 
