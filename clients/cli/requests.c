@@ -5,9 +5,10 @@
 #include <poll.h>
 #include <string.h>
 
-/* Milliseconds after which a waiting client looks after its connection; how long a session is taken back; and how often,
-   after a connection was given up: the server may read its attach after that of the next one. */
-enum { AGAIN = 1000, BACK = 5000, TAKEN_BACK = 4 };
+/* Milliseconds after which a waiting client looks after its connection. The server may read the attach of a connection that
+   was given up after that of the next one, and does not say so: then the library has to listen for QUIET to notice it, and
+   the session is taken back within BACK, TAKEN_BACK times at most. */
+enum { AGAIN = 1000, QUIET = 3200, BACK = 5000, TAKEN_BACK = 4 };
 
 /* Waits until something has come from the server, it is time to give up, or the time is over. */
 static void wait_for_bytes(command_line *cli, int64_t rest) {
@@ -22,11 +23,13 @@ static bool is_passing(femem_error error) {
 }
 
 femem_error wait_for(command_line *cli, uint64_t number, int64_t within, femem_answer *answer) {
-  int64_t end = moment(within), lost = -1;
+  int64_t end = moment(within), lost = -1, listen = 0;
   for (int back = 0;;) {
-    femem_error error = femem_wait(cli->client, number, answer, 0);
+    femem_error error = femem_wait(cli->client, number, answer, listen);
+    listen = 0;
     if (error == FEMEM_REFUSED_NOT_ATTACHED && back-- > 0) {
       error = femem_reconnect(cli->client, BACK);
+      listen = QUIET;
       if (error == FEMEM_OK) continue;
     }
     bool is_lost = is_passing(error) && femem_descriptor(cli->client) < 0;
@@ -38,9 +41,10 @@ femem_error wait_for(command_line *cli, uint64_t number, int64_t within, femem_a
       continue;
     }
     if (lost < 0) lost = moment(cli->given.reconnect);
-    back = TAKEN_BACK;
     int64_t rest = left(end);
     error = femem_reconnect(cli->client, rest < 0 || rest > AGAIN ? AGAIN : rest);
+    if (error == FEMEM_TIMEOUT) back = TAKEN_BACK;
+    if (error == FEMEM_OK && back > 0) listen = rest < 0 || rest > QUIET ? QUIET : rest;
     if (error && (!is_passing(error) || left(lost) == 0)) return error;
     if (nap(cli->stop, 0)) cli->stopped = true;
   }
