@@ -127,7 +127,7 @@ def tests_name(place):
 def pages(place):
     """a minimal Debian with what the README names: the commands of the pages, as deb_pages.py runs them"""
     minimal = Minimal(place)
-    minimal.does("root", "apt-get -q -y install systemd python3-venv pkgconf gcc libc6-dev")
+    minimal.does("root", f"apt-get -q -y install systemd python3-venv libc6-dev {lines_of_the_readme()[1]}")
     before = os.environ.get("FEMEM_CLEAN_ROOT")
     os.environ["FEMEM_CLEAN_ROOT"] = minimal.root
     try:
