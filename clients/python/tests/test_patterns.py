@@ -4,6 +4,7 @@ import os
 import signal
 import threading
 import time
+from unittest import mock
 
 import paths  # noqa: F401
 from serving import WithFolder
@@ -439,6 +440,49 @@ class Patterns(WithFolder):
                     queue.put(value, timeout=20)
                 thread.join(30)
                 self.assertEqual(sorted(taken), list(range(6)))
+
+    def test_a_value_whose_taker_is_gone_wakes_one_client(self):
+        """Of five that wait, one empties the signal and takes the value. The others ask for nothing."""
+        server = self.server()
+        with mock.patch("femem.ring.FIRST_LOOK", 60.0), Client(self.path, 1, probe_interval=100.0) as client:
+            others = [Client(self.path, 2 + k, probe_interval=100.0) for k in range(5)]
+            queue, taken, asked = BoundedQueue(client, "queue", 8), [], []
+            queue.qsize()
+            client.int_fetch_add(client.find("queue"), 1, 1)  # the ticket of a client that was killed
+            gets = [lambda other=other: taken.append(BoundedQueue(other, "queue", 8).get(timeout=60)) for other in others]
+            threads = [threading.Thread(target=get) for get in gets]
+            for thread in threads:
+                thread.start()
+            while len(client.report().waiters) < 10:
+                time.sleep(0.01)
+            take = server.model.take
+            server.model.take = lambda conn, message: (asked.append(message), take(conn, message))
+            queue.put(0)
+            while len(taken) < 1 or len(client.report().waiters) > 8:
+                time.sleep(0.01)
+            # (a ticket, the value, three looks and the signal; the value, and the wait that is taken back; reports)
+            self.assertLess(len([message for message in asked if message[0] != "report"]), 20)
+            for value in range(1, 5):
+                queue.put(value)
+            for thread in threads:
+                thread.join(60)
+            self.assertEqual(sorted(taken), list(range(5)))
+            for other in others:
+                other.close()
+
+    def test_a_signal_that_went_with_a_killed_client_is_not_missed_for_long(self):
+        self.server()
+        with Client(self.path, 1) as client, Client(self.path, 2) as other:
+            queue, yours = BoundedQueue(client, "queue", 4), BoundedQueue(other, "queue", 4)
+            queue.qsize()
+            words = client.find("queue")
+            for _ in range(3):
+                client.int_fetch_add(words, 1, 2)  # the tickets of two takers that were killed
+                queue.put(1)
+                self.assertEqual(client.readfe(words, 3), 4 + client.readff(words, 2) % 4 - 1)
+                queue.put(2)
+                client.purge(words, 3)
+                self.assertEqual(sorted([yours.get(timeout=60), yours.get(timeout=60)]), [1, 2])
 
     def test_pollers_find_what_is_there(self):
         self.server()
