@@ -56,6 +56,7 @@ BLOCKS = {
         ("from femem import", "the client's own test_readme.py"),
         ("import threading", "test_readme.py"),
         *[("from femem import", "test_readme.py")] * 3,
+        ("from collections import", "test_readme.py"),
         ("import asyncio", "test_readme.py"),
         ("from femem", "test_readme.py"),
         ("python3 -m femem [", HERE),

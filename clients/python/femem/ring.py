@@ -6,8 +6,9 @@ and a wait can be taken back. A ticket that nobody uses costs time, not values:
 
 - A client keeps a ticket whose time ran out, and looks there first the next time.
 - Where the other side has the ticket and is late or gone, a client waits a moment and then looks at all slots.
-- A putter whose taker has the ticket and has not come fills the signal. Whoever waits for a value also waits for the
-  signal, and then looks at all slots. A client that waits looks at them now and then even without a signal.
+- A putter whose taker has the ticket and has not come fills the signal with its slot. Who waits for a value also waits for
+  the signal: one of them empties it, and looks at that slot. If the signal is full, the putter makes it say all slots. A
+  client that waits looks at all slots now and then even without a signal.
 
 So a value that lies there is found by whoever waits for one, and a free slot by whoever waits for room, whatever the tickets
 say: no client goes round without end. Each round of a loop waits, or takes or fills a slot, or was outrun by one that did.
@@ -17,7 +18,7 @@ from __future__ import annotations
 
 import time
 from collections import deque
-from typing import Any, Deque, List, Optional
+from typing import Any, Deque, List, Optional, Sequence
 
 from . import requests
 from .errors import NoArray, NotNow, TimedOut, Withdrawn
@@ -32,6 +33,9 @@ SOON = 0.005
 TRUST = 1.0
 
 MARK, HEAD, TAIL, SIGNAL, SLOTS = range(5)
+
+# What the signal has if there may be values in several slots. Otherwise it has the word of one.
+ALL = 0
 
 
 class Clock:
@@ -116,17 +120,11 @@ class Ring:
     def _put_at(self, words: Array, ticket: int, value: int, tries: Tries) -> Steps[bool]:
         """Puts the value into its slot, if that is empty."""
         slot = self.slot(ticket)
-        asked: List[Request[object]] = [
-            requests.writeef(words, slot, value, nowait=True),
-            requests.readff(words, slot, nowait=True),
-            requests.readff(words, HEAD, nowait=True),
-        ]
-        done, there, head = yield from batch(asked, NotNow, key=tries.next())
-        if not is_full(done):
-            return False
-        if head > ticket and is_full(there):
-            yield from self.tell(words)
-        return True
+        asked: List[Request[object]] = [requests.writeef(words, slot, value, nowait=True), *self._looks(words, slot)]
+        done, *looks = yield from batch(asked, NotNow, key=tries.next())
+        if is_full(done):
+            yield from self._tell_if_left(words, ticket, looks)
+        return is_full(done)
 
     def _wait_at(self, words: Array, ticket: int, value: int, seconds: float, tries: Tries) -> Steps[bool]:
         """Waits until the slot is empty, and puts the value there."""
@@ -135,11 +133,18 @@ class Ring:
             yield Wait(requests.writeef(words, slot, value), seconds, tries.next())
         except TimedOut:
             return False
-        looks = [requests.readff(words, slot, nowait=True), requests.readff(words, HEAD, nowait=True)]
-        there, head = yield from batch(looks, NotNow)
-        if head > ticket and is_full(there):
-            yield from self.tell(words)
+        yield from self._tell_if_left(words, ticket, (yield from batch(self._looks(words, slot), NotNow)))
         return True
+
+    def _looks(self, words: Array, slot: int) -> List[Request[object]]:
+        """What a putter looks at once its value is in."""
+        return [requests.readff(words, word, nowait=True) for word in (slot, HEAD, SIGNAL)]
+
+    def _tell_if_left(self, words: Array, ticket: int, looks: Sequence[Any]) -> Steps[None]:
+        """Fills the signal if the value lies there, though its taker has the ticket, and whoever waits is not told of it."""
+        there, head, signal = looks
+        if head > ticket and is_full(there) and signal != ALL:
+            yield from self.tell(words, self.slot(ticket))
 
     def _put_anywhere(self, words: Array, ticket: int, value: int, tries: Tries) -> Steps[bool]:
         """Puts the value into an empty slot, one whose next ticket comes late. Whoever waits is told."""
@@ -147,25 +152,25 @@ class Ring:
             if not is_full(there):
                 (done,) = yield from batch([requests.writeef(words, slot, value, nowait=True)], NotNow, key=tries.next())
                 if is_full(done):
-                    yield from self.tell(words)
+                    yield from self.tell(words, slot)
                     return True
         return False
 
     def leave(self, words: Array, ticket: int, value: int) -> Steps[None]:
-        """Puts the value into the ticket's slot, or drops it if that is full. Whoever waits is told in both cases."""
+        """Puts the value into the ticket's slot, or drops it if that is full. One that waits is told if it has to look."""
         slot = self.slot(ticket)
-        asked: List[Request[object]] = [
-            requests.writeef(words, slot, value, nowait=True),
-            requests.readff(words, slot, nowait=True),
-            requests.readff(words, HEAD, nowait=True),
-        ]
-        done, there, head = yield from batch(asked, NotNow, NoArray)
-        if not isinstance(done, NoArray) and (not is_full(done) or head > ticket and is_full(there)):
-            yield from self.tell(words)
+        asked: List[Request[object]] = [requests.writeef(words, slot, value, nowait=True), *self._looks(words, slot)]
+        done, *looks = yield from batch(asked, NotNow, NoArray)
+        if is_full(done):
+            yield from self._tell_if_left(words, ticket, looks)
+        elif isinstance(done, NotNow):
+            yield from self.tell(words, ALL)
 
-    def tell(self, words: Array) -> Steps[None]:
-        """Makes whoever waits for a value look at all slots."""
-        yield from batch([requests.writexf(words, SIGNAL, 0)])
+    def tell(self, words: Array, slot: int) -> Steps[None]:
+        """Makes one that waits for a value look at this slot, or at all if another signal is there."""
+        (told,) = yield from batch([requests.writeef(words, SIGNAL, slot, nowait=True)], NotNow)
+        if not is_full(told):
+            yield from batch([requests.writexf(words, SIGNAL, ALL)])
 
     # Taking.
 
@@ -189,9 +194,11 @@ class Ring:
                 value, *signal = yield from self._wait_for(words, slot, is_late, clock.pause(is_late), tries)
                 if is_full(value):
                     return int(value)
+            elif is_full(*signal):
+                signal = yield from batch([requests.readfe(words, SIGNAL, nowait=True)], NotNow)
             is_over = nowait or clock.is_over()
-            is_told = any(map(is_full, signal)) or nowait and (is_late or time.monotonic() - self._looked_at > TRUST)
-            found = (yield from self._get_anywhere(words, ticket, tries)) if is_told or clock.is_over() or clock.is_due() else None
+            is_due = clock.is_over() or clock.is_due() or nowait and (is_late or time.monotonic() - self._looked_at > TRUST)
+            found = yield from self._get_told(words, ticket, signal, is_due, tries)
             if found is not None:
                 if not is_late:
                     self._gets.append(ticket)
@@ -206,13 +213,25 @@ class Ring:
         """Waits for the slot's value: for a putter that is late that alone, otherwise for the signal too."""
         asked = [requests.readfe(words, slot)]
         if not is_late:
-            asked.append(requests.readff(words, SIGNAL))
+            asked.append(requests.readfe(words, SIGNAL))
         value, *signal = yield First(asked, seconds, tries.next())
-        if not is_full(value) and (
-            not isinstance(value, Withdrawn) or not isinstance(value, TimedOut) and not any(map(is_full, signal))
-        ):
+        is_told = any(map(is_full, signal))
+        if is_full(value) and is_told:
+            yield from self.tell(words, signal[0])  # for another one that waits
+        if not is_full(value) and (not isinstance(value, Withdrawn) or not isinstance(value, TimedOut) and not is_told):
             raise value  # the array is gone, or the caller is interrupted
         return [value, *signal]
+
+    def _get_told(
+        self, words: Array, ticket: int, signal: Sequence[Any], is_due: bool, tries: Tries
+    ) -> Steps[Optional[int]]:
+        """Takes the value that a signal tells of, if it is there, or any value if it tells of all slots or a look is due."""
+        told = [slot for slot in signal if is_full(slot)]
+        if told and told[0] != ALL:
+            (value,) = yield from batch([requests.readfe(words, told[0], nowait=True)], NotNow, key=tries.next())
+            if is_full(value):
+                return int(value)
+        return (yield from self._get_anywhere(words, ticket, tries)) if is_due or ALL in told else None
 
     def _get_anywhere(self, words: Array, ticket: int, tries: Tries) -> Steps[Optional[int]]:
         """Takes a value from any slot, that of the lowest ticket first."""
@@ -220,7 +239,7 @@ class Ring:
         while full:
             asked: List[Request[object]] = [requests.readfe(words, full.pop(0), nowait=True)]
             if full:
-                asked.append(requests.writexf(words, SIGNAL, 0))  # for whoever else waits
+                asked.append(requests.writexf(words, SIGNAL, ALL))  # for another one that waits
             value, *_ = yield from batch(asked, NotNow, key=tries.next())
             if is_full(value):
                 return int(value)

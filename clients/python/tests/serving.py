@@ -5,9 +5,13 @@ import selectors
 import socket
 import tempfile
 import threading
+import time
 import unittest
 
+import paths  # noqa: F401
 from model import BadFrame, Model, read_messages
+
+from femem import Client
 
 
 class ModelServer:
@@ -141,3 +145,30 @@ class WithFolder(unittest.TestCase):
         server = ModelServer(self.path, seed).start()
         self.addCleanup(server.kill)
         return server
+
+
+class WithClients(WithFolder):
+    """Runs work over a server that is killed."""
+
+    CLIENTS = 5
+
+    def run_all(self, work, kills=2):
+        """Runs `work(client, k)` in a thread for each client. Returns the results in order."""
+        server = self.server()
+        results = {}
+
+        def run(k):
+            with Client(self.path, 100 + k) as client:
+                results[k] = work(client, k)
+
+        threads = [threading.Thread(target=run, args=(k,)) for k in range(self.CLIENTS)]
+        for thread in threads:
+            thread.start()
+        for _ in range(kills):
+            time.sleep(0.1)
+            server.kill()
+            server.start()
+        for thread in threads:
+            thread.join(60)
+        self.assertEqual(len(results), self.CLIENTS)
+        return [results[k] for k in range(self.CLIENTS)]

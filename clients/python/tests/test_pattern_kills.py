@@ -11,7 +11,7 @@ import paths  # noqa: F401
 from serving import WithFolder
 
 import femem
-from femem import Client
+from femem import Client, requests
 from femem.patterns import Barrier, BoundedQueue, Channel, Counter, Election, Future, Lock, ReadWriteLock, Semaphore
 from femem.patterns import WorkQueue
 
@@ -46,6 +46,12 @@ class Kills(WithFolder):
 
     def log(self, name):
         return Log(os.path.join(self.folder, name + ".log"))
+
+    @staticmethod
+    def first_value(log, k):
+        """Where a life of process k begins to count: no other life has these values, whatever it noted of its own."""
+        log.add("life")
+        return (10**6 * k + len(log.lines())) * 10**6
 
     def has_put(self, count, *names):
         """Whether more values than that are in these logs."""
@@ -262,15 +268,15 @@ class Kills(WithFolder):
         def work(k):
             log = self.log(f"w{k}")
             with Client(self.path, 10 + k, wait_for_server=True) as client:
-                queue, number = BoundedQueue(client, "queue", 4), 10 * len(log.lines())
+                queue, value = BoundedQueue(client, "queue", 4), self.first_value(log, k)
                 while not self.is_enough():
-                    number += 1
+                    value += 1
                     try:
                         if k % 2:
                             log.add("g", queue.get(timeout=0.1))
                         else:
-                            queue.put(10**6 * k + number, timeout=0.1)
-                            log.add("p", 10**6 * k + number)
+                            queue.put(value, timeout=0.1)
+                            log.add("p", value)
                     except femem.TimedOut:
                         pass
 
@@ -283,6 +289,44 @@ class Kills(WithFolder):
         self.assertGreater(len(put), 50)
         self.assertEqual(len(got), len(set(got)))
         self.assertLessEqual(len(set(put) - set(got)), kills)
+
+    def test_the_first_of_several_words_takes_each_value_once(self):
+        """Takers wait at two words at once. At most what both had goes with a killed one."""
+
+        def work(k):
+            log = self.log(f"w{k}")
+            with Client(self.path, 60 + k, wait_for_server=True) as client:
+                words, value = self.two_words(client), self.first_value(log, k)
+                takes = [requests.readfe(words, 0), requests.readfe(words, 1)]
+                while not self.is_enough():
+                    value += 1
+                    try:
+                        if k % 2:
+                            for taken in client.wait_any(takes, timeout=0.1).values():
+                                log.add("g", taken)
+                        else:
+                            client.writeef(words, value % 2, value, timeout=0.1)
+                            log.add("p", value)
+                    except femem.TimedOut:
+                        pass
+
+        kills = self.history(work, 4, has_enough=self.has_put(50, "w0", "w2"))
+        with Client(self.path, 1) as client:
+            words = self.two_words(client)
+            rest = client.submit_many([requests.readfe(words, k, nowait=True) for k in range(2)])
+        got = [value for value in rest if isinstance(value, int)]
+        got += [value for k in (1, 3) for value in self.log(f"w{k}").numbers("g")]
+        put = [value for k in (0, 2) for value in self.log(f"w{k}").numbers("p")]
+        self.assertGreater(len(put), 50)
+        self.assertEqual(len(got), len(set(got)))
+        self.assertLessEqual(len(set(put) - set(got)), 2 * kills)
+
+    @staticmethod
+    def two_words(client):
+        try:
+            return client.create("two", 2)
+        except femem.NameTaken:
+            return client.find("two")
 
     # What is held.
 

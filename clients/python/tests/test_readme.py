@@ -17,7 +17,7 @@ class Readme(WithFolder):
     def test_examples(self):
         self.server()
         examples = re.findall(r"```python\n(.*?)```", README.read_text(), re.DOTALL)
-        self.assertEqual(len(examples), 7)
+        self.assertEqual(len(examples), 8)
         for example in examples:
             wanted = re.findall(r"print\(.*# ([^;\n]+)", example)
             out = io.StringIO()
