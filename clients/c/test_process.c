@@ -298,7 +298,8 @@ static unsigned untold(femem *client) {
     femem_flush(client), femem_next(client, &answer, 0), femem_wait(client, 1, &answer, 0),
     femem_wait(client, 99, &answer, 0), femem_cancel(client, 1, &answer), femem_cancel(client, 99, &answer),
     femem_settle(client), femem_report(client, &text), femem_once(client, "key", &read, &answer),
-    femem_once_within(client, "key", &read, 0, &answer), femem_batch_once(client, keys, &read, 1, &answer), femem_forget(client, "key"),
+    femem_once_within(client, "key", &read, 0, &answer), femem_batch_once(client, keys, &read, 1, &answer),
+    femem_forget(client, "key"),
     femem_recovered_at(client, 0, &recovered)};
   unsigned count = 0;
   for (unsigned i = 0; i < sizeof told / sizeof *told; i++) {
