@@ -91,7 +91,7 @@ def cited(_place):
                 missing += [f"{page}:{number}: {crate} has no {path} {it}" for it in names if not has(crate, path, it)]
                 if not names and not is_function(crate, path):
                     missing.append(f"{page}:{number}: {crate} has no {path}")
-    return told(missing, count, 70, "functions and clauses")
+    return told(missing, count, 50, "functions and clauses")
 
 
 CHECKS = (clauses, cited)
