@@ -178,6 +178,8 @@ def serve(place):
             same(conn.ask(wire.call(1, ("create", b"cells", 2, 0))), ("answer", 1, ("array", 1, 2)))
         os.killpg(process.pid, signal.SIGKILL)
         process.wait()
+        # (the server is a process below `make`, which may end before it)
+        until(lambda: served() is None, 30, "the server that was killed is gone")
     holds(f"{place.program} serves at {socket}" in place.read("serve1.out").decode(), "it says where it serves")
 
 

@@ -1,5 +1,7 @@
 //! The two halves of a client's connection.
 
+ghost use Rattle.std.specs.Prelude.{◌≡◌};
+
 use crate::board::{Board, Told};
 use fe_disk::Hold;
 use fe_hall::{HalfFault, ReadCount, ReadHalf, WriteHalf};
@@ -48,7 +50,9 @@ impl<'r, 'b, 'h, R: Clock + Wait> ClientRead<'r, 'b, 'h, R> {
     }
 
     /// Waits until there is something to send. Returns whether there is.
-    fn wait(&mut self) -> Result<bool, HalfFault> {
+    fn wait(&mut self) -> Result<bool, HalfFault>
+        ensures { self.new.reads ≡ self.old.reads }
+    {
         self.next = 0;
         self.line.clear();
         for _ in 0..TURNS {
