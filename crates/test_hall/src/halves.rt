@@ -1,7 +1,5 @@
 //! The two halves of a client's connection.
 
-ghost use Rattle.std.specs.Prelude.{◌≡◌};
-
 use crate::board::{Board, Told};
 use fe_disk::Hold;
 use fe_hall::{HalfFault, ReadCount, ReadHalf, WriteHalf};
@@ -48,28 +46,26 @@ impl<'r, 'b, 'h, R: Clock + Wait> ClientRead<'r, 'b, 'h, R> {
             reads: ReadCount::none(),
         }
     }
+}
 
-    /// Waits until there is something to send. Returns whether there is.
-    fn wait(&mut self) -> Result<bool, HalfFault>
-        ensures { self.new.reads ≡ self.old.reads }
-    {
-        self.next = 0;
-        self.line.clear();
-        for _ in 0..TURNS {
-            let told = self
-                .board
-                .lock(self.rt)
-                .next(self.rt, self.hold, self.conn, &mut self.line);
-            match told {
-                Ok(Told::Line) => return Ok(true),
-                Ok(Told::End) => return Ok(false),
-                Ok(Told::Nothing) => {}
-                Err(_) => return Err(HalfFault),
-            }
-            thread::sleep(self.rt, Duration::from_millis(1));
+/// Waits until there is something to send, and puts it into the line. Returns whether there is.
+fn wait<R: Clock + Wait>(
+    rt: &R,
+    board: &Mutex<Board>,
+    hold: &Hold,
+    conn: u64,
+    line: &mut Vec<u8>,
+) -> Result<bool, HalfFault> {
+    for _ in 0..TURNS {
+        match board.lock(rt).next(rt, hold, conn, line) {
+            Ok(Told::Line) => return Ok(true),
+            Ok(Told::End) => return Ok(false),
+            Ok(Told::Nothing) => {}
+            Err(_) => return Err(HalfFault),
         }
-        Err(HalfFault)
+        thread::sleep(rt, Duration::from_millis(1));
     }
+    Err(HalfFault)
 }
 
 impl<'r, 'b, 'h, R: Clock + Wait> ReadHalf for ClientRead<'r, 'b, 'h, R> {
@@ -87,8 +83,12 @@ impl<'r, 'b, 'h, R: Clock + Wait> ReadHalf for ClientRead<'r, 'b, 'h, R> {
 
     fn read(&mut self, buffer: &mut [u8]) -> Result<usize, HalfFault> {
         self.reads.rise();
-        if self.next >= self.line.len() && !self.wait()? {
-            return Ok(0);
+        if self.next >= self.line.len() {
+            self.next = 0;
+            self.line.clear();
+            if !wait(self.rt, self.board, self.hold, self.conn, &mut self.line)? {
+                return Ok(0);
+            }
         }
         let rest = &self.line.as_slice()[self.next.min(self.line.len())..];
         let count = rest.len().min(self.piece).min(buffer.len());
