@@ -151,7 +151,8 @@ impl<'a, C: Tally, M: Tally> Hold<'a, C, M> {
         ensures heard { result ≡ Some Standing.Served
             → Hears (under self.old.shared).history seat.old.conn message.now (under self.new.shared).history }
         ensures seat { MatchOption result (seat.new ≡ seat.old)
-            (λ s. seat.new ≡ message_answered seat.old message.now (under self.new.shared).front.service.state.place s) }
+            (λ s. seat.new ≡ message_answered seat.old message.now
+            (under self.new.shared).front.service.state.place s) }
     {
         self.used = true;
         self.shared.handle(alloc, chronicle, message, seat)

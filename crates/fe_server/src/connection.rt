@@ -301,7 +301,8 @@ fn serve_over<
 ) -> (H, W, Outcome<C, M>)
     requires one { calls.conn ≡ mails.conn }
     // The front of the client's stream was handled.
-    ensures handled { HasHandled H.tells H.told H.reads turns from result.0 calls result.2.calls result.2.sent.items result.2.read }
+    ensures handled { HasHandled H.tells H.told H.reads turns from result.0 calls result.2.calls
+        result.2.sent.items result.2.read }
     // The client got the frames of the mails that were taken.
     ensures wrote { HasWritten W.tells W.got to result.1 mails result.2.mails result.2.receipts result.2.write }
 {
@@ -310,7 +311,8 @@ fn serve_over<
         rt,
         move |scope| -> (H, W, Outcome<C, M>)
             requires { calls.conn ≡ mails.conn }
-            ensures { HasHandled H.tells H.told H.reads turns from result.0 calls result.2.calls result.2.sent.items result.2.read
+            ensures { HasHandled H.tells H.told H.reads turns from result.0 calls result.2.calls
+                result.2.sent.items result.2.read
                 × HasWritten W.tells W.got to result.1 mails result.2.mails result.2.receipts result.2.write }
         {
             serve_in(
@@ -345,7 +347,8 @@ fn serve_in<
     turns: u64,
 ) -> (H, W, Outcome<C, M>)
     requires one { calls.conn ≡ mails.conn }
-    ensures { HasHandled H.tells H.told H.reads turns from result.0 calls result.2.calls result.2.sent.items result.2.read
+    ensures { HasHandled H.tells H.told H.reads turns from result.0 calls result.2.calls
+        result.2.sent.items result.2.read
         × HasWritten W.tells W.got to result.1 mails result.2.mails result.2.receipts result.2.write }
 {
     let promise = Wrote {

@@ -97,7 +97,7 @@ pub fn serve_store<D: Disk + Drop + Send, G: Gate + Sync, R: Clock + Threads + W
         (λ served. All (IsBorneOut served.keeper.state served.audit.sent) served.audit.receipts) }
     // If the number of connections is bounded, these are the receipts of each of them.
     ensures whole { IfOk result (λ served. 0 < settings.now.accepts → IsTrue served.audit.whole) }
-    // Whatever a client was told is right, and in every image that a stop may leave from then on: an answer that was told is the one
+    // Each answer that a client was told is right, and in every image that a stop may leave from then on: an answer that was told is the one
     // of its entry, in a group that was stored before, and each image since the end of its append stands for a state with that group.
     // After a fault this holds if the account's `own` is true.
     ensures acknowledged { (end : Ended) × IsAnswerAt end (fault_in result)
