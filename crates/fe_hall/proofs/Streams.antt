@@ -16,6 +16,7 @@ use Rattle.fe_wire.proofs.FrameLaws.{one_front, front_not_bad, front_not_unfinis
 use Rattle.fe_wire.proofs.Existence.{each_has_reading}
 use Rattle.fe_wire.proofs.StreamLaws.{one_reading, nothing_unfinished}
 use Rattle.fe_hall.specs.declared.ends.ReadEnd.{ReadEnd}
+use Rattle.fe_shared.specs.declared.short.Short.{Short}
 use Rattle.fe_hall.specs.declared.ends.ReadEnd.TheVariants.{Closed, Device, BadFrame, Gone, Turns, Stopped, Spent, NoMemory}
 use Rattle.fe_shared.specs.Seats.{ReadSeat}
 use Rattle.fe_hall.specs.Reads.{AreHandled, EndsEarly, EndsAmong, EndsAt, HandlesStream, IsAt}
@@ -88,8 +89,8 @@ module _ (before after : ReadSeat) (list : List ClientMessage) where
 
   -- a piece was not read because memory is short
   pub ends_unread : (bytes piece : List ℕ) (d : Decoding) → IsBytes (bytes ++ piece) → CompletesMessage d piece → IsAt bytes before d after list
-      → HandlesStream (bytes ++ piece) before after list NoMemory
-  ends_unread bytes piece d are_bytes completes at =
+      → (short : Short) → HandlesStream (bytes ++ piece) before after list (NoMemory short)
+  ends_unread bytes piece d are_bytes completes at short =
       let whole = each_has_reading d.version (bytes ++ piece) are_bytes in
       let cut : bytes ++ piece ≡ flat_map spelling at.messages ++ (at.reads.rest ++ piece) =
       ap (λ (t : List ℕ). t ++ piece) at.reads.is_stream.parts ∙ append_assoc (flat_map spelling at.messages) at.reads.rest piece in
@@ -111,7 +112,7 @@ module _ (before after : ReadSeat) (list : List ClientMessage) where
   ends_before Turns messages rest count breaks less = absurd breaks
   ends_before Stopped messages rest count breaks less = less
   ends_before Spent messages rest count breaks less = less
-  ends_before NoMemory messages rest count breaks less = inl less
+  ends_before (NoMemory short) messages rest count breaks less = inl less
 
   -- the side ends before a message
   pub ends_within : (bytes : List ℕ) (d : Decoding) (end : ReadEnd) (messages more : List ClientMessage) → d.version ≡ Two → HasRead d bytes (messages ++ more)
@@ -198,8 +199,8 @@ module _ (before old new : ReadSeat) (listed list : List ClientMessage) (bytes p
 
 -- none were, because memory is short
 pub piece_unread : (before seat : ReadSeat) (list : List ClientMessage) (bytes piece : List ℕ) (d : Decoding) → IsBytes piece → CompletesMessage d piece → IsAt bytes before d seat list
-    → HandlesStream (bytes ++ piece) before seat list NoMemory
-piece_unread before seat list bytes piece d fits completes at = ends_unread before seat list bytes piece d (IsBytes-append bytes piece at.are_bytes fits) completes at
+    → (short : Short) → HandlesStream (bytes ++ piece) before seat list (NoMemory short)
+piece_unread before seat list bytes piece d fits completes at short = ends_unread before seat list bytes piece d (IsBytes-append bytes piece at.are_bytes fits) completes at short
 
 -- ---- the beginning
 
@@ -219,11 +220,11 @@ begins d seat two reads =
     by true stands = absurd ((nothing_unfinished d.version).1 (subst (IsBad d.version) (sym reads.is_stream.parts) stands.0))
 
 -- no memory for the first read
-pub ends_first : (before seat : ReadSeat) (list : List ClientMessage) (bytes : List ℕ) (d : Decoding) → bytes ≡ [] → IsAt [] before d seat list → HandlesStream bytes before seat list NoMemory
-ends_first before seat list bytes d none at =
+pub ends_first : (before seat : ReadSeat) (list : List ClientMessage) (bytes : List ℕ) (d : Decoding) → bytes ≡ [] → IsAt [] before d seat list → (short : Short) → HandlesStream bytes before seat list (NoMemory short)
+ends_first before seat list bytes d none at short =
     let first : at.messages ≡ [] =
     (one_reading d.version [] at.messages [] at.reads.rest [] at.reads.is_stream (record { parts = refl; each = tt; end = inl (nothing_unfinished d.version) })).0 in
-    subst (λ (bs : List ℕ). HandlesStream bs before seat list NoMemory) (sym none)
+    subst (λ (bs : List ℕ). HandlesStream bs before seat list (NoMemory short)) (sym none)
     (record {
       messages = at.messages;
       rest = at.reads.rest;

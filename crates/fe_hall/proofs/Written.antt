@@ -169,7 +169,7 @@ spells_none A Gone before same fine is = is ∙ sym (append-nil before)
 spells_none A Stopped before same fine is = is ∙ sym (append-nil before)
 spells_none A Spent before same fine is = is ∙ sym (append-nil before)
 spells_none A Device before same fine is = absurd fine
-spells_none A NoMemory before same fine is = absurd fine
+spells_none A (NoMemory short) before same fine is = absurd fine
 
 -- after mails that are spelled others were taken, when the side ends
 pub spells_on : (A B : Type 0) (end : WriteEnd) (frames after : List ℕ) (mails more : List Mail) → frames ≡ spelled mails → AreSpelled {A = A} frames (Err end) more after
@@ -178,7 +178,7 @@ spells_on A B Gone frames after mails more so_far is = spelled_more frames after
 spells_on A B Stopped frames after mails more so_far is = spelled_more frames after mails more so_far is
 spells_on A B Spent frames after mails more so_far is = spelled_more frames after mails more so_far is
 spells_on A B Device frames after mails more so_far is = absurd is
-spells_on A B NoMemory frames after mails more so_far w = record {
+spells_on A B (NoMemory short) frames after mails more so_far w = record {
   earlier = mails ++ w.earlier;
   last = w.last;
   all = ap (λ t. mails ++ t) w.all ∙ sym (append_assoc mails w.earlier w.last);
@@ -193,7 +193,7 @@ rest_of (Err Gone) mails frames is = ([], sym is ∙ sym (append-nil frames))
 rest_of (Err Stopped) mails frames is = ([], sym is ∙ sym (append-nil frames))
 rest_of (Err Spent) mails frames is = ([], sym is ∙ sym (append-nil frames))
 rest_of (Err Device) mails frames is = absurd is
-rest_of (Err NoMemory) mails frames w = (
+rest_of (Err (NoMemory short)) mails frames w = (
   spelled w.last,
   ap spelled w.all ∙ spelled-append w.earlier w.last ∙ ap (λ t. t ++ spelled w.last) (sym w.got),
 )
@@ -237,7 +237,7 @@ written_more Device before mid after ms ns so_far w = record {
       ∙ append_assoc before (spelled ms) (spelled w.earlier ++ rest)
       ∙ ap (λ t. before ++ t) (sym (append_assoc (spelled ms) (spelled w.earlier) rest) ∙ ap (λ t. t ++ rest) (sym (spelled-append ms w.earlier)));
 }
-written_more NoMemory before mid after ms ns so_far w = record {
+written_more (NoMemory short) before mid after ms ns so_far w = record {
   earlier = ms ++ w.earlier;
   last = w.last;
   all = ap (λ t. ms ++ t) w.all ∙ sym (append_assoc ms w.earlier w.last);

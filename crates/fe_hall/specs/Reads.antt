@@ -52,7 +52,7 @@ EndsAt (BadFrame offset) messages rest count =
 EndsAt Gone messages rest count = count < length messages
 EndsAt Stopped messages rest count = count < length messages
 EndsAt Spent messages rest count = count < length messages
-EndsAt NoMemory messages rest count = (count < length messages) ⊎ (messages ≡ [])
+EndsAt (NoMemory short) messages rest count = (count < length messages) ⊎ (messages ≡ [])
 
 -- A side that was told these bytes, the stream of its client: the first n of the stream's messages were handled, and
 -- none after them.
@@ -77,7 +77,7 @@ IsTold (BadFrame offset) s = Unit {0}
 IsTold Gone s = s ≡ standing.Gone
 IsTold Stopped s = s ≡ standing.Stopped
 IsTold Spent s = s ≡ standing.Spent
-IsTold NoMemory s = Unit {0}
+IsTold (NoMemory short) s = Unit {0}
 
 -- ---- on the way
 
@@ -101,7 +101,7 @@ EndsEarly (BadFrame offset) = ⊥
 EndsEarly Gone = Unit {0}
 EndsEarly Stopped = Unit {0}
 EndsEarly Spent = Unit {0}
-EndsEarly NoMemory = Unit {0}
+EndsEarly (NoMemory short) = Unit {0}
 
 -- the side ended for what came, or for what the hall said of it, and not for its half or for the number of its reads
 abbrev pub IsOfMessages : ReadEnd → Type 0

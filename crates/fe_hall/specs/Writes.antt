@@ -57,7 +57,7 @@ IsWritten before mails Gone after = after ≡ before ++ spelled mails
 IsWritten before mails Stopped after = after ≡ before ++ spelled mails
 IsWritten before mails Spent after = after ≡ before ++ spelled mails
 IsWritten before mails Device after = BreaksOff before mails after
-IsWritten before mails NoMemory after = MayLackLast before mails after
+IsWritten before mails (NoMemory short) after = MayLackLast before mails after
 
 -- an end that the hall told the side
 abbrev pub IsTold : WriteEnd → Standing → Type 0
@@ -65,7 +65,7 @@ IsTold Gone s = s ≡ standing.Gone
 IsTold Device s = Unit {0}
 IsTold Stopped s = s ≡ standing.Stopped
 IsTold Spent s = s ≡ standing.Spent
-IsTold NoMemory s = Unit {0}
+IsTold (NoMemory short) s = Unit {0}
 
 -- ---- on the way
 
@@ -93,7 +93,7 @@ IsNoFault Gone = Unit {0}
 IsNoFault Stopped = Unit {0}
 IsNoFault Spent = Unit {0}
 IsNoFault Device = ⊥
-IsNoFault NoMemory = ⊥
+IsNoFault (NoMemory short) = ⊥
 
 -- the frames of mails that were taken, after those of before: all of them, unless memory was short
 abbrev pub AreSpelled : {A : Type 0} → List ℕ → Result A WriteEnd → List Mail → List ℕ → Type 0
@@ -102,4 +102,4 @@ AreSpelled before (Err Gone) mails frames = frames ≡ before ++ spelled mails
 AreSpelled before (Err Stopped) mails frames = frames ≡ before ++ spelled mails
 AreSpelled before (Err Spent) mails frames = frames ≡ before ++ spelled mails
 AreSpelled before (Err Device) mails frames = ⊥
-AreSpelled before (Err NoMemory) mails frames = MayLackLast before mails frames
+AreSpelled before (Err (NoMemory short)) mails frames = MayLackLast before mails frames

@@ -1,3 +1,5 @@
+use fe_shared::Short;
+
 /// Why a read side ended. Its connection is gone then, unless the hall is stopped.
 #[derive(Clone, Copy, PartialEq, Eq)]
 pub enum ReadEnd {
@@ -17,5 +19,5 @@ pub enum ReadEnd {
     /// A book of the hall is full.
     Spent,
     /// There was no memory for the messages that came, for one more in the list, or for the buffer of the reads.
-    NoMemory,
+    NoMemory(Short),
 }

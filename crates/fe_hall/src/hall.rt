@@ -140,7 +140,7 @@ impl<C: Tally, M: Tally> Hall<C, M> {
     pub(crate) fn await_rest<R: Wait>(&self, rt: &R, seat: &CallSeat<C>) {
         let conn = seat.conn();
         let mut hold = self.lock.enter(rt);
-        if !hold.watch(conn) {
+        if hold.watch(conn).is_err() {
             return;
         }
         // A write side that rests already says so too.

@@ -20,7 +20,7 @@ use fe_front::BELLS;
 use fe_history::{Chronicle, History, StoreSeat, Tally};
 use fe_shared::{
     CallSeat, ConnectRight, Cutting, HasStopped, Made, MailSeat, NewSeats, Posted, Rest, Shared,
-    Standing, Taking, Unconnected, Unposted,
+    Short, Standing, Taking, Unconnected, Unposted,
 };
 use fe_state::Batch;
 use fe_wire::ClientMessage;
@@ -254,7 +254,7 @@ impl<'a, C: Tally, M: Tally> Hold<'a, C, M> {
     }
 
     /// Notes that the read side of a connection waits for its box. This and `unwatch` are no events of the front.
-    pub(crate) fn watch(&mut self, conn: u64) -> bool
+    pub(crate) fn watch(&mut self, conn: u64) -> Result<(), Short>
         ensures same { self.new.used ≡ self.old.used }
         ensures front { (under self.new.shared).front ≡ (under self.old.shared).front }
     {

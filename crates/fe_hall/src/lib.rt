@@ -29,7 +29,7 @@ pub use fe_history::{
 };
 pub use fe_shared::{
     CallSeat, ConnectRight, HasStopped, MailLog, MailSeat, MessageLog, NewSeats, SeatMissing,
-    Seats, Standing, Unconnected,
+    Seats, Short, Standing, Unconnected, reserve_one,
 };
 pub use hall::Hall;
 pub use halves::{Gate, HalfFault, MemoryRead, MemoryWrite, Open, ReadHalf, WriteHalf};

@@ -10,14 +10,14 @@ use crate::ends::ReadEnd;
 use crate::hall::Hall;
 use crate::halves::{Gate, ReadHalf};
 use fe_history::Tally;
-use fe_shared::{CallSeat, Made, Standing};
+use fe_shared::{CallSeat, Made, Standing, feed, reserve_one, zeros};
 use fe_wire::{ClientMessage, Decoder, Version};
 use std::alloc::Global;
 use std::sync::Wait;
 use std::time::Clock;
 
 /// How many bytes a read may bring.
-const PIECE_BYTES: usize = 8192;
+const PIECE_BYTES: u16 = 8192;
 
 /// How many messages a read side hands on before it looks whether what came of earlier ones was taken. A box of 128 mails has room for
 /// those of two such runs, and for the answers that wait, 32 at most.
@@ -29,9 +29,9 @@ const LISTED: usize = 1024;
 /// Serves the direction from the client of a connection, until it ends. Each message passes the gate, outside the lock, and goes
 /// to the hall, where it may wait for room. `turns` is how many reads are made at most; `None` sets no bound.
 ///
-/// It gives the seat back, with the first 1,024 attaches and calls that were handled. At `Closed` and `Turns` it waits until the
-/// write side has taken what comes of the messages that were handled, except what waits. Every end makes the connection gone,
-/// unless the hall is stopped.
+/// It gives the seat back, with the first 1,024 attaches and calls that were handled. Every end makes the connection gone, unless the
+/// hall is stopped. At `Closed` and `Turns` it does so only once all that was made when the last message was handled is durable and the
+/// box is empty, or there is no memory to note that it waits for that.
 pub fn read_side<C: Tally, M: Tally, H: ReadHalf, G: Gate, R: Clock + Wait>(
     rt: &R,
     alloc: Global,
@@ -110,8 +110,9 @@ impl<C: Tally> Reading<C> {
         ensures failed { result ≡ ReadEnd.Device → H.failed half.new }
         ensures told { IsTold result self.new.seat.standing }
     {
-        let Ok(mut buffer) = vec![in self.alloc; 0u8; PIECE_BYTES] else {
-            return ReadEnd::NoMemory;
+        let mut buffer = match zeros(self.alloc, PIECE_BYTES) {
+            Ok(buffer) => buffer,
+            Err(short) => return ReadEnd::NoMemory(short),
         };
         let piece = buffer.as_mut_slice();
         let mut left = turns;
@@ -171,8 +172,9 @@ impl<C: Tally> Reading<C> {
         ensures of { IfSome result IsOfMessages }
         ensures told { IfSome result (λ end. IsTold end self.new.seat.standing) }
     {
-        let Ok(fed) = self.decoder.feed(self.alloc, piece) else {
-            return Some(ReadEnd::NoMemory);
+        let fed = match feed(&mut self.decoder, self.alloc, piece) {
+            Ok(fed) => fed,
+            Err(short) => return Some(ReadEnd::NoMemory(short)),
         };
         if let Some(end) = self.take_all(rt, hall, gate, fed.messages.as_slice()) {
             return Some(end);
@@ -230,8 +232,10 @@ impl<C: Tally> Reading<C> {
         ensures decoder { self.new.decoder ≡ self.old.decoder }
     {
         let lists = is_sent(message) && self.listed.len() < LISTED;
-        if lists && self.listed.reserve(1).is_err() {
-            return Some(ReadEnd::NoMemory);
+        if lists {
+            if let Err(short) = reserve_one(&mut self.listed) {
+                return Some(ReadEnd::NoMemory(short));
+            }
         }
         if !gate.passes_at_once(self.seat.conn()) {
             grip.give_up();

@@ -1,3 +1,5 @@
+use fe_shared::Short;
+
 /// Why a write side ended. Its connection is gone then, except at `Stopped`.
 #[derive(Clone, Copy, PartialEq, Eq)]
 pub enum WriteEnd {
@@ -10,5 +12,5 @@ pub enum WriteEnd {
     /// The book of the mails that were taken is full.
     Spent,
     /// There was no memory for a receipt or for the frame of a mail.
-    NoMemory,
+    NoMemory(Short),
 }

@@ -16,8 +16,8 @@ use crate::write_end::WriteEnd;
 use fe_front::Mail;
 use fe_history::{History, Receipt, Receipts, Tally};
 use fe_messages::Reply;
-use fe_shared::{MailSeat, Taking};
-use std::alloc::{AllocError, Global};
+use fe_shared::{MailSeat, Short, Taking, put, reserve_one};
+use std::alloc::Global;
 use std::sync::Wait;
 
 /// The least number of bytes that are spelled before they are written, if there are enough mails.
@@ -176,19 +176,19 @@ impl<M: Tally> Writing<M> {
         ensures this { IsPrefix self.old.history self.new.history }
         ensures told { IfErr result (λ end. IsTold end self.new.seat.standing) }
     {
-        if self.make_room().is_err() {
-            return Err(WriteEnd::NoMemory);
+        if let Err(short) = self.make_room() {
+            return Err(WriteEnd::NoMemory(short));
         }
         let (mail, more) = mail_in(hall.take_mail(rt, &mut self.seat, &mut self.history, grip))?;
         self.keep_receipt(&mail);
-        match Reply::of(mail).put(&mut self.frames) {
+        match put(&Reply::of(mail), &mut self.frames) {
             Ok(()) => Ok(more),
-            Err(_) => Err(WriteEnd::NoMemory),
+            Err(short) => Err(WriteEnd::NoMemory(short)),
         }
     }
 
     /// Makes room for the receipt of the next mail, where one may be kept.
-    fn make_room(&mut self) -> Result<(), AllocError>
+    fn make_room(&mut self) -> Result<(), Short>
         ensures room { OnOk result (vec_len self.new.receipts < 1024
             → vec_len self.new.receipts < vec_capacity self.new.receipts) }
         ensures receipts { self.new.receipts.items ≡ self.old.receipts.items }
@@ -197,7 +197,7 @@ impl<M: Tally> Writing<M> {
         ensures frames { self.new.frames.items ≡ self.old.frames.items }
     {
         if self.receipts.len() < KEPT {
-            self.receipts.reserve(1)?;
+            reserve_one(&mut self.receipts)?;
         }
         Ok(())
     }

@@ -1,2 +1,3 @@
 pub mod Risings
 pub mod Marks
+pub mod Watching

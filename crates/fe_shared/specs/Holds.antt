@@ -8,17 +8,25 @@ use Rattle.fe_state.specs.declared.batch.Batch.{Batch}
 use Rattle.fe_front.specs.Posting.{IsOut}
 use Rattle.fe_history.specs.Acts.{WasCut}
 use Rattle.fe_history.specs.declared.act.Act.{Act}
-use Rattle.fe_shared.specs.Seats.{most_counted, posts_more}
+use Rattle.fe_shared.specs.Seats.{most_connections, most_counted, posts_more}
 use Rattle.fe_shared.specs.declared.shared.batches.Cutting.{Cutting}
 use Rattle.fe_shared.specs.declared.shared.batches.Cutting.TheVariants as cutting
 use Rattle.fe_shared.specs.declared.shared.batches.Unposted.{Unposted}
 use Rattle.fe_shared.specs.declared.shared.batches.Unposted.TheVariants as unposted
 use Rattle.fe_shared.specs.declared.taking.Taking.{Taking}
 use Rattle.fe_shared.specs.declared.taking.Taking.TheVariants as taking
+use Rattle.fe_shared.specs.declared.unconnected.Unconnected.{Unconnected}
+use Rattle.fe_shared.specs.declared.unconnected.Unconnected.TheVariants as unconnected
 
 -- whether a mail is in a connection's box
 abbrev pub has_mail : FrontState → ℕ → Bool
 has_mail f conn = nat_lt 0 (length (mails_on f.connections conn))
+
+-- Why a connection was not made: one of its number is there, or all were made, or memory was short.
+abbrev pub IsUnconnected : FrontState → ℕ → ℕ → Unconnected → Type 0
+IsUnconnected f made conn (unconnected.InUse in_use) = is_connected f conn ≡ true
+IsUnconnected f made conn (unconnected.NoMemory short) = is_connected f conn ≡ false
+IsUnconnected f made conn (unconnected.Spent all) = (is_connected f conn ≡ false) × (made ≡ most_connections)
 
 -- the connection is gone, with its box and what waits of its session
 abbrev pub Leaves : FrontState → ℕ → FrontState → Type 0

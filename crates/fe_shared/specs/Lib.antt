@@ -3,3 +3,4 @@ pub mod Shown
 pub mod Seats
 pub mod Holds
 pub mod Marks
+pub mod Watching

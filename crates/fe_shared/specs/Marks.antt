@@ -14,6 +14,7 @@ use Rattle.fe_messages.specs.Answers.{AreAnswered, TellsAnswerIn}
 use Rattle.fe_messages.specs.Asking.{HasOnly}
 use Rattle.fe_history.specs.declared.act.Act.{Act}
 use Rattle.fe_history.specs.declared.act.Act.TheVariants.{Asked, Began, Told}
+use Rattle.fe_shared.specs.declared.watchers.Watcher.{Watcher}
 use Rattle.fe_shared.specs.declared.taking.Taking.{Taking}
 use Rattle.fe_shared.specs.declared.taking.Taking.TheVariants as taking
 use Rattle.fe_history.specs.Acts.{IsLegal, MayCome, StandsIn, WasTold, batches_of, cuts_in, entries_in, place_after, stores_in}
@@ -79,6 +80,8 @@ pub record SharedState : Type 0 where
   pub history : List Act
   pub made : ℕ
   pub stopped : Bool
+  -- the read sides that wait for their boxes
+  pub watched : List Watcher
 
 -- what came of a look into the box of a connection may be told to it after these acts
 abbrev pub MayBeTold : ℕ → Taking → List Act → Type 0

@@ -12,6 +12,7 @@ mod new_seats;
 mod pace;
 mod seats;
 mod shared;
+mod short;
 mod standing;
 mod taking;
 mod unconnected;
@@ -24,9 +25,10 @@ pub use message_log::MessageLog;
 pub use new_seats::NewSeats;
 pub use seats::Seats;
 pub use shared::{
-    AllDurable, ConnectRight, CutBatch, Cutting, FullBook, HasStopped, Made, NotOut, Posted, Rest,
-    SeatMissing, Shared, Uncut, Unposted,
+    AllDurable, AllMade, ConnectRight, CutBatch, Cutting, FullBook, HasStopped, InUse, Made,
+    NotOut, Posted, Rest, SeatMissing, Shared, Uncut, Unposted,
 };
+pub use short::{Short, feed, put, reserve_one, zeros};
 pub use standing::Standing;
 pub use taking::Taking;
 pub use unconnected::Unconnected;

@@ -1,6 +1,6 @@
 //! What is under the lock of a hall: the front, with a ledger of its calls and one of the mails that were taken.
 
-ghost use Rattle.std.specs.Prelude.{IsNone, ◌≡◌, ◌≢◌, ◌+◌, ◌≤◌, ◌↔◌, ℕ, List, [], true, false, Ok, Err, Some, None, IsTrue, IsErr, IfOk, OnOk, OnErr, IfSome, MatchOption};
+ghost use Rattle.std.specs.Prelude.{IsNone, ◌≡◌, ◌≢◌, ◌+◌, ◌≤◌, ◌↔◌, ℕ, List, [], true, false, Ok, Err, Some, None, IsTrue, IsErr, IfErr, IfOk, OnOk, OnErr, IfSome, MatchOption};
 ghost use Rattle.fe_state.specs.declared.entry.Entry.{Entry};
 ghost use Rattle.fe_front.specs.Front.{has_room, is_connected};
 ghost use Rattle.fe_mail.specs.Books.{AddUp};
@@ -11,7 +11,9 @@ ghost use mathlib.Core.List.{IsPrefix};
 ghost use Rattle.fe_history.specs.Acts.{IsLegal};
 ghost use Rattle.fe_history.specs.Rules.{Hears};
 ghost use Rattle.fe_shared.specs.Marks.{IsBegun, MayBeTold};
-ghost use Rattle.fe_shared.specs.Holds.{Ends, IsDrained, IsOver, TakesMail};
+ghost use Rattle.fe_shared.specs.Holds.{Ends, IsDrained, IsOver, IsUnconnected, TakesMail};
+ghost use Rattle.fe_front.specs.Ringing.{IsRung};
+ghost use Rattle.fe_shared.specs.Watching.{waits};
 ghost use Rattle.fe_shared.specs.Seats.{HasRested, IsOpen, TookNoMessage, message_taken, message_answered, taking_answered, takes_more, most_connections};
 
 mod batches;
@@ -21,6 +23,7 @@ use crate::mail_seat::MailSeat;
 use crate::new_seats::NewSeats;
 use crate::pace::Paces;
 use crate::seats::Seats;
+use crate::short::{Short, connect};
 use crate::standing::Standing;
 use crate::taking::Taking;
 use crate::unconnected::Unconnected;
@@ -102,7 +105,13 @@ impl<C: Tally, M: Tally> Model for Shared<C, M> {
 
     ghost coded = { Prim.hlevel (codes, front_code, acts.the_row.coded) };
 
-    ghost view = { λ s. record { front = s.front; history = s.history; made = s.made; stopped = s.stopped } };
+    ghost view = { λ s. record {
+      front = s.front;
+      history = s.history;
+      made = s.made;
+      stopped = s.stopped;
+      watched = s.watchers.items.items;
+    } };
 
     ghost invariant = { λ s. IsMarked s.front s.posted s.history };
 }
@@ -110,6 +119,14 @@ impl<C: Tally, M: Tally> Model for Shared<C, M> {
 /// The right to make connections in a hall. There is one, which the hall gives to whoever begins it.
 #[derive(Drop)]
 pub struct ConnectRight(());
+
+/// Shows that a connection of some number was there. Only `Shared::connect` makes one.
+#[derive(Clone, Copy, PartialEq, Eq)]
+pub struct InUse(());
+
+/// Shows that a hall had made all its connections. Only `Shared::connect` makes one.
+#[derive(Clone, Copy, PartialEq, Eq)]
+pub struct AllMade(());
 
 /// Shows that a hall was stopped. Only `Shared::stop` makes one.
 #[derive(Clone, Copy)]
@@ -132,15 +149,16 @@ impl Model for Made {
 pub struct Rest {
     conn: u64,
     /// There was no memory to note that it waits.
-    short: bool,
+    short: Option<Short>,
 }
 
 impl Model for Rest {
+    ghost use Rattle.std.specs.Prelude.{is_some};
     ghost use Rattle.fe_shared.specs.Shown.{Rest};
 
     ghost Value = { Rest };
 
-    ghost view = { λ r. record { conn = r.conn; short = r.short } };
+    ghost view = { λ r. record { conn = r.conn; short = is_some r.short } };
 }
 
 /// Shows that the seats handed in were not those of all connections that were made, or that another side stored groups. Only the
@@ -204,22 +222,22 @@ impl<C: Tally, M: Tally> Shared<C, M> {
     ) -> Result<NewSeats<C, M>, Unconnected>
         ensures step { OnOk result (FrontStep self.old.front (event.Connect conn) [] self.new.front) }
         ensures err { OnErr result (self.new.front ≡ self.old.front) }
-        ensures in_use { (result ≡ Err Unconnected.InUse) ↔ (is_connected self.old.front conn ≡ true) }
-        ensures spent { result ≡ Err Unconnected.Spent → self.old.made ≡ most_connections }
+        ensures in_use { is_connected self.old.front conn ≡ true → IsErr result }
+        ensures why { IfErr result (IsUnconnected self.old.front self.old.made conn) }
         ensures made { OnOk result (self.new.made ≡ self.old.made + 1) }
         ensures unmade { OnErr result (self.new.made ≡ self.old.made) }
         ensures still { self.new.stopped ≡ self.old.stopped }
         ensures seats { IfOk result (λ seats. seats ≡ conn) }
     {
         if self.front.connected(conn) {
-            return Err(Unconnected::InUse);
+            return Err(Unconnected::InUse(InUse(())));
         }
         if self.made == CONNECTIONS {
-            return Err(Unconnected::Spent);
+            return Err(Unconnected::Spent(AllMade(())));
         }
         let _ = self.front.state();
-        if self.front.connect(conn).is_err() {
-            return Err(Unconnected::NoMemory);
+        if let Err(short) = connect(&mut self.front, conn) {
+            return Err(Unconnected::NoMemory(short));
         }
         let calls = self.spare_calls.split_off(1, 0);
         let mails = self.spare_mails.split_off(1, 0);
@@ -304,12 +322,16 @@ impl<C: Tally, M: Tally> Shared<C, M> {
     }
 
     /// Marks the bells of the read sides that wait for their boxes.
-    pub fn mark_watched(&self, wakes: &mut [bool; BELLS as usize]) {
+    pub fn mark_watched(&self, wakes: &mut [bool; BELLS as usize])
+        ensures marked { (conn : ℕ) → IsTrue (waits self.now.watched conn) → IsRung wakes.new conn }
+        ensures still { (other : ℕ) → IsRung wakes.old other → IsRung wakes.new other }
+    {
         self.watchers.mark(wakes);
     }
 
     /// The read side of a connection waits for its box. Whether that is noted, for which there may be no memory.
-    pub fn watch(&mut self, conn: u64) -> bool
+    pub fn watch(&mut self, conn: u64) -> Result<(), Short>
+        ensures watched { OnOk result (IsTrue (waits self.new.watched conn)) }
         ensures front { self.new.front ≡ self.old.front }
         ensures still { self.new.stopped ≡ self.old.stopped }
     {
@@ -318,6 +340,7 @@ impl<C: Tally, M: Tally> Shared<C, M> {
 
     /// The read side of a connection waits no more. Whether it was noted as waiting.
     pub fn unwatch(&mut self, conn: u64) -> bool
+        ensures watched { result ≡ waits self.old.watched conn }
         ensures front { self.new.front ≡ self.old.front }
         ensures still { self.new.stopped ≡ self.old.stopped }
     {
@@ -325,7 +348,9 @@ impl<C: Tally, M: Tally> Shared<C, M> {
     }
 
     /// Whether it is noted that the read side of a connection waits for its box.
-    pub fn is_watched(&self, conn: u64) -> bool {
+    pub fn is_watched(&self, conn: u64) -> bool
+        ensures watched { result ≡ waits self.now.watched conn }
+    {
         self.watchers.has(conn)
     }
 
@@ -363,6 +388,7 @@ impl<C: Tally, M: Tally> Shared<C, M> {
 
     /// Whether the read side of a connection need not wait for what comes of its messages. `None`: it is noted that it waits.
     pub fn rest(&mut self, seat: &CallSeat<C>) -> Option<Rest>
+        ensures watched { IsNone result → IsTrue (waits self.new.watched seat.now.conn) }
         ensures own { IfSome result (λ rest. rest.conn ≡ seat.now.conn) }
         ensures drained { IfSome result (λ rest. rest.short ≡ false
             → IsDrained self.old.front self.old.stopped seat.now.conn seat.now.place) }
@@ -372,18 +398,20 @@ impl<C: Tally, M: Tally> Shared<C, M> {
         let conn = seat.conn();
         if self.is_drained(conn, seat.place()) {
             let _ = self.watchers.remove(conn);
-            return Some(Rest { conn, short: false });
+            return Some(Rest { conn, short: None });
         }
-        if !self.watchers.add(conn) {
-            return Some(Rest { conn, short: true });
+        let short = self.watchers.add(conn).err();
+        if short.is_none() {
+            return None;
         }
-        None
+        Some(Rest { conn, short })
     }
 
     /// Whether the read side of a connection may hand on more: its write side is close behind, or has taken what came of all that was
     /// made before, or there is no memory to note that it waits. If not, it is noted.
     pub fn may_go_on(&mut self, conn: u64, made: &Made) -> bool
         ensures waits { result ≡ false → ¬ IsDrained self.old.front self.old.stopped conn made.now }
+        ensures watched { result ≡ false → IsTrue (waits self.new.watched conn) }
         ensures front { self.new.front ≡ self.old.front }
         ensures still { self.new.stopped ≡ self.old.stopped }
     {
@@ -391,7 +419,7 @@ impl<C: Tally, M: Tally> Shared<C, M> {
             let _ = self.watchers.remove(conn);
             return true;
         }
-        !self.watchers.add(conn)
+        self.watchers.add(conn).is_err()
     }
 
     /// Whether all entries that were made before are stored and posted.

@@ -1,3 +1,10 @@
+//! Which read sides wait for their boxes.
+
+ghost use Rattle.std.specs.Prelude.{◌≡◌, ℕ, IsTrue, OnOk};
+ghost use Rattle.fe_front.specs.Ringing.{IsRung};
+ghost use Rattle.fe_shared.specs.Watching.{waits};
+
+use crate::short::{Short, reserve_one};
 use fe_front::BELLS;
 use std::alloc::Global;
 
@@ -24,31 +31,29 @@ impl Watchers {
     }
 
     /// Whether the read side of a connection waits.
-    pub(crate) fn has(&self, conn: u64) -> bool {
+    pub(crate) fn has(&self, conn: u64) -> bool
+        ensures { result ≡ waits self.now.items.items conn }
+    {
         self.items.iter().any(|watcher| watcher.conn == conn)
     }
 
     /// The read side of a connection waits. Whether that is noted: there may be no memory for it.
-    pub(crate) fn add(&mut self, conn: u64) -> bool {
-        let watcher = Watcher { conn, moved: false };
-        match self.items.iter().position(|other| other.conn == conn) {
-            Some(at) => {
-                self.items[at] = watcher;
-                true
-            }
-            None => self.items.push(watcher).is_ok(),
-        }
+    pub(crate) fn add(&mut self, conn: u64) -> Result<(), Short>
+        ensures { OnOk result (IsTrue (waits self.new.items.items conn)) }
+    {
+        self.items.retain(|watcher| watcher.conn != conn);
+        reserve_one(&mut self.items)?;
+        self.items.push_reserved(Watcher { conn, moved: false });
+        Ok(())
     }
 
     /// The read side of a connection waits no more. Whether it was noted as waiting.
-    pub(crate) fn remove(&mut self, conn: u64) -> bool {
-        match self.items.iter().position(|other| other.conn == conn) {
-            Some(at) => {
-                let _ = self.items.swap_remove(at);
-                true
-            }
-            None => false,
-        }
+    pub(crate) fn remove(&mut self, conn: u64) -> bool
+        ensures { result ≡ waits self.old.items.items conn }
+    {
+        let was = self.has(conn);
+        self.items.retain(|watcher| watcher.conn != conn);
+        was
     }
 
     /// A mail was taken out of the box of a connection.
@@ -66,9 +71,20 @@ impl Watchers {
     }
 
     /// Marks their bells.
-    pub(crate) fn mark(&self, wakes: &mut [bool; BELLS as usize]) {
+    pub(crate) fn mark(&self, wakes: &mut [bool; BELLS as usize])
+        ensures marked { (conn : ℕ) → IsTrue (waits self.now.items.items conn) → IsRung wakes.new conn }
+        ensures still { (other : ℕ) → IsRung wakes.old other → IsRung wakes.new other }
+    {
         for watcher in &self.items {
-            wakes[(watcher.conn % BELLS) as usize] = true;
+            ring(wakes, watcher.conn);
         }
     }
+}
+
+/// Marks the bell of a connection.
+fn ring(wakes: &mut [bool; BELLS as usize], conn: u64)
+    ensures rung { IsRung wakes.new conn }
+    ensures still { (other : ℕ) → IsRung wakes.old other → IsRung wakes.new other }
+{
+    wakes[(conn % BELLS) as usize] = true;
 }

@@ -100,7 +100,7 @@ fn take<C: Tally, M: Tally, R: Abort + Clock + Wait>(
     match end {
         ReadEnd::Device => Some(()),
         _ => {
-            assert!(rt; end == ReadEnd::NoMemory);
+            assert!(rt; matches!(end, ReadEnd::NoMemory(_)));
             None
         }
     }

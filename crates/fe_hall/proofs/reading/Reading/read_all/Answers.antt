@@ -5,9 +5,9 @@ use Rattle.fe_hall.proofs.Streams.{ends_behind, ends_first}
 use Rattle.fe_hall.proofs.Turns.{left_all, left_few, left_none}
 use Rattle.fe_hall.proofs.reading.Reading.read_all.Goals as goal
 
-pub returns-in_default-clause-handled : goal.returns-in_default-clause-handled
-returns-in_default-clause-handled g c = λ tells none at.
-    ends_first c.args.self.now.seat c.args.self.now.seat c.args.self.now.listed.items (g.H.ReadHalf.told c.args.half.now) c.args.self.now.decoder none at
+pub returns-in-Err-clause-handled : goal.returns-in-Err-clause-handled
+returns-in-Err-clause-handled g c = λ tells none at.
+    ends_first c.args.self.now.seat c.args.self.now.seat c.args.self.now.listed.items (g.H.ReadHalf.told c.args.half.now) c.args.self.now.decoder none at c.in-Err.short
 
 pub returns-then-not-take_turn-clause-handled : goal.returns-then-not-take_turn-clause-handled
 returns-then-not-take_turn-clause-handled g c = λ tells none at.
@@ -22,7 +22,7 @@ pub loop-preserved : goal.loop-preserved
 loop-preserved g c = record {
   next = (tt, tt);
   tells = λ tells. c.read.ensures.tells (c.loop.invariant.tells tells);
-  at = λ tells none at. c.in_default-read.ensures.handled c.args.self.now.seat (c.loop.invariant.tells tells) (c.loop.invariant.at tells none at);
+  at = λ tells none at. c.in_default.ensures.handled c.args.self.now.seat (c.loop.invariant.tells tells) (c.loop.invariant.at tells none at);
   own = c.read.ensures.own ∙ c.loop.invariant.own;
   left =
       let made : g.H.ReadHalf.reads c.read.new.half - g.H.ReadHalf.reads c.args.half.now ≡ g.H.ReadHalf.reads c.loop.half - g.H.ReadHalf.reads c.args.half.now + 1 =

@@ -8,8 +8,8 @@ use Rattle.fe_shared.specs.declared.taking.Taking.{Taking}
 use Rattle.fe_hall.proofs.Written.{takes_same, takes_one, spelled_one, lacks_one, spells_none, answered_mail, answered_end, none_since}
 use Rattle.fe_hall.proofs.writing.Writing.take_mail.Goals as goal
 
-pub returns-then-is_err-clause-took : goal.returns-then-is_err-clause-took
-returns-then-is_err-clause-took g c =
+pub returns-in-Err-clause-took : goal.returns-in-Err-clause-took
+returns-in-Err-clause-took g c =
     let s = c.args.self.now in
     let r = c.make_room.ensures in
     let n = c.make_room.new.self in
@@ -44,7 +44,7 @@ returns-in-Ok-clause-took g c =
     m c.in_ok-mail.more r.seat r.receipts took k.seat k.receipts in
     let told = subst (λ (n : ℕ). WasTold n m c.keep_receipt.new.self.history) (ap (λ (s : WriteSeat). s.conn) r.seat) (subst (λ (h : List Act). WasTold c.make_room.new.self.seat.conn m h) (sym k.history)
     (subst (λ (t : Taking). TakingTold c.make_room.new.self.seat.conn t c.take_mail.new.history) c.in_ok-mail.ensures.mail c.take_mail.ensures.told)) in
-    (m ∷ [], takes, omega arith, spelled_one s.frames.items c.keep_receipt.new.self.frames.items c.put-2.new.out.items m c.of.result (k.frames ∙ r.frames) c.of.ensures c.in-Ok.ensures.ok, (told, tt))
+    (m ∷ [], takes, omega arith, spelled_one s.frames.items c.keep_receipt.new.self.frames.items c.put-2.new.frames.items m c.of.result (k.frames ∙ r.frames) c.of.ensures c.in-Ok.ensures.ok, (told, tt))
 
 pub returns-in-Ok-clause-more : goal.returns-in-Ok-clause-more
 returns-in-Ok-clause-more g c =
@@ -63,4 +63,4 @@ returns-clause-took g c =
     m c.in_ok-mail.more r.seat r.receipts took k.seat k.receipts in
     let told = subst (λ (n : ℕ). WasTold n m c.keep_receipt.new.self.history) (ap (λ (s : WriteSeat). s.conn) r.seat) (subst (λ (h : List Act). WasTold c.make_room.new.self.seat.conn m h) (sym k.history)
     (subst (λ (t : Taking). TakingTold c.make_room.new.self.seat.conn t c.take_mail.new.history) c.in_ok-mail.ensures.mail c.take_mail.ensures.told)) in
-    (m ∷ [], takes, omega arith, lacks_one s.frames.items c.put-2.new.out.items (m ∷ []) (omega arith) (c.in-Err.ensures.err ∙ k.frames ∙ r.frames), (told, tt))
+    (m ∷ [], takes, omega arith, lacks_one s.frames.items c.put-2.new.frames.items (m ∷ []) (omega arith) (c.in-Err-put.ensures.err ∙ k.frames ∙ r.frames), (told, tt))

@@ -1,0 +1,8 @@
+-- Which read sides wait for their boxes.
+use Rattle.std.specs.Prelude.{ℕ, Bool, List, ◌==◌}
+use Rattle.std.specs.List.{list_any}
+use Rattle.fe_shared.specs.declared.watchers.Watcher.{Watcher}
+
+-- the read side of a connection waits
+abbrev pub waits : List Watcher → ℕ → Bool
+waits watchers conn = list_any (λ w. w.conn == conn) watchers
