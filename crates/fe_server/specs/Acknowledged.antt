@@ -1,4 +1,4 @@
--- Each answer that a client was told is right, and is in every image that a stop may leave from then on.
+-- What an account says of the answers in its history, and of the images that a stop may leave after each.
 use Rattle.std.specs.Prelude.{◌≡◌, ◌⊎◌, ℕ, ◌+◌, ◌<◌, ◌≤◌, true, false, List, ◌∷◌, ◌++◌, flat_map, length, slice_get, take, Some, MatchBool, Contains}
 use Rattle.std.specs.List.{AllByRecursion}
 use Rattle.fe_disk.specs.Disk.{LeavesOnly}

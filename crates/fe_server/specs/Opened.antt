@@ -8,7 +8,7 @@ use Rattle.fe_server.specs.Acknowledged.{IsAcknowledged}
 use Rattle.fe_server.specs.Serving.{HasCommitted, IsAnswerAt, account_in, fault_in, keeper_in}
 
 -- A keeper was just opened: its disk works, and no checkpoint is under way. It was served, and comes back with what was stored since;
--- the answer is that of the committing side's end; and what clients were told is right.
+-- the answer is that of the committing side's end; and the account says what was told.
 pub record WasServed {D : Type 0} (honest : D → Type 0) (moment : D → ℕ) (left_since : D → ℕ → List ℕ → Type 0) (may_leave : D → List ℕ → Type 0) (failures : D → ℕ) (answer : Result (Served D) (Failed D)) : Type 0 where
   pub opened : KeeperState D
   pub works : opened.store.has_failed ≡ false

@@ -1,5 +1,5 @@
 -- What the two sides of a connection did with its stream.
-use Rattle.std.specs.Prelude.{◌≡◌, ◌≢◌, ◌⊎◌, ℕ, ◌+◌, ◌≤◌, true, List, []}
+use Rattle.std.specs.Prelude.{◌≡◌, ◌≢◌, ◌⊎◌, ℕ, ◌+◌, ◌≤◌, Bool, true, false, List, []}
 use Rattle.fe_mail.specs.declared.mail.Mail.{Mail}
 use Rattle.fe_wire.specs.declared.client_message.ClientMessage.{ClientMessage}
 use Rattle.fe_history.specs.Acts.{AreTold, Receipts}
@@ -10,6 +10,17 @@ use Rattle.fe_hall.specs.declared.write_end.WriteEnd.TheVariants as write_end
 use Rattle.fe_hall.specs.Reads as reads
 use Rattle.fe_hall.specs.Writes as writes
 use Rattle.fe_shared.specs.Seats.{HasDeparted, HasRested, ReadSeat, WriteSeat}
+
+-- whether a read side that ended so ends the stream: not where the write side may go on
+abbrev pub ends_stream : ReadEnd → Bool
+ends_stream read_end.Closed = false
+ends_stream read_end.Device = true
+ends_stream (read_end.BadFrame offset) = true
+ends_stream read_end.Gone = true
+ends_stream read_end.Turns = false
+ends_stream read_end.Stopped = true
+ends_stream read_end.Spent = true
+ends_stream (read_end.NoMemory short) = true
 
 -- A read side read a half, so often at most: what it handled is the front of the stream, if the half tells its bytes and had told none;
 -- and it ended so. It ends for the number of its reads only after all of them, or with none where its client can't be answered.

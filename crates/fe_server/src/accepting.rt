@@ -7,7 +7,7 @@ use crate::connection::{Accepted, Connection, STACK};
 use crate::entrance::Entrance;
 use crate::house::House;
 use crate::newcomer::{Ended, Newcomer};
-use crate::register::NoMore;
+use crate::register::{NoMore, Waiting};
 use fe_hall::{ConnectRight, Gate, HasStopped, Tally};
 use fe_options::Settings;
 use std::alloc::Global;
@@ -19,6 +19,9 @@ use std::{io, thread};
 
 /// How many milliseconds it waits after a connection could not be accepted.
 const PAUSE: u64 = 10;
+
+/// How many milliseconds a client waits at most for a place that is about to be free.
+const ROOM_WAIT: u64 = 1000;
 
 /// Shows that no connection comes any more, and that those that came have ended. Only `serve_clients` makes it, and a house does not
 /// stop its hall without it unless something is short or full. It is not `Drop`, since the hall has to be stopped.
@@ -55,6 +58,7 @@ pub(crate) fn serve_clients<
     ensures why { HasEnded settings.now.accepts result.no_more }
 {
     let (turns, accepts) = (settings.turns, settings.accepts);
+    let lent = &right;
     let no_more = thread::scope(
         thread::scope_env(),
         rt,
@@ -66,16 +70,17 @@ pub(crate) fn serve_clients<
                 rt,
                 alloc,
                 house,
+                right: lent,
                 gate,
                 turns,
             };
-            let no_more = porter.accept_all(scope, &entrance, &right, accepts);
+            let no_more = porter.accept_all(scope, &entrance, accepts);
             house.close_door(rt);
-            drop(right);
             drop(entrance);
             no_more
         },
     );
+    drop(right);
     AllServed { no_more }
 }
 
@@ -85,6 +90,7 @@ struct Porter<'s, C: Tally, M: Tally, G: Gate, R: Clock> {
     rt: &'s R,
     alloc: Global,
     house: &'s House<C, M>,
+    right: &'s ConnectRight,
     gate: &'s G,
     /// How many reads each connection has.
     turns: u64,
@@ -98,13 +104,7 @@ impl<
     R: Clock + Threads + Wait + Sync,
 > Porter<'s, C, M, G, R> {
     /// Accepts connections until the server ends or this many came; without end if it is 0.
-    fn accept_all<E>(
-        &self,
-        scope: &Scope<'s, E>,
-        entrance: &Entrance,
-        right: &ConnectRight,
-        accepts: u64,
-    ) -> NoMore
+    fn accept_all<E>(&self, scope: &Scope<'s, E>, entrance: &Entrance, accepts: u64) -> NoMore
         requires calls { C.all ≡ C.parts }
         requires mails { M.all ≡ M.parts }
         ensures { HasEnded accepts result }
@@ -114,25 +114,51 @@ impl<
                 Err(no_more) => return no_more,
                 Ok(running) => match entrance.accept(self.alloc, running) {
                     Err(error) => pause(self.rt, error),
-                    Ok(accepted) => self.welcome(scope, right, accepted),
+                    Ok(accepted) => self.welcome(scope, accepted),
                 },
             }
         }
         unreachable!()
     }
 
-    /// Begins to serve a client, if there is room for it and the hall makes its seats.
-    fn welcome<E>(&self, scope: &Scope<'s, E>, right: &ConnectRight, accepted: Accepted)
+    /// Begins to serve a client, if there is room for it and the hall makes its seats. One for whom a place is about to be free waits for
+    /// it in a thread of its own.
+    fn welcome<E>(&self, scope: &Scope<'s, E>, accepted: Accepted)
         requires calls { C.all ≡ C.parts }
         requires mails { M.all ≡ M.parts }
     {
         let (rt, house) = (self.rt, self.house);
         match house.enter(rt) {
-            Ok(admission) => match house.connect(rt, right, Connection::of(accepted, admission)) {
-                Ok(newcomer) => self.start(scope, newcomer),
-                Err(unserved) => house.refuse(rt, unserved),
+            Ok(admission) => {
+                match house.connect(rt, self.right, Connection::of(accepted, admission)) {
+                    Ok(newcomer) => self.start(scope, newcomer),
+                    Err(unserved) => house.refuse(rt, unserved),
+                }
+            }
+            Err(full) => match house.put_late(rt, accepted, full) {
+                Ok(waiting) => self.start_late(scope, waiting),
+                Err((accepted, full)) => accepted.close(full),
             },
-            Err(full) => accepted.close(full),
+        }
+    }
+
+    /// Starts the thread of a client who waits for its place. If that can't be done, the client waits no more.
+    fn start_late<E>(&self, scope: &Scope<'s, E>, waiting: Waiting)
+        requires calls { C.all ≡ C.parts }
+        requires mails { M.all ≡ M.parts }
+    {
+        let (rt, alloc, house, right, gate, turns) = (
+            self.rt, self.alloc, self.house, self.right, self.gate, self.turns,
+        );
+        let started = Builder::new().stack_size(STACK).spawn_scoped(
+            scope,
+            move || -> Ended
+                requires { (C.all ≡ C.parts) × (M.all ≡ M.parts) }
+            { serve_late(rt, alloc, house, right, gate, turns, ROOM_WAIT) },
+        );
+        match started {
+            Ok(thread) => waiting.begins(thread),
+            Err(_) => drop(waiting.ends(serve_late(rt, alloc, house, right, gate, 0, 0))),
         }
     }
 
@@ -154,7 +180,7 @@ impl<
                 );
                 match started {
                     Ok(thread) => waiting.begins(thread),
-                    Err(_) => waiting.ends(serve_next(rt, alloc, house, gate, 0)),
+                    Err(_) => drop(waiting.ends(serve_next(rt, alloc, house, gate, 0))),
                 }
             }
             Err(newcomer) => drop(newcomer.serve(rt, alloc, house, gate, 0)),
@@ -175,6 +201,42 @@ fn serve_next<
     match house.take(rt) {
         Ok(newcomer) => newcomer.serve(rt, alloc, house, gate, turns),
         Err(none) => Ended::of(none),
+    }
+}
+
+/// Takes a client that waits for its place, and serves it once that is free; or sends it away after `millis` milliseconds.
+fn serve_late<
+    C: Tally + Send + Sync,
+    M: Tally + Send + Sync,
+    G: Gate + Sync,
+    R: Clock + Threads + Wait + Sync,
+>(
+    rt: &R,
+    alloc: Global,
+    house: &House<C, M>,
+    right: &ConnectRight,
+    gate: &G,
+    turns: u64,
+    millis: u64,
+) -> Ended
+    requires calls { C.all ≡ C.parts }
+    requires mails { M.all ≡ M.parts }
+{
+    let (accepted, expected) = match house.take_late(rt) {
+        Ok(late) => late,
+        Err(none) => return Ended::of(none),
+    };
+    let admission = match house.enter_late(rt, expected, millis) {
+        Ok(admission) => admission,
+        Err(full) => return Ended::away(accepted, full),
+    };
+    let newcomer = match house.connect(rt, right, Connection::of(accepted, admission)) {
+        Ok(newcomer) => newcomer,
+        Err(unserved) => return Ended::unserved(rt, house, unserved),
+    };
+    match house.put(rt, newcomer) {
+        Ok(waiting) => waiting.ends(serve_next(rt, alloc, house, gate, turns)),
+        Err(newcomer) => newcomer.serve(rt, alloc, house, gate, 0),
     }
 }
 

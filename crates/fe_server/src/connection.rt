@@ -4,14 +4,14 @@
 //! What serves a connection takes any reader and any writer, whose bytes its clauses name. One expression, in `Connection::serve`, knows
 //! that it is a socket.
 
-ghost use Rattle.std.specs.Prelude.{◌≡◌, ◌≢◌, ◌⊎◌, ◌∷◌, ◌++◌, [], List, true, false, IfSome, IsSome, IsTrue};
+ghost use Rattle.std.specs.Prelude.{◌≡◌, ◌≢◌, ◌⊎◌, ◌∷◌, ◌++◌, [], List, true, false, IfOk, IsSome, IsTrue};
 ghost use Rattle.fe_history.specs.Acts.{AreTold};
 ghost use Rattle.fe_mail.specs.declared.mail.Mail.{Mail as Told};
 ghost use Rattle.fe_streams.specs.Incoming.{bytes_read};
 ghost use Rattle.fe_hall.specs.Reads.{HandlesStream};
 ghost use Rattle.fe_hall.specs.Writes.{AreTaken, IsWritten};
 ghost use Rattle.fe_server.specs.Departed.{joined_to};
-ghost use Rattle.fe_server.specs.Sides.{HasHandled, HasWritten};
+ghost use Rattle.fe_server.specs.Sides.{HasHandled, HasWritten, ends_stream};
 ghost use Rattle.fe_server.specs.Streams.{known_bytes};
 
 use crate::departed::Departed;
@@ -48,6 +48,44 @@ impl HangUp for UnixStream {
         let _ = self.shutdown(Shutdown::Both);
     }
 }
+
+/// By which one side of a connection ends its stream. It is not `Drop`: a side that ends does so, or leaves the stream to the other one.
+struct StreamEnd<'a, E: HangUp> {
+    stream: &'a E,
+}
+
+/// Whether a side that ended has ended its stream. Only a `StreamEnd` makes it.
+#[derive(Drop)]
+struct Parted {
+    is_shut: bool,
+}
+
+impl<'a, E: HangUp> StreamEnd<'a, E> {
+    fn of(stream: &'a E) -> StreamEnd<'a, E> {
+        StreamEnd { stream }
+    }
+
+    /// Ends the stream.
+    fn hang_up(self) -> Parted
+        ensures { result.is_shut ≡ true }
+    {
+        let StreamEnd { stream } = self;
+        stream.hang_up();
+        Parted { is_shut: true }
+    }
+
+    /// Leaves the stream to the other side.
+    fn leave(self) -> Parted
+        ensures { result.is_shut ≡ false }
+    {
+        let StreamEnd { stream: _ } = self;
+        Parted { is_shut: false }
+    }
+}
+
+/// Shows that a socket could not be shared once more. Only `Connection::handle` makes it.
+#[derive(Drop)]
+pub(crate) struct Unshared(());
 
 /// The socket of a client.
 #[derive(Drop)]
@@ -114,12 +152,12 @@ impl Connection {
     }
 
     /// A handle by which others end its stream, and see whether it has ended.
-    pub(crate) fn handle(&self) -> Option<SocketHandle>
-        ensures { IfSome result (λ handle. handle.conn ≡ self.now.admission.conn) }
+    pub(crate) fn handle(&self) -> Result<SocketHandle, Unshared>
+        ensures { IfOk result (λ handle. handle.conn ≡ self.now.admission.conn) }
     {
         match Arc::try_clone(&self.socket) {
-            Ok(socket) => Some(SocketHandle::of(self.admission.conn(), socket)),
-            Err(_) => None,
+            Ok(socket) => Ok(SocketHandle::of(self.admission.conn(), socket)),
+            Err(_) => Err(Unshared(())),
         }
     }
 
@@ -181,9 +219,14 @@ impl<C: Tally, M: Tally> Outcome<C, M> {
         mails: MailSeat<M>,
         receipts: Receipts<M>,
         write: WriteEnd,
+        _reader: Parted,
+        _writer: Parted,
     ) -> Outcome<C, M>
         requires one { calls.conn ≡ mails.conn }
         requires own { receipts.conn ≡ mails.conn }
+        // The write side has ended the stream, and so has the read side, unless the write side could go on.
+        requires reader { _reader.is_shut ≡ ends_stream read }
+        requires writer { _writer.is_shut ≡ true }
         ensures calls { result.calls ≡ calls }
         ensures sent { result.sent ≡ sent }
         ensures read { result.read ≡ read }
@@ -232,11 +275,13 @@ struct Wrote<W: WriteHalf + Drop, M: Tally> {
     seat: Snapshot<MailSeat<M>>,
 }
 
-impl<W: WriteHalf + Drop, M: Tally> Promise<(MailSeat<M>, Receipts<M>, WriteEnd, W)>
+impl<W: WriteHalf + Drop, M: Tally> Promise<(MailSeat<M>, Receipts<M>, WriteEnd, W, Parted)>
     for Wrote<W, M> {
+    ghost use Rattle.std.specs.Prelude.{◌≡◌, true};
     ghost use Rattle.fe_server.specs.Sides.{HasWritten};
 
-    ghost kept_by = { λ p r. HasWritten W.tells W.got p.before.value r.3 p.seat.value r.0 r.1 r.2 };
+    ghost kept_by = { λ p r. HasWritten W.tells W.got p.before.value r.3 p.seat.value r.0 r.1 r.2
+        × (r.4.is_shut ≡ true) };
 }
 
 /// Serves a connection over a reader and a writer, until both its sides have ended. Where the reader's bytes are known, the front of what
@@ -355,35 +400,37 @@ fn serve_in<
         before: Snapshot::of(&to),
         seat: Snapshot::of(&mails),
     };
+    let own = StreamEnd::of(ends);
     let writing = Stack::new().stack_size(STACK).spawn_scoped_with(
         scope,
         promise,
-        move || -> (MailSeat<M>, Receipts<M>, WriteEnd, W)
-            ensures { HasWritten W.tells W.got to result.3 mails result.0 result.1 result.2 }
-        { run_write_side(rt, alloc, house, mails, to, ends) },
+        move || -> (MailSeat<M>, Receipts<M>, WriteEnd, W, Parted)
+            ensures { HasWritten W.tells W.got to result.3 mails result.0 result.1 result.2
+                × (result.4.is_shut ≡ true) }
+        { run_write_side(rt, alloc, house, mails, to, StreamEnd::of(ends)) },
     );
     match writing {
         Ok(thread) => {
-            let (from, calls, sent, read) = run_read_side(
-                rt, alloc, house, gate, calls, from, ends, turns,
+            let (from, calls, sent, read, reader) = run_read_side(
+                rt, alloc, house, gate, calls, from, own, turns,
             );
-            let (mails, receipts, write, to) = thread.join(rt);
+            let (mails, receipts, write, to, writer) = thread.join(rt);
             (
                 from,
                 to,
-                Outcome::of(calls, sent, read, mails, receipts, write),
+                Outcome::of(calls, sent, read, mails, receipts, write, reader, writer),
             )
         }
         Err(refused) => {
             // Without a writing thread, nothing is read.
-            let (from, calls, sent, read) = run_read_side(
-                rt, alloc, house, gate, calls, from, ends, 0,
+            let (from, calls, sent, read, reader) = run_read_side(
+                rt, alloc, house, gate, calls, from, own, 0,
             );
-            let (mails, receipts, write, to) = (refused.value)();
+            let (mails, receipts, write, to, writer) = (refused.value)();
             (
                 from,
                 to,
-                Outcome::of(calls, sent, read, mails, receipts, write),
+                Outcome::of(calls, sent, read, mails, receipts, write, reader, writer),
             )
         }
     }
@@ -398,20 +445,22 @@ fn run_read_side<C: Tally, M: Tally, G: Gate, R: Clock + Wait, H: ReadHalf + Dro
     gate: &G,
     seat: CallSeat<C>,
     from: H,
-    ends: &E,
+    stream: StreamEnd<'_, E>,
     turns: u64,
-) -> (H, CallSeat<C>, Vec<ClientMessage>, ReadEnd)
-    ensures { HasHandled H.tells H.told H.reads turns from result.0 seat result.1 result.2.items result.3 }
+) -> (H, CallSeat<C>, Vec<ClientMessage>, ReadEnd, Parted)
+    ensures handled { HasHandled H.tells H.told H.reads turns from result.0 seat result.1 result.2.items result.3 }
+    ensures parted { result.4.is_shut ≡ ends_stream result.3 }
 {
     let mut from = from;
     let (seat, sent, end) = read_side(rt, alloc, house.hall(), seat, &mut from, gate, Some(turns));
     if end == ReadEnd::Spent {
-        house.spend(rt);
+        house.spend_calls(rt, &seat);
     }
-    if !matches!(end, ReadEnd::Closed | ReadEnd::Turns) {
-        ends.hang_up();
-    }
-    (from, seat, sent, end)
+    let parted = match end {
+        ReadEnd::Closed | ReadEnd::Turns => stream.leave(),
+        _ => stream.hang_up(),
+    };
+    (from, seat, sent, end, parted)
 }
 
 /// Runs the write side of a connection. At its end the stream is ended, which ends the read side too.
@@ -421,15 +470,15 @@ fn run_write_side<C: Tally, M: Tally, R: Wait, W: WriteHalf + Drop, E: HangUp>(
     house: &House<C, M>,
     seat: MailSeat<M>,
     to: W,
-    ends: &E,
-) -> (MailSeat<M>, Receipts<M>, WriteEnd, W)
-    ensures { HasWritten W.tells W.got to result.3 seat result.0 result.1 result.2 }
+    stream: StreamEnd<'_, E>,
+) -> (MailSeat<M>, Receipts<M>, WriteEnd, W, Parted)
+    ensures { HasWritten W.tells W.got to result.3 seat result.0 result.1 result.2
+        × (result.4.is_shut ≡ true) }
 {
     let mut to = to;
     let (seat, receipts, end) = write_side(rt, alloc, house.hall(), seat, &mut to);
     if end == WriteEnd::Spent {
-        house.spend(rt);
+        house.spend_mails(rt, &seat);
     }
-    ends.hang_up();
-    (seat, receipts, end, to)
+    (seat, receipts, end, to, stream.hang_up())
 }

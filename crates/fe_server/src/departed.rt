@@ -13,8 +13,8 @@ ghost use Rattle.fe_server.specs.Serving.{fault_of_end};
 use crate::register::Over;
 use crate::stop_fault::StopFault;
 use fe_hall::{
-    Account, Audit, CallSeat, Gathered, Hall, MailSeat, Receipts, Seats, StoreSeat, Tally,
-    account_of, settle,
+    Account, Audit, CallSeat, ConnectRight, Gathered, Hall, MailSeat, Receipts, Seats, StoreSeat,
+    Tally, account_of, settle,
 };
 use fe_state::State;
 use fe_wire::ClientMessage;
@@ -36,8 +36,12 @@ pub(crate) struct Departed<C: Tally, M: Tally> {
 }
 
 impl<C: Tally, M: Tally> Departed<C, M> {
-    /// No connection has ended.
-    pub(crate) fn new(alloc: Global, receipts: Gathered<M>) -> Departed<C, M> {
+    /// No connection has ended. Only who has the right to make connections can make it, so that none of them is added to another one.
+    pub(crate) fn new(
+        alloc: Global,
+        _right: &ConnectRight,
+        receipts: Gathered<M>,
+    ) -> Departed<C, M> {
         Departed {
             short: false,
             spent: false,

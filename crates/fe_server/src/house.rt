@@ -6,22 +6,26 @@ ghost use Rattle.fe_history.specs.Acts.{EachTold, Gathered as Kept, IsAccountOf}
 ghost use Rattle.fe_hall.specs.Audits.{account_left};
 ghost use Rattle.fe_history.specs.Receipts.{IsBorneOut};
 ghost use Rattle.fe_history.specs.declared.act.Act.TheVariants as act;
+ghost use Rattle.fe_shared.specs.declared.standing.Standing.TheVariants as Standing;
 ghost use Rattle.fe_server.specs.Arrivals.{HasEnded};
 ghost use Rattle.fe_server.specs.Departed.{IsClean};
 ghost use Rattle.fe_server.specs.Serving.{HasNoted, IsBlankOf, fault_of_end};
 ghost use Rattle.fe_server.specs.declared.stop_fault.StopFault.TheVariants as fault;
 
 use crate::accepting::AllServed;
-use crate::connection::{Connection, Outcome};
+use crate::connection::{Accepted, Connection, Outcome};
 use crate::departed::Departed;
 use crate::entrance::Entrance;
-use crate::newcomer::{Newcomer, Unserved};
-use crate::register::{Admission, Full, NoMore, NoNewcomer, Over, Register, Running, Waiting};
+use crate::newcomer::{Newcomer, Unkept, Unserved};
+use crate::register::{
+    Admission, Expected, Full, NoMore, NoNewcomer, Over, Register, Running, Waiting,
+};
 use crate::stop_fault::StopFault;
 use fe_disk::Disk;
 use fe_front::Front;
 use fe_hall::{
-    Account, Audit, CommitEnd, ConnectRight, Hall, NewHistory, StoreSeat, Tally, commit_side,
+    Account, Audit, CallSeat, CommitEnd, ConnectRight, Hall, MailSeat, NewHistory, StoreSeat,
+    Tally, commit_side,
 };
 use fe_keeper::Keeper;
 use fe_options::Settings;
@@ -30,10 +34,8 @@ use std::alloc::{AllocError, Global};
 use std::snapshot::Snapshot;
 use std::sync::ledger::Blank;
 use std::sync::{Condvar, CondvarTimeouts, Mutex, Wait};
+use std::thread::SpawnError;
 use std::time::{Clock, Duration};
-
-/// How many milliseconds a newcomer waits at most for room.
-const ROOM_WAIT: u64 = 1000;
 
 /// How many milliseconds the write sides have for writing what was told, once nothing is stored any more.
 const LAST_WAIT: u64 = 400;
@@ -94,7 +96,7 @@ impl<C: Tally, M: Tally> Opened<C, M> {
                 let receipts = hall.no_receipts(alloc);
                 let house = House {
                     hall,
-                    register: Mutex::new(Register::new(alloc, door, receipts)),
+                    register: Mutex::new(Register::new(alloc, &right, door, receipts)),
                     freed: Condvar::new(),
                     most: settings.connections,
                     accepts: settings.accepts,
@@ -170,26 +172,53 @@ impl<C: Tally, M: Tally> Opened<C, M> {
 }
 
 impl<C: Tally, M: Tally> House<C, M> {
-    /// Admits one more connection if there is room. If there is none, it waits for the connections that are about to end, but once only
-    /// for each.
-    pub(crate) fn enter<R: Clock + Wait>(&self, rt: &R) -> Result<Admission, Full>
+    /// Admits one more connection if there is room for it, beside the clients who wait.
+    pub(crate) fn enter<R: Wait>(&self, rt: &R) -> Result<Admission, Full>
         ensures admission { IfOk result
             (λ admission. (admission.most ≡ self.now.most) × (admission.accepts ≡ self.now.accepts)) }
         // Only the register says that it is full, with as many as the settings say.
         ensures full { IfErr result (λ full. (full.most ≡ self.now.most) × (full.accepts ≡ self.now.accepts)) }
     {
         let (most, accepts) = (self.most, self.accepts);
+        self.register.lock(rt).enter(None, most, accepts)
+    }
+
+    /// Keeps a client until its thread takes it, and for it a place that is about to be free. Gives it back if there is none for which nobody
+    /// waited yet.
+    pub(crate) fn put_late<R: Wait>(
+        &self,
+        rt: &R,
+        accepted: Accepted,
+        full: Full,
+    ) -> Result<Waiting, (Accepted, Full)> {
+        self.register.lock(rt).put_late(accepted, full)
+    }
+
+    /// Takes a client that waits for a place and whose thread has not begun.
+    pub(crate) fn take_late<R: Wait>(&self, rt: &R) -> Result<(Accepted, Expected), NoNewcomer> {
+        self.register.lock(rt).take_late()
+    }
+
+    /// Waits for a place that is about to be free, at most `millis` milliseconds, and admits the client for whom it is kept.
+    pub(crate) fn enter_late<R: Clock + Wait>(
+        &self,
+        rt: &R,
+        expected: Expected,
+        millis: u64,
+    ) -> Result<Admission, Full>
+        ensures admission { IfOk result
+            (λ admission. (admission.most ≡ self.now.most) × (admission.accepts ≡ self.now.accepts)) }
+        ensures full { IfErr result (λ full. (full.most ≡ self.now.most) × (full.accepts ≡ self.now.accepts)) }
+    {
+        let (most, accepts) = (self.most, self.accepts);
         let register = self.register.lock(rt);
-        let (mut register, waited) = self.freed.wait_timeout_while(
+        let (mut register, _) = self.freed.wait_timeout_while(
             rt,
             register,
-            Duration::from_millis(ROOM_WAIT),
-            |register| !register.has_room(most) && register.has_ending(),
+            Duration::from_millis(millis),
+            |register| register.is_full(most),
         );
-        if waited.timed_out() {
-            register.outlast();
-        }
-        register.enter(most, accepts)
+        register.enter(Some(expected), most, accepts)
     }
 
     /// Keeps a connection until its thread takes it. Gives it back if there is no memory for it.
@@ -197,7 +226,7 @@ impl<C: Tally, M: Tally> House<C, M> {
         &self,
         rt: &R,
         newcomer: Newcomer<C, M>,
-    ) -> Result<Waiting, Newcomer<C, M>> {
+    ) -> Result<Waiting, Unkept<C, M>> {
         self.register.lock(rt).put(newcomer)
     }
 
@@ -262,15 +291,16 @@ impl<C: Tally, M: Tally> House<C, M> {
         ensures { result.end ≡ end }
     {
         let mut register = self.register.lock(rt);
-        let over = register.end(end);
+        let ending = register.end(end);
+        // (clients who wait are sent away)
+        self.freed.notify_all();
         let waited = self.freed.wait_timeout_while(
             rt,
             register,
             Duration::from_millis(LAST_WAIT),
             |register| !register.is_empty(),
         );
-        waited.0.shut_all();
-        over
+        waited.0.shut_all(ending)
     }
 
     /// No connection is accepted any more.
@@ -290,14 +320,27 @@ impl<C: Tally, M: Tally> House<C, M> {
         served.end(self.hall.stop(rt));
     }
 
-    /// There is no memory for something that the closing needs, so the hall stops.
-    pub(crate) fn fall_short<R: Wait>(&self, rt: &R) {
+    /// The committing thread could not be started, which the closing tells as a lack of memory. So the hall stops.
+    pub(crate) fn fall_short<R: Wait, F>(&self, rt: &R, _refused: &SpawnError<F>) {
         self.register.lock(rt).departed.short = true;
         self.hall.stop(rt);
     }
 
-    /// A book of the hall is full, so the hall stops.
-    pub(crate) fn spend<R: Wait>(&self, rt: &R) {
+    /// A read side was told that a book of the hall is full, so the hall stops.
+    pub(crate) fn spend_calls<R: Wait>(&self, rt: &R, _seat: &CallSeat<C>)
+        requires { _seat.now.standing ≡ Standing.Spent }
+    {
+        self.spend(rt);
+    }
+
+    /// A write side was told so.
+    pub(crate) fn spend_mails<R: Wait>(&self, rt: &R, _seat: &MailSeat<M>)
+        requires { _seat.now.standing ≡ Standing.Spent }
+    {
+        self.spend(rt);
+    }
+
+    fn spend<R: Wait>(&self, rt: &R) {
         self.register.lock(rt).departed.spent = true;
         self.hall.stop(rt);
     }

@@ -13,6 +13,7 @@ mod entrance;
 mod failed;
 mod house;
 mod newcomer;
+mod opening;
 mod register;
 mod serve_fault;
 mod served;
@@ -23,6 +24,7 @@ mod stream;
 
 pub use books::books_text;
 pub use failed::Failed;
+pub use opening::Unopened;
 pub use serve_fault::ServeFault;
 pub use served::Served;
 pub use server::{serve, serve_store};

@@ -2,10 +2,10 @@
 
 ghost use Rattle.std.specs.Prelude.{◌≡◌, IfOk};
 
-use crate::connection::Connection;
+use crate::connection::{Accepted, Connection, Unshared};
 use crate::house::House;
-use crate::register::{Admission, NoNewcomer};
-use fe_hall::{ConnectRight, Gate, Hall, NewSeats, Tally};
+use crate::register::{Admission, Full, NoNewcomer};
+use fe_hall::{ConnectRight, Gate, Hall, NewSeats, Short, Tally, Unconnected};
 use std::alloc::Global;
 use std::sync::Wait;
 use std::thread::Threads;
@@ -18,28 +18,84 @@ pub(crate) struct Newcomer<C: Tally, M: Tally> {
     ghost own: { seats ≡ connection.admission.conn },
 }
 
-/// Shows that a connection that waited for its thread was served, or that none waited. Only `Newcomer::serve` and `NoNewcomer` make it.
+/// Shows that a client that waited for its thread was served or sent away, or that none waited. Only `Newcomer::serve` and the functions
+/// below make it.
 #[derive(Drop)]
 pub(crate) struct Ended(());
 
 impl Ended {
-    /// No connection waited.
+    /// No client waited.
     pub(crate) fn of(none: NoNewcomer) -> Ended {
         drop(none);
         Ended(())
     }
+
+    /// The client was sent away, since there was no place for it.
+    pub(crate) fn away(accepted: Accepted, full: Full) -> Ended {
+        accepted.close(full);
+        Ended(())
+    }
+
+    /// The connection was closed, since the hall made no seats for it.
+    pub(crate) fn unserved<C: Tally, M: Tally, R: Wait>(
+        rt: &R,
+        house: &House<C, M>,
+        unserved: Unserved,
+    ) -> Ended {
+        house.refuse(rt, unserved);
+        Ended(())
+    }
 }
 
-/// A connection for which a hall made no seats. Only `Newcomer::of` makes it.
+/// Why a connection could not be kept until a thread takes it.
+#[derive(Drop)]
+pub(crate) enum Bar {
+    Memory(Short),
+    Handle(Unshared),
+}
+
+/// A connection that could not be kept until a thread takes it.
+pub(crate) struct Unkept<C: Tally, M: Tally> {
+    newcomer: Newcomer<C, M>,
+}
+
+impl<C: Tally, M: Tally> Unkept<C, M> {
+    pub(crate) fn of(newcomer: Newcomer<C, M>, _bar: Bar) -> Unkept<C, M>
+        ensures { result.newcomer ≡ newcomer }
+    {
+        Unkept { newcomer }
+    }
+}
+
+impl<C: Tally + Send + Sync, M: Tally + Send + Sync> Unkept<C, M> {
+    /// Serves its client as `Newcomer::serve` does.
+    pub(crate) fn serve<G: Gate + Sync, R: Clock + Threads + Wait + Sync>(
+        self,
+        rt: &R,
+        alloc: Global,
+        house: &House<C, M>,
+        gate: &G,
+        turns: u64,
+    ) -> Ended
+        requires calls { C.all ≡ C.parts }
+        requires mails { M.all ≡ M.parts }
+    {
+        let Unkept { newcomer } = self;
+        newcomer.serve(rt, alloc, house, gate, turns)
+    }
+}
+
+/// A connection for which a hall made no seats, and why. Only `Newcomer::of` makes it.
 pub(crate) struct Unserved {
     connection: Connection,
+    why: Unconnected,
 }
 
 impl Unserved {
     pub(crate) fn close(self) -> Admission
         ensures { result ≡ self.connection.admission }
     {
-        let Unserved { connection } = self;
+        let Unserved { connection, why: _ } = self;
         connection.close()
     }
 }
@@ -56,7 +112,7 @@ impl<C: Tally, M: Tally> Newcomer<C, M> {
     {
         match hall.connect(rt, right, connection.conn()) {
             Ok(seats) => Ok(Newcomer { connection, seats }),
-            Err(_) => Err(Unserved { connection }),
+            Err(why) => Err(Unserved { connection, why }),
         }
     }
 }

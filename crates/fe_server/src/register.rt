@@ -1,16 +1,16 @@
 //! Which connections a server has.
 
-ghost use Rattle.std.specs.Prelude.{◌≡◌, ◌⊎◌, ◌+◌, ◌-◌, ◌^◌, ◌<◌, ◌≤◌, ◌∷◌, ◌++◌, [], true, false, IfOk, IfErr, OnErr, OnOk, IsSome, IsTrue, nat_lt};
-ghost use Rattle.fe_server.specs.Departed.{IsAdded, joined_to};
-ghost use Rattle.fe_server.specs.Arrivals.{HasEnded};
+ghost use Rattle.std.specs.Prelude.{◌≡◌, ◌↔◌, ◌⊎◌, ◌+◌, ◌-◌, ◌^◌, ◌<◌, ◌≤◌, ◌∷◌, ◌++◌, [], true, false, IfOk, IfErr, OnErr, OnOk, IsSome, IsTrue};
+ghost use Rattle.fe_server.specs.Departed.{IsAdded, joined_to, without};
+ghost use Rattle.fe_server.specs.Arrivals.{HasEnded, awaited_after, kept_from};
 ghost use Rattle.fe_server.specs.Serving.{fault_of_end};
 
-use crate::connection::Outcome;
+use crate::connection::{Accepted, Outcome};
 use crate::departed::Departed;
-use crate::newcomer::{Ended, Newcomer, Unserved};
+use crate::newcomer::{Bar, Ended, Newcomer, Unkept, Unserved};
 use crate::socket_handle::SocketHandle;
 use crate::stop_fault::StopFault;
-use fe_hall::{CommitEnd, Gathered, Tally};
+use fe_hall::{CommitEnd, ConnectRight, Gathered, Tally, reserve_one};
 use std::alloc::Global;
 use std::net::Shutdown;
 use std::os::unix::net::UnixStream;
@@ -34,12 +34,16 @@ impl Admission {
 }
 
 /// Shows that no more connections could come: with at most `most` at once, with at most `accepts` in all, or as the server had ended.
-/// Only `Register::enter` makes it.
+/// Only a register makes it.
 #[derive(Drop)]
 pub(crate) struct Full {
     most: u64,
     accepts: u64,
 }
+
+/// A place that is about to be free, kept for the client who waits for it. Only `Register::put_late` makes it. It is not `Drop`: who has
+/// it enters, or finds that there is no room.
+pub(crate) struct Expected(());
 
 /// Shows that no connection comes any more: the server has ended, or as many came as may come. Only `Register::running` makes it.
 #[derive(Drop)]
@@ -49,25 +53,25 @@ pub(crate) struct NoMore {
     accepts: u64,
 }
 
-/// A connection was put into the register, and a thread has to take it. It is not `Drop`: either such a thread was started, or this one
-/// took a connection in its place.
+/// A client was put into the register, and a thread has to take it. It is not `Drop`: either such a thread was started, or this one
+/// took a client in its place.
 pub(crate) struct Waiting(());
 
 impl Waiting {
-    /// A thread was started that takes a connection and serves it.
+    /// A thread was started that takes a client and serves it.
     pub(crate) fn begins(self, thread: JoinHandle<Ended>) {
         let Waiting(()) = self;
         drop(thread);
     }
 
-    /// A connection was taken and served here.
-    pub(crate) fn ends(self, ended: Ended) {
+    /// A client was taken here, and served or sent away.
+    pub(crate) fn ends(self, ended: Ended) -> Ended {
         let Waiting(()) = self;
-        drop(ended);
+        ended
     }
 }
 
-/// Shows that no connection waited for its thread. Only `Register::take` makes it.
+/// Shows that no client waited for its thread. Only `Register::take` and `Register::take_late` make it.
 #[derive(Drop)]
 pub(crate) struct NoNewcomer(());
 
@@ -75,8 +79,14 @@ pub(crate) struct NoNewcomer(());
 #[derive(Drop)]
 pub(crate) struct Running(());
 
-/// Shows that a server has ended, and how its committing side did. Only `Register::end` makes it, and a house gives neither its books
-/// nor its account without it.
+/// Shows that the committing side of a server has ended, and how. Only `Register::end` makes it. It is not `Drop`, since the streams of
+/// the connections that are left have to be ended.
+pub(crate) struct Ending {
+    end: CommitEnd,
+}
+
+/// Shows that a server has ended, and how its committing side did. Only `Register::shut_all` makes it, and a house gives neither its
+/// books nor its account without it.
 #[derive(Drop)]
 pub(crate) struct Over {
     end: CommitEnd,
@@ -105,6 +115,10 @@ pub(crate) struct Register<C: Tally, M: Tally> {
     came: u64,
     /// How many connections are there.
     present: u64,
+    /// How many clients wait for a place that is about to be free.
+    awaited: u64,
+    /// Those of them whose threads have not begun.
+    latecomers: Vec<(Accepted, Expected)>,
     /// By which their streams are ended.
     handles: Vec<SocketHandle>,
     /// Another handle of the listener, as a socket that can be shut down, while connections are accepted.
@@ -117,38 +131,48 @@ pub(crate) struct Register<C: Tally, M: Tally> {
 
 impl<C: Tally, M: Tally> Register<C, M> {
     /// No connection came.
-    pub(crate) fn new(alloc: Global, door: UnixStream, receipts: Gathered<M>) -> Register<C, M> {
+    pub(crate) fn new(
+        alloc: Global,
+        right: &ConnectRight,
+        door: UnixStream,
+        receipts: Gathered<M>,
+    ) -> Register<C, M> {
         Register {
             newcomers: Vec::new(alloc),
             admitted: 0,
             came: 0,
             present: 0,
+            awaited: 0,
+            latecomers: Vec::new(alloc),
             handles: Vec::new(alloc),
             door: Some(door),
             over: false,
-            departed: Departed::new(alloc, receipts),
+            departed: Departed::new(alloc, right, receipts),
         }
     }
 
     /// Keeps a connection until its thread takes it, and its handle until it leaves. Gives it back if there is no memory for it.
-    pub(crate) fn put(&mut self, newcomer: Newcomer<C, M>) -> Result<Waiting, Newcomer<C, M>>
+    pub(crate) fn put(&mut self, newcomer: Newcomer<C, M>) -> Result<Waiting, Unkept<C, M>>
         ensures put { OnOk result (self.new.newcomers.items ≡ self.old.newcomers.items ++ newcomer ∷ []) }
         ensures handle { OnOk result (IsAdded (λ handle. handle.conn ≡ newcomer.connection.admission.conn)
             self.old.handles.items self.new.handles.items) }
-        ensures back { IfErr result (λ back. back ≡ newcomer) }
+        ensures back { IfErr result (λ back. back.newcomer ≡ newcomer) }
         ensures departed { self.new.departed ≡ self.old.departed }
     {
-        if self.newcomers.reserve(1).is_err() {
-            return Err(newcomer);
+        if let Err(short) = reserve_one(&mut self.newcomers) {
+            return Err(Unkept::of(newcomer, Bar::Memory(short)));
         }
-        let Some(handle) = newcomer.connection.handle() else {
-            return Err(newcomer);
-        };
-        if self.handles.push(handle).is_err() {
-            return Err(newcomer);
+        if let Err(short) = reserve_one(&mut self.handles) {
+            return Err(Unkept::of(newcomer, Bar::Memory(short)));
         }
-        self.newcomers.push_reserved(newcomer);
-        Ok(Waiting(()))
+        match newcomer.connection.handle() {
+            Ok(handle) => {
+                self.handles.push_reserved(handle);
+                self.newcomers.push_reserved(newcomer);
+                Ok(Waiting(()))
+            }
+            Err(unshared) => Err(Unkept::of(newcomer, Bar::Handle(unshared))),
+        }
     }
 
     /// Takes a connection whose threads have not begun, the last that was put.
@@ -163,47 +187,82 @@ impl<C: Tally, M: Tally> Register<C, M> {
         }
     }
 
-    /// Whether one more connection may come, with at most this many at once.
-    pub(crate) fn has_room(&self, most: u64) -> bool
-        ensures { result ≡ nat_lt self.now.present most }
+    /// Whether a newcomer who waits has to wait on: as many as `most` are there, and the server has not ended.
+    pub(crate) fn is_full(&self, most: u64) -> bool
+        ensures { IsTrue result ↔ ((self.now.over ≡ false) × (most ≤ self.now.present)) }
     {
-        self.present < most
+        !self.over && self.present >= most
     }
 
-    /// Whether a connection is about to end: its client, or one of its own sides, has closed it, and nobody waited for that in vain.
-    pub(crate) fn has_ending(&self) -> bool {
-        self.handles.iter().any(|handle| handle.is_ending())
-    }
-
-    /// A newcomer waited in vain: the connections that were about to end are not waited for again.
-    pub(crate) fn outlast(&mut self)
+    /// Keeps a client until its thread takes it, and for it the place of a connection that is about to end. Each such place is kept once, so
+    /// nobody waits again for a connection that was waited for in vain. Gives the client back if there is no such place, or no memory.
+    pub(crate) fn put_late(
+        &mut self,
+        accepted: Accepted,
+        full: Full,
+    ) -> Result<Waiting, (Accepted, Full)>
+        ensures put { OnOk result
+            (IsAdded (λ late. late.0 ≡ accepted) self.old.latecomers.items self.new.latecomers.items) }
+        ensures awaited { OnOk result (self.new.awaited ≡ self.old.awaited + 1) }
+        ensures back { IfErr result (λ back. (back.0 ≡ accepted) × (back.1 ≡ full)) }
         ensures admitted { self.new.admitted ≡ self.old.admitted }
         ensures came { self.new.came ≡ self.old.came }
         ensures present { self.new.present ≡ self.old.present }
-        ensures over { self.new.over ≡ self.old.over }
         ensures departed { self.new.departed ≡ self.old.departed }
     {
-        for handle in &mut self.handles {
-            handle.outlasts();
+        if self.over || self.awaited >= full.most || self.latecomers.reserve(1).is_err() {
+            return Err((accepted, full));
+        }
+        let Some(at) = self.handles.iter().position(|handle| handle.is_ending()) else {
+            return Err((accepted, full));
+        };
+        self.handles[at].expect_end();
+        self.awaited += 1;
+        drop(full);
+        self.latecomers.push_reserved((accepted, Expected(())));
+        Ok(Waiting(()))
+    }
+
+    /// Takes a client that waits for a place and whose thread has not begun, the last that was put.
+    pub(crate) fn take_late(&mut self) -> Result<(Accepted, Expected), NoNewcomer>
+        ensures taken { IfOk result (λ late. self.old.latecomers.items ≡ self.new.latecomers.items ++ late ∷ []) }
+        ensures none { OnErr result (self.old.latecomers.items ≡ []) }
+        ensures departed { self.new.departed ≡ self.old.departed }
+    {
+        match self.latecomers.pop() {
+            Some(late) => Ok(late),
+            None => Err(NoNewcomer(())),
         }
     }
 
     /// Admits one more connection, and gives it the next number. At most `most` are there at once and, unless `accepts` is 0, at most
-    /// that many come.
-    pub(crate) fn enter(&mut self, most: u64, accepts: u64) -> Result<Admission, Full>
+    /// that many come. A place that another newcomer waits for is not given to one who does not.
+    pub(crate) fn enter(
+        &mut self,
+        expected: Option<Expected>,
+        most: u64,
+        accepts: u64,
+    ) -> Result<Admission, Full>
         ensures limits { IfOk result (λ admission. (admission.most ≡ most) × (admission.accepts ≡ accepts)) }
         ensures number { IfOk result (λ admission. (admission.conn ≡ self.old.admitted)
             × (self.new.admitted ≡ admission.conn + 1)) }
         ensures few { OnOk result ((self.new.present ≡ self.old.present + 1) × (self.new.present ≤ most)) }
         ensures came { OnOk result ((self.new.came ≡ self.old.came + 1) × (0 < accepts → self.new.came ≤ accepts)) }
         ensures running { OnOk result (self.old.over ≡ false) }
-        ensures full { IfErr result (λ full. (full.most ≡ most) × (full.accepts ≡ accepts) × (self.new ≡ self.old)) }
+        ensures full { IfErr result (λ full. (full.most ≡ most) × (full.accepts ≡ accepts)) }
+        ensures refused { OnErr result ((self.new.admitted ≡ self.old.admitted) × (self.new.came ≡ self.old.came)
+            × (self.new.present ≡ self.old.present)) }
+        ensures departed { self.new.departed ≡ self.old.departed }
+        ensures awaited { self.new.awaited ≡ awaited_after expected self.old.awaited }
         // Only a full register refuses a connection.
-        ensures why { OnErr result ((self.old.over ≡ true) ⊎ (most ≤ self.old.present)
+        ensures why { OnErr result ((self.old.over ≡ true)
+            ⊎ (most ≤ self.old.present + kept_from expected self.old.awaited)
             ⊎ ((0 < accepts) × (accepts ≤ self.old.came)) ⊎ (2 ^ 64 ≤ self.old.admitted + 1)) }
     {
+        let kept = places_kept(&mut self.awaited, expected);
         let all_came = accepts > 0 && self.came >= accepts;
-        if self.over || self.present >= most || all_came || self.admitted == u64::MAX {
+        let is_full = self.present >= most || most - self.present <= kept;
+        if self.over || is_full || all_came || self.admitted == u64::MAX {
             return Err(Full { most, accepts });
         }
         let conn = self.admitted;
@@ -222,6 +281,8 @@ impl<C: Tally, M: Tally> Register<C, M> {
         requires own { outcome.mails.conn ≡ admission.conn }
         requires calls { C.all ≡ C.parts }
         requires mails { M.all ≡ M.parts }
+        // Its handle goes, and so its socket is closed.
+        ensures handles { self.new.handles.items ≡ without admission.conn self.old.handles.items }
         ensures present { self.new.present ≡ self.old.present - 1 }
         ensures calls { self.new.departed.calls ≡ joined_to self.old.departed.calls outcome.calls.calls }
         ensures mails { self.new.departed.mails ≡ joined_to self.old.departed.mails outcome.mails.mails }
@@ -244,6 +305,7 @@ impl<C: Tally, M: Tally> Register<C, M> {
     }
 
     fn release(&mut self, admission: Admission)
+        ensures handles { self.new.handles.items ≡ without admission.conn self.old.handles.items }
         ensures present { self.new.present ≡ self.old.present - 1 }
         ensures came { self.new.came ≡ self.old.came }
         ensures departed { self.new.departed ≡ self.old.departed }
@@ -254,13 +316,11 @@ impl<C: Tally, M: Tally> Register<C, M> {
             accepts: _,
         } = admission;
         self.present = self.present.saturating_sub(1);
-        if let Some(at) = self.handles.iter().position(|handle| handle.conn() == conn) {
-            drop(self.handles.swap_remove(at));
-        }
+        self.handles.retain(|handle| handle.conn() != conn);
     }
 
     /// The committing side has ended so: no connection comes any more.
-    pub(crate) fn end(&mut self, end: CommitEnd) -> Over
+    pub(crate) fn end(&mut self, end: CommitEnd) -> Ending
         ensures over { self.new.over ≡ true }
         ensures end { result.end ≡ end }
     {
@@ -268,7 +328,7 @@ impl<C: Tally, M: Tally> Register<C, M> {
         if let Some(door) = self.door.take() {
             let _ = door.shutdown(Shutdown::Both);
         }
-        Over { end }
+        Ending { end }
     }
 
     /// No connection is accepted any more.
@@ -280,11 +340,15 @@ impl<C: Tally, M: Tally> Register<C, M> {
         self.present == 0
     }
 
-    /// Ends the streams of all connections.
-    pub(crate) fn shut_all(&self) {
+    /// Ends the streams of all connections that are left.
+    pub(crate) fn shut_all(&self, ending: Ending) -> Over
+        ensures { result.end ≡ ending.end }
+    {
         for handle in &self.handles {
             handle.shut();
         }
+        let Ending { end } = ending;
+        Over { end }
     }
 
     /// Whether connections may come: the server has not ended and, unless `accepts` is 0, fewer than that came.
@@ -306,7 +370,7 @@ impl<C: Tally, M: Tally> Register<C, M> {
         Ok(Running(()))
     }
 
-    /// What the connections did that have ended. Each newcomer was taken right after it was put, so none is dismissed here.
+    /// What the connections did that have ended. Each client was taken right after it was put, so none is dismissed here.
     pub(crate) fn into_departed(self) -> Departed<C, M>
         ensures { result ≡ self.departed }
     {
@@ -315,15 +379,32 @@ impl<C: Tally, M: Tally> Register<C, M> {
             admitted: _,
             came: _,
             present: _,
+            awaited: _,
+            latecomers,
             handles,
             door,
             over: _,
             departed,
         } = self;
         dismiss(newcomers);
+        dismiss_late(latecomers);
         drop(handles);
         drop(door);
         departed
+    }
+}
+
+/// How many of the awaited places are kept from a client that wants to enter. One for whom a place was kept waits no more.
+fn places_kept(awaited: &mut u64, expected: Option<Expected>) -> u64
+    ensures kept { result ≡ kept_from expected awaited.old }
+    ensures awaited { awaited.new ≡ awaited_after expected awaited.old }
+{
+    match expected {
+        Some(Expected(())) => {
+            *awaited = awaited.saturating_sub(1);
+            0
+        }
+        None => *awaited,
     }
 }
 
@@ -340,4 +421,17 @@ fn dismiss<C: Tally, M: Tally>(newcomers: Vec<Newcomer<C, M>>) {
         drop(seats);
     }
     newcomers.destroy_empty();
+}
+
+/// Closes the sockets of clients whose threads have not begun.
+fn dismiss_late(latecomers: Vec<(Accepted, Expected)>) {
+    let mut latecomers = latecomers;
+    while let Some((accepted, expected)) = latecomers.pop() {
+        let Expected(()) = expected;
+        accepted.close(Full {
+            most: 0,
+            accepts: 0,
+        });
+    }
+    latecomers.destroy_empty();
 }

@@ -8,14 +8,3 @@ pub enum ServeFault {
     /// The socket can't be made.
     Socket,
 }
-
-impl From<OpenFault> for ServeFault {
-    ghost use Rattle.std.specs.Prelude.{◌≡◌};
-    ghost use Rattle.fe_server.specs.declared.serve_fault.ServeFault.TheVariants as fault;
-
-    ghost from_gives = { λ before after. after ≡ fault.Store before };
-
-    fn from(before: OpenFault) -> ServeFault {
-        ServeFault::Store(before)
-    }
-}

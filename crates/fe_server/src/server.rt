@@ -16,19 +16,17 @@ ghost use Rattle.fe_server.specs.declared.serve_fault.ServeFault.TheVariants as 
 ghost use Rattle.fe_server.specs.declared.stop_fault.StopFault.TheVariants as fault;
 
 use crate::accepting::serve_clients;
-use crate::binding::bind;
 use crate::entrance::Entrance;
 use crate::failed::Failed;
 use crate::house::{House, Opened};
+use crate::opening::{Unopened, open};
 use crate::register::Over;
-use crate::serve_fault::ServeFault;
 use crate::served::Served;
 use crate::stop_fault::StopFault;
 use fe_disk::{Disk, FileDisk};
 use fe_hall::{Account, ConnectRight, Gate, NewHistory, StoreSeat, Tally};
 use fe_keeper::Keeper;
 use fe_options::Settings;
-use fe_store::open_store;
 use std::alloc::Global;
 use std::fs::File;
 use std::marker::Brand;
@@ -52,8 +50,8 @@ pub fn serve<R: Files<File = File> + Net + Clock + Threads + Wait + Sync, G: Gat
     alloc: Global,
     settings: &Settings,
     gate: &G,
-) -> Result<Result<Served<FileDisk>, Failed<FileDisk>>, ServeFault>
-    // The store that was opened was served: its keeper comes back with what was stored since, and what clients were told is right.
+) -> Result<Result<Served<FileDisk>, Failed<FileDisk>>, Unopened>
+    // The store that was opened was served: its keeper comes back with what was stored since, and its account says what was told.
     ensures served { IfOk result (let disk = ⟦<FileDisk as Disk>⟧ in
         WasServed disk.honest disk.moment disk.left_since disk.may_leave disk.failures) }
     ensures add_up { IfOk result (λ answer. IfOk answer (λ served. AddUp served.audit.books)) }
@@ -67,11 +65,7 @@ pub fn serve<R: Files<File = File> + Net + Clock + Threads + Wait + Sync, G: Gat
     ensures wrong_size { (found : ℕ) → IsErrOf result (served.Store (store.Size found)) → found ≢ device_bytes }
     ensures unformatted { IsErrOf result (served.Store store.Unformatted) → settings.now.format ≡ false }
 {
-    let keeper = open_store(rt, alloc, settings.store.as_str(), settings.format)?;
-    let Some(listener) = bind(rt, alloc, settings.socket.as_str()) else {
-        drop(keeper);
-        return Err(ServeFault::Socket);
-    };
+    let (keeper, listener) = open(rt, alloc, settings)?;
     Ok(serve_store(rt, alloc, listener, settings, keeper, gate))
 }
 
@@ -92,14 +86,14 @@ pub fn serve_store<D: Disk + Drop + Send, G: Gate + Sync, R: Clock + Threads + W
     // The books of a server that ended by itself: each call and each mail is in one column.
     ensures add_up { IfOk result (λ served. AddUp served.audit.books) }
     ensures unspent { IfOk result (λ served. served.audit.books.spent ≡ false) }
-    // What its clients were told is stored.
+    // Nothing that is stored or was sent contradicts a receipt.
     ensures borne_out { IfOk result
         (λ served. All (IsBorneOut served.keeper.state served.audit.sent) served.audit.receipts) }
     // If the number of connections is bounded, these are the receipts of each of them.
     ensures whole { IfOk result (λ served. 0 < settings.now.accepts → IsTrue served.audit.whole) }
-    // Each answer that a client was told is right, and in every image that a stop may leave from then on: an answer that was told is the one
-    // of its entry, in a group that was stored before, and each image since the end of its append stands for a state with that group.
-    // After a fault this holds if the account's `own` is true.
+    // Of each answer in the account's history: it was told to a connection that had asked for its session before. If the account's `own` is
+    // true, as after `Ok`, it is also the one of its entry, in a group that was stored before, and each image since the end of that group's
+    // append stands for a state with it; or it was kept from the beginning. Each receipt's answer is in that history.
     ensures acknowledged { (end : Ended) × IsAnswerAt end (fault_in result)
         × IsAcknowledged D.honest D.moment D.left_since keeper (keeper_in result) end (account_in result) }
 {
@@ -321,7 +315,7 @@ fn run_in<
         }
         Err(refused) => {
             drop(right);
-            house.fall_short(rt);
+            house.fall_short(rt, &refused);
             (refused.value)()
         }
     }

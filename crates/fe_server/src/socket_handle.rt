@@ -10,8 +10,8 @@ use std::sync::Arc;
 #[derive(Drop)]
 pub(crate) struct SocketHandle {
     conn: u64,
-    /// A newcomer waited in vain for this connection's end.
-    is_lasting: bool,
+    /// A newcomer waits for this connection's end, or did so in vain.
+    is_expected: bool,
     socket: Arc<ClientSocket, Global>,
 }
 
@@ -22,7 +22,7 @@ impl SocketHandle {
     {
         SocketHandle {
             conn,
-            is_lasting: false,
+            is_expected: false,
             socket,
         }
     }
@@ -33,16 +33,16 @@ impl SocketHandle {
         self.conn
     }
 
-    /// Whether the connection is about to end: its stream takes no more bytes, and no newcomer waited in vain for its end.
+    /// Whether the connection is about to end, and no newcomer waits or waited for that: its stream takes no more bytes.
     pub(crate) fn is_ending(&self) -> bool {
-        !self.is_lasting && self.socket.has_ended()
+        !self.is_expected && self.socket.has_ended()
     }
 
-    /// A newcomer waited for the connections that were about to end, and this one has not ended.
-    pub(crate) fn outlasts(&mut self)
+    /// A newcomer waits for the end of the connection.
+    pub(crate) fn expect_end(&mut self)
         ensures { self.new.conn ≡ self.old.conn }
     {
-        self.is_lasting = self.is_lasting || self.socket.has_ended();
+        self.is_expected = true;
     }
 
     /// Ends the stream.

@@ -5,7 +5,7 @@ use fe_client::CallFault;
 use fe_look::LookFault;
 use fe_options::{Key, SettingsFault};
 use fe_schedules::ScheduleFault;
-use fe_server::{ServeFault, StopFault};
+use fe_server::{ServeFault, StopFault, Unopened};
 use fe_store::OpenFault;
 use fe_text::StreamFault;
 use thiserror::Error;
@@ -180,6 +180,17 @@ impl From<ServeFault> for Fault {
             ServeFault::Store(fault) => Fault::from(fault),
             ServeFault::Socket => Fault::Socket,
         }
+    }
+}
+
+impl From<Unopened> for Fault {
+    ghost use Rattle.std.specs.Prelude.{◌≡◌};
+    ghost use Rattle.femem.specs.within.Faults.{of_serve};
+
+    ghost from_gives = { λ before fault. fault ≡ of_serve before };
+
+    fn from(before: Unopened) -> Fault {
+        Fault::from(before.fault())
     }
 }
 
