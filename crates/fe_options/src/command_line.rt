@@ -1,6 +1,6 @@
 //! The command line.
 
-ghost use Rattle.std.specs.Prelude.{◌≡◌, ◌⊎◌, false, map, is_some, IfSome, IfOk, IfErr, Ok, option_map};
+ghost use Rattle.std.specs.Prelude.{◌≡◌, ◌⊎◌, codes, false, map, is_some, IfSome, IfOk, IfErr, Ok, option_map};
 ghost use Rattle.clap.specs.Words.{AddsSubcommand, HasKind, app_of, fault_of, first_of, found_of, kind_of, rows_of, subcommand_of, subcommand_rows_of};
 ghost use Rattle.clap.specs.declared.builder.command.Command.{Command};
 ghost use Rattle.clap.specs.declared.builder.command.Command.TheViews.{out-Command as fields_of};
@@ -18,6 +18,21 @@ const VERSION: &str = "1.0.0";
 const RUN: &str = "Runs a schedule from standard input";
 
 const SERVE: &str = "Serves clients at a socket";
+
+/// What its help says at its end.
+const AFTER_SERVE: &str = "The settings are a TOML file with these keys:
+  socket       the path of the Unix socket to make
+  store        the path of the store's file
+  connections  how many connections are served at once, 1 to 256 [default: 64]
+  format       whether to make a store that is missing [default: false]
+  accepts      after how many connections to end, 0 for never [default: 0]
+  turns        after how many reads a connection ends [default: 1000000000]
+
+Exit status:
+  0  no fault
+  2  the command line, the settings, or standard input or output
+  3  the store, memory, or the server's own checks
+  4  the socket";
 
 const CALL: &str = "Sends lines from standard input to a server";
 
@@ -56,6 +71,15 @@ fn with_option<'a>(
     Command::new(alloc, name).about(about).arg(option)
 }
 
+/// The command `serve`, whose help names the settings and the statuses.
+fn serving<'a>(alloc: Global) -> Result<Command<'a>, AllocError>
+    ensures app { IfOk result (λ command. app_of command ≡ with_option (codes "serve") (codes "settings")) }
+    ensures local { IfOk result (λ command. (fields_of command).has_globals ≡ false) }
+{
+    let command = with_option(alloc, "serve", SERVE, "settings", "FILE", "The settings")?;
+    Ok(command.after_help(AFTER_SERVE))
+}
+
 /// A program with one more command.
 fn with<'a>(
     program: Command<'a>,
@@ -89,8 +113,7 @@ fn commands<'a>(alloc: Global) -> Result<Command<'a>, AllocError>
     ensures { IfOk result (λ command. app_of command ≡ femem) }
 {
     let with_run = program_with_run(alloc)?;
-    let serve = with_option(alloc, "serve", SERVE, "settings", "FILE", "The settings");
-    let with_serve = with(with_run, serve)?;
+    let with_serve = with(with_run, serving(alloc))?;
     let call = with_option(
         alloc,
         "call",

@@ -25,6 +25,6 @@ with_made old more before name option made app local is with =
 
 pub returns : goal.returns
 returns c =
-    let with_serve = with_made _ _ _ _ _ _ c.with_option-serve.ensures.app c.with_option-serve.ensures.local c.in_ok-with_run.ensures c.in_ok-with_serve.ensures in
+    let with_serve = with_made _ _ _ _ _ _ c.serving.ensures.app c.serving.ensures.local c.in_ok-with_run.ensures c.in_ok-with_serve.ensures in
     let with_call = with_made _ _ _ _ _ _ c.with_option-call.ensures.app c.with_option-call.ensures.local with_serve c.in_ok-with_call.ensures in
     IfOk-weaker c.with-3.result _ _ (λ more made. with_made _ _ _ _ _ _ c.with_option-look.ensures.app c.with_option-look.ensures.local with_call made) c.with-3.ensures
