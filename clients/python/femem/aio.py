@@ -18,18 +18,17 @@ import os
 import warnings
 from functools import partial
 from types import TracebackType
-from typing import Any, Dict, Iterable, List, Optional, Sequence, Type, TypeVar
+from typing import Any, Callable, List, Optional, Sequence, Type, TypeVar
 
 from . import aioworker, errors, registry
 from .aioworker import AsyncWorker, now
-from .arguments import DEFAULT, Key, Path, Timeout, choose_session, key_bytes, pause_of, request_of, seconds_of, ticket_of
-from .calls import AwaitedCalls
+from .arguments import DEFAULT, Key, Path, Timeout, choose_session, pause_of, request_of, seconds_of
+from .calls import Asking, AwaitedCalls
 from .cancels import is_owed, is_seen, owe, owed
 from .client import Recovered, end_session
 from .core import Core
 from .events import OnEvent
-from .jobs import Job, first_of
-from .reports import Report
+from .jobs import Job
 from .requests import Request
 from .sessionfile import SessionFile
 from .tickets import Ticket, nobody
@@ -162,26 +161,7 @@ class AsyncClient(AwaitedCalls):
         """As `Client.close`."""
         await self._worker.close()
 
-    async def bye(self) -> None:
-        """As `Client.bye`."""
-        self._check_use(in_any_case=True)
-        ticket: Ticket[None] = Ticket(None)
-        future = self._future(ticket)
-        self._core.leave(now(), ticket)
-        self._worker.move()
-        await future
-        await self.close()
-
-    # More at a time, and over restarts.
-
-    async def report(self) -> Report:
-        """As `Client.report`."""
-        self._check_use()
-        ticket: Ticket[Report] = Ticket(None)
-        future = self._future(ticket)
-        self._core.report(now(), ticket)
-        self._worker.move()
-        return await future
+    # More at a time.
 
     def submit(
         self, request: Request[T], *, timeout: Timeout = DEFAULT, key: Optional[Key] = None
@@ -190,37 +170,6 @@ class AsyncClient(AwaitedCalls):
         it had happened; a cancelled `await` of an operation by its own name does tell. With a key, as `once`."""
         ticket: Ticket[T] = Ticket(request_of(request)) if key is None else self._keyed(key, request)
         return self._submit(ticket, timeout)
-
-    def withdraw(self, future: asyncio.Future[Any]) -> None:
-        """As `Client.withdraw`: the future of `submit` ends with `Withdrawn`, or with its answer."""
-        self._take_back((ticket_of(future, self._core),), False)
-
-    async def submit_many(self, asked: Iterable[Request[Any]], *, timeout: Timeout = DEFAULT) -> List[Any]:
-        """As `Client.submit_many`. A task that is cancelled takes all of them back, and gets the answers if one of
-        them had happened."""
-        tickets: List[Ticket[Any]] = [Ticket(request_of(request)) for request in asked]
-        seconds = self._seconds(timeout)
-        self._check_use()
-        futures = [self._future(ticket) for ticket in tickets]
-        self._core.take(tickets, seconds, now())
-        self._worker.move()
-        return await self._told(tickets, asyncio.gather(*futures, return_exceptions=True))
-
-    async def once(self, key: Key, request: Request[T], *, timeout: Timeout = DEFAULT) -> T:
-        """As `Client.once`."""
-        ticket = self._keyed(key, request)
-        return await self._told((ticket,), self._submit(ticket, timeout))
-
-    def forget(self, *keys: Key) -> None:
-        """As `Client.forget`."""
-        self._with_file()
-        for key in [key_bytes(key) for key in keys]:
-            self._core.forget(key)
-
-    async def wait_any(self, asked: Iterable[Request[Any]], *, timeout: Timeout = DEFAULT) -> Dict[int, Any]:
-        """As `Client.wait_any`."""
-        steps = first_of([request_of(request) for request in asked], self._seconds(timeout))
-        return await self._run_job(Job(steps))
 
     # How these are done.
 
@@ -243,6 +192,23 @@ class AsyncClient(AwaitedCalls):
         self._core.take((ticket,), seconds, now())
         self._worker.move()
         return future
+
+    def _ask(self, what: Callable[[float], object]) -> None:
+        what(now())
+        self._worker.move()
+
+    def _catch_up(self) -> None:
+        pass  # it was done at once
+
+    async def _perform(self, asking: Asking[T]) -> T:
+        self._check_use(in_any_case=asking.ends_client)
+        done = asyncio.gather(*[self._future(ticket) for ticket in asking.tickets], return_exceptions=True)
+        self._ask(asking.ask)
+        await (self._told(asking.tickets, done) if asking.can_be_taken_back else done)
+        result = asking.result()
+        if asking.ends_client:
+            await self.close()
+        return result
 
     async def _call(self, request: Request[T], timeout: Timeout) -> T:
         ticket = Ticket(request)

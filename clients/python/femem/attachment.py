@@ -74,6 +74,8 @@ class Attachment:
         self.phase = _DOWN
         # Why the last attempt to connect failed, if it did. The client sets it.
         self.trouble = ""
+        # How many connections the server has ended since it last did something for this client.
+        self._ended_connections = 0
         self.to_send = outbox.to_send
         self._outbox = outbox
         # Whether nobody else is given this session: then another connection that has it is a late one of a former client.
@@ -134,6 +136,7 @@ class Attachment:
         """The connection was lost, or could not be made."""
         if self.phase is _ENDED:
             return
+        self._ended_connections += self.phase is not _DOWN
         self.phase = _DOWN
         self._start_over()
         if self._in_contact:
@@ -168,7 +171,9 @@ class Attachment:
             self.fail(errors.Closing(f"session {self.session} is still being ended"))
         else:
             what = f"no word from the server for {self._reconnect_timeout:g} seconds, or none that was due"
-            self.fail(errors.ServerUnreachable(what + (f" ({self.trouble})" if self.trouble else "")))
+            ended = f"it ended {self._ended_connections} of the connections" if self._ended_connections else ""
+            why = self.trouble or ended
+            self.fail(errors.ServerUnreachable(what + (f" ({why})" if why else "")))
 
     def _attach(self, now: float) -> None:
         self.phase = _ATTACHING
@@ -247,6 +252,7 @@ class Attachment:
     def _heard(self, now: float) -> None:
         """The server did something for this client: so it is there, and this client has the session."""
         self._in_contact = True
+        self._ended_connections = 0
         if self._probe is None:
             self._probed_at = now
 

@@ -1,22 +1,28 @@
 """What `Client` and `AsyncClient` have in common: each operation stands here once, and two faces run it.
 
-A method marked by `call` makes a request. The face for threads returns the answer, and that for asyncio is awaited.
+A method marked by `call` makes a request, and one marked by `asking` says what it asks of the core. The face for threads
+returns the answer, and that for asyncio is awaited.
 """
 
 from __future__ import annotations
 
 import functools
-from typing import TYPE_CHECKING, Any, Callable, Generic, List, Optional, Sequence, TypeVar, Union, overload
+from functools import partial
+from typing import TYPE_CHECKING, Any, Callable, Dict, Generic, Iterable, List, Optional, Sequence, TypeVar, Union, overload
 
 from . import requests
-from .arguments import DEFAULT, Key, Timeout, key_bytes, request_of, seconds_of
+from .arguments import DEFAULT, Key, Timeout, key_bytes, request_of, seconds_of, ticket_of
 from .attachment import Phase
 from .core import Core
 from .errors import FememError
+from .jobs import Job, first_of
+from .reports import Report
 from .requests import Array, ArrayLike, Request
-from .tickets import Ticket
+from .tickets import Ticket, result_of
 
 if TYPE_CHECKING:
+    import asyncio
+    from concurrent.futures import Future
     from typing import Awaitable
 
     from typing_extensions import Concatenate, ParamSpec
@@ -28,8 +34,32 @@ else:
 T = TypeVar("T")
 
 
+class Asking(Generic[T]):
+    """What is asked of the core, the tickets that it then ends, and what the result is.
+
+    A task that is cancelled takes back what can be taken back, and leaves the rest. `ends_client`: it is closed after that.
+    """
+
+    def __init__(
+        self,
+        tickets: Sequence[Ticket[Any]],
+        ask: Callable[[float], object],
+        result: Callable[[], T],
+        *,
+        can_be_taken_back: bool = True,
+        ends_client: bool = False,
+    ) -> None:
+        self.tickets = tickets
+        self.ask = ask
+        self.result = result
+        self.can_be_taken_back = can_be_taken_back
+        self.ends_client = ends_client
+
+
 class call(Generic[P, T]):
     """An operation of one request."""
+
+    make: Callable[..., Any]
 
     def __init__(self, make: Callable[Concatenate[Any, P], Request[T]]) -> None:
         self.make = make
@@ -45,6 +75,13 @@ class call(Generic[P, T]):
 
     def __get__(self, client: Any, kind: Any = None) -> Any:
         return self
+
+
+class asking(call[P, T]):
+    """Another operation that waits for what it asks."""
+
+    def __init__(self, make: Callable[Concatenate[Any, P], Asking[T]]) -> None:
+        self.make = make
 
 
 class Calls:
@@ -162,12 +199,89 @@ class Calls:
         """
         return requests.int_fetch_add(array, index, value, nowait)
 
-    # Arguments, and what needs no server.
+    # More at a time.
+
+    @asking
+    def submit_many(self, asked: Iterable[Request[Any]], *, timeout: Timeout = DEFAULT) -> Asking[List[Any]]:
+        """Asks all of them in one step, and waits for all. Returns the answers in order; errors are in the list too.
+
+        A task that is cancelled takes all of them back, and gets the list if one of them had happened.
+        """
+        return self._together([request_of(request) for request in asked], timeout)
+
+    def _together(self, asked: Sequence[Request[Any]], timeout: Timeout) -> Asking[List[Any]]:
+        tickets: List[Ticket[Any]] = [Ticket(request) for request in asked]
+        return Asking(tickets, partial(self._core.take, tickets, self._seconds(timeout)), lambda: _outcomes(tickets))
+
+    @asking
+    def wait_any(self, asked: Iterable[Request[Any]], *, timeout: Timeout = DEFAULT) -> Asking[Dict[int, Any]]:
+        """Waits until one of the requests has happened, and takes the others back.
+
+        Returns the answers of those that happened by their places in `asked`: of one, or of several at the same time.
+        `TimedOut` if none did in time: then nothing happened.
+        """
+        job = Job(first_of([request_of(request) for request in asked], self._seconds(timeout)))
+        return Asking((job,), partial(self._core.start, job), lambda: result_of(job))
+
+    def withdraw(self, future: Union[Future[Any], asyncio.Future[Any]]) -> None:
+        """Takes a waiting request back. Its future ends with `Withdrawn`, or with its answer if it has happened."""
+        self._ask(partial(self._core.withdraw, ticket_of(future, self._core)))
+
+    @asking
+    def report(self) -> Asking[Report]:
+        """What waits now, of all sessions. Never waits, and changes nothing. Errors: `NoMemory`."""
+        ticket: Ticket[Report] = Ticket(None)
+        ask = partial(self._core.report, ticket=ticket)
+        return Asking((ticket,), ask, lambda: result_of(ticket), can_be_taken_back=False)
+
+    # Over the client's own restarts.
+
+    @asking
+    def once(self, key: Key, request: Request[T], *, timeout: Timeout = DEFAULT) -> Asking[T]:
+        """The answer to the first request under this key, in this process or a former one.
+
+        It needs a session file, which keeps the answer until `forget`. `ValueError` if the key has another request. A
+        request that was taken back, for example after its timeout, does not count.
+        """
+        ticket = self._keyed(key, request)
+        ask = partial(self._core.take, (ticket,), self._seconds(timeout))
+        return Asking((ticket,), ask, lambda: result_of(ticket))
 
     def keys(self) -> List[bytes]:
         """The keys that the session file has: those with an answer first, then those whose request has none yet."""
         self._with_file()
+        self._catch_up()
         return self._core.keys()
+
+    def forget(self, *keys: Key) -> None:
+        """Makes the session file drop the keys' answers: the keys will not be used again."""
+        self._with_file()
+        for spelled in [key_bytes(key) for key in keys]:
+            self._ask(partial(self._drop, spelled))
+
+    def _drop(self, key: bytes, now: float) -> None:
+        self._core.forget(key)
+
+    @asking
+    def bye(self) -> Asking[None]:
+        """Ends the session and closes the client. `StillWaiting` if a request has no answer yet.
+
+        The server then keeps nothing of the session. After a stop of the server the client sends it again until it is done.
+        """
+        ticket: Ticket[None] = Ticket(None)
+        ask = partial(self._core.leave, ticket=ticket)
+        return Asking((ticket,), ask, lambda: result_of(ticket), can_be_taken_back=False, ends_client=True)
+
+    # What a face does.
+
+    # Does something with the core, after what was asked before. It is given the time.
+    _ask: Callable[[Callable[[float], object]], None]
+
+    def _catch_up(self) -> None:
+        """Returns once what was asked before is done."""
+        raise NotImplementedError
+
+    # Arguments.
 
     def _keyed(self, key: Key, request: Request[T]) -> Ticket[T]:
         self._with_file()
@@ -183,10 +297,17 @@ class Calls:
         return self.timeout if timeout is DEFAULT else seconds_of(timeout)
 
 
+def _outcomes(tickets: Sequence[Ticket[Any]]) -> List[Any]:
+    return [ticket.result if ticket.error is None else ticket.error for ticket in tickets]
+
+
 class BlockingCalls(Calls):
     """The face for threads."""
 
     def _call(self, request: Request[T], timeout: Timeout) -> T:
+        raise NotImplementedError
+
+    def _perform(self, asking: Asking[T]) -> T:
         raise NotImplementedError
 
 
@@ -196,8 +317,11 @@ class AwaitedCalls(Calls):
     async def _call(self, request: Request[T], timeout: Timeout) -> T:
         raise NotImplementedError
 
+    async def _perform(self, asking: Asking[T]) -> T:
+        raise NotImplementedError
 
-def _blocking(make: Callable[..., Request[Any]]) -> Callable[..., Any]:
+
+def _blocking_call(make: Callable[..., Request[Any]]) -> Callable[..., Any]:
     @functools.wraps(make)
     def run(self: BlockingCalls, *args: Any, timeout: Timeout = DEFAULT, **more: Any) -> Any:
         return self._call(make(self, *args, **more), timeout)
@@ -205,7 +329,7 @@ def _blocking(make: Callable[..., Request[Any]]) -> Callable[..., Any]:
     return run
 
 
-def _awaited(make: Callable[..., Request[Any]]) -> Callable[..., Any]:
+def _awaited_call(make: Callable[..., Request[Any]]) -> Callable[..., Any]:
     @functools.wraps(make)
     async def run(self: AwaitedCalls, *args: Any, timeout: Timeout = DEFAULT, **more: Any) -> Any:
         return await self._call(make(self, *args, **more), timeout)
@@ -213,8 +337,27 @@ def _awaited(make: Callable[..., Request[Any]]) -> Callable[..., Any]:
     return run
 
 
+def _blocking_asking(make: Callable[..., Asking[Any]]) -> Callable[..., Any]:
+    @functools.wraps(make)
+    def run(self: BlockingCalls, *args: Any, **more: Any) -> Any:
+        return self._perform(make(self, *args, **more))
+
+    return run
+
+
+def _awaited_asking(make: Callable[..., Asking[Any]]) -> Callable[..., Any]:
+    @functools.wraps(make)
+    async def run(self: AwaitedCalls, *args: Any, **more: Any) -> Any:
+        return await self._perform(make(self, *args, **more))
+
+    return run
+
+
 for name, each in list(vars(Calls).items()):
-    if isinstance(each, call):
-        # Functions of the faces, since a call through a descriptor takes longer.
-        setattr(BlockingCalls, name, _blocking(each.make))
-        setattr(AwaitedCalls, name, _awaited(each.make))
+    # Functions of the faces, since a call through a descriptor takes longer.
+    if isinstance(each, asking):
+        setattr(BlockingCalls, name, _blocking_asking(each.make))
+        setattr(AwaitedCalls, name, _awaited_asking(each.make))
+    elif isinstance(each, call):
+        setattr(BlockingCalls, name, _blocking_call(each.make))
+        setattr(AwaitedCalls, name, _awaited_call(each.make))

@@ -11,20 +11,19 @@ from concurrent.futures import Future
 from functools import partial
 from threading import get_ident
 from types import TracebackType
-from typing import Any, Callable, Dict, Iterable, Iterator, List, NamedTuple, Optional, Sequence, Type, TypeVar
+from typing import Any, Callable, Iterator, List, NamedTuple, Optional, Sequence, Type, TypeVar
 
 from . import errors, registry, worker
 from .arguments import DEFAULT, Key, Path, SessionChoice, Timeout
-from .arguments import choose_session, key_bytes, pause_of, request_of, seconds_of, ticket_of
-from .calls import BlockingCalls
+from .arguments import choose_session, pause_of, request_of, seconds_of
+from .calls import Asking, BlockingCalls
 from .core import Core
 from .events import OnEvent
-from .jobs import Batch, Job, Wait, first_of
+from .jobs import Batch, Job, Wait
 from .pipeline import Pipeline
-from .reports import Report
 from .requests import Request
 from .sessionfile import SessionFile
-from .tickets import Ticket, nobody
+from .tickets import Ticket, nobody, result_of
 from .waitsessions import WaitSessions, numbers
 from .worker import Worker
 
@@ -206,18 +205,6 @@ class Client(BlockingCalls):
         """
         self._worker.end()
 
-    def bye(self) -> None:
-        """Ends the session and closes the client. `StillWaiting` if a request has no answer yet.
-
-        The server then keeps nothing of the session. After a stop of the server the client sends it again until it is done.
-        """
-        self._check_thread()
-        ticket: Ticket[None] = Ticket(None)
-        future = self._future(ticket)
-        self._ask(lambda now: self._core.leave(now, ticket))
-        future.result()
-        self.close()
-
     # More at a time.
 
     def submit(self, request: Request[T], *, timeout: Timeout = DEFAULT, key: Optional[Key] = None) -> Future[T]:
@@ -233,61 +220,9 @@ class Client(BlockingCalls):
         self._ask(partial(self._core.take, (ticket,), seconds))
         return future
 
-    def submit_many(self, asked: Iterable[Request[Any]], *, timeout: Timeout = DEFAULT) -> List[Any]:
-        """Asks all of them in one step, and waits for all. Returns the answers in order; errors are in the list too."""
-        return self._ask_all([request_of(request) for request in asked], timeout)
-
-    def _ask_all(self, asked: Sequence[Request[Any]], timeout: Timeout) -> List[Any]:
-        tickets: List[Ticket[Any]] = [Ticket(request) for request in asked]
-        seconds = self._seconds(timeout)
-        if tickets:
-            self._wait_for(tickets, partial(self._core.take, tickets, seconds))
-        return [ticket.result if ticket.error is None else ticket.error for ticket in tickets]
-
-    def wait_any(self, asked: Iterable[Request[Any]], *, timeout: Timeout = DEFAULT) -> Dict[int, Any]:
-        """Waits until one of the requests has happened, and takes the others back.
-
-        Returns the answers of those that happened by their places in `asked`: of one, or of several at the same time.
-        `TimedOut` if none did in time: then nothing happened.
-        """
-        return self._run_job(Job(first_of([request_of(request) for request in asked], self._seconds(timeout))))
-
     def pipeline(self) -> Pipeline:
         """Collects requests, and then asks them in one step."""
         return Pipeline(self)
-
-    def withdraw(self, future: Future[Any]) -> None:
-        """Takes a waiting request back. Its future ends with `Withdrawn`, or with its answer if it has happened."""
-        ticket = ticket_of(future, self._core)
-        self._ask(lambda now: self._core.withdraw(ticket, now))
-
-    def report(self) -> Report:
-        """What waits now, of all sessions. Never waits, and changes nothing. Errors: `NoMemory`."""
-        ticket: Ticket[Report] = Ticket(None)
-        self._wait_for((ticket,), lambda now: self._core.report(now, ticket))
-        return _result(ticket)
-
-    # Over the client's own restarts.
-
-    def once(self, key: Key, request: Request[T], *, timeout: Timeout = DEFAULT) -> T:
-        """The answer to the first request under this key, in this process or a former one.
-
-        It needs a session file, which keeps the answer until `forget`. `ValueError` if the key has another request. A
-        request that was taken back, for example after its timeout, does not count.
-        """
-        ticket = self._keyed(key, request)
-        seconds = self._seconds(timeout)
-        self._wait_for((ticket,), partial(self._core.take, (ticket,), seconds))
-        return _result(ticket)
-
-    def forget(self, *keys: Key) -> None:
-        """Makes the session file drop the keys' answers: the keys will not be used again."""
-        self._with_file()
-        for spelled in [key_bytes(key) for key in keys]:
-            self._ask(partial(self._drop, spelled))
-
-    def _drop(self, key: bytes, now: float) -> None:
-        self._core.forget(key)
 
     # How these are done.
 
@@ -312,14 +247,14 @@ class Client(BlockingCalls):
                 if is_done:
                     if events is not None:
                         events.emit("answered", time.monotonic() - begun)
-                    return ticket.result if ticket.error is None else _result(ticket)  # type: ignore[return-value]
+                    return ticket.result if ticket.error is None else result_of(ticket)  # type: ignore[return-value]
             elif get_ident() == worker.own_thread:
                 self._check_thread()
             gate = _new_gate()
             gate.acquire()
             self._ask(partial(self._core.take_on, ticket, until, gate.release))
             worker.wait_at(gate)
-            return _result(ticket)
+            return result_of(ticket)
         except errors.FememError:
             del ticket  # the error's traceback has this frame
             raise
@@ -332,13 +267,13 @@ class Client(BlockingCalls):
         self._check_thread()
         try:
             if is_light and self._worker.lease is not None and self._run_here(job):
-                return _result(job)
+                return result_of(job)
             gate = threading.Lock()
             gate.acquire()
             job.finished = gate.release
             self._ask(partial(self._core.start, job))
             self._worker.wait_at(gate)
-            return _result(job)
+            return result_of(job)
         except errors.FememError:
             raise
         except BaseException:
@@ -388,19 +323,32 @@ class Client(BlockingCalls):
         """Takes back, or undoes, a job that no caller waits for. Calling it twice has the effect of once."""
         self._ask(partial(self._core.abandon, job))
 
-    def _wait_for(self, tickets: Sequence[Ticket[Any]], ask: Callable[[float], object]) -> None:
-        """Asks, and waits until all are done. If this thread is interrupted, they are taken back."""
+    def _perform(self, asking: Asking[T]) -> T:
+        """Asks, and waits until all is done. If this thread is interrupted, it is taken back."""
         self._check_thread()
+        tickets = asking.tickets
         try:
+            if tickets:
+                gate = threading.Lock()
+                gate.acquire()
+                left = iter(tickets)
+                next(left).finished = _Last(left, gate)
+                self._ask(asking.ask)
+                self._worker.wait_at(gate)
+        except BaseException:
+            self._ask(partial(self._core.withdraw_all, tickets))
+            raise
+        result = asking.result()
+        if asking.ends_client:
+            self.close()
+        return result
+
+    def _catch_up(self) -> None:
+        if not self._worker.is_own_thread():
             gate = threading.Lock()
             gate.acquire()
-            left = iter(tickets)
-            next(left).finished = _Last(left, gate)
-            self._ask(ask)
+            self._ask(lambda now: gate.release())
             self._worker.wait_at(gate)
-        except BaseException:
-            self._ask(lambda now: self._core.withdraw_all(tickets, now))
-            raise
 
     def _future(self, ticket: Ticket[T]) -> Future[T]:
         """The future of a ticket."""
@@ -424,16 +372,6 @@ class Client(BlockingCalls):
 
 # Makes the lock at which a caller waits for its answer.
 _new_gate = threading.Lock
-
-
-def _result(ticket: Ticket[T]) -> T:
-    error = ticket.error
-    if error is None:
-        return ticket.result  # type: ignore[return-value]
-    try:
-        raise error
-    finally:
-        del ticket, error  # the error's traceback would hold it
 
 
 class _Last:

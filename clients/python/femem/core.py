@@ -20,6 +20,7 @@ from .frames import Answer
 from .handshake import unexpected
 from .holdings import Holdings
 from .jobrunner import JobRunner
+from .jobs import Job
 from .outbox import PATIENCE, Outbox
 from .requests import Request, number_of_bits
 from .sessionfile import SessionFile
@@ -223,7 +224,9 @@ class Core(JobRunner, Attachment):
     def withdraw_all(self, tickets: Sequence[Ticket[Any]], now: float) -> None:
         """Takes these back. Some of them may not have been asked yet."""
         for ticket in tickets:
-            if ticket.request is not None:
+            if isinstance(ticket, Job):
+                self.abandon(ticket, now)
+            elif ticket.request is not None:
                 self.withdraw(ticket, now)
 
     def close(self) -> None:

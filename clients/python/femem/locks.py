@@ -46,11 +46,14 @@ class Owned(Pattern):
     def _find(self) -> Steps[Array]:
         """A new array is free, and its count is full."""
         while self._array is None:
-            array = yield from shared_array(self._name, self.LENGTH, False)
+            array = yield from self._make()
             (filled,) = yield from batch([requests.writeef(array, self.COUNT, 0, nowait=True)], NotNow, NoArray)
             if not isinstance(filled, NoArray):  # nobody broke it in between
                 self._array = array
         return self._array
+
+    def _make(self) -> Steps[Array]:
+        return (yield from shared_array(self._name, self.LENGTH, False))
 
     def _acquire(self, end: Optional[float], nowait: bool, patience: Optional[float], key: Optional[Key]) -> Steps[bool]:
         """Returns whether it was acquired in time."""
@@ -307,12 +310,8 @@ class ReadWriteLock(Owned):
         self._readers = size_of(readers, "readers")
         self._seats: List[Tuple[Array, int]] = []
 
-    def _find(self) -> Steps[Array]:
-        if self._array is None:
-            array = yield from marked_array(self._name, self.SEATS + self._readers, self.MARK)
-            yield from batch([requests.writeef(array, self.COUNT, 0, nowait=True)], NotNow)
-            self._array = array
-        return self._array
+    def _make(self) -> Steps[Array]:
+        return (yield from marked_array(self._name, self.SEATS + self._readers, self.MARK))
 
     @operation_with(undo="_leave_if_got")
     def acquire_read(self, timeout: Optional[float] = None, *, takeover_after: Optional[float] = None) -> Steps[bool]:

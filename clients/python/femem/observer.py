@@ -12,6 +12,7 @@ import re
 import shutil
 import socket
 import subprocess
+import threading
 import time
 from collections import Counter
 from dataclasses import dataclass, field, replace
@@ -23,7 +24,10 @@ from .arguments import Path, seconds_of
 from .client import Client
 from .reports import Report, Waiter
 from .waitsessions import MOST, numbers
-from .operations import PRESENCE
+from .operations import PRESENCE, end_of, left
+
+# The longest time that a socket or a process can be waited for, in seconds.
+_LONGEST = 1e9
 
 _ARRAY = re.compile(r"array ([0-9]+) ([a-z0-9_]+) ([0-9]+)")
 _SESSION = re.compile(r"session ([0-9]+) floor [0-9]+ kept ([0-9]+)")
@@ -51,10 +55,19 @@ def parse_look(text: str) -> Look:
     return Look(arrays, sessions)
 
 
+def _rest(end: Optional[float]) -> Optional[float]:
+    """How many seconds are left. `TimeoutError` if none are."""
+    rest = left(end)
+    if rest == 0.0:
+        raise TimeoutError("timed out")
+    return rest
+
+
 class Observer:
     """Reports of a server. With the path of its store also names of arrays, and sessions, if `femem look` shows them.
 
-    `program` is the path of `femem`. `trouble` is why the last look showed nothing, or empty.
+    `program` is the path of `femem`. `trouble` is why the last look showed nothing, or empty. `timeout`, in seconds, is for a
+    whole report.
     """
 
     def __init__(
@@ -63,8 +76,11 @@ class Observer:
         self.path = os.fsdecode(path)
         self._store = None if store is None else os.fsdecode(store)
         self._program = program
-        self._timeout = seconds_of(timeout)
+        seconds = seconds_of(timeout)
+        self._timeout = None if seconds is None else min(seconds, _LONGEST)
         self.trouble = ""
+        # Threads may share it: one of them asks at a time.
+        self._asking = threading.Lock()
         self._socket: Optional[socket.socket] = None
         # The array at which clients show that they are there, once `owners` found it.
         self._presence: Optional[int] = None
@@ -84,39 +100,45 @@ class Observer:
         self.close()
 
     def close(self) -> None:
+        with self._asking:
+            self._disconnect()
+
+    def _disconnect(self) -> None:
         if self._socket is not None:
             self._socket.close()
             self._socket = None
 
     def report(self) -> Report:
-        """What waits now. Errors: `ServerUnreachable`, `NoMemory`."""
-        was_connected = self._socket is not None
-        try:
-            return self._ask()
-        except OSError as error:
-            self.close()
-            if not was_connected:
-                raise errors.ServerUnreachable(f"{self.path}: {error.strerror or error}") from None
-        # The server was restarted since the last time.
-        try:
-            return self._ask()
-        except OSError as error:
-            self.close()
-            raise errors.ServerUnreachable(f"{self.path}: {error.strerror or error}") from None
-
-    def _ask(self) -> Report:
-        if self._socket is None:
-            connection = socket.socket(socket.AF_UNIX, socket.SOCK_STREAM)
+        """What waits now. Errors: `ServerUnreachable`, also if it takes longer than the timeout; `NoMemory`."""
+        with self._asking:
+            end = end_of(self._timeout)
+            was_connected = self._socket is not None
             try:
-                connection.settimeout(self._timeout)
-                connection.connect(self.path)
+                try:
+                    return self._ask(end)
+                except OSError:
+                    if not was_connected:
+                        raise
+                # The server was restarted since the last time.
+                self._disconnect()
+                return self._ask(end)
+            except OSError as error:
+                self._disconnect()
+                raise errors.ServerUnreachable(f"{self.path}: {error.strerror or error}") from None
             except BaseException:
-                connection.close()
+                self._disconnect()  # its reply may come yet
                 raise
-            self._socket = connection
+
+    def _ask(self, end: Optional[float]) -> Report:
+        if self._socket is None:
+            self._socket = socket.socket(socket.AF_UNIX, socket.SOCK_STREAM)
+            self._socket.settimeout(_rest(end))
+            self._socket.connect(self.path)
         decoder = frames.ReplyDecoder()
+        self._socket.settimeout(_rest(end))
         self._socket.sendall(frames.report())
         while True:
+            self._socket.settimeout(_rest(end))
             piece = self._socket.recv(65536)
             if not piece:
                 raise ConnectionResetError("the server ended the connection")

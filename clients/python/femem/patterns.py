@@ -5,11 +5,14 @@ array is made in one step that either happens or not, so it does not matter who 
 
 A stop of the server loses nothing that was answered, and clients wait again by themselves, so all patterns survive stops.
 Each says what a client leaves behind that is gone for good. What takes several requests is run by the client itself, so an
-interruption of the caller leaves nothing half done. The client's `timeout` does not apply.
+interruption of the caller leaves nothing half done.
+
+A `timeout` is in seconds. `None` is no limit, and 0 or less means that nothing waits. The client's own does not apply.
 """
 
 from __future__ import annotations
 
+import functools
 from types import TracebackType
 from typing import Any, Callable, Optional, Type, TypeVar
 
@@ -33,7 +36,18 @@ class Blocking(operations.Blocking):
             raise TypeError(f"not a femem.Client: {client!r}")
         return client
 
-    def _perform(self, done: Any, *args: Any, **more: Any) -> Any:
+    def __init_subclass__(cls) -> None:
+        """Makes a function of each operation: when anything else has returned, Python looks for signals, too late to undo."""
+        super().__init_subclass__()
+        for name in dir(cls):
+            done = getattr(cls, name)
+            if isinstance(done, operations.operation):
+                setattr(cls, name, _performing(done))
+
+
+def _performing(done: operations.operation[Any, Any]) -> Callable[..., Any]:
+    @functools.wraps(done.steps)
+    def perform(self: Blocking, *args: Any, **more: Any) -> Any:
         one = getattr(self, done.call)(*args, **more) if done.call else None
         if one is not None:
             return self._client._call(*one)
@@ -45,6 +59,8 @@ class Blocking(operations.Blocking):
         except BaseException:
             self._client._abandon(job)
             raise
+
+    return perform
 
 
 class Opened(Blocking):

@@ -81,7 +81,7 @@ class Pipeline:
     def run(self, *, timeout: Timeout = DEFAULT) -> List[Any]:
         """Asks what was added since the last time. Returns the answers."""
         asked, self._requests = self._requests, []
-        self.results = self._client._ask_all(asked, timeout)
+        self.results = self._client._perform(self._client._together(asked, timeout))
         return self.results
 
     def __enter__(self) -> Pipeline:

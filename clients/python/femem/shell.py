@@ -12,7 +12,6 @@ import math
 import os
 import re
 import signal
-import subprocess
 import sys
 import time
 from typing import Any, Callable, Dict, List, Optional, Tuple
@@ -21,7 +20,7 @@ from . import observer, requests
 from .client import Client
 from .errors import FememError, NoArray, ServerUnreachable
 from .observer import Look, Observer, overview
-from .patterns import BoundedQueue, Lock
+from .patterns import BoundedQueue
 from .ring import SLOTS
 from .requests import Array, ArrayLike, Request
 from .signals import end_on_signals
@@ -38,7 +37,6 @@ writeff ARRAY INDEX VALUE           waits for full, leaves full
 writexf ARRAY INDEX VALUE           leaves full
 purge ARRAY INDEX                   value 0, empty
 int_fetch_add ARRAY INDEX VALUE     waits for full, adds, leaves full
-lock NAME -- COMMAND ..             runs the command while it holds the lock
 queue put NAME VALUE [CAPACITY]     adds a value to a queue (of 8, if it is new)
 queue get NAME [CAPACITY]           takes a value from it
 report                              what waits, as the server reports it
@@ -111,10 +109,11 @@ def main(arguments: Optional[Words] = None) -> int:
 
 
 def split(words: Words) -> Tuple[Optional[str], Words]:
-    """The socket, and the command after it."""
-    if words and not is_command(words[0]):
+    """The socket, and the command after it. Where the environment has a socket, a first word that is no path is a command."""
+    told = os.environ.get("FEMEM_SOCKET")
+    if words and not is_command(words[0]) and (told is None or "/" in words[0] or os.path.exists(words[0])):
         return words[0], words[1:]
-    return os.environ.get("FEMEM_SOCKET"), words
+    return told, words
 
 
 def is_command(word: str) -> bool:
@@ -146,7 +145,6 @@ class Shell:
             "watch": self._watch,
             "graph": self._graph,
             "metrics": self._metrics,
-            "lock": self._lock,
             "queue": self._queue,
             "help": self._help,
         }
@@ -201,6 +199,8 @@ class Shell:
                 self._take(words)
 
     def _do(self, words: Words) -> None:
+        if words[0] == "lock":
+            raise Usage("femem-cli lock NAME -- COMMAND .. runs a command with a lock")
         if words[0] in self._others:
             self._others[words[0]](words[1:])
         else:
@@ -350,20 +350,6 @@ class Shell:
 
     def _metrics(self, rest: Words) -> None:
         print(observer.metrics(self._observer.report(), self._look()), end="", flush=True)
-
-    def _lock(self, rest: Words) -> None:
-        if len(rest) < 3 or rest[1] != "--":
-            raise Usage("lock is lock NAME -- COMMAND ..")
-        lock = Lock(self._client, rest[0])
-        if not lock.acquire(timeout=self._given.timeout):
-            raise ValueError(f"{rest[0]} is not free in time")
-        try:
-            status = subprocess.run(rest[2:]).returncode
-            self._status = status if status >= 0 else 128 - status  # as a shell says that a signal ended it
-        except OSError as error:
-            raise Usage(str(error)) from None
-        finally:
-            lock.release()
 
     def _queue(self, rest: Words) -> None:
         if len(rest) in (3, 4) and rest[0] == "put":

@@ -64,6 +64,17 @@ class Ticket(Generic[T]):
         self.done = True
 
 
+def result_of(ticket: Ticket[T]) -> T:
+    """The result of a ticket that is done. Raises its error."""
+    error = ticket.error
+    if error is None:
+        return ticket.result  # type: ignore[return-value]
+    try:
+        raise error
+    finally:
+        del ticket, error  # the error's traceback would hold it
+
+
 class Timeouts:
     """Tickets by the time at which they are to be taken back."""
 

@@ -1,6 +1,7 @@
 """The client for asyncio, with the model at a socket."""
 
 import asyncio
+import functools
 import gc
 import time
 import unittest
@@ -249,6 +250,19 @@ class Asyncio(WithFolder):
                 await client.readxx(word, 0)
 
         self.run_with(work)
+
+    def test_what_cannot_be_taken_back_is_left_by_a_task_that_is_cancelled(self):
+        """Without a server its reply would never come."""
+        server = self.server()
+
+        async def work(client, name):
+            server.kill()
+            with self.assertRaises(asyncio.TimeoutError):
+                await asyncio.wait_for(getattr(client, name)(), 0.1)
+
+        for name in ("report", "bye"):
+            self.run_with(functools.partial(work, name=name), reconnect_timeout=None)
+            server.start()
 
     def test_no_server(self):
         with self.assertRaises(femem.ServerUnreachable):

@@ -8,6 +8,7 @@ import socket
 import struct
 import threading
 import time
+from unittest import mock
 
 import paths  # noqa: F401
 from model import frame
@@ -450,8 +451,10 @@ class Replies(WithFolder):
             self.assertTrue(lent.call(femem.tickets.Ticket(requests.readff(1, 0))))
             self.assertEqual((bytes(lent.rest), lent.is_known), (b"x", True))
 
+    @mock.patch.object(lease, "READ_TIME", LONG)
     def test_a_lease_takes_the_answers_of_a_batch(self):
-        here, there = socket.socketpair()
+        """Whatever pieces they come in: each one is a packet."""
+        here, there = socket.socketpair(socket.AF_UNIX, socket.SOCK_SEQPACKET)
         here.setsockopt(socket.SOL_SOCKET, socket.SO_RCVTIMEO, struct.pack("@ll", 0, 100_000))
         answers = [frame(66, 40 + k, 1, k, 0) for k in range(3)]
         for pieces, done in (
@@ -462,10 +465,9 @@ class Replies(WithFolder):
         ):
             lent = lease.Lease(here, 40, 50)
             tickets = [femem.tickets.Ticket(requests.readff(1, 0, nowait=True)) for _ in range(3)]
-            thread = threading.Thread(target=lambda pieces=pieces: [(time.sleep(0.02), there.sendall(p)) for p in pieces])
-            thread.start()
+            for piece in pieces:
+                there.send(piece)
             self.assertEqual(lent.call_all(tickets), done == 3)
-            thread.join()
             self.assertEqual([ticket.result for ticket in tickets], [*range(done), *[None] * (3 - done)])
             self.assertEqual(sum(ticket is not None for ticket in lent.tickets), 3 - done)
             self.assertTrue(lent.is_known)

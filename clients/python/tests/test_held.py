@@ -1,6 +1,7 @@
 """What is held or waits is right after an interruption, whoever fills the words at which clients show themselves."""
 
 import asyncio
+import inspect
 import itertools
 import random
 import signal
@@ -12,9 +13,10 @@ from serving import WithFolder
 from test_unspoilt import Stop, interrupted
 
 import femem
-from femem import Client, requests
+from femem import Client, patterns, requests
 from femem.aio import AsyncClient
-from femem.patterns import Channel, Lock, Semaphore, WorkQueue
+from femem.operations import operation
+from femem.patterns import BoundedQueue, Channel, Lock, ReadWriteLock, Semaphore, WorkQueue
 
 LONG = 60
 
@@ -76,6 +78,15 @@ class Interrupted(WithFolder):
             self.assertEqual(channel.get(timeout=LONG), 5)
             self.assertIsNone(client.failure)
 
+    def test_each_operation_is_a_function(self):
+        """When a call of anything else returns, Python runs signal handlers, and nobody knows any more what was acquired."""
+        found = set()
+        for made in (getattr(patterns, name) for name in patterns.__all__):
+            for kind in getattr(made, "__mro__", ()):
+                found |= {(made, name) for name, each in vars(kind).items() if isinstance(each, operation)}
+        self.assertEqual([name for made, name in found if not inspect.isfunction(getattr(made, name))], [])
+        self.assertGreater(len(found), 40)
+
     def test_signals_within_waits(self):
         """Each value is got, or its `get` was interrupted. Then nothing waits."""
         self.server()
@@ -100,7 +111,7 @@ class Interrupted(WithFolder):
 
             thread = threading.Thread(target=put)
             thread.start()
-            while stops < last:
+            while stops < last or len(got) <= last // 2:
                 try:
                     signal.setitimer(signal.ITIMER_REAL, chance.random() * 3e-3 + 1e-6)
                     while True:
@@ -116,7 +127,6 @@ class Interrupted(WithFolder):
                     pass
             thread.join()
             self.assertEqual(got, sorted(set(got)))
-            self.assertGreater(len(got), last // 2)
             self.assertLessEqual(got[-1] + 1 - len(got), stops)
             self.assertEqual(self.waits(other, client.find("word")), [])
 
@@ -173,24 +183,30 @@ class Spoilt(WithFolder):
 
 
     def test_an_array_that_is_removed_as_it_is_found_is_made_again(self):
+        """Before each step that uses its words."""
         self.server()
         with Client(self.path, 7) as client:
-            for make in (lambda: Lock(client, "lock"), lambda: femem.patterns.BoundedQueue(client, "queue", 2)):
-                pattern = make()
-                name, pattern._array = pattern._name, None
-                client.remove(client.find(name))
-                steps, removed, outcome = pattern._find(), 0, None
-                try:
-                    while True:
-                        step = steps.send(outcome)
-                        if removed < 2 and step.requests[0].frame[4] in (5, 11):
-                            array = int.from_bytes(step.requests[0].frame[14:22], "big")
-                            (gone,) = client.submit_many([requests.remove(array)])
-                            removed += gone is None
-                        outcome = client.submit_many(step.requests)
-                except StopIteration as end:
-                    self.assertEqual(end.value, client.find(name))
-                self.assertEqual(removed, 2)
+            made = (Lock(client, "lock"), BoundedQueue(client, "queue", 2), ReadWriteLock(client, "book", 2))
+            for pattern, steps in zip(made, (1, 2, 2)):
+                for removed_at in range(steps):
+                    with self.subTest(pattern=pattern._name, step=removed_at):
+                        self.remove_at(client, pattern, removed_at)
+
+    def remove_at(self, client, pattern, removed_at):
+        pattern._array = None
+        client.remove(client.find(pattern._name))
+        steps, uses, outcome = pattern._find(), 0, None
+        try:
+            while True:
+                step = steps.send(outcome)
+                if step.requests and step.requests[0].frame[4] in (5, 11):
+                    if uses == removed_at:
+                        client.remove(int.from_bytes(step.requests[0].frame[14:22], "big"))
+                    uses += 1
+                outcome = client.submit_many(step.requests)
+        except StopIteration as end:
+            self.assertEqual(end.value, client.find(pattern._name))
+        self.assertGreater(uses, removed_at + 1)
 
 
 class Sizes(WithFolder):

@@ -13,6 +13,7 @@ from serving import BadServer, WithFolder
 
 import femem
 from femem import Client, frames, requests
+from femem.core import Core
 
 FIRST = 33  # the first number of a client whose session has floor 1
 
@@ -156,6 +157,15 @@ class Malice(WithFolder):
         client = self.impatient()
         with self.assertRaises(femem.FememError):
             client.readfe(1, 0)
+
+    def test_a_server_that_has_no_room_for_a_connection_is_told(self):
+        core = Core(7, 10.0)
+        core.open(0.0)
+        for moment in range(3):
+            core.connected(float(moment))
+            core.disconnected(moment + 0.5)
+        core.tick(20.0)
+        self.assertRegex(str(core.failure), r"no word from the server .*it ended 3 of the connections")
 
     def test_an_endless_report(self):
         """A report that is too long is refused by its length; of one with the longest length no more than that is held."""

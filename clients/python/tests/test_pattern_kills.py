@@ -159,15 +159,17 @@ class Kills(WithFolder):
                     queue.put(1000 * k + number, timeout=chance.choice((None, 0.0, 0.003, 0.2)), key=number)
                 except femem.TimedOut:
                     if self.is_enough():
-                        return
+                        break
                     continue
                 log.add("p", 1000 * k + number)
                 client.forget(number)
                 number += 1
+        log.add("end", k)
 
     def get_under_keys(self, k, make):
-        """A consumer with a session file. A value is got once, in however many lives."""
-        log = self.log(f"got{k}")
+        """A consumer with a session file. A value is got once, in however many lives. It ends after the producers, which
+        may wait for room without a limit."""
+        log, producers = self.log(f"got{k}"), [self.log("put0"), self.log("put1")]
         with Client(self.path, session_file=f"{self.path}.{k}", wait_for_server=True) as client:
             queue, chance = make(client), random.Random()
             number = len(log.lines())
@@ -175,10 +177,11 @@ class Kills(WithFolder):
                 for key in client.keys():
                     if key != b"%d" % number:
                         client.forget(key)
+                is_over = all(producer.numbers("end") for producer in producers)
                 try:
                     value = queue.get(timeout=chance.choice((0.0, 0.003, 0.2)), key=number)
                 except femem.TimedOut:
-                    if self.is_enough() and not client.keys():
+                    if is_over and not client.keys():
                         return
                     continue
                 log.add("g", value)

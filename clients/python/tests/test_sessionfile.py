@@ -19,7 +19,7 @@ from test_unspoilt import interrupted
 import femem
 from femem import Client, aio, frames, requests, sessionfile
 from femem.aio import AsyncClient
-from femem.client import key_bytes
+from femem.arguments import key_bytes
 from femem.core import Core
 from femem.sessionfile import SessionFile
 from femem.sessionstate import Asked
@@ -240,6 +240,20 @@ class Files(WithFolder):
                 client.once("a", add)
             with self.assertRaises(ValueError):
                 client.forget("a")
+
+    def test_a_key_that_was_forgotten_is_gone_from_the_keys(self):
+        """However late the client's thread is, also for its own callbacks."""
+        self.server()
+        with Client(self.path, session_file=self.file) as client:
+            add = requests.int_fetch_add(client.create("count", 1, full=True), 0, 1)
+            for key in ("a", "b"):
+                client.once(key, add)
+            client._ask(lambda now: time.sleep(0.2))
+            client.forget("a")
+            self.assertEqual(client.keys(), [b"b"])
+            found = []
+            client.submit(add).add_done_callback(lambda done: found.append(client.keys()))
+        self.assertEqual(found, [[b"b"]])
 
     def test_whoever_asks_a_key_without_a_limit_gets_its_answer(self):
         """Several ask under a key. The first one's time runs out, and the others go on waiting."""

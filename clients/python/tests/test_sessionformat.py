@@ -277,12 +277,14 @@ class Format(WithFolder):
 
     @unittest.skipUnless(shutil.which("strace"), "strace is not installed")
     def test_nothing_is_sent_before_the_sync_of_its_note(self):
-        """By the recorded system calls of a process: each request's note is written and synced before it is sent."""
+        """By the recorded system calls of a process: each request's note is written and synced before it is sent, and a new file is
+        synced before it replaces the old one."""
         self.server()
         with Client(self.path, 8) as other:
             word = other.create("word", 1, full=True)
         program = (
-            f"import sys; sys.path.insert(0, {FOLDER!r})\nfrom femem import Client, requests\n"
+            f"import sys; sys.path.insert(0, {FOLDER!r})\nfrom femem import Client, requests, sessionfile\n"
+            "sessionfile._SHORT, sessionfile._GROWTH = 600, 1\n"
             f"with Client({self.path!r}, session_file={self.file!r}) as client:\n"
             f"    for step in range(40): client.once('step %d' % step, requests.int_fetch_add({word.id}, 0, 1))\n"
         )
@@ -293,7 +295,7 @@ class Format(WithFolder):
         if done.returncode != 0 and "ptrace" in done.stderr:
             self.skipTest("this machine allows no tracing")
         self.assertEqual(done.returncode, 0, done.stderr)
-        sent = 0
+        sent = replaced = 0
         unsynced, synced = b"", b""
         name = "".join(f"\\x{byte:02x}" for byte in b".session")
         with open(trace) as lines:
@@ -308,7 +310,11 @@ class Format(WithFolder):
                     for note in self.notes(content):
                         self.assertIn(note, synced)
                         sent += 1
+                elif "rename(" in line:
+                    self.assertEqual(unsynced, b"")
+                    replaced += 1
         self.assertEqual(sent, 40)
+        self.assertGreater(replaced, 3)
 
     @staticmethod
     def notes(content):

@@ -2,14 +2,17 @@
 
 import os
 import pathlib
+import pty
+import select
 import signal
+import struct
 import subprocess
 import sys
 import threading
 import time
 
 import paths  # noqa: F401
-from serving import WithFolder
+from serving import BadServer, WithFolder
 
 import femem
 from femem import Client, Observer
@@ -183,19 +186,47 @@ class Shell(WithFolder):
         self.assertIn("timed-out", self.one(self.path, "--timeout", "0.1", "readfe", "jobs", "0", status=1))
         self.assertIn("has 2 words", self.one(self.path, "readfe", "jobs", status=2))
         self.assertIn("/nowhere", self.one("/nowhere", "report", status=4))
+        self.assertIn("there is no jump", self.one("jump", "jobs", status=2, env={"FEMEM_SOCKET": self.path}))
         self.assertEqual(server.model.stored.sessions, {})
 
-    def test_lock_and_queue(self):
+    def test_queue(self):
         server = self.server()
-        say = [sys.executable, "-c", "print('inside')"]
-        self.assertEqual(self.one(self.path, "lock", "mine", "--", *say), "inside\n")
-        self.one(self.path, "lock", "mine", "--", sys.executable, "-c", "import sys; sys.exit(7)", status=7)
-        self.one(self.path, "lock", "mine", "--", "sh", "-c", "kill -9 $$", status=128 + signal.SIGKILL)
         self.one(self.path, "queue", "put", "values", "3", "2")
         self.one(self.path, "queue", "put", "values", "4")
         self.assertIn("timed-out", self.one(self.path, "--timeout", "0.1", "queue", "put", "values", "5", status=1))
         self.assertEqual(self.one(self.path, "queue", "get", "values"), "value 3\n")
         self.assertEqual(server.model.stored.sessions, {})
+
+    def test_locks_are_left_to_femem_cli(self):
+        server = self.server()
+        for words in (("lock", "mine", "--", "touch", "run"), ("lock", "mine")):
+            self.assertIn("femem-cli lock NAME -- COMMAND", self.one(*words, status=2, env={"FEMEM_SOCKET": self.path}))
+        self.assertFalse(os.path.exists("run"))
+        self.assertEqual(server.model.stored.arrays, {})
+
+    def test_a_prompt_has_history_and_completion(self):
+        server = self.server()
+        # (Tab completes; Ctrl-P is the line before, here that of the first process)
+        self.type(b"cre\tslot 2\n", b"array 1 length 2")
+        self.type(b"\x10\n", b"name-taken")
+        self.assertEqual(server.model.stored.sessions, {})
+
+    def type(self, keys, due):
+        """Types keys at a prompt on a terminal until it has shown what is due, and then Ctrl-D."""
+        ours, its = pty.openpty()
+        env = {**os.environ, "HOME": os.path.dirname(self.path), "TERM": "dumb", "INPUTRC": "/dev/null"}
+        words = [sys.executable, "-m", "femem", self.path]
+        shell = subprocess.Popen(words, cwd=ROOT, env=env, stdin=its, stdout=its, stderr=its, start_new_session=True)
+        os.close(its)
+        shown = b""
+        for text, answer in ((b"femem> ", keys), (due, b""), (b"femem> ", b"\x04")):
+            while text not in shown:
+                self.assertTrue(select.select([ours], [], [], 60)[0], shown)
+                shown += os.read(ours, 1000)
+            shown = shown.partition(text)[2]
+            os.write(ours, answer)
+        self.assertEqual(shell.wait(60), 0)
+        os.close(ours)
 
     def test_a_shell_that_is_ended_ends_its_session(self):
         server = self.server()
@@ -289,6 +320,36 @@ class Looking(WithFolder):
             server.kill()
             with self.assertRaises(femem.ServerUnreachable):
                 observer.report()
+
+    def test_a_report_has_one_time_for_all_of_it(self):
+        """However often the server sends a byte of it."""
+
+        def drip():
+            yield struct.pack(">IB", 1 + 200, 71)
+            for _ in range(50):
+                time.sleep(0.1)
+                yield b"w"
+            raise OSError("it ends the connection")
+
+        server = BadServer(self.path, lambda piece, count: drip())
+        self.addCleanup(server.close)
+        with Observer(self.path, timeout=0.5) as observer, self.assertRaisesRegex(femem.ServerUnreachable, "timed out"):
+            observer.report()
+
+    def test_threads_share_an_observer(self):
+        """Each report is asked by itself, whatever the time that one may take."""
+        self.server()
+        found, many = [], 25
+        with Client(self.path, 7) as client, Observer(self.path, timeout=2**64) as observer:
+            client.submit(femem.requests.readfe(client.create("jobs", 2), 1))
+            self.wait_for(observer, 1)
+            work = lambda: found.extend(len(observer.report().waiters) for _ in range(many))
+            threads = [threading.Thread(target=work) for _ in range(4)]
+            for thread in threads:
+                thread.start()
+            for thread in threads:
+                thread.join()
+        self.assertEqual(found, [1] * 4 * many)
 
     def test_what_look_says(self):
         self.server()
