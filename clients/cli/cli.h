@@ -19,6 +19,7 @@ typedef struct options {
   const char *socket, *store, *program, *file, *key;
   uint64_t session;
   bool adopted;                /* a temporary session that this process goes on with */
+  bool replaces;               /* it goes on for a process that was killed, and waits for a server */
   bool has_session, no_wait, json, ends, owners, svg, once, help, version;
   int64_t every, timeout, reconnect, takeover_after, away_after;
   int conflict;                /* the status of `lock` and `queue take` that are late */
@@ -79,11 +80,12 @@ int signal_seen(void);
 
 /* ---- requests.c ---- */
 
-/* Waits for an answer. Takes its request back when time is over or it is time to give up: FEMEM_WITHDRAWN. */
-femem_error wait_for(command_line *cli, uint64_t number, int64_t within, femem_answer *answer);
 /* Makes a request, as the options say: in time, without waiting, or under a key. */
 femem_error make_request(command_line *cli, femem_request request, femem_answer *answer);
-femem_error make_request_within(command_line *cli, const femem_request *request, int64_t within, femem_answer *answer);
+/* Makes a request that waits until a moment, or until it is time to give up, and is then taken back: FEMEM_WITHDRAWN. With
+   `part` before `end` it is a part of a longer wait: a server that is lost at its end is waited for until `end`. */
+femem_error make_request_until(command_line *cli, const femem_request *request, int64_t part, int64_t end,
+                               femem_answer *answer);
 /* The array of that name and length, which is made if it is missing. FEMEM_BAD_CALL if it has another length. */
 femem_error shared_array(command_line *cli, const char *name, uint32_t length, bool full, uint64_t *array);
 femem_request on_word(femem_operation operation, uint64_t array, uint32_t index, uint64_t operand, bool no_wait);

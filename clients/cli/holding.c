@@ -170,6 +170,7 @@ static void replace_holder(running *run, uint64_t session) {
   given->has_session = !given->file;
   given->session = session;
   given->no_wait = true;
+  given->replaces = true;
   last = 0;
   if (!start_holder(run)) return;
   while (!hear(run->line, &told) && last) last = 0;
@@ -249,6 +250,7 @@ static int converse(running *run, char **words) {
     close(run->pipe[1]);
     by_signal = last && (!heard || status == DONE);
     if (by_signal) return BY_SIGNAL + last;
+    if (!heard) fail(run->held->cli, FAULT, "%s: the process that waits for it was killed", run->held->name);
     if (heard && status == DONE) status = fail(run->held->cli, FAULT, "%s", strerror(errno));
     if (status == LATE) status = run->held->cli->given.conflict;
   }

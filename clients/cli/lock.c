@@ -69,12 +69,12 @@ static femem_error try_lock(holding *held) {
   return acquired(held, &answers[1]);
 }
 
-/* Waits for the lock, for a while. */
-static femem_error wait_for_lock(holding *held, int64_t within) {
+/* Waits for the lock, for a part of the time. */
+static femem_error wait_for_lock(holding *held, int64_t part, int64_t end) {
   command_line *cli = held->cli;
   femem_request take = on_word(FEMEM_WRITEEF, held->array, OWNER, femem_session(cli->client), false);
   femem_answer answer, answers[2];
-  femem_error error = make_request_within(cli, &take, within, &answer);
+  femem_error error = make_request_until(cli, &take, part, end, &answer);
   if (error) return error;
   error = both(cli, on_word(FEMEM_READXX, held->array, OWNER, 0, false),
                on_word(FEMEM_INT_FETCH_ADD, held->array, COUNT, 1, true), answers);
@@ -107,10 +107,10 @@ static femem_error look_after(holding *held, absence *away) {
 static femem_error wait_and_look(holding *held, int64_t end) {
   int64_t after = held->cli->given.takeover_after, pause = after / 4 > 10 ? after / 4 : 10;
   absence away = {0, -1};
-  if (after < 0) return wait_for_lock(held, left(end));
+  if (after < 0) return wait_for_lock(held, end, end);
   for (;;) {
     int64_t rest = left(end);
-    femem_error error = wait_for_lock(held, rest >= 0 && rest < pause ? rest : pause);
+    femem_error error = wait_for_lock(held, moment(rest >= 0 && rest < pause ? rest : pause), end);
     if (error != FEMEM_WITHDRAWN || held->cli->stopped || (rest >= 0 && rest <= pause)) return error;
     error = look_after(held, &away);
     if (error) return error;

@@ -160,7 +160,8 @@ static femem_error open_file(command_line *cli, const femem_settings *settings) 
 int open_client(command_line *cli) {
   if (cli->client) return DONE;
   int64_t most = cli->given.reconnect;
-  const femem_settings settings = {.wait = most > 0 ? most : 1000, .reconnect = most > 0 ? most : FEMEM_NEVER};
+  const femem_settings settings = {.wait = most > 0 ? most : 1000, .reconnect = most > 0 ? most : FEMEM_NEVER,
+                                   .wait_for_server = cli->given.replaces};
   uint64_t session = cli->given.session;
   femem_error error;
   if (cli->given.file) {

@@ -1,6 +1,6 @@
 #!/bin/sh
 # Locks: statuses, what is told to the command, owners, takeovers, and the Python client's Lock.
-SECONDS_AT_MOST=180
+SECONDS_AT_MOST=300
 . "$(dirname "$0")/testing.sh"
 
 # hold NAME WORD ..: holds a lock until the file `go` is there. `holder` is then femem-cli's process.
@@ -10,6 +10,7 @@ hold() {
   until_so [ -e in ]
 }
 let_go() { touch go; wait $holder; }
+sessions_are() { [ "$(x sessions | cut -d ' ' -f 1,2)" = "$1" ]; }
 # The process that has the session of the lock for femem-cli's process $1.
 keeper_of() { ps -o pid= --ppid "$1" | while read -r pid; do
   [ "$(cat "/proc/$pid/comm")" != femem-cli ] || echo "$pid"; done; }
@@ -57,6 +58,7 @@ for signal in TERM:143 INT:130 HUP:129; do
   kill -${signal%:*} $waiter
   wait $waiter 2> /dev/null
   is "a waiting lock's status after SIG${signal%:*}" "$? $(cat said)" "${signal#*:} "
+  until_so sh -c "! '$cli' report | grep writeef" # (the next one is not taken for this one)
 done
 # A signal ends it at any moment of its begin.
 ended=0
@@ -81,7 +83,7 @@ until_so sh -c "'$cli' report | grep writeef"
 let_go
 wait $waiter
 is "the next one" "$? $(cat got)" "0 next"
-is "sessions" "$(x sessions | cut -d ' ' -f 1,2)" "session 900"
+until_so sessions_are "session 900" # (a process that was ended takes leave a moment later)
 
 # The server is restarted while the lock is held, and while one waits.
 hold lock night --session 900
@@ -97,6 +99,18 @@ let_go
 wait $waiter
 is "the next one after a restart" "$? $(cat got)" "0 next"
 
+# The same while the server is away for longer than a part of the time of a takeover.
+hold lock night --session 900
+"$cli" --takeover-after 4 --timeout 60 lock night -- echo next > got & waiter=$!
+until_so sh -c "'$cli' report | grep writeef"
+kill_server
+sleep 2.5
+start_server
+until_so sh -c "[ 'session 900' = \"\$('$cli' owner night)\" ]"
+let_go
+wait $waiter
+is "the next one after an outage" "$? $(cat got)" "0 next"
+
 # The process that has the session is killed: another one goes on with the lock, until the command has ended.
 for session in "" "--session 900"; do
   hold lock night $session
@@ -110,7 +124,19 @@ for session in "" "--session 900"; do
   is "the status over a kill of the process that has the session" "$? $(cat held)" "0 "
   gives 0 "free" owner night
 done
-is "sessions" "$(x sessions | cut -d ' ' -f 1,2)" "session 900"
+# .. and while there is no server: it waits for one.
+hold lock night --session 900
+keeper=$(keeper_of $holder)
+kill_server
+kill -KILL "$keeper"
+until_so sh -c "! kill -0 $keeper"
+sleep 0.5
+start_server
+until_so sh -c "[ 'session 900' = \"\$('$cli' owner night)\" ]"
+gives 1 "" --takeover-after 0.2 --timeout 1.5 lock night -- echo wrong
+let_go
+is "the status over a kill of both" "$? $(cat held)" "0 "
+until_so sessions_are "session 900"
 
 # An owner that was killed: it is away, the same session takes its own lock again, and others take it over or break it.
 kill_owner() {
@@ -157,6 +183,16 @@ is "the status of who got it" $? 0
 holders=${holders% *}
 wait "${holders##* }"
 is "the status of whose lock was broken" "$? $(cat said_1)" "5 femem-cli: lock_1: the lock was taken over while the command ran"
+
+# The process that waits is killed.
+hold lock night --session 901
+"$cli" --session 902 lock night -- echo wrong 2> said & waiter=$!
+until_so sh -c "'$cli' report | grep 'session 902 .*writeef'"
+kill -KILL "$(keeper_of $waiter)"
+wait $waiter
+is "the status of a killed wait" $? 5
+says "night: the process that waits for it was killed"
+let_go
 
 hold lock night --session 901
 gives 0 "" break night
