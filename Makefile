@@ -1,5 +1,5 @@
 # `make help` lists the targets, with what each takes on four processors.
-.PHONY: help run test figures prove install deb dist check-deb check-minimal check-hosts lint-deb man serve examples faults check-programs client bench \
+.PHONY: help run test figures plant prove install deb dist check-deb check-minimal check-hosts lint-deb man serve examples faults check-programs client bench \
   bench-serve toolchain
 
 SCHEDULE := examples/first_path.txt
@@ -30,6 +30,9 @@ test: toolchain ## test it: the gate, with every proof, must-fail edit and test,
 figures: ## writes docs/figures.md: sizes, and what the last `make test` took
 	@scripts/figures
 
+plant: toolchain ## has `rt plant` try wrong bodies in every crate, and compares what it proves with scripts/planted.txt (hours)
+	@scripts/plant
+
 prove: $(PROVED) ## prove it: proves the program's crates, and builds the proved program (30 minutes)
 	@echo "$(PROVED) is proved"
 
@@ -52,8 +55,9 @@ man: ## makes the man pages in out/man from the documents in docs/
 $(UNPROVED): $(SOURCES) scripts/quick | toolchain
 	@scripts/quick
 
-$(PROVED): $(SOURCES) | toolchain
-	@scripts/prove
+# (sources that are newer than the program and are still those of its record were only checked out again)
+$(PROVED): $(SOURCES)
+	@if scripts/record check $(PROVED) $(RECORD) 2> /dev/null; then touch $(PROVED); else $(MAKE) -s toolchain && scripts/prove; fi
 
 # The settings are the example's, with the paths in femem-data/ and without `format`, since the store is made first. A socket at
 # which nothing listens was left by a server that was stopped.
@@ -79,7 +83,7 @@ check-deb: $(PROGRAM) ## the packages, in a clean Debian with its own systemd: i
 	@scripts/check_programs $(PROGRAM) deb
 
 check-minimal: $(PROGRAM) ## `make run`, `make test` and the pages' commands in a minimal Debian; needs root, debootstrap and a network (10 minutes)
-	@scripts/check_programs $(PROGRAM) minimal
+	@scripts/check_programs --patience 4 $(PROGRAM) minimal
 
 check-hosts: $(PROGRAM) ## a store on two hosts that fail in turn (docs/replication.md); needs root and some packages (2 minutes)
 	@scripts/check_programs $(PROGRAM) hosts

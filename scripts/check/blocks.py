@@ -16,13 +16,12 @@ HERE = "here"
 BLOCKS = {
     "README.md": (
         ("make run ", "unproved.py, first_lines"),
-        ("femem ", "a picture"),
     ),
     "CONTRIBUTING.md": (
         ("cd crates/fe_wire", "not run: it proves a crate, which the gate does"),
         ("# clause: Decoder::feed reads", HERE),
     ),
-    "ARCHITECTURE.md": (),
+    "ARCHITECTURE.md": (("femem ", "a picture"),),
     "docs/cli.md": (("make -C clients/cli", HERE), ("femem-cli counter hits", HERE), ("1\n42", HERE)),
     "docs/commands.md": (
         ("femem serve --settings FILE", "manuals.py compares the synopsis with the program"),
@@ -94,6 +93,17 @@ def example_of_commands(place):
     words = block("docs/commands.md", "printf 'attach 7").replace("/run/femem/femem.socket", server.socket)
     words = words.replace("femem call", f"'{place.program}' call")
     same(shell(place, words), block("docs/commands.md", "welcome 7 1"))
+
+
+def lines_of_python(place):
+    """the README's lines of Python count, from 0 on"""
+    server = Server(place).start()
+    lines = re.findall(r"`((?:from femem|with Client)[^`]*)`", text_of("README.md"))
+    same(len(lines), 2, "lines of Python in the README")
+    place.write("count.py", "\n".join(lines).replace("/run/femem/femem.socket", server.socket).encode())
+    env = {"PYTHONPATH": os.path.join(TOP, "clients", "python"), "PYTHONDONTWRITEBYTECODE": "1"}
+    for was in ("0\n", "1\n"):
+        same(shell(place, f"python3 '{place.path('count.py')}'", env=env), was)
 
 
 FIRST_PATH = b"attach 7\n1 create cells 2 empty\n2 writeef 1 0 42\n3 readfe 1 0\n4 readxx 1 0\n"
@@ -296,4 +306,4 @@ def page_of_python(place):
     same([it.split()[-1:] for it in said[2:]], [["42"]], "what the shell reads")
 
 
-CHECKS = (blocks_known, targets, example_of_commands, page_of_operating, planted_edit, page_of_c, page_of_cli, page_of_python)
+CHECKS = (blocks_known, targets, example_of_commands, lines_of_python, page_of_operating, planted_edit, page_of_c, page_of_cli, page_of_python)

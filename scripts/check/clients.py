@@ -6,7 +6,7 @@ import subprocess
 import sys
 import time
 
-from .harness import Wrong, compiler, holds, within
+from .harness import Skipped, Wrong, compiler, holds, within
 
 CLIENTS = os.path.normpath(os.path.join(os.path.dirname(os.path.realpath(__file__)), "..", "..", "clients"))
 
@@ -45,11 +45,11 @@ def tests_in_python(place):
     files = [name for name in os.listdir(tests) if name.startswith("test_") and name.endswith(".py")]
     files.sort(reverse=True)  # this puts the long ones early
     env = environment(place)
-    left, running, count = list(files), {}, 0
+    left, running, count, skipped = list(files), {}, 0, []
     while left or running:
         while left and len(running) < AT_ONCE:
             name = left.pop(0)
-            words = [sys.executable, "-W", "ignore", "-m", "unittest", "discover", "-s", tests, "-p", name]
+            words = [sys.executable, "-W", "ignore", "-m", "unittest", "discover", "-v", "-s", tests, "-p", name]
             running[name] = place.start(words, name, env, stderr=subprocess.STDOUT, group=True)
         for name, process in list(running.items()):
             if process.poll() is not None:
@@ -57,7 +57,10 @@ def tests_in_python(place):
                 said = place.read(f"{name}.out").decode(errors="replace")
                 holds(process.returncode == 0, f"{name}: status {process.returncode}: {said[-3000:]}")
                 count += int(re.search(r"^Ran (\d+) tests? in", said, re.MULTILINE)[1])
+                skipped += re.findall(r" \.\.\. skipped (.+)$", said, re.MULTILINE)
         time.sleep(0.02)
+    if skipped:
+        raise Skipped(f"{len(skipped)} tests of the Python client: {', '.join(sorted(set(skipped)))}")
     holds(count >= 150, f"{count} tests in {len(files)} files are few")
     return f"{count} tests"
 

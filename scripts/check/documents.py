@@ -1,11 +1,14 @@
 """The documents: their blocks run, what they name exists, and their links lead somewhere."""
 
 import glob
+import html
 import os
 import re
 import sys
 
 from . import blocks, clauses, names
+from .harness import holds
+from .tables import rows
 from .texts import NAME, PAGES, READMES, TOP, bases, exists, headings, is_path, slug, split, text_of, told
 from .wire import OPS
 
@@ -63,14 +66,13 @@ def touched(_place):
 
 
 def crates(_place):
-    """each crate is in the README and, unless it is a test, in ARCHITECTURE.md and docs/proved.md, and they name no other crate"""
+    """each crate is in ARCHITECTURE.md and, unless it is a test, in docs/proved.md, and these pages and the README name no other crate"""
     there = sorted(os.path.basename(os.path.dirname(it)) for it in glob.glob(os.path.join(TOP, "crates", "*", "src")))
     missing = []
-    for page in ("README.md", "ARCHITECTURE.md", "docs/proved.md"):
+    for page, spared in (("ARCHITECTURE.md", ()), ("docs/proved.md", ("test_",)), ("README.md", ("fe", "test_"))):
         named = set(re.findall(r"\b(?:fe|test)_[a-z_]+\b|\bfemem\b", text_of(page)))
         named = {it for it in named if it.startswith("fe") or it in there}
-        tests = {it for it in there if it.startswith("test_")} if page != "README.md" else set()
-        missing += [f"{page} lacks {it}" for it in there if it not in named and it not in tests]
+        missing += [f"{page} lacks {it}" for it in there if it not in named and not it.startswith(spared)]
         missing += [f"{page} names {it}, which is no crate" for it in sorted(named) if it not in there]
     return told(missing, len(there), 30, "crates")
 
@@ -85,6 +87,29 @@ def versions(_place):
             if "".join(it) != pages.version():
                 missing.append(f"{page}: version {''.join(it)}, not {pages.version()}")
     return told(missing, count, 5, "versions")
+
+
+def speeds(_place):
+    """each figure of speed in the README is one of the same row of docs/performance.md, femem's and Redis'"""
+    measured = [row[2:4] for row in rows("docs/performance.md", "| load, clients x window |")]
+    shown = [row[1:3] for row in rows("README.md", "| | femem | Redis |")]
+    same_as = [[cell.removesuffix(" /s") for cell in row] for row in shown]
+    holds(len(same_as) == 4 and same_as == measured, f"the README has {same_as}, docs/performance.md {measured}")
+    return f"{len(shown)} rows"
+
+
+def pictures(_place):
+    """each picture has the texts of its source, `docs/NAME.dot`"""
+    missing = []
+    count = 0
+    for path in glob.glob(os.path.join(TOP, "docs", "*.dot")):
+        name = os.path.relpath(path, TOP)
+        shown = html.unescape(text_of(f"{name[:-4]}.svg")).replace("\xa0", " ")
+        for label in re.findall(r'label = "([^"]*)"', text_of(name)):
+            lines = [it for it in re.split(r"\\n|[|{}]", label) if it]
+            count += len(lines)
+            missing += [f"{name[:-4]}.svg lacks: {it}" for it in lines if f">{it}<" not in shown]
+    return told(missing, count, 60, "texts")
 
 
 LINK = re.compile(r"\[([^\]]*)\]\(([^)\s]+)\)")
@@ -124,4 +149,4 @@ def links(_place):
     return told(missing, count, 100, "links")
 
 
-CHECKS = (*blocks.CHECKS, *names.CHECKS, *clauses.CHECKS, touched, crates, versions, links)
+CHECKS = (*blocks.CHECKS, *names.CHECKS, *clauses.CHECKS, touched, crates, versions, speeds, pictures, links)

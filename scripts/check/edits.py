@@ -15,10 +15,11 @@ FEARED = (
     "accepts_trailing_byte", "accepts_unused_bytes", "always_device", "always_mismatch", "answers_from_opening",
     "append_without_last_sync", "attaches_unasked", "bad_frame_too_early", "books_call_never_made", "books_call_twice",
     "closes_closed_gate", "closes_over_strange_receipts", "damaged_for_odd_gate", "drains_halls_beginning",
-    "drops_batch_and_posts", "drops_each_tenth_call", "drops_receipts", "echoes_input", "ends_before_last_read",
-    "every_access_waits", "forgets_catch_up", "gate_with_payload", "half_a_cascade", "ignores_open_groups",
-    "invented_answer", "leaves_node_on_word_list", "leaves_replica_changed", "made_up_answer_first",
-    "mail_before_second_sync", "mails_unsynced_resend", "makes_no_mail", "notes_before_append",
+    "drops_batch_and_posts", "drops_each_tenth_call", "drops_one_of_a_session", "drops_receipts", "echoes_input",
+    "ends_before_last_read", "every_access_waits", "finishes_a_number_twice", "first_on_another_word",
+    "forgets_catch_up", "forgets_other_words", "gate_with_payload", "gives_an_id_again", "half_a_cascade",
+    "ignores_open_groups", "invented_answer", "leaves_node_on_word_list", "leaves_replica_changed",
+    "made_up_answer_first", "mail_before_second_sync", "mails_unsynced_resend", "makes_no_mail", "notes_before_append",
     "opens_gate_without_catch_up", "other_operand", "posts_before_append", "posts_other_answers", "purge_keeps_value",
     "readfe_leaves_full", "removes_array_behind_list", "runs_kept_number_again", "serves_empty_store",
     "serves_with_other_seats", "side_ends_at_once", "stops_after_one_wake", "stops_by_itself", "takes_cancel_for_bye",
@@ -127,7 +128,7 @@ def fit(_place):
     """each must-fail edit replaces texts that stand once, and names a clause of what it changes"""
     found = edits()
     strangers = [f"{it.path}: not an edit" for it in found if not it.path.endswith(".edit")]
-    return told(strangers + [f"{it.path}: {why}" for it in found for why in it.faults()], len(found), 60, "edits")
+    return told(strangers + [f"{it.path}: {why}" for it in found for why in it.faults()], len(found), 100, "edits")
 
 
 def feared(_place):

@@ -1,5 +1,6 @@
 """How connections and servers begin and end: half-closed clients, admissions given back, sockets, device faults."""
 
+import errno
 import fcntl
 import os
 import resource
@@ -12,6 +13,7 @@ import time
 from . import wire
 from .crowds import adding, made, memory_of, served, threads_of
 from .harness import Held, Server, Skipped, holds, preload, same, until, within
+from .records import calls_of
 
 READFE = 16
 
@@ -282,28 +284,67 @@ def quickest(turns, bound, turn):
     return min(took)
 
 
+def turned_away(server):
+    """How long a newcomer waits until it is turned away."""
+    began = time.monotonic()
+    with server.connect() as late:
+        holds(late.has_ended(), "one connection too many is neither served nor closed")
+    return time.monotonic() - began
+
+
+def behind_half_closed(server):
+    """How long the first newcomer waits for the end of a client that has shut its receiving side."""
+    with until(lambda: served(server), 20, "a place is free") as half:
+        half.socket.shutdown(socket.SHUT_RD)
+        took = turned_away(server)
+    holds(0.9 < took, f"the first was closed after {took:.2f} s")
+    return took
+
+
 @within(90)
 def door_behind_half_closed(place):
     """at the limit, while a client has shut its receiving side: one newcomer waits a second for its end, and no later one; the next comes in where another has left"""
     server = Server(place, connections=2).start()
-    with server.attached(1) as half, server.attached(2) as other:
-        half.socket.shutdown(socket.SHUT_RD)
-
-        def turned_away():
-            began = time.monotonic()
-            with server.connect() as late:
-                holds(late.has_ended(), "one connection too many is neither served nor closed")
-            return time.monotonic() - began
-
-        first = turned_away()
-        holds(0.9 < first, f"the first was closed after {first:.2f} s")
-        later = quickest(3, 0.5, lambda _turn: turned_away())
-        holds(later < 0.5, f"each later one was closed after {later:.2f} s or more")
-        other.close()
-        with until(lambda: served(server), 20, "a place is free again") as conn:
-            same(conn.ask(wire.attach(3)), ("welcome", 3, 1))
+    with server.attached(1) as other:
+        first = quickest(1, 2, lambda _turn: behind_half_closed(server))
+        holds(first < 2, f"the first was closed after {first:.2f} s")
+        with until(lambda: served(server), 20, "a place is free") as half:
+            half.socket.shutdown(socket.SHUT_RD)
+            turned_away(server)
+            later = quickest(3, 0.5, lambda _turn: turned_away(server))
+            holds(later < 0.5, f"each later one was closed after {later:.2f} s or more")
+            other.close()
+            with until(lambda: served(server), 20, "a place is free again") as conn:
+                same(conn.ask(wire.attach(3)), ("welcome", 3, 1))
     server.stop()
     return f"after {first:.2f} s, then {later:.2f} s"
+
+
+@within(60)
+def accepts_while_one_waits(place):
+    """at the limit, while a newcomer waits for a place that is about to be free: the next is turned away at once, and the first is served where another has left"""
+    server = Server(place, connections=2).start()
+
+    def turn(_number):
+        with server.attached(1) as half, server.attached(2) as other:
+            half.socket.shutdown(socket.SHUT_RD)
+            with server.connect() as first:
+                began = time.monotonic()
+                with server.connect() as second:
+                    holds(second.has_ended(), "one connection too many is neither served nor closed")
+                took = time.monotonic() - began
+                other.close()
+                try:
+                    same(first.ask(wire.report()), ("report", "waiting 0\n"))
+                except wire.Ended:
+                    # (on a busy machine its second is over)
+                    took = max(took, 1)
+        return took
+
+    took = quickest(3, 0.5, turn)
+    server.stop()
+    holds(took < 0.5, f"the next was turned away after {took:.2f} s or more, or the first was never served")
+    return f"{took:.2f} s"
 
 
 @within(90)
@@ -388,6 +429,49 @@ def unread_of(conn):
     return struct.unpack("i", fcntl.ioctl(conn.socket, termios.FIONREAD, bytes(4)))[0]
 
 
+# How often a held reply has to come, of at most `MOST_TURNS` times: the server waits 400 ms for it, so a loaded machine may be too slow.
+COMES = 3
+
+
+@within(90)
+def told_before_a_fault(place):
+    """a reply whose write is held while the device fails, and goes on a tenth of a second later, still comes"""
+    came = 0
+    for turn in range(MOST_TURNS):
+        came += is_written_after_fault(place, turn)
+        if came == COMES:
+            return f"{came} of {turn + 1} turns"
+    holds(False, f"it came {came} times")
+
+
+def is_written_after_fault(place, turn):
+    """Holds the write of a reply, lets the device fail, and then lets the write go on. Whether the reply comes."""
+    held, record = Held(place, "send", f"-write{turn}"), place.path(f"write{turn}")
+    server = Server(place, f"w{turn}")
+    server.start().stop()
+    server.start({**held.env, "LD_PRELOAD": f"{held.env['LD_PRELOAD']}:{preload(place, 'record.c')}", "RECORD": record, "TURN": "60", "HOW": "fails"})
+    failed = lambda: any(it.error == errno.EIO for it in calls_of(record, is_cut=True))
+    with server.attached(7) as told, server.attached(8) as other:
+        held.next()
+        told.send(wire.attach(7))
+        held.wait()
+        for _ in range(100):
+            other.send(wire.attach(8))
+            until(lambda: unread_of(other) > 0 or failed(), 20, "a reply comes, or the device fails")
+            if failed():
+                break
+            same(other.reply(), ("welcome", 8, 1))
+        holds(failed(), "the device does not fail")
+        time.sleep(0.1)
+        held.let_go()
+        try:
+            is_there = told.reply() == ("welcome", 7, 1)
+        except wire.Ended:
+            is_there = False
+        same(server.ended(), (3, "", "femem: store device\n"))
+    return is_there
+
+
 @within(60)
 def unread_reports(place):
     """forty connections that each ask for 200 long reports and read nothing cost less than 20 MB"""
@@ -431,6 +515,8 @@ CHECKS = (
     few_descriptors,
     long_paths,
     door_behind_half_closed,
+    accepts_while_one_waits,
     fault_with_silent_clients,
+    told_before_a_fault,
     unread_reports,
 )

@@ -163,6 +163,12 @@ def settings(place):
             same(ended[2], f"femem: {line}\n".encode(), f"{key} = {value}")
     for key in ("socket", "store"):
         same(table[key][1], "refused", key)
+    _, shown, _ = place.run("serve", "--help")
+    lines = [line.split() for line in shown.decode().splitlines() if line.startswith("  ")]
+    same([line[0] for line in lines if line[0] in table], list(table), "the keys in the help of serve")
+    for key, (_, default) in table.items():
+        line = next(line for line in lines if line[0] == key)
+        same(line[-2:] == ["[default:", default.replace(",", "") + "]"], default != "refused", f"{key} in the help of serve")
 
 
 def statuses(place):
@@ -183,6 +189,9 @@ def statuses(place):
     ends["memory"] = place.run("run", given=b"c1 attach 7\n", env=env)
     for word, (status, _, errors) in ends.items():
         same(said_of(word), [status], f"{word}: {errors.decode()}")
+    _, shown, _ = place.run("serve", "--help")
+    listed = [int(it) for it in re.findall(r"^  (\d)  ", shown.decode(), re.M)]
+    same(listed, list(meant), "the statuses in the help of serve")
     same(sorted(meant), sorted({status for status, _, _ in ends.values()}), "statuses of docs/commands.md")
     spoken = re.search(r"The status gives the kind: 0 no fault, (\d) settings, command line, lines and standard streams, (\d) store, memory and `strange`, (\d) socket", text("docs/operating.md"))
     same([int(it) for it in spoken.groups()], [ends[it][0] for it in ("the settings", "the store", "the socket")], "docs/operating.md")

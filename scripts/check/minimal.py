@@ -1,5 +1,5 @@
 """A minimal Debian, as debootstrap makes it, with the toolchain and what the README names: what `make run` and `make test` say before
-that, the README's first commands by a user and by root, and the commands of the pages.
+that, the README's first commands by a user and by root, the packages, and the commands of the pages. `make test` proves nothing here.
 
 Outside the gate: it needs root, debootstrap and Debian's archive. `make check-minimal` runs it. FEMEM_CLEAN_ROOT can name a root that
 debootstrap has made; it is copied.
@@ -11,8 +11,9 @@ import shutil
 import subprocess
 
 from . import deb_pages
+from .clean import NAMES
 from .harness import Skipped, holds, same, within
-from .targets import copy_of
+from .targets import copy_of, packages_of_the_readme
 from .texts import text_of
 
 SUITE, ARCHIVE = "bookworm", "http://deb.debian.org/debian"
@@ -25,7 +26,9 @@ mount -t proc proc "$ROOT/proc"
 mount --rbind /dev "$ROOT/dev"
 mount -t tmpfs -o mode=1777 tmpfs "$ROOT/tmp"
 mount --bind -o ro "$KIT" "$ROOT$KIT"
-exec env -i PATH=/usr/local/sbin:/usr/local/bin:/usr/sbin:/usr/bin:/sbin:/bin HOME=/root LC_ALL=C.UTF-8 DEBIAN_FRONTEND=noninteractive \
+home=/root
+[ "$1" = root ] || home=/home/$1
+exec env -i PATH=/usr/local/sbin:/usr/local/bin:/usr/sbin:/usr/bin:/sbin:/bin HOME=$home LC_ALL=C.UTF-8 DEBIAN_FRONTEND=noninteractive \
   chroot "$ROOT" runuser -u "$1" -- bash -c "$2"
 """
 
@@ -61,24 +64,18 @@ class Minimal:
             file.write(STAND_IN)
         os.chmod(f"{self.root}/srv/stand-in/rt", 0o755)
 
-    def runs(self, user, words, folder="/"):
+    def runs(self, user, words, folder="/", network=True):
         """Runs a shell's commands there to their end: the status, and all that they print."""
-        how = ["unshare", "--mount", "--pid", "--fork", "--kill-child", "bash", "-c", ENTER, "enter", user, f"cd {folder}\n{words}"]
+        kinds = ["--mount", "--pid", *([] if network else ["--net"])]
+        how = ["unshare", *kinds, "--fork", "--kill-child", "bash", "-c", ENTER, "enter", user, f"cd {folder}\n{words}"]
         process = self.place.start(how, "minimal", {"ROOT": self.root, "KIT": kit()}, stderr=subprocess.STDOUT, group=True)
         process.wait()
         return process.returncode, self.place.read("minimal.out").decode(errors="replace")
 
-    def does(self, user, words, folder="/"):
-        status, said = self.runs(user, words, folder)
+    def does(self, user, words, folder="/", **how):
+        status, said = self.runs(user, words, folder, **how)
         same(status, 0, f"{user}: {words}\n{said[-1500:]}")
         return said
-
-
-def lines_of_the_readme():
-    """What the README has one install for `make run`, and what else for `make test`."""
-    found = re.search(r"`apt install ([\w ]+)`; `make test` also `([\w. -]+)`", text_of("README.md"))
-    holds(found, "the README says what to install for `make run` and for `make test`")
-    return found.groups()
 
 
 @within(600)
@@ -97,7 +94,7 @@ def lacks(place):
 def first_commands(place):
     """a minimal Debian with the packages that the README names for `make run`: its first commands, by a user and by root"""
     minimal = Minimal(place)
-    minimal.does("root", f"apt-get -q -y install {lines_of_the_readme()[0]}")
+    minimal.does("root", f"apt-get -q -y install {' '.join(packages_of_the_readme()[0])}")
     os.symlink(f"{kit()}/bin/rt", f"{minimal.root}/usr/local/bin/rt")
     found = re.search(r"^```sh\n(make run.*?)^```\n\n(.*?)\n\n", text_of("README.md"), re.M | re.S)
     printed = re.findall(r"`(welcome [^`]*|[0-9]+ [^`]*)`", found[2])
@@ -107,27 +104,45 @@ def first_commands(place):
         same([it for it in said.splitlines() if re.match(r"welcome |[0-9]+ ", it)][-6:], printed, user)
 
 
+# What `make test` says is lacking, and Debian's package of it.
+LACKS = re.compile(r"^femem: this machine lacks (.*?)(?: \(on Debian: apt install ([\w-]+)\)|,.*?): ", re.M)
+TEST = f"git config --global --add safe.directory {CLONE}; PATH=/srv/stand-in:$PATH make test"
+
+
 @within(600)
-def tests_name(place):
-    """a minimal Debian: `make test` names what else the README says, and then root alone to a user, and nothing to root"""
+def tests_lack(place):
+    """a minimal Debian with the packages that the README names for `make run`: `make test` names those that the README names for it"""
+    # (git brings patch)
+    named = {it[1] for it in LACKS.findall(Minimal(place).runs("root", TEST, CLONE)[1])}
+    same(named, set(packages_of_the_readme()[1]) - {"patch"})
+
+
+@within(600)
+def packs(place):
+    """a minimal Debian with what the README names for `make deb` besides: a user makes the six packages, without a network"""
     minimal = Minimal(place)
-    more = lines_of_the_readme()[1]
-    lacking = re.compile(r"^femem: this machine lacks (.*?)(?: \(on Debian: apt install ([\w-]+)\)|,.*?): ", re.M)
-    test = "PATH=/srv/stand-in:$PATH make test"
-    named = {it[1] for it in lacking.findall(minimal.runs("root", test, CLONE)[1])}
-    # (git brings patch, and the README leaves out what only a check of the Python client needs)
-    holds(len(named & set(more.split())) >= 4, f"make test names {sorted(named)}, and the README {more}")
-    minimal.does("root", f"apt-get -q -y install {more} {' '.join(named)}")
+    minimal.does("root", f"apt-get -q -y install {' '.join(packages_of_the_readme()[2])}")
+    said = minimal.does(USER, "scripts/make_deb --unproved out/unproved/femem-unproved out/dist", CLONE, network=False)
+    same(sorted(os.path.basename(it).split("_")[0] for it in said.split()), sorted(NAMES))
+
+
+@within(600)
+def tests_have(place):
+    """a minimal Debian with all packages that the README names: `make test` names root alone to a user, and nothing to root"""
+    minimal = Minimal(place)
+    minimal.does("root", f"apt-get -q -y install {' '.join(packages_of_the_readme()[1])}")
     for user, wanted in ((USER, [("root", "")]), ("root", [])):
-        said = minimal.runs(user, f"git config --global --add safe.directory {CLONE}; {test}", CLONE)[1]
-        same(lacking.findall(said), wanted, f"{user}: {said[:1000]}")
+        said = minimal.runs(user, TEST, CLONE)[1]
+        same(LACKS.findall(said), wanted, f"{user}: {said[:1000]}")
+        # (it went on, to the toolchain)
+        holds("rt ci: 0 passed, 1 failed" in said, said[-1000:])
 
 
 @within(1200)
 def pages(place):
     """a minimal Debian with what the README names: the commands of the pages, as deb_pages.py runs them"""
     minimal = Minimal(place)
-    minimal.does("root", f"apt-get -q -y install systemd python3-venv libc6-dev {lines_of_the_readme()[1]}")
+    minimal.does("root", f"apt-get -q -y install systemd {' '.join(packages_of_the_readme()[1])}")
     before = os.environ.get("FEMEM_CLEAN_ROOT")
     os.environ["FEMEM_CLEAN_ROOT"] = minimal.root
     try:
@@ -141,4 +156,4 @@ def pages(place):
             os.environ["FEMEM_CLEAN_ROOT"] = before
 
 
-CHECKS = (lacks, first_commands, tests_name, pages)
+CHECKS = (lacks, first_commands, tests_lack, packs, tests_have, pages)

@@ -1,10 +1,13 @@
 """What a finished gate has proved and tried: each test by its name, each must-fail edit, and the tests of refused memory.
 
-It reads what `rt ci` said, from `--log FILE`, and runs the test programs that it left."""
+It reads what `rt ci` said, from `--log FILE`, and runs the test programs that it left. It also tries scripts/seed over the libraries
+that it left."""
 
 import glob
 import os
 import re
+import shutil
+import subprocess
 
 from .clients import output_of
 from .edits import edits
@@ -81,4 +84,51 @@ def memory_ends(place):
     return f"{wanted} tests, {refusals} allocations"
 
 
-CHECKS = (tests, refused, memory_ends)
+# A crate that is soon proved, with all those below it.
+SEEDED = ("fe_words", "fe_table", "fe_state", "fe_codes")
+
+
+def seedling(place):
+    """A repository of these crates, as the gate leaves them: with libraries that have no stamps."""
+    top = place.path("seedling")
+    shutil.copytree(os.path.join(TOP, "scripts"), os.path.join(top, "scripts"))
+    shutil.copy2(os.path.join(TOP, "HANDLES"), top)
+    listed = [it for it in text_of("crates.txt").splitlines() if it.split(":")[0] in SEEDED]
+    place.write("seedling/crates.txt", "".join(f"{it}\n" for it in listed).encode())
+    for crate in SEEDED:
+        for part in ("src", "specs", "proofs"):
+            if os.path.isdir(os.path.join(TOP, "crates", crate, part)):
+                shutil.copytree(os.path.join(TOP, "crates", crate, part), os.path.join(top, "crates", crate, part))
+    os.makedirs(os.path.join(top, "out", "gate"))
+    sources = subprocess.check_output([os.path.join(top, "scripts", "record"), "sources"])
+    place.write("seedling/out/gate/sources", sources)
+    for crate in SEEDED[:-1]:
+        library = os.path.join("crates", crate, "out", "rlib")
+        shutil.copytree(os.path.join(TOP, library), os.path.join(top, library), ignore=lambda _, names: set(names) & {"stamp"})
+        os.utime(os.path.join(top, library))
+    return top
+
+
+@within(300)
+def seeded(place):
+    """after scripts/seed, `rt check` of a crate proves none below it; it stamps nothing once a source has changed"""
+    log_of(place)
+    top = seedling(place)
+    words = [os.path.join(top, "scripts", "seed")]
+    stamps = [os.path.join(top, "crates", it, "out", "rlib", "stamp") for it in SEEDED[:-1]]
+    source = os.path.join(top, "crates", "fe_words", "src", "lib.rt")
+    with open(source, "a", encoding="utf-8") as file:
+        file.write("// changed\n")
+    ran = subprocess.run(words, stdin=subprocess.DEVNULL, capture_output=True, text=True, check=False)
+    same((ran.returncode, ran.stderr), (1, "femem: the sources are not those that the gate began with\n"))
+    holds(not any(map(os.path.exists, stamps)), "a stamp for another text")
+    shutil.copy2(os.path.join(TOP, "crates", "fe_words", "src", "lib.rt"), source)
+    same(output_of(place, words, 60), f"{len(stamps)} crates: {' '.join(SEEDED[:-1])}\n")
+    times = [os.stat(it).st_mtime_ns for it in stamps]
+    said = output_of(place, ["env", "-C", os.path.join(top, "crates", SEEDED[-1]), "rt", "check"], 280)
+    same([os.stat(it).st_mtime_ns for it in stamps], times, "libraries that were built anew")
+    proved = set(re.findall(r"^fn (\w+)::\S+: proved$", said, re.M))
+    same(proved, {SEEDED[-1]}, "crates that were proved")
+
+
+CHECKS = (tests, refused, memory_ends, seeded)

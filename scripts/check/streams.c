@@ -50,7 +50,7 @@ static int fails(const char *kind) {
     errno = EIO;
     return 1;
   }
-  if (hold && unlink(hold) == 0) {
+  if (hold && access(hold, F_OK) == 0 && unlink(hold) == 0) {
     make_mark();
     for (int turn = 0; turn < 60000 && access(mark, F_OK) == 0; turn++) usleep(1000);
   }

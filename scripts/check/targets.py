@@ -13,7 +13,7 @@ from .clients import output_of
 from .harness import Skipped, compiler, holds, same, until, within
 from .install import done, recorded
 from .manuals import pages
-from .texts import TOP
+from .texts import TOP, text_of
 
 from release import record  # noqa: E402  (the path is set by manuals)
 
@@ -27,7 +27,8 @@ case $1 in
     mkdir -p crates/femem/out
     echo "the program" > crates/femem/out/femem
     echo "rt: femem proved"
-    echo "${FAULT:-5 passed, 0 failed}" ;;
+    echo "${FAULT:-5 passed, 0 failed}"
+    exit "${STATUS:-0}" ;;
 esac
 """
 
@@ -67,17 +68,56 @@ def prove(place):
     same(record.fault_of(made, kept, top), None)
     with open(made, encoding="ascii") as file:
         same(file.read(), "the program\n")
-    # (it is up to date, so nothing is proved again)
+    # (what is up to date, or was only touched, is not proved again, and needs no toolchain; what was changed is)
     os.unlink(place.path("seen"))
-    done(place, words, env=env)
+    bare = {**env, "PATH": machine(place, {"rt"})}
+    for name in ("out/proved/record", "crates.txt", "crates/fe_words/src/op.rt"):
+        os.utime(os.path.join(top, name))
+        done(place, words, env=bare)
     holds(not os.path.exists(place.path("seen")), "what is up to date was proved again")
+    with open(os.path.join(top, "crates/fe_words/src/op.rt"), "a", encoding="utf-8") as file:
+        file.write("\n")
+    done(place, words, env=env)
+    holds(os.path.exists(place.path("seen")), "what was changed is not proved again")
 
 
-# What the gate names if a machine lacks it, and Debian's package of each.
+# In place of scripts/check_programs.
+PROGRAMS = """#!/bin/sh
+echo "${SAYS-3 passed, 0 failed}"
+"""
+
+
+@within(120)
+def adds_up(place):
+    """`make test` adds up what its three parts say; one that ends with an error, or says nothing, has failed; only a run in which none has failed is recorded"""
+    top = copy_of(place)
+    os.makedirs(place.path("bin"))
+    os.chmod(place.write("bin/rt", TOOLCHAIN.encode()), 0o755)
+    os.chmod(place.write("copy/scripts/check_programs", PROGRAMS.encode()), 0o755)
+    env = {"PATH": f"{place.path('bin')}:{os.environ['PATH']}", "SEEN": place.path("seen")}
+    made = os.path.join(top, "out/proved/record")
+    runs = (
+        ({"STATUS": "1"}, "11 passed, 1 failed"), ({"FAULT": "4 passed, 1 failed"}, "10 passed, 1 failed"), ({"SAYS": ""}, "5 passed, 2 failed"),
+        ({"SAYS": "3 passed, 1 failed (not run here: deb)"}, "11 passed, 2 failed (not run here: deb)"), ({}, "11 passed, 0 failed"),
+    )
+    for how, last in runs:
+        done(place, ["make", "-s", "-C", top, "test"], env={**env, **how}, status=2 if how else 0)
+        said = place.read("made.out").decode()
+        same([it for it in said.splitlines() if re.match(r"\d+ passed", it)][-1:], [last], said)
+        same(os.path.exists(made), not how, "a record")
+    with open(os.path.join(top, "out/gate/spent"), encoding="ascii") as file:
+        spent = [line.rstrip("\n").split(" ", 1) for line in file]
+    same([name for _, name in spent], ["rt ci", "programs", "proofs"], "parts whose processor time is noted")
+    same(sorted(spent, key=lambda it: float(it[0])), spent, "processor time so far")
+    return f"{len(runs)} runs"
+
+
+# What the gate names if a machine lacks it, and Debian's package of each. Every Debian has those of EACH_HAS.
 NEEDS = {
     "gcc": "gcc", "nm": "binutils", "patch": "patch", "man": "man-db", "dpkg-deb": "dpkg", "pkg-config": "pkgconf", "unshare": "util-linux",
-    "ss": "iproute2",
+    "ss": "iproute2", "strace": "strace", "valgrind": "valgrind", "lintian": "lintian",
 }
+EACH_HAS = {"dpkg", "util-linux"}
 # In place of a toolchain that fails: it notes what it is asked, and says why.
 FAILING = """#!/bin/sh
 echo "rt $*" >> "$SEEN"
@@ -103,6 +143,19 @@ def machine(place, without, *scripts):
     return made
 
 
+def packages_of_the_readme():
+    """Debian's packages that the README names for `make run`, and those that it names for `make test` and for `make deb` besides."""
+    found = [
+        re.findall(form, text_of("README.md"), re.M)
+        for form in (
+            r"^.*On Debian: `apt install ([\w ]+)`", r"^\| `make test` \|.*`apt install ([\w. -]+)`",
+            r"with `make prove` and `make deb` \(`apt install ([\w ]+)`\)",
+        )
+    ]
+    same([len(it) for it in found], [1, 1, 1], "the README says what to install, once for each")
+    return [it[0].split() for it in found]
+
+
 @within(120)
 def lacks(place):
     """without python3 and the toolchain `make run` and `make test` name both at once; `make test` names what else is missing, and root"""
@@ -118,6 +171,7 @@ def lacks(place):
     before, _, after = place.read("test.out").decode().partition("rt: a fault of the toolchain")
     named = re.findall(r"^femem: this machine lacks (\S+) \(on Debian: apt install (\S+)\): checks that need it will count as failed$", before, re.M)
     same(dict(named), NEEDS, before)
+    same(sorted(packages_of_the_readme()[1]), sorted({"python3-venv", *NEEDS.values()} - EACH_HAS), "what the README names for `make test`")
     holds("femem: this machine lacks root, " in before and after and process.returncode == 2, f"{before} .. {after}")
     # a fault of the toolchain is passed on, and nothing is proved
     os.unlink(place.path("seen"))
@@ -128,7 +182,7 @@ def lacks(place):
     for name in ("bin/rt", "bin/rtlib.py", "bin/rattle", "toolchain/bin/clang"):
         os.chmod(place.write(f"kit/{name}", FAILING.encode()), 0o755)
     said = done(place, ["make", "-C", top, "run"], env={**bare, "PATH": f"{kit}:{os.environ['PATH']}"}, status=2)
-    holds("rt: a fault of the toolchain\n" in said, said)
+    holds("rt: a fault of the toolchain\n" in said and "prove'" not in said, said)
     same(place.read("seen").decode(), "rt try -- --help\n", "what the toolchain was asked")
 
 
@@ -197,4 +251,4 @@ def refuse_each(place):
     return f"{found[1]} allocations of {', '.join(chosen)}"
 
 
-CHECKS = (prove, lacks, deb, targets, serve, refuse_each)
+CHECKS = (prove, adds_up, lacks, deb, targets, serve, refuse_each)

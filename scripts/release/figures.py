@@ -2,8 +2,8 @@
 
 Usage: scripts/figures
 
-The gate leaves its last line, its log and its costs in out/gate. No figure of this page is written by hand, and no other page has
-one of them.
+The gate leaves its last line, its log and its costs in out/gate, and scripts/plant what it found in out/plant. No figure of this page
+is written by hand, and no other page has one of them.
 """
 
 import glob
@@ -11,7 +11,7 @@ import os
 import re
 import subprocess
 
-from . import pages, record
+from . import pages, planted, record
 
 TOP = pages.TOP
 PAGE = os.path.join(TOP, "docs", "figures.md")
@@ -82,9 +82,31 @@ def minutes(seconds):
     return f"{seconds / 60:.1f}" if seconds else ""
 
 
+def of_processes():
+    """The processor seconds of the last gate's parts but `rt ci`, with the processes that they started."""
+    with open(os.path.join(GATE, "spent"), encoding="ascii") as file:
+        so_far = [float(line.split()[0]) for line in file]
+    return so_far[-1] - so_far[0]
+
+
+def chain(found):
+    """The dearest chain of crates, each of which stands on the one before: its seconds and its crates. None if the gate did not prove
+    all crates in that run."""
+    with open(os.path.join(TOP, "crates.txt"), encoding="utf-8") as file:
+        listed = re.findall(r"^(\w+)[^:\n]*:(.*)$", file.read(), re.M)
+    dearest = {}
+    for crate, below in listed:
+        if not crate.startswith("test_"):
+            if (crate, "proofs") not in found:
+                return None
+            seconds, names = max([dearest[it] for it in below.split() if it in dearest], default=(0, []))
+            dearest[crate] = (seconds + found[crate, "proofs"], [*names, crate])
+    return max(dearest.values())
+
+
 def gate():
     """What the last gate took."""
-    if not all(os.path.exists(os.path.join(GATE, it)) for it in ("last", "costs", "commit")):
+    if not all(os.path.exists(os.path.join(GATE, it)) for it in ("last", "costs", "commit", "spent")):
         yield "`make test` has not run to its end since this page was written."
         return
     with open(os.path.join(GATE, "last"), encoding="utf-8") as file:
@@ -98,8 +120,11 @@ def gate():
     yield from (f"- {it}" for it in last)
     yield (
         f"- {seconds / 60:.0f} minutes of the clock; the prover took {sum(found.values()) / 60:.0f} processor minutes: {of_kind('proofs') / 60:.0f} for"
-        f" crates, {of_kind('tests') / 60:.0f} for tests, {of_kind('edits') / 60:.0f} for must-fail edits"
+        f" crates, {of_kind('tests') / 60:.0f} for tests, {of_kind('edits') / 60:.0f} for must-fail edits; the checks of real processes"
+        f" took {of_processes() / 60:.0f}"
     )
+    if dearest := chain(found):
+        yield f"- the dearest chain of crates took {dearest[0] / 60:.1f} processor minutes: {' < '.join(f'`{it}`' for it in dearest[1])}"
     yield ""
     yield "A cell without a figure: nothing is there, or an earlier run on that machine did it, and it was kept."
     yield ""
@@ -107,6 +132,24 @@ def gate():
     yield "|---|---|---|---|"
     for crate in crates():
         yield row((f"`{crate}`", *(minutes(found.get((crate, kind), 0)) for kind in ("proofs", "tests", "edits"))))
+
+
+def wrong_bodies():
+    """What scripts/plant found in each crate that it was run in."""
+    found = planted.figures()
+    if not found:
+        yield "`make plant` has not run on this machine."
+        return
+    yield row(("crate", "functions", "bodies tried", "refused", "proved, and explained", "without a clause, and explained", "text"))
+    yield "|---|" + "---|" * 6
+    for crate, (counts, is_present) in found.items():
+        tried = sum(counts[it] for it in ("proves", "same", "refused"))
+        cells = (counts["planted-in"], tried, counts["refused"], counts["proves"], counts["no-ensures"])
+        yield row((f"`{crate}`", *(f"{it:,}" if it else "" for it in cells), "this" if is_present else "an earlier one"))
+    absent = [it for it in planted.crates() if it not in found]
+    if absent:
+        yield ""
+        yield f"Not tried: {', '.join(f'`{it}`' for it in absent)}."
 
 
 def words():
@@ -131,6 +174,9 @@ def page():
         " two texts in one hour.", "",
         "## Size", "", "Lines that are not empty.", "", *size(), "",
         "## The last gate", "", *gate(), "",
+        "## Wrong bodies", "",
+        "What `rt plant` tried, without bodies that could not be judged. A body that is proved gives the same as the right one, or"
+        " `scripts/planted.txt` has the reason why it does no harm.", "", *wrong_bodies(), "",
         "## Documents", "", *words(),
     ]
     return "\n".join(parts) + "\n"
