@@ -347,6 +347,22 @@ def accepts_while_one_waits(place):
     return f"{took:.2f} s"
 
 
+@within(60)
+def late_client_is_the_last(place):
+    """a newcomer who waited for its place may be the last of `accepts`: the server ends after it, and without another connection"""
+    server = Server(place, accepts=3, connections=2).start()
+    with server.attached(1) as half, server.attached(2) as other:
+        half.socket.shutdown(socket.SHUT_RD)
+        with server.connect() as late:
+            # (it waits, and so does the accepting thread)
+            late.send(wire.report())
+            time.sleep(0.1)
+            other.close()
+            same(late.reply(), ("report", "waiting 0\n"))
+    status, _, errors = server.ended()
+    same((status, errors), (0, ""))
+
+
 @within(90)
 def fault_with_silent_clients(place):
     """a device fault ends the server within a second, even with clients that send nothing or read nothing, one of them half-closed"""
@@ -516,6 +532,7 @@ CHECKS = (
     long_paths,
     door_behind_half_closed,
     accepts_while_one_waits,
+    late_client_is_the_last,
     fault_with_silent_clients,
     told_before_a_fault,
     unread_reports,

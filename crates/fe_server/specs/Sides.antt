@@ -10,6 +10,8 @@ use Rattle.fe_hall.specs.declared.write_end.WriteEnd.TheVariants as write_end
 use Rattle.fe_hall.specs.Reads as reads
 use Rattle.fe_hall.specs.Writes as writes
 use Rattle.fe_shared.specs.Seats.{HasDeparted, HasRested, ReadSeat, WriteSeat}
+use Rattle.fe_server.specs.declared.reads.Reads.{Reads}
+use Rattle.fe_server.specs.declared.reads.Reads.TheVariants as most
 
 -- whether a read side that ended so ends the stream: not where the write side may go on
 abbrev pub ends_stream : ReadEnd → Bool
@@ -22,12 +24,17 @@ ends_stream read_end.Stopped = true
 ends_stream read_end.Spent = true
 ends_stream (read_end.NoMemory short) = true
 
--- A read side read a half, so often at most: what it handled is the front of the stream, if the half tells its bytes and had told none;
--- and it ended so. It ends for the number of its reads only after all of them, or with none where its client can't be answered.
+-- how many reads are made from a connection at most, with the number that the settings say
+abbrev pub most_reads : Reads → ℕ → ℕ
+most_reads most.All turns = turns
+most_reads (most.None unstarted) turns = 0
+
+-- A read side read a half, at most `turns` times: what it handled is the front of the stream, if the half tells its bytes and had told none;
+-- and it ended so. It ends for the number of its reads only after all of them.
 pub record HasHandled {H : Type 0} (tells : H → Type 0) (told : H → List ℕ) (reads_of : H → ℕ) (turns : ℕ) (old new : H) (seat left : ReadSeat) (sent : List ClientMessage) (end : ReadEnd) : Type 0 where
   pub own : left.conn ≡ seat.conn
   pub handled : tells old → told old ≡ [] → reads.HandlesStream (told new) seat left sent end
-  pub made : end ≡ read_end.Turns → (reads_of new ≡ reads_of old + turns) ⊎ (reads_of new ≡ reads_of old)
+  pub made : end ≡ read_end.Turns → reads_of new ≡ reads_of old + turns
   pub few : reads_of new ≤ reads_of old + turns
   pub hall : reads.IsTold end left.standing
   pub departed : end ≢ read_end.Stopped → HasDeparted left

@@ -7,13 +7,15 @@ use crate::connection::{Accepted, Connection, STACK};
 use crate::entrance::Entrance;
 use crate::house::House;
 use crate::newcomer::{Ended, Newcomer};
+use crate::reads::{Reads, Unstarted};
 use crate::register::{NoMore, Waiting};
+use core::thread::{Anything, Stack};
 use fe_hall::{ConnectRight, Gate, HasStopped, Tally};
 use fe_options::Settings;
 use std::alloc::Global;
 use std::io::ErrorKind;
 use std::sync::Wait;
-use std::thread::{Builder, Scope, Threads};
+use std::thread::{Scope, Threads};
 use std::time::{Clock, Duration};
 use std::{io, thread};
 
@@ -57,7 +59,7 @@ pub(crate) fn serve_clients<
     // Clients come until the server ends, or as many came as the settings say.
     ensures why { HasEnded settings.now.accepts result.no_more }
 {
-    let (turns, accepts) = (settings.turns, settings.accepts);
+    let accepts = settings.accepts;
     let lent = &right;
     let no_more = thread::scope(
         thread::scope_env(),
@@ -72,7 +74,6 @@ pub(crate) fn serve_clients<
                 house,
                 right: lent,
                 gate,
-                turns,
             };
             let no_more = porter.accept_all(scope, &entrance, accepts);
             house.close_door(rt);
@@ -92,8 +93,6 @@ struct Porter<'s, C: Tally, M: Tally, G: Gate, R: Clock> {
     house: &'s House<C, M>,
     right: &'s ConnectRight,
     gate: &'s G,
-    /// How many reads each connection has.
-    turns: u64,
 }
 
 impl<
@@ -147,18 +146,21 @@ impl<
         requires calls { C.all ≡ C.parts }
         requires mails { M.all ≡ M.parts }
     {
-        let (rt, alloc, house, right, gate, turns) = (
-            self.rt, self.alloc, self.house, self.right, self.gate, self.turns,
-        );
-        let started = Builder::new().stack_size(STACK).spawn_scoped(
+        let (rt, alloc, house, right, gate) =
+            (self.rt, self.alloc, self.house, self.right, self.gate);
+        let started = Stack::new().stack_size(STACK).spawn_scoped_with(
             scope,
+            Anything,
             move || -> Ended
                 requires { (C.all ≡ C.parts) × (M.all ≡ M.parts) }
-            { serve_late(rt, alloc, house, right, gate, turns, ROOM_WAIT) },
+            { serve_late(rt, alloc, house, right, gate, Reads::All, ROOM_WAIT) },
         );
         match started {
-            Ok(thread) => waiting.begins(thread),
-            Err(_) => drop(waiting.ends(serve_late(rt, alloc, house, right, gate, 0, 0))),
+            Ok(thread) => waiting.begins(thread.forget_promise()),
+            Err(refused) => {
+                let reads = Reads::None(Unstarted::refused(&refused));
+                drop(waiting.ends(serve_late(rt, alloc, house, right, gate, reads, 0)));
+            }
         }
     }
 
@@ -167,23 +169,25 @@ impl<
         requires calls { C.all ≡ C.parts }
         requires mails { M.all ≡ M.parts }
     {
-        let (rt, alloc, house, gate, turns) = (
-            self.rt, self.alloc, self.house, self.gate, self.turns,
-        );
+        let (rt, alloc, house, gate) = (self.rt, self.alloc, self.house, self.gate);
         match house.put(rt, newcomer) {
             Ok(waiting) => {
-                let started = Builder::new().stack_size(STACK).spawn_scoped(
+                let started = Stack::new().stack_size(STACK).spawn_scoped_with(
                     scope,
+                    Anything,
                     move || -> Ended
                         requires { (C.all ≡ C.parts) × (M.all ≡ M.parts) }
-                    { serve_next(rt, alloc, house, gate, turns) },
+                    { serve_next(rt, alloc, house, gate, Reads::All) },
                 );
                 match started {
-                    Ok(thread) => waiting.begins(thread),
-                    Err(_) => drop(waiting.ends(serve_next(rt, alloc, house, gate, 0))),
+                    Ok(thread) => waiting.begins(thread.forget_promise()),
+                    Err(refused) => {
+                        let reads = Reads::None(Unstarted::refused(&refused));
+                        drop(waiting.ends(serve_next(rt, alloc, house, gate, reads)));
+                    }
                 }
             }
-            Err(newcomer) => drop(newcomer.serve(rt, alloc, house, gate, 0)),
+            Err(newcomer) => drop(newcomer.serve(rt, alloc, house, gate)),
         }
     }
 }
@@ -194,12 +198,12 @@ fn serve_next<
     M: Tally + Send + Sync,
     G: Gate + Sync,
     R: Clock + Threads + Wait + Sync,
->(rt: &R, alloc: Global, house: &House<C, M>, gate: &G, turns: u64) -> Ended
+>(rt: &R, alloc: Global, house: &House<C, M>, gate: &G, reads: Reads) -> Ended
     requires calls { C.all ≡ C.parts }
     requires mails { M.all ≡ M.parts }
 {
     match house.take(rt) {
-        Ok(newcomer) => newcomer.serve(rt, alloc, house, gate, turns),
+        Ok(newcomer) => newcomer.serve(rt, alloc, house, gate, reads),
         Err(none) => Ended::of(none),
     }
 }
@@ -216,7 +220,7 @@ fn serve_late<
     house: &House<C, M>,
     right: &ConnectRight,
     gate: &G,
-    turns: u64,
+    reads: Reads,
     millis: u64,
 ) -> Ended
     requires calls { C.all ≡ C.parts }
@@ -235,8 +239,8 @@ fn serve_late<
         Err(unserved) => return Ended::unserved(rt, house, unserved),
     };
     match house.put(rt, newcomer) {
-        Ok(waiting) => waiting.ends(serve_next(rt, alloc, house, gate, turns)),
-        Err(newcomer) => newcomer.serve(rt, alloc, house, gate, 0),
+        Ok(waiting) => waiting.ends(serve_next(rt, alloc, house, gate, reads)),
+        Err(newcomer) => newcomer.serve(rt, alloc, house, gate),
     }
 }
 

@@ -11,11 +11,12 @@ ghost use Rattle.fe_streams.specs.Incoming.{bytes_read};
 ghost use Rattle.fe_hall.specs.Reads.{HandlesStream};
 ghost use Rattle.fe_hall.specs.Writes.{AreTaken, IsWritten};
 ghost use Rattle.fe_server.specs.Departed.{joined_to};
-ghost use Rattle.fe_server.specs.Sides.{HasHandled, HasWritten, ends_stream};
+ghost use Rattle.fe_server.specs.Sides.{HasHandled, HasWritten, ends_stream, most_reads};
 ghost use Rattle.fe_server.specs.Streams.{known_bytes};
 
 use crate::departed::Departed;
 use crate::house::House;
+use crate::reads::{Reads, Unstarted};
 use crate::register::{Admission, Full};
 use crate::socket_handle::SocketHandle;
 use crate::stream::{StreamRead, StreamWrite};
@@ -161,7 +162,7 @@ impl Connection {
         }
     }
 
-    /// Serves its client, until both sides have ended. At most `turns` reads are made. If the writing thread can't be started, none is.
+    /// Serves its client, until both sides have ended. If the writing thread can't be started, nothing is read.
     pub(crate) fn serve<
         C: Tally + Send + Sync,
         M: Tally + Send + Sync,
@@ -175,7 +176,7 @@ impl Connection {
         gate: &G,
         calls: CallSeat<C>,
         mails: MailSeat<M>,
-        turns: u64,
+        reads: Reads,
     ) -> Outcome<C, M>
         requires calls { calls.conn ≡ self.now.admission.conn }
         requires mails { mails.conn ≡ self.now.admission.conn }
@@ -183,7 +184,7 @@ impl Connection {
     {
         let stream: &UnixStream = &self.socket.stream;
         let (_, _, outcome) = serve_streams(
-            rt, alloc, house, gate, calls, mails, stream, stream, stream, turns,
+            rt, alloc, house, gate, calls, mails, stream, stream, stream, reads,
         );
         outcome
     }
@@ -207,6 +208,7 @@ pub(crate) struct Outcome<C: Tally, M: Tally> {
     mails: MailSeat<M>,
     receipts: Receipts<M>,
     write: WriteEnd,
+    reads: Reads,
     ghost one: { calls.conn ≡ mails.conn },
     ghost own: { receipts.conn ≡ mails.conn },
 }
@@ -219,6 +221,7 @@ impl<C: Tally, M: Tally> Outcome<C, M> {
         mails: MailSeat<M>,
         receipts: Receipts<M>,
         write: WriteEnd,
+        reads: Reads,
         _reader: Parted,
         _writer: Parted,
     ) -> Outcome<C, M>
@@ -233,6 +236,7 @@ impl<C: Tally, M: Tally> Outcome<C, M> {
         ensures mails { result.mails ≡ mails }
         ensures receipts { result.receipts ≡ receipts }
         ensures write { result.write ≡ write }
+        ensures reads { result.reads ≡ reads }
     {
         Outcome {
             calls,
@@ -241,6 +245,7 @@ impl<C: Tally, M: Tally> Outcome<C, M> {
             mails,
             receipts,
             write,
+            reads,
         }
     }
 
@@ -262,6 +267,7 @@ impl<C: Tally, M: Tally> Outcome<C, M> {
             mails,
             receipts,
             write: _,
+            reads: _,
         } = self;
         departed.add_calls(calls, sent, keeps);
         departed.add_mails(mails, receipts, keeps);
@@ -304,7 +310,7 @@ fn serve_streams<
     reader: I,
     writer: O,
     ends: &E,
-    turns: u64,
+    reads: Reads,
 ) -> (StreamRead<I>, StreamWrite<O>, Outcome<C, M>)
     requires one { calls.conn ≡ mails.conn }
     ensures own { result.2.mails.conn ≡ mails.conn }
@@ -316,11 +322,11 @@ fn serve_streams<
         → IsWritten (known_bytes (O.contents writer)) all result.2.write (known_bytes (O.contents result.1.writer)))
         × AreTold mails.conn all result.2.receipts.history }
     ensures departed { result.2.write ≢ WriteEnd.Stopped → result.2.mails.departed ≡ true }
-    // It ends for the number of its reads only after all of them, or with none where the writing thread can't be started.
-    ensures turns { result.2.read ≡ ReadEnd.Turns → (result.0.reads ≡ turns) ⊎ (result.0.reads ≡ 0) }
+    // It ends for the number of its reads only after all of them.
+    ensures turns { result.2.read ≡ ReadEnd.Turns → result.0.reads ≡ most_reads result.2.reads house.now.turns }
 {
     let (from, to) = (StreamRead::new(reader), StreamWrite::new(writer));
-    serve_over(rt, alloc, house, gate, calls, mails, from, to, ends, turns)
+    serve_over(rt, alloc, house, gate, calls, mails, from, to, ends, reads)
 }
 
 /// Serves a connection over the two directions of its stream, in two threads, until both its sides have ended.
@@ -342,12 +348,12 @@ fn serve_over<
     from: H,
     to: W,
     ends: &E,
-    turns: u64,
+    reads: Reads,
 ) -> (H, W, Outcome<C, M>)
     requires one { calls.conn ≡ mails.conn }
     // The front of the client's stream was handled.
-    ensures handled { HasHandled H.tells H.told H.reads turns from result.0 calls result.2.calls
-        result.2.sent.items result.2.read }
+    ensures handled { HasHandled H.tells H.told H.reads (most_reads result.2.reads house.now.turns)
+        from result.0 calls result.2.calls result.2.sent.items result.2.read }
     // The client got the frames of the mails that were taken.
     ensures wrote { HasWritten W.tells W.got to result.1 mails result.2.mails result.2.receipts result.2.write }
 {
@@ -356,12 +362,12 @@ fn serve_over<
         rt,
         move |scope| -> (H, W, Outcome<C, M>)
             requires { calls.conn ≡ mails.conn }
-            ensures { HasHandled H.tells H.told H.reads turns from result.0 calls result.2.calls
-                result.2.sent.items result.2.read
+            ensures { HasHandled H.tells H.told H.reads (most_reads result.2.reads house.now.turns)
+                from result.0 calls result.2.calls result.2.sent.items result.2.read
                 × HasWritten W.tells W.got to result.1 mails result.2.mails result.2.receipts result.2.write }
         {
             serve_in(
-                rt, alloc, scope, house, gate, calls, mails, from, to, ends, turns,
+                rt, alloc, scope, house, gate, calls, mails, from, to, ends, reads,
             )
         },
     )
@@ -389,11 +395,11 @@ fn serve_in<
     from: H,
     to: W,
     ends: &'s E,
-    turns: u64,
+    reads: Reads,
 ) -> (H, W, Outcome<C, M>)
     requires one { calls.conn ≡ mails.conn }
-    ensures { HasHandled H.tells H.told H.reads turns from result.0 calls result.2.calls
-        result.2.sent.items result.2.read
+    ensures { HasHandled H.tells H.told H.reads (most_reads result.2.reads house.now.turns)
+        from result.0 calls result.2.calls result.2.sent.items result.2.read
         × HasWritten W.tells W.got to result.1 mails result.2.mails result.2.receipts result.2.write }
 {
     let promise = Wrote {
@@ -412,25 +418,30 @@ fn serve_in<
     match writing {
         Ok(thread) => {
             let (from, calls, sent, read, reader) = run_read_side(
-                rt, alloc, house, gate, calls, from, own, turns,
+                rt, alloc, house, gate, calls, from, own, &reads,
             );
             let (mails, receipts, write, to, writer) = thread.join(rt);
             (
                 from,
                 to,
-                Outcome::of(calls, sent, read, mails, receipts, write, reader, writer),
+                Outcome::of(
+                    calls, sent, read, mails, receipts, write, reads, reader, writer,
+                ),
             )
         }
         Err(refused) => {
             // Without a writing thread, nothing is read.
+            let reads = Reads::None(Unstarted::refused(&refused));
             let (from, calls, sent, read, reader) = run_read_side(
-                rt, alloc, house, gate, calls, from, own, 0,
+                rt, alloc, house, gate, calls, from, own, &reads,
             );
             let (mails, receipts, write, to, writer) = (refused.value)();
             (
                 from,
                 to,
-                Outcome::of(calls, sent, read, mails, receipts, write, reader, writer),
+                Outcome::of(
+                    calls, sent, read, mails, receipts, write, reads, reader, writer,
+                ),
             )
         }
     }
@@ -446,13 +457,15 @@ fn run_read_side<C: Tally, M: Tally, G: Gate, R: Clock + Wait, H: ReadHalf + Dro
     seat: CallSeat<C>,
     from: H,
     stream: StreamEnd<'_, E>,
-    turns: u64,
+    reads: &Reads,
 ) -> (H, CallSeat<C>, Vec<ClientMessage>, ReadEnd, Parted)
-    ensures handled { HasHandled H.tells H.told H.reads turns from result.0 seat result.1 result.2.items result.3 }
+    ensures handled { HasHandled H.tells H.told H.reads (most_reads reads.now house.now.turns)
+        from result.0 seat result.1 result.2.items result.3 }
     ensures parted { result.4.is_shut ≡ ends_stream result.3 }
 {
     let mut from = from;
-    let (seat, sent, end) = read_side(rt, alloc, house.hall(), seat, &mut from, gate, Some(turns));
+    let turns = Some(house.most_reads(reads));
+    let (seat, sent, end) = read_side(rt, alloc, house.hall(), seat, &mut from, gate, turns);
     if end == ReadEnd::Spent {
         house.spend_calls(rt, &seat);
     }

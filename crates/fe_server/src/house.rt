@@ -9,6 +9,7 @@ ghost use Rattle.fe_history.specs.declared.act.Act.TheVariants as act;
 ghost use Rattle.fe_shared.specs.declared.standing.Standing.TheVariants as Standing;
 ghost use Rattle.fe_server.specs.Arrivals.{HasEnded};
 ghost use Rattle.fe_server.specs.Departed.{IsClean};
+ghost use Rattle.fe_server.specs.Sides.{most_reads};
 ghost use Rattle.fe_server.specs.Serving.{HasNoted, IsBlankOf, fault_of_end};
 ghost use Rattle.fe_server.specs.declared.stop_fault.StopFault.TheVariants as fault;
 
@@ -17,6 +18,7 @@ use crate::connection::{Accepted, Connection, Outcome};
 use crate::departed::Departed;
 use crate::entrance::Entrance;
 use crate::newcomer::{Newcomer, Unkept, Unserved};
+use crate::reads::Reads;
 use crate::register::{
     Admission, Expected, Full, NoMore, NoNewcomer, Over, Register, Running, Waiting,
 };
@@ -50,6 +52,8 @@ pub(crate) struct House<C: Tally, M: Tally> {
     most: u64,
     /// How many connections may come; any number if it is 0.
     accepts: u64,
+    /// How many reads are made from each connection at most.
+    turns: u64,
     /// Whether what was sent and the receipts are kept for the closing.
     keeps: bool,
 }
@@ -78,6 +82,7 @@ impl<C: Tally, M: Tally> Opened<C, M> {
         ensures begun { IfOk result (λ opened. opened.0.begun.value ≡ state.now) }
         ensures most { IfOk result (λ opened. opened.0.house.most ≡ settings.now.connections) }
         ensures accepts { IfOk result (λ opened. opened.0.house.accepts ≡ settings.now.accepts) }
+        ensures turns { IfOk result (λ opened. opened.0.house.turns ≡ settings.now.turns) }
         ensures keeps { IfOk result (λ opened. opened.0.house.keeps ≡ nat_lt 0 settings.now.accepts) }
         ensures seat { IfOk result (λ opened. opened.1 ≡ history.acts) }
     {
@@ -100,6 +105,7 @@ impl<C: Tally, M: Tally> Opened<C, M> {
                     freed: Condvar::new(),
                     most: settings.connections,
                     accepts: settings.accepts,
+                    turns: settings.turns,
                     keeps: settings.accepts > 0,
                 };
                 Ok((Opened { house, begun }, seat, right))
@@ -128,6 +134,7 @@ impl<C: Tally, M: Tally> Opened<C, M> {
             freed,
             most: _,
             accepts: _,
+            turns: _,
             keeps,
         } = house;
         drop(freed);
@@ -218,7 +225,10 @@ impl<C: Tally, M: Tally> House<C, M> {
             Duration::from_millis(millis),
             |register| register.is_full(most),
         );
-        register.enter(Some(expected), most, accepts)
+        let entered = register.enter(Some(expected), most, accepts);
+        // (the accepting thread may wait for what became of this client)
+        self.freed.notify_all();
+        entered
     }
 
     /// Keeps a connection until its thread takes it. Gives it back if there is no memory for it.
@@ -268,6 +278,13 @@ impl<C: Tally, M: Tally> House<C, M> {
         &self.hall
     }
 
+    /// How many reads are made from a connection at most.
+    pub(crate) fn most_reads(&self, reads: &Reads) -> u64
+        ensures { result ≡ most_reads reads.now self.now.turns }
+    {
+        reads.most(self.turns)
+    }
+
     /// Runs the committing side. At its end the house ends too.
     pub(crate) fn commit<D: Disk, R: Clock + Wait>(
         &self,
@@ -308,11 +325,16 @@ impl<C: Tally, M: Tally> House<C, M> {
         self.register.lock(rt).close_door();
     }
 
-    /// Whether connections may come: the server has not ended and, unless `accepts` is 0, fewer than that came.
+    /// Whether connections may come: the server has not ended and, unless `accepts` is 0, fewer than that came. While the clients who
+    /// wait may be as many as are left, it waits for them.
     pub(crate) fn running<R: Wait>(&self, rt: &R, accepts: u64) -> Result<Running, NoMore>
         ensures why { IfErr result (HasEnded accepts) }
     {
-        self.register.lock(rt).running(accepts)
+        let register = self.register.lock(rt);
+        let register = self
+            .freed
+            .wait_while(rt, register, |register| register.may_reach(accepts));
+        register.running(accepts)
     }
 
     /// All clients were served, so the hall may stop.

@@ -14,6 +14,7 @@ mod failed;
 mod house;
 mod newcomer;
 mod opening;
+mod reads;
 mod register;
 mod serve_fault;
 mod served;

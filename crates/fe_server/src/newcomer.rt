@@ -4,6 +4,7 @@ ghost use Rattle.std.specs.Prelude.{◌≡◌, IfOk};
 
 use crate::connection::{Accepted, Connection, Unshared};
 use crate::house::House;
+use crate::reads::{Reads, Unstarted};
 use crate::register::{Admission, Full, NoNewcomer};
 use fe_hall::{ConnectRight, Gate, Hall, NewSeats, Short, Tally, Unconnected};
 use std::alloc::Global;
@@ -57,31 +58,37 @@ pub(crate) enum Bar {
 /// A connection that could not be kept until a thread takes it.
 pub(crate) struct Unkept<C: Tally, M: Tally> {
     newcomer: Newcomer<C, M>,
+    unstarted: Unstarted,
 }
 
 impl<C: Tally, M: Tally> Unkept<C, M> {
-    pub(crate) fn of(newcomer: Newcomer<C, M>, _bar: Bar) -> Unkept<C, M>
+    pub(crate) fn of(newcomer: Newcomer<C, M>, bar: Bar) -> Unkept<C, M>
         ensures { result.newcomer ≡ newcomer }
     {
-        Unkept { newcomer }
+        Unkept {
+            newcomer,
+            unstarted: Unstarted::unkept(bar),
+        }
     }
 }
 
 impl<C: Tally + Send + Sync, M: Tally + Send + Sync> Unkept<C, M> {
-    /// Serves its client as `Newcomer::serve` does.
+    /// Serves its client as `Newcomer::serve` does, and reads nothing from it.
     pub(crate) fn serve<G: Gate + Sync, R: Clock + Threads + Wait + Sync>(
         self,
         rt: &R,
         alloc: Global,
         house: &House<C, M>,
         gate: &G,
-        turns: u64,
     ) -> Ended
         requires calls { C.all ≡ C.parts }
         requires mails { M.all ≡ M.parts }
     {
-        let Unkept { newcomer } = self;
-        newcomer.serve(rt, alloc, house, gate, turns)
+        let Unkept {
+            newcomer,
+            unstarted,
+        } = self;
+        newcomer.serve(rt, alloc, house, gate, Reads::None(unstarted))
     }
 }
 
@@ -118,21 +125,21 @@ impl<C: Tally, M: Tally> Newcomer<C, M> {
 }
 
 impl<C: Tally + Send + Sync, M: Tally + Send + Sync> Newcomer<C, M> {
-    /// Serves its client until both sides have ended. At most `turns` reads are made.
+    /// Serves its client until both sides have ended.
     pub(crate) fn serve<G: Gate + Sync, R: Clock + Threads + Wait + Sync>(
         self,
         rt: &R,
         alloc: Global,
         house: &House<C, M>,
         gate: &G,
-        turns: u64,
+        reads: Reads,
     ) -> Ended
         requires calls { C.all ≡ C.parts }
         requires mails { M.all ≡ M.parts }
     {
         let Newcomer { connection, seats } = self;
         let (calls, mails) = seats.begin();
-        let outcome = connection.serve(rt, alloc, house, gate, calls, mails, turns);
+        let outcome = connection.serve(rt, alloc, house, gate, calls, mails, reads);
         house.leave(rt, connection, outcome);
         Ended(())
     }

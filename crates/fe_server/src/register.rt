@@ -194,6 +194,14 @@ impl<C: Tally, M: Tally> Register<C, M> {
         !self.over && self.present >= most
     }
 
+    /// Whether the clients who wait may become the last of the `accepts` that come. Without end there is no last one.
+    pub(crate) fn may_reach(&self, accepts: u64) -> bool
+        ensures { IsTrue result ↔ ((self.now.over ≡ false) × (self.now.came < accepts)
+            × (accepts ≤ self.now.came + self.now.awaited)) }
+    {
+        !self.over && self.came < accepts && accepts - self.came <= self.awaited
+    }
+
     /// Keeps a client until its thread takes it, and for it the place of a connection that is about to end. Each such place is kept once, so
     /// nobody waits again for a connection that was waited for in vain. Gives the client back if there is no such place, or no memory.
     pub(crate) fn put_late(

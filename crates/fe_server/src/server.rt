@@ -250,6 +250,7 @@ fn run<
     requires mails { M.all ≡ M.parts }
     requires begun { opened.now.begun.value ≡ keeper.state }
     requires most { opened.now.house.most ≡ settings.now.connections }
+    requires turns { opened.now.house.turns ≡ settings.now.turns }
     requires keeps { opened.now.house.keeps ≡ nat_lt 0 settings.now.accepts }
     requires seat { seat ≡ act.Began keeper.state ∷ [] }
     ensures { HasNoted D.honest D.moment D.left_since D.may_leave D.failures keeper result.0 result.1.end result.2 }

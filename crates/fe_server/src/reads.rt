@@ -1,0 +1,45 @@
+//! How many reads are made from a connection.
+
+ghost use Rattle.std.specs.Prelude.{◌≡◌};
+ghost use Rattle.fe_server.specs.Sides.{most_reads};
+
+use crate::newcomer::Bar;
+use std::thread::SpawnError;
+
+/// Shows that a connection gets no thread, or none for its write side. Only the functions below make it.
+#[derive(Drop)]
+pub(crate) struct Unstarted(());
+
+impl Unstarted {
+    /// A thread could not be started.
+    pub(crate) fn refused<F>(_refused: &SpawnError<F>) -> Unstarted {
+        Unstarted(())
+    }
+
+    /// A connection could not be kept until a thread takes it.
+    pub(crate) fn unkept(bar: Bar) -> Unstarted {
+        drop(bar);
+        Unstarted(())
+    }
+}
+
+/// How many reads are made from a connection at most.
+#[derive(Drop)]
+pub(crate) enum Reads {
+    /// As many as the settings say.
+    All,
+    /// None, since a thread of it could not be started.
+    None(Unstarted),
+}
+
+impl Reads {
+    /// Their number, where the settings say `turns`.
+    pub(crate) fn most(&self, turns: u64) -> u64
+        ensures { result ≡ most_reads self.now turns }
+    {
+        match self {
+            Reads::All => turns,
+            Reads::None(_) => 0,
+        }
+    }
+}
