@@ -276,7 +276,10 @@ def kept_bytes(place):
 
 
 def nothing_to_keep(place):
-    """a file of zeros, and one left by an interrupted format, are formatted without a copy"""
+    """a file of zeros, and one left by an interrupted format, are formatted without a copy; where no file is, one is made only on request"""
+    absent = Server(place, "absent", format=False)
+    same(absent.start(waits=False).ended(), (3, "", "femem: store device\n"))
+    same(files_of(place, absent), {})
     whole = bytes(store.device_of(TWO))
     begun = bytearray(whole)
     begun[GATE] = 0
