@@ -362,7 +362,7 @@ fn serve_over<
         rt,
         move |scope| -> (H, W, Outcome<C, M>)
             requires { calls.conn ≡ mails.conn }
-            ensures { HasHandled H.tells H.told H.reads (most_reads result.2.reads house.now.turns)
+            ensures { HasHandled H.tells H.told H.reads (most_reads result.2.reads house.entry.now.turns)
                 from result.0 calls result.2.calls result.2.sent.items result.2.read
                 × HasWritten W.tells W.got to result.1 mails result.2.mails result.2.receipts result.2.write }
         {
