@@ -1,6 +1,6 @@
 //! The two directions of a connection, and the gate that each message passes first.
 
-ghost use Rattle.std.specs.Prelude.{◌≡◌, ◌<◌, ◌≤◌, ◌+◌, ◌++◌, [], ℕ, List, length, take, IfOk, OnOk, OnErr};
+ghost use Rattle.std.specs.Prelude.{◌≡◌, ◌<◌, ◌≤◌, ◌+◌, ◌++◌, [], ℕ, List, length, take, IfOk, OnErr};
 
 use crate::read_count::ReadCount;
 use std::alloc::Global;

@@ -1,10 +1,9 @@
 //! A hold of a hall's lock, in which at most one event of the front is made.
 
 ghost use Rattle.std.specs.Sync.Mutex.{mutex_guard_value as under};
-ghost use Rattle.std.specs.Prelude.{IfErr, ◌≡◌, ◌≢◌, ◌+◌, ◌≤◌, ◌↔◌, ℕ, List, [], true, false, Ok, Err, Some, None, IsTrue, IsErr, IfOk, IfSome, OnOk, OnErr, MatchOption, length};
+ghost use Rattle.std.specs.Prelude.{IfErr, ◌≡◌, ◌≢◌, ◌+◌, ◌≤◌, ◌↔◌, List, [], true, false, Some, IfOk, IfSome, OnOk, OnErr, MatchOption, length};
 ghost use Rattle.fe_state.specs.declared.entry.Entry.{Entry};
 ghost use Rattle.fe_front.specs.Event as event;
-ghost use Rattle.fe_front.specs.Posting.{IsOut};
 ghost use Rattle.fe_front.specs.Ringing.{Rings};
 ghost use Rattle.fe_front.specs.Step.{FrontStep};
 ghost use Rattle.fe_messages.specs.Taking.{Takes};
@@ -13,7 +12,7 @@ ghost use Rattle.fe_history.specs.Acts.{WasStoredLast};
 ghost use Rattle.fe_history.specs.Rules.{Hears};
 ghost use Rattle.fe_shared.specs.Marks.{MayBeTold};
 ghost use Rattle.fe_shared.specs.Holds.{Cuts, IsCutIn, IsDrained, IsUnposted, Leaves, TakesMail};
-ghost use Rattle.fe_shared.specs.Seats.{HasRested, ReadSeat, TookNoMessage, WriteSeat, message_answered, taking_answered, posts_more};
+ghost use Rattle.fe_shared.specs.Seats.{HasRested, TookNoMessage, message_answered, taking_answered};
 
 use crate::baton::Grip;
 use fe_front::BELLS;

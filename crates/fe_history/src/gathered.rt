@@ -1,6 +1,6 @@
 ghost use Rattle.std.specs.Prelude.{◌≡◌, ◌++◌, [], true, false, OnOk, OnErr};
 ghost use mathlib.Core.List.{IsPrefix};
-ghost use Rattle.fe_history.specs.Acts.{EachTold, Gathered, Receipts as OfSide};
+ghost use Rattle.fe_history.specs.Acts.{EachTold, Gathered};
 
 use crate::history::History;
 use crate::receipt::Receipt;

@@ -5,7 +5,7 @@ ghost use Rattle.fe_disk.specs.Memory.{IsHonest};
 ghost use Rattle.fe_journal.specs.Layout.{device_bytes};
 ghost use Rattle.fe_wire.specs.Spelling.{Fits};
 ghost use Rattle.fe_desk.specs.Standing.{IsFirstStanding};
-ghost use Rattle.fe_desk.specs.Crash.{IsFrom, disk_of};
+ghost use Rattle.fe_desk.specs.Crash.{IsFrom};
 ghost use Rattle.fe_state.specs.State.{first_state};
 ghost use Rattle.fe_text.specs.Line.{LineFits};
 ghost use Rattle.fe_schedules.specs.Fault.{TellsDisk};

@@ -1,6 +1,6 @@
 //! What the threads of a server share.
 
-ghost use Rattle.std.specs.Prelude.{◌≡◌, ◌⊎◌, ◌∷◌, [], false, IsTrue, All, IfOk, IfErr, IsSome, nat_lt};
+ghost use Rattle.std.specs.Prelude.{◌≡◌, ◌⊎◌, ◌∷◌, [], IsTrue, All, IfOk, IfErr, IsSome, nat_lt};
 ghost use Rattle.fe_front.specs.Front.{IsFirst};
 ghost use Rattle.fe_history.specs.Acts.{EachTold, Gathered as Kept, IsAccountOf};
 ghost use Rattle.fe_hall.specs.Audits.{account_left};

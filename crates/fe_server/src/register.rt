@@ -1,6 +1,6 @@
 //! Which connections a server has.
 
-ghost use Rattle.std.specs.Prelude.{◌≡◌, ◌↔◌, ◌⊎◌, ◌+◌, ◌-◌, ◌^◌, ◌<◌, ◌≤◌, ◌∷◌, ◌++◌, [], true, false, IfOk, IfErr, OnErr, OnOk, IsSome, IsTrue};
+ghost use Rattle.std.specs.Prelude.{◌≡◌, ◌↔◌, ◌⊎◌, ◌+◌, ◌-◌, ◌^◌, ◌<◌, ◌≤◌, ◌∷◌, ◌++◌, [], true, false, IfOk, IfErr, OnErr, OnOk, IsTrue};
 ghost use Rattle.fe_server.specs.Departed.{IsAdded, joined_to, without};
 ghost use Rattle.fe_server.specs.Arrivals.{HasEnded, awaited_after, kept_from};
 ghost use Rattle.fe_server.specs.Serving.{fault_of_end};

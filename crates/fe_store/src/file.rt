@@ -2,7 +2,6 @@
 
 ghost use Rattle.std.specs.Prelude.{◌≡◌, ◌≢◌, ℕ, false, IfOk, IsErrOf, None};
 ghost use Rattle.fe_disk.specs.FileDisk.{file_size};
-ghost use Rattle.fe_disk.specs.declared.file_fault.FileFault.TheVariants.{WrongSize};
 ghost use Rattle.fe_journal.specs.Layout.{device_bytes};
 ghost use Rattle.fe_store.specs.declared.fault.OpenFault.TheVariants as fault;
 
