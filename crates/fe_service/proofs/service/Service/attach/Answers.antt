@@ -1,3 +1,4 @@
+use Rattle.fe_service.specs.Events.{MaySit, HasRoom, floor_of}
 use Rattle.std.proofs.Common.{sym, ap, subst, ◌∙◌}
 use Rattle.std.specs.Prelude.{is_some}
 use Rattle.std.specs.FinMap.{get}
@@ -5,10 +6,10 @@ use Rattle.fe_state.specs.Directory.{words_in}
 use Rattle.fe_state.specs.State.{ServerState, IsLegal, after}
 use Rattle.fe_state.specs.declared.entry.Entry.TheVariants.{Attached}
 use Rattle.fe_service.specs.Service.{AreUsable, IsQuiet}
-use Rattle.fe_service.specs.ServiceState.{is_open, service_of}
+use Rattle.fe_service.specs.ServiceState.{ServiceState, is_open, service_of}
 use Rattle.fe_service.proofs.Seating.{attach_legal}
 use Rattle.fe_service.proofs.Staying.{attached_service}
-use Rattle.fe_service.proofs.parts.Parts.attach.Goals as goal
+use Rattle.fe_service.proofs.service.Service.attach.Goals as goal
 
 pub enter-requires-clause-legal : goal.enter-requires-clause-legal
 enter-requires-clause-legal c =
@@ -16,17 +17,17 @@ enter-requires-clause-legal c =
     (λ (s : ServerState). IsLegal s (Attached c.args.session c.floor-floor.result))
     (sym c.take_seat.ensures.state)
     (subst
-    (λ floor. IsLegal c.args.self.now.state (Attached c.args.session floor))
-    (sym c.floor-floor.ensures)
-    (attach_legal (service_of c.args.self.now) c.args.session c.requires.sound.service c.requires.sit c.requires.room))
+    (λ floor. IsLegal c.self.inside.parts.state (Attached c.args.session floor))
+    (sym (c.floor-floor.ensures ∙ ap (λ s. floor_of s c.args.session) (sym c.self.view_is)))
+    (attach_legal (service_of c.self.inside.parts) c.args.session c.self.invariant.service (subst (λ (s : ServiceState). MaySit s c.args.session) (sym c.self.view_is) c.requires.sit) (subst HasRoom (sym c.self.view_is) c.requires.room)))
 
-pub returns-clause-sound : goal.returns-clause-sound
-returns-clause-sound c =
-    let old = c.args.self.now in
+pub invariant_of-self : goal.invariant_of-self
+invariant_of-self c =
+    let old = c.self.inside.parts in
     let state = c.enter.ensures.state ∙ ap (λ s. after s (Attached c.args.session c.floor-floor.result)) c.take_seat.ensures.state in
     let seats = ap (λ s. s.seats) c.enter.ensures.seats ∙ c.take_seat.ensures.seats in
     let waiting = ap (λ s. s.waiting) c.enter.ensures.seats ∙ c.take_seat.ensures.waiting in
-    let service = attached_service (service_of old) c.args.session c.args.conn c.requires.sound.service in
+    let service = attached_service (service_of old) c.args.session c.args.conn c.self.invariant.service in
     record {
       service = record {
         usable = subst (λ s. AreUsable s c.enter.new.self.seats.waiting) (sym state) (subst (λ w. AreUsable (after old.state (Attached c.args.session c.floor-floor.result)) w) (sym waiting) service.usable);
@@ -36,6 +37,6 @@ returns-clause-sound c =
       arrays = λ id.
           ap (λ s. get s.arrays id) c.enter.ensures.seats
           ∙ ap (λ m. get m id) c.take_seat.ensures.arrays
-          ∙ c.requires.sound.arrays id
+          ∙ c.self.invariant.arrays id
           ∙ sym (ap (λ s. words_in (get s.arrays id)) state);
     }
