@@ -28,7 +28,8 @@ impl Service {
         requires answered { reply self.old.state (requests.Access array index op no_wait) ≡ Some answer }
         requires room { HasRoom self.old }
         ensures completes { (served : List Entry)
-            × Completes self.old self.new (Finished session number (requests.Access array index op no_wait) answer) served
+            × Completes self.old self.new
+            (Finished session number (requests.Access array index op no_wait) answer) served
             × (result ≡ 1 + length_of served) }
     {
         self.parts.limits();

@@ -6,16 +6,16 @@ use Rattle.fe_mail.specs.Connections.{mails_in, mails_on, with_mails}
 use Rattle.fe_mail.proofs.MailCounts.{mails_in-take}
 use Rattle.fe_front.proofs.Agreement.{Agree, agree-boxed}
 use Rattle.fe_front.proofs.Ties.{quiet_sound}
-use Rattle.fe_front.proofs.tables.Tables.take_mail.Goals as goal
+use Rattle.fe_front.proofs.front.Front.take_mail.Goals as goal
 
-pub returns-then-is_some-clause-sound : goal.returns-then-is_some-clause-sound
-returns-then-is_some-clause-sound c =
-    let old = c.args.self.now in
+pub invariant_of-self : goal.invariant_of-self
+invariant_of-self c =
+    let old = c.self.inside in
     let is = c.take-mail.ensures.taken in
     let rest = with_mails old.connections c.args.conn (drop 1 (mails_on old.connections c.args.conn)) in
     let some = ap is_some (sym c.take-mail.ensures.mail) ∙ sym c.is_some.ensures ∙ c.if-is_some.true in
     let all = sym (mails_in-take old.connections c.args.conn some) in
-    let books = c.mail_taken.ensures.balance (len old.service.waiting) (mails_in rest) (subst (λ n. Balances old.books (len old.service.waiting) n) all c.requires.sound.tied.balance) in
-    quiet_sound old old.service c.take-mail.new.self c.mail_taken.new.self c.requires.sound refl refl
-    (subst (λ m. Agree old.service.seats m) (sym is) (agree-boxed old.service.seats old.connections c.requires.sound.tied.agree c.args.conn (drop 1 (mails_on old.connections c.args.conn))))
+    let books = c.mail_taken.ensures.balance (len old.service.waiting) (mails_in rest) (subst (λ n. Balances old.books (len old.service.waiting) n) all c.self.invariant.tied.balance) in
+    quiet_sound old old.service c.take-mail.new.self c.mail_taken.new.self c.self.invariant refl refl
+    (subst (λ m. Agree old.service.seats m) (sym is) (agree-boxed old.service.seats old.connections c.self.invariant.tied.agree c.args.conn (drop 1 (mails_on old.connections c.args.conn))))
     (subst (λ m. Balances c.mail_taken.new.self (len old.service.waiting) (mails_in m)) (sym is) books)

@@ -6,16 +6,16 @@ use Rattle.fe_mail.specs.Connections.{mails_in}
 use Rattle.fe_front.proofs.Agreement.{Agree}
 use Rattle.fe_front.proofs.Counts.{waiting-split}
 use Rattle.fe_front.proofs.Ties.{quiet_sound}
-use Rattle.fe_front.proofs.tables.Tables.withdraw.Goals as goal
+use Rattle.fe_front.proofs.front.Front.withdraw.Goals as goal
 
-pub returns-clause-sound : goal.returns-clause-sound
-returns-clause-sound c =
-    let old = c.args.self.now in
+pub invariant_of-self : goal.invariant_of-self
+invariant_of-self c =
+    let old = c.self.inside in
     let is = c.withdraw-count.ensures.withdrawn in
     let all = waiting-split old.service.waiting c.args.session ∙ ap (λ n. len (without_session old.service.waiting c.args.session) + n) (sym c.withdraw-count.ensures.count) in
-    let books = c.waiters_withdrawn.ensures.balance (len (without_session old.service.waiting c.args.session)) (mails_in old.connections) (subst (λ n. Balances old.books n (mails_in old.connections)) all c.requires.sound.tied.balance) in
-    quiet_sound old c.withdraw-count.new.self old.connections c.waiters_withdrawn.new.self c.requires.sound
+    let books = c.waiters_withdrawn.ensures.balance (len (without_session old.service.waiting c.args.session)) (mails_in old.connections) (subst (λ n. Balances old.books n (mails_in old.connections)) all c.self.invariant.tied.balance) in
+    quiet_sound old c.withdraw-count.new.self old.connections c.waiters_withdrawn.new.self c.self.invariant
     (ap (λ s. s.state.place) is)
     (ap (λ s. length s.pending) is)
-    (subst (λ s. Agree s.seats old.connections) (sym is) c.requires.sound.tied.agree)
+    (subst (λ s. Agree s.seats old.connections) (sym is) c.self.invariant.tied.agree)
     (subst (λ s. Balances c.waiters_withdrawn.new.self (len s.waiting) (mails_in old.connections)) (sym is) books)
