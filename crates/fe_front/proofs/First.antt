@@ -18,7 +18,7 @@ use Rattle.fe_mail.specs.Books.{Books, Balances}
 use Rattle.fe_mail.specs.Connections.{session_on, mails_in}
 use Rattle.fe_mail.specs.declared.connection.Connection.{Connection}
 use Rattle.fe_mail.proofs.MailCounts.{mails_in-empty}
-use Rattle.fe_front.specs.within.Tables.{AreSound}
+use Rattle.fe_front.specs.within.Inside.{IsSound}
 
 -- nobody has a session
 nobody : (sessions : FinMap nat_cmp Session) (seats : FinMap nat_cmp Seat) → IsSeated sessions seats → (session : ℕ) → holder_of seats session ≡ None
@@ -34,7 +34,7 @@ no_session m is conn = ap (λ m. session_on m conn) is ∙ ap (option_and_then (
 pub first_sound : (state : ServerState) (service : ServiceState) (connections : FinMap nat_cmp Connection) (books : Books) (durable : ℕ) (spare : List Entry)
     → service.state ≡ state → IsSeated state.sessions service.seats → service.waiting ≡ empty → service.pending ≡ [] → connections ≡ empty → durable ≡ state.place
     → Balances books 0 0 → spare ≡ []
-    → AreSound (record { service = service; connections = connections; books = books; durable = durable; out = None; spare = Some spare })
+    → IsSound (record { service = service; connections = connections; books = books; durable = durable; out = None; spare = Some spare })
 first_sound state service connections books durable spare same seated waiting pending conns mark balance room = record {
   tied = record {
     agree = λ session conn.

@@ -6,15 +6,15 @@ use Rattle.fe_service.specs.ServiceState.{ServiceState}
 use Rattle.fe_mail.specs.Books.{Books, Balances}
 use Rattle.fe_mail.specs.Connections.{mails_in}
 use Rattle.fe_mail.specs.declared.connection.Connection.{Connection}
-use Rattle.fe_front.specs.within.Tables.{AreSound}
-use Rattle.fe_front.specs.declared.tables.Tables.{Tables}
+use Rattle.fe_front.specs.within.Inside.{IsSound}
+use Rattle.fe_front.specs.declared.front.Front.TheInside.{Inside}
 use Rattle.fe_front.proofs.Agreement.{Agree}
 
 -- an event that makes this many entries
-pub made_sound : (t : Tables) (service : ServiceState) (connections : FinMap nat_cmp Connection) (books : Books) (made : ℕ) → AreSound t
+pub made_sound : (t : Inside) (service : ServiceState) (connections : FinMap nat_cmp Connection) (books : Books) (made : ℕ) → IsSound t
     → service.state.place ≡ t.service.state.place + made → length service.pending ≡ length t.service.pending + made
     → Agree service.seats connections → Balances books (len service.waiting) (mails_in connections)
-    → AreSound (record { service = service; connections = connections; books = books; durable = t.durable; out = t.out; spare = t.spare })
+    → IsSound (record { service = service; connections = connections; books = books; durable = t.durable; out = t.out; spare = t.spare })
 made_sound t service connections books made sound place pending agree balance = record {
   tied = record {
     agree = agree;
@@ -27,9 +27,9 @@ made_sound t service connections books made sound place pending agree balance = 
 }
 
 -- an event that makes no entry
-pub quiet_sound : (t : Tables) (service : ServiceState) (connections : FinMap nat_cmp Connection) (books : Books) → AreSound t
+pub quiet_sound : (t : Inside) (service : ServiceState) (connections : FinMap nat_cmp Connection) (books : Books) → IsSound t
     → service.state.place ≡ t.service.state.place → length service.pending ≡ length t.service.pending
     → Agree service.seats connections → Balances books (len service.waiting) (mails_in connections)
-    → AreSound (record { service = service; connections = connections; books = books; durable = t.durable; out = t.out; spare = t.spare })
+    → IsSound (record { service = service; connections = connections; books = books; durable = t.durable; out = t.out; spare = t.spare })
 quiet_sound t service connections books sound place pending =
     made_sound t service connections books 0 sound (omega (arith, place)) (omega (arith, pending))

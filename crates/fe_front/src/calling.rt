@@ -2,7 +2,6 @@ ghost use Rattle.std.specs.Prelude.{◌≡◌, ◌+◌, ◌≤◌, ◌⊎◌, �
 ghost use Rattle.fe_front.specs.Call.{request_at, IsCallRefused, IsNumberRefused, WantsMemory, Called, Completed, Waits, repeat_of, repeated, waiters_completed};
 ghost use Rattle.fe_front.specs.Front.{has_room, is_spent};
 ghost use Rattle.fe_front.specs.Refusals.{addressed, own, in_window};
-ghost use Rattle.fe_front.specs.within.Tables.{front_of, AreSound};
 ghost use Rattle.fe_mail.specs.Books.{Balances};
 ghost use Rattle.fe_mail.specs.declared.refusal.Refusal as refusals;
 ghost use Rattle.fe_service.specs.Events.{IsFree, HasRoom};
@@ -11,15 +10,15 @@ ghost use Rattle.fe_state.specs.declared.entry.Entry.{Entry};
 ghost use Rattle.fe_state.specs.declared.entry.Entry.TheVariants.{Finished};
 
 use crate::asked::is_same;
+use crate::front::Front;
 use crate::outcome::Outcome;
-use crate::tables::Tables;
 use fe_mail::{Books, Mail, Refusal};
 use fe_state::{Answer, Request, WINDOW};
 
-impl Tables {
+impl Front {
     /// The session, if its window has the number, or why the call is refused.
     fn in_window(&self, session: u64, number: u64) -> Result<u64, Refusal>
-        ensures { result ≡ in_window (front_of self.now) number session }
+        ensures { result ≡ in_window self.now number session }
     {
         let floor = self.floor(session);
         if number < floor {
@@ -34,7 +33,7 @@ impl Tables {
     /// The session of a connection that has one, or why an event of it is refused. The look-ups of the session and of
     /// the request's array that follow take one comparison each.
     fn aimed(&mut self, conn: u64, request: &Request) -> Result<u64, Refusal>
-        ensures session { result ≡ own (front_of self.old) conn }
+        ensures session { result ≡ own self.old conn }
         ensures same { self.new ≡ self.old }
     {
         match self.connections.session_of(conn) {
@@ -48,7 +47,7 @@ impl Tables {
 
     /// The session of a call, or why it is refused.
     fn addressed(&mut self, conn: u64, number: u64, request: &Request) -> Result<u64, Refusal>
-        ensures session { result ≡ addressed (front_of self.old) conn number }
+        ensures session { result ≡ addressed self.old conn number }
         ensures same { self.new ≡ self.old }
     {
         match self.aimed(conn, request) {
@@ -59,7 +58,7 @@ impl Tables {
 
     /// The request to which a session's number already belongs.
     fn request_at(&self, session: u64, number: u64) -> Option<Request>
-        ensures { result ≡ request_at (front_of self.now) session number }
+        ensures { result ≡ request_at self.now session number }
     {
         match self.service.state().kept(session, number) {
             Some(kept) => Some(kept.request),
@@ -77,10 +76,8 @@ impl Tables {
 
     /// Repeats the request of a number. An answer that is kept and durable is mailed again.
     fn repeat(&mut self, conn: u64, session: u64, number: u64) -> Outcome
-        requires sound { AreSound self.old }
-        ensures sound { AreSound self.new }
-        ensures outcome { result ≡ repeat_of (front_of self.old) session number }
-        ensures repeated { front_of self.new ≡ repeated (front_of self.old) conn session number }
+        ensures outcome { result ≡ repeat_of self.old session number }
+        ensures repeated { self.new ≡ repeated self.old conn session number }
     {
         self.books.call_repeated();
         let Some(kept) = self.service.state().kept(session, number) else {
@@ -107,16 +104,14 @@ impl Tables {
         request: Request,
         answer: Answer,
     ) -> Result<Outcome, Refusal>
-        requires sound { AreSound self.old }
         requires free { IsFree self.old.service session number }
-        requires new { request_at (front_of self.old) session number ≡ None }
-        requires unspent { is_spent (front_of self.old) ≡ false }
+        requires new { request_at self.old session number ≡ None }
+        requires unspent { is_spent self.old ≡ false }
         requires answered { reply self.old.service.state request ≡ Some answer }
         requires room { HasRoom self.old.service }
-        ensures sound { AreSound self.new }
         ensures completed { IfOk result
             (λ outcome. (count : ℕ) × (entries : List Entry) × (outcome ≡ Outcome.Completed count)
-            × Completed (front_of self.old) session number request count entries (front_of self.new)) }
+            × Completed self.old session number request count entries self.new) }
         ensures refusal { IfErr result (λ refusal. refusal ≡ Refusal.NoMemory) }
         ensures memory { OnErr result (MakesArray (Finished session number request answer)) }
         ensures err { OnErr result (self.new ≡ self.old) }
@@ -133,13 +128,11 @@ impl Tables {
 
     /// Adds a waiting request, which has no reply yet.
     fn wait(&mut self, session: u64, number: u64, request: Request)
-        requires sound { AreSound self.old }
         requires free { IsFree self.old.service session number }
-        requires new { request_at (front_of self.old) session number ≡ None }
-        requires unspent { is_spent (front_of self.old) ≡ false }
+        requires new { request_at self.old session number ≡ None }
+        requires unspent { is_spent self.old ≡ false }
         requires idle { reply self.old.service.state request ≡ None }
-        ensures sound { AreSound self.new }
-        ensures waits { Waits (front_of self.old) session number request [] (front_of self.new) }
+        ensures waits { Waits self.old session number request [] self.new }
     {
         let Request::Access {
             array,
@@ -156,16 +149,14 @@ impl Tables {
 
     /// Begins a request under a number of the window that belongs to no request yet.
     fn begin(&mut self, session: u64, number: u64, request: Request) -> Result<Outcome, Refusal>
-        requires sound { AreSound self.old }
         requires free { IsFree self.old.service session number }
-        requires new { request_at (front_of self.old) session number ≡ None }
-        requires unspent { is_spent (front_of self.old) ≡ false }
+        requires new { request_at self.old session number ≡ None }
+        requires unspent { is_spent self.old ≡ false }
         requires room { HasRoom self.old.service }
-        ensures sound { AreSound self.new }
         ensures called { (conn : ℕ)
             → IfOk result
             (λ outcome. (entries : List Entry)
-            × Called (front_of self.old) conn session number request outcome entries (front_of self.new)) }
+            × Called self.old conn session number request outcome entries self.new) }
         ensures refusal { IfErr result (λ refusal. refusal ≡ Refusal.NoMemory) }
         ensures memory { OnErr result ((answer : _) × (reply self.old.service.state request ≡ Some answer)
             × MakesArray (Finished session number request answer)) }
@@ -180,25 +171,24 @@ impl Tables {
         }
     }
 
-    /// Makes a call, or says why it is refused. The number has to be in the window, and new or of the same request.
-    pub(crate) fn call(
+    /// Makes a call, or says why it is refused. The number has to be in the window, and new or of the same request. A
+    /// refusal is not booked yet.
+    pub(crate) fn try_call(
         &mut self,
         conn: u64,
         number: u64,
         request: Request,
     ) -> Result<Outcome, Refusal>
-        requires sound { AreSound self.old }
-        requires room { IsTrue (has_room (front_of self.old)) }
-        ensures sound { AreSound self.new }
+        requires room { IsTrue (has_room self.old) }
         ensures called { IfOk result
             (λ outcome. (session : ℕ) × (entries : List Entry)
-            × (addressed (front_of self.old) conn number ≡ Ok session)
-            × Called (front_of self.old) conn session number request outcome entries (front_of self.new)) }
-        ensures refused { (refusal : refusals.Refusal) → IsCallRefused (front_of self.old) conn number request refusal
+            × (addressed self.old conn number ≡ Ok session)
+            × Called self.old conn session number request outcome entries self.new) }
+        ensures refused { (refusal : refusals.Refusal) → IsCallRefused self.old conn number request refusal
             → result ≡ Err refusal }
         ensures refusal { IfErr result
-            (λ refusal. IsCallRefused (front_of self.old) conn number request refusal
-            ⊎ ((refusal ≡ Refusal.NoMemory) × WantsMemory (front_of self.old) conn number request)) }
+            (λ refusal. IsCallRefused self.old conn number request refusal
+            ⊎ ((refusal ≡ Refusal.NoMemory) × WantsMemory self.old conn number request)) }
         ensures err { OnErr result (self.new ≡ self.old) }
     {
         let session = self.addressed(conn, number, &request)?;
@@ -213,18 +203,16 @@ impl Tables {
         number: u64,
         request: Request,
     ) -> Result<Outcome, Refusal>
-        requires sound { AreSound self.old }
-        requires room { IsTrue (has_room (front_of self.old)) }
-        requires addressed { addressed (front_of self.old) conn number ≡ Ok session }
-        ensures sound { AreSound self.new }
+        requires room { IsTrue (has_room self.old) }
+        requires addressed { addressed self.old conn number ≡ Ok session }
         ensures called { IfOk result
             (λ outcome. (entries : List Entry)
-            × Called (front_of self.old) conn session number request outcome entries (front_of self.new)) }
-        ensures refused { (refusal : refusals.Refusal) → IsCallRefused (front_of self.old) conn number request refusal
+            × Called self.old conn session number request outcome entries self.new) }
+        ensures refused { (refusal : refusals.Refusal) → IsCallRefused self.old conn number request refusal
             → result ≡ Err refusal }
         ensures refusal { IfErr result
-            (λ refusal. IsCallRefused (front_of self.old) conn number request refusal
-            ⊎ ((refusal ≡ Refusal.NoMemory) × WantsMemory (front_of self.old) conn number request)) }
+            (λ refusal. IsCallRefused self.old conn number request refusal
+            ⊎ ((refusal ≡ Refusal.NoMemory) × WantsMemory self.old conn number request)) }
         ensures err { OnErr result (self.new ≡ self.old) }
     {
         self.limits();

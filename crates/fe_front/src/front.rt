@@ -22,7 +22,6 @@ ghost use Rattle.fe_state.specs.Limits.{most_waiting};
 use crate::out::Out;
 use crate::outcome::{Outcome, StrangeBatch};
 use crate::posting::BELLS;
-use crate::tables::Tables;
 use fe_mail::{Books, Connections, Mail, Refusal, ReportText};
 use fe_service::Service;
 use fe_state::{Batch, Entries, Request, State, WAITING};
@@ -36,27 +35,43 @@ use std::marker::Model;
 /// After each event none of the requests that wait may be served. Only `new`, `connect` and a request that makes an
 /// array take memory.
 pub struct Front {
-    tables: Tables,
+    pub(crate) service: Service,
+    pub(crate) connections: Connections,
+    pub(crate) books: Books,
+    pub(crate) durable: u64,
+    pub(crate) out: Option<Out>,
+    // The room for the entries after a cut. It is away while a batch is out.
+    pub(crate) spare: Option<Entries>,
 }
 
 impl Drop for Front {
     fn drop(self) {
-        let Front { tables } = self;
-        drop(tables);
+        let Front {
+            service,
+            connections,
+            books: _,
+            durable: _,
+            out: _,
+            spare,
+        } = self;
+        drop(service);
+        drop(connections);
+        drop(spare);
     }
 }
 
 impl Model for Front {
     ghost use Rattle.fe_front.specs.Front.{FrontState, front_code};
-    ghost use Rattle.fe_front.specs.within.Tables.{front_of, AreSound};
 
     ghost Value = { FrontState };
 
     ghost coded = { front_code };
 
-    ghost view = { λ f. front_of f.tables };
+    ghost use Rattle.fe_front.specs.within.Inside.{front_of, IsSound};
 
-    ghost invariant = { λ f. AreSound f.tables };
+    ghost view = { front_of };
+
+    ghost invariant = { IsSound };
 }
 
 impl Front {
@@ -74,15 +89,14 @@ impl Front {
                 return Err(error);
             }
         };
-        let tables = Tables {
+        Ok(Front {
             service,
             connections: Connections::new(alloc),
             books: Books::new(),
             durable,
             out: None,
             spare,
-        };
-        Ok(Front { tables })
+        })
     }
 
     /// Makes an empty box for a connection. The one refusal is `NoMemory`.
@@ -92,14 +106,17 @@ impl Front {
         ensures refusal { IfErr result (λ refusal. refusal ≡ Refusal.NoMemory) }
         ensures err { OnErr result (self.new ≡ self.old) }
     {
-        self.tables.connect(conn)
+        match self.connections.connect(conn) {
+            Ok(()) => Ok(()),
+            Err(_) => Err(Refusal::NoMemory),
+        }
     }
 
     /// Whether at most `WAITING` entries are pending. `attach`, `call`, `settle` and `bye` need that.
     pub fn room(&self) -> bool
         ensures { result ≡ has_room self.now }
     {
-        self.tables.service.pending_count() <= WAITING
+        self.service.pending_count() <= WAITING
     }
 
     /// Gives a session to a connection, with an entry of it. The connection leaves the session that it has, and a
@@ -110,7 +127,13 @@ impl Front {
             (λ _. IsOk result × (self.new ≡ attached_to self.old conn session))
             (λ refusal. (result ≡ Err refusal) × (self.new ≡ self.old)) }
     {
-        self.tables.attach(conn, session)
+        self.limits();
+        self.attaching(conn, session)?;
+        self.release(conn);
+        self.limits();
+        self.free(session);
+        self.join(conn, session);
+        Ok(())
     }
 
     /// Answers a request of the session that the connection has, or lets it wait, and serves what may be served then.
@@ -127,9 +150,9 @@ impl Front {
             ⊎ ((refusal ≡ Refusal.NoMemory) × WantsMemory self.old conn number request)) }
         ensures err { OnErr result (self.new ≡ call_refused_by self.old) }
     {
-        let result = self.tables.call(conn, number, request);
+        let result = self.try_call(conn, number, request);
         if result.is_err() {
-            self.tables.books.call_refused();
+            self.books.call_refused();
         }
         result
     }
@@ -141,7 +164,10 @@ impl Front {
             (λ session. IsOk result × (self.new ≡ settled_to self.old session floor))
             (λ refusal. (result ≡ Err refusal) × (self.new ≡ self.old)) }
     {
-        self.tables.settle(conn, floor)
+        self.limits();
+        let session = self.settling(conn, floor)?;
+        self.service.settle(session, floor);
+        Ok(())
     }
 
     /// Closes the connection's session, with an entry, and withdraws its waiting requests. The session is closing
@@ -152,7 +178,11 @@ impl Front {
             (λ session. IsOk result × (self.new ≡ closed_by self.old session))
             (λ refusal. (result ≡ Err refusal) × (self.new ≡ self.old)) }
     {
-        self.tables.bye(conn)
+        self.limits();
+        let session = self.leaving(conn)?;
+        let count = self.service.close(session);
+        self.books.waiters_withdrawn(count);
+        Ok(())
     }
 
     /// Withdraws a waiting request of the connection's session, and mails the connection a withdrawal.
@@ -161,7 +191,10 @@ impl Front {
             (λ session. IsOk result × (self.new ≡ cancelled_by self.old conn session number))
             (λ refusal. (result ≡ Err refusal) × (self.new ≡ self.old)) }
     {
-        self.tables.cancel(conn, number)
+        let session = self.cancelling(conn, number)?;
+        self.take_out(session, number);
+        self.mail(conn, Mail::Withdrawn { number });
+        Ok(())
     }
 
     /// Removes a connection with its box, and withdraws its session's waiting requests. Returns how many, 0 to
@@ -170,14 +203,19 @@ impl Front {
         ensures count { result ≡ departing self.old conn }
         ensures dropped { self.new ≡ dropped self.old conn }
     {
-        self.tables.drop_connection(conn)
+        if !self.connections.is_connected(conn) {
+            return 0;
+        }
+        let count = self.depart(conn);
+        self.unbox(conn);
+        count
     }
 
     /// Whether a cut hands out a batch: some entries are pending, and no batch is out.
     pub fn has_cut(&self) -> bool
         ensures { result ≡ not (has_no_cut self.now) }
     {
-        self.tables.has_cut()
+        !(self.out.is_some() || self.service.pending_count() == 0)
     }
 
     /// Hands out all pending entries as the batch to store, if there are some and no batch is out.
@@ -185,7 +223,15 @@ impl Front {
         ensures batch { result ≡ next_batch self.old }
         ensures cut { self.new ≡ cut self.old }
     {
-        self.tables.cut()
+        let length = self.service.pending_count();
+        if self.out.is_some() || length == 0 {
+            return None;
+        }
+        let spare = self.spare.take().unwrap();
+        let first = self.durable;
+        self.out = Some(Out { first, length });
+        let entries = self.service.take_pending(spare);
+        Some(Batch { first, entries })
     }
 
     /// Takes the batch that is out as stored. Its entries become durable and are mailed to the connections that have
@@ -214,10 +260,16 @@ impl Front {
         ensures rings { Rings self.old self.new bells.old bells.new }
         ensures silent { OnErr result (bells.new ≡ bells.old) }
     {
-        if !self.tables.is_out(&batch) {
+        if !self.is_out(&batch) {
             return Err(StrangeBatch(batch));
         }
-        self.tables.post(batch, bells);
+        let Batch { first, mut entries } = batch;
+        self.limits();
+        self.post_all(first, entries.as_slice(), bells);
+        self.durable = first + entries.as_slice().len() as u64;
+        self.out = None;
+        entries.clear();
+        self.spare = Some(entries);
         Ok(())
     }
 
@@ -226,21 +278,25 @@ impl Front {
         ensures mail { result ≡ slice_get (mails_on self.old.connections conn) 0 }
         ensures taken { self.new ≡ taken self.old conn }
     {
-        self.tables.take_mail(conn)
+        let mail = self.connections.take(conn);
+        if mail.is_some() {
+            self.books.mail_taken();
+        }
+        mail
     }
 
     /// Whether a mail is in a connection's box.
     pub fn has_mail(&self, conn: u64) -> bool
         ensures { result ≡ nat_lt 0 (length (mails_on self.now.connections conn)) }
     {
-        self.tables.connections.has_mail(conn)
+        self.connections.has_mail(conn)
     }
 
     /// Mails the text of a report to a connection. A connection whose box is full is removed.
     pub fn mail_text(&mut self, conn: u64, text: ReportText)
         ensures { self.new ≡ mailed self.old conn (mails.Report text) }
     {
-        self.tables.mail(conn, Mail::Report(text));
+        self.mail(conn, Mail::Report(text));
     }
 
     /// Mails a refusal to a connection. The number is that of the call or cancel, the floor or session asked for, and
@@ -248,21 +304,21 @@ impl Front {
     pub fn mail_refusal(&mut self, conn: u64, number: u64, refusal: Refusal)
         ensures { self.new ≡ mailed self.old conn (mails.Refused number refusal) }
     {
-        self.tables.mail(conn, Mail::Refused { number, refusal });
+        self.mail(conn, Mail::Refused { number, refusal });
     }
 
     /// Whether a connection is there.
     pub fn connected(&self, conn: u64) -> bool
         ensures { result ≡ is_connected self.now conn }
     {
-        self.tables.connections.is_connected(conn)
+        self.connections.is_connected(conn)
     }
 
     /// How many entries are durable.
     pub fn durable(&self) -> u64
         ensures { result ≡ self.now.durable }
     {
-        self.tables.durable
+        self.durable
     }
 
     /// The state, and what is always true of the front.
@@ -271,9 +327,9 @@ impl Front {
         ensures front { IsFront self.now }
         ensures limits { states.IsWithinLimits self.now.service.state }
     {
-        let _ = self.tables.service.waiting_count();
-        let _ = self.tables.service.pending_count();
-        self.tables.service.state()
+        let _ = self.service.waiting_count();
+        let _ = self.service.pending_count();
+        self.service.state()
     }
 
     /// The counts of calls and mails, by outcome.
@@ -281,14 +337,14 @@ impl Front {
         ensures books { result ≡ self.now.books }
         ensures balance { Balances result (len self.now.service.waiting) (mails_in self.now.connections) }
     {
-        self.tables.books
+        self.books
     }
 
     /// The array, the index and the operation of a session's request, if it waits under the number.
     pub fn waiting(&self, session: u64, number: u64) -> Option<(u64, u32, Op)>
         ensures { result ≡ option_map (λ w. (w.array, w.index, w.op)) (get self.now.service.waiting (session, number)) }
     {
-        match self.tables.service.find(session, number) {
+        match self.service.find(session, number) {
             Some(turn) => Some((turn.array, turn.index, turn.op)),
             None => None,
         }
@@ -304,7 +360,7 @@ impl Front {
         ensures told { IfOk result (λ told. AreWaitersOf self.now.service.waiting session told.items) }
         ensures once { IfOk result (λ told. AreListedOnce told.items) }
     {
-        self.tables.service.told(alloc, session)
+        self.service.told(alloc, session)
     }
 
     /// How many requests wait, 0 to `WAITING`.
@@ -312,20 +368,20 @@ impl Front {
         ensures count { result ≡ len self.now.service.waiting }
         ensures few { result ≤ most_waiting }
     {
-        self.tables.service.waiting_count()
+        self.service.waiting_count()
     }
 
     /// How many requests of a session wait, 0 to `WINDOW`.
     pub fn count_of(&self, session: u64) -> u32
         ensures { result ≡ count_of self.now.service.waiting session }
     {
-        self.tables.service.count_of(session)
+        self.service.count_of(session)
     }
 
     /// Whether a connection has the session, and it is not closing.
     pub fn attached(&self, session: u64) -> bool
         ensures { result ≡ is_attached self.now session }
     {
-        self.tables.holder(session).is_some() && !self.tables.is_closing(session)
+        self.holder(session).is_some() && !self.is_closing(session)
     }
 }

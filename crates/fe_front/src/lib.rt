@@ -3,15 +3,14 @@
 #![tactic(auto)]
 
 mod asked;
-mod boxes;
 mod calling;
 mod front;
 mod laws;
 mod out;
 mod outcome;
+mod parting;
 mod posting;
 mod sessions;
-mod tables;
 
 pub use asked::is_same;
 pub use fe_mail::{Books, Mail, Refusal, ReportText};

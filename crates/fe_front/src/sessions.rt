@@ -1,18 +1,74 @@
-ghost use Rattle.std.specs.Prelude.{◌≡◌, None, IsTrue, IsOk, IsSome, Err, MatchResult};
+ghost use Rattle.std.specs.Prelude.{◌≡◌, None, IsTrue, IsSome};
 ghost use Rattle.std.specs.FinMap.{get};
-ghost use Rattle.fe_front.specs.Front.{has_room, is_connected};
-ghost use Rattle.fe_front.specs.Refusals.{attaching, settling, leaving, cancelling, may_settle, unspent, waits_below};
-ghost use Rattle.fe_front.specs.Steps.{joined, attached_to, settled_to, closed_by, cancelled_from, cancelled_by};
-ghost use Rattle.fe_front.specs.within.Tables.{front_of, AreSound};
+ghost use Rattle.fe_front.specs.Front.{IsFront, is_connected, is_spent};
+ghost use Rattle.fe_front.specs.Refusals.{own, unclosing, attaching, settling, leaving, cancelling, may_settle, unspent, waits_below};
+ghost use Rattle.fe_front.specs.Steps.{joined, cancelled_from};
 ghost use Rattle.fe_mail.specs.Connections.{session_on};
-ghost use Rattle.fe_seats.specs.Seating.{holder_of};
+ghost use Rattle.fe_seats.specs.Seating.{holder_of, is_closing};
+ghost use Rattle.fe_state.specs.State.{IsWithinLimits};
 ghost use Rattle.fe_service.specs.Events.{floor_of, MaySit, HasRoom};
 
-use crate::tables::Tables;
-use fe_mail::{Mail, Refusal};
-use fe_state::{GREATEST_FLOOR, SESSIONS, WINDOW};
+use crate::front::Front;
+use fe_mail::Refusal;
+use fe_state::{EVENT_ENTRIES, GREATEST_FLOOR, GREATEST_PLACE, SESSIONS, WINDOW};
 
-impl Tables {
+impl Front {
+    /// What is always true of the front and its state.
+    pub(crate) fn limits(&self)
+        ensures front { IsFront self.now }
+        ensures state { IsWithinLimits self.now.service.state }
+    {
+        let _ = self.state();
+    }
+
+    /// Whether the history may have no place left for what one event adds.
+    pub(crate) fn is_spent(&self) -> bool
+        ensures { result ≡ is_spent self.now }
+    {
+        self.service.state().place() + EVENT_ENTRIES as u64 > GREATEST_PLACE
+    }
+
+    /// The connection that has a session, if one has it.
+    pub(crate) fn holder(&self, session: u64) -> Option<u64>
+        ensures { result ≡ holder_of self.now.service.seats session }
+    {
+        match self.service.seat(session) {
+            Some(seat) => seat.holder,
+            None => None,
+        }
+    }
+
+    /// Whether a session's close is made and not yet posted.
+    pub(crate) fn is_closing(&self, session: u64) -> bool
+        ensures { result ≡ is_closing self.now.service.seats session }
+    {
+        match self.service.seat(session) {
+            Some(seat) => seat.closing,
+            None => false,
+        }
+    }
+
+    /// The session of a connection, or why an event of it is refused.
+    pub(crate) fn own(&self, conn: u64) -> Result<u64, Refusal>
+        ensures { result ≡ own self.now conn }
+    {
+        match self.connections.session_of(conn) {
+            None => Err(Refusal::NotAttached),
+            Some(session) => self.unclosing(session),
+        }
+    }
+
+    /// A session that is not closing.
+    pub(crate) fn unclosing(&self, session: u64) -> Result<u64, Refusal>
+        ensures { result ≡ unclosing self.now session }
+    {
+        if self.is_closing(session) {
+            Err(Refusal::Closing)
+        } else {
+            Ok(session)
+        }
+    }
+
     /// The least usable number of a session, 1 if the session is not there.
     pub(crate) fn floor(&self, session: u64) -> u64
         ensures { result ≡ floor_of self.now.service session }
@@ -25,7 +81,7 @@ impl Tables {
 
     /// The session, while the history has room for the entries of one event.
     fn unspent(&self, session: u64) -> Result<u64, Refusal>
-        ensures { result ≡ unspent (front_of self.now) session }
+        ensures { result ≡ unspent self.now session }
     {
         if self.is_spent() {
             Err(Refusal::Spent)
@@ -35,8 +91,8 @@ impl Tables {
     }
 
     /// The session, if the connection may attach it, or why it may not.
-    fn attaching(&self, conn: u64, session: u64) -> Result<u64, Refusal>
-        ensures { result ≡ attaching (front_of self.now) conn session }
+    pub(crate) fn attaching(&self, conn: u64, session: u64) -> Result<u64, Refusal>
+        ensures { result ≡ attaching self.now conn session }
     {
         if !self.connections.is_connected(conn) {
             Err(Refusal::NotAttached)
@@ -50,34 +106,16 @@ impl Tables {
     }
 
     /// Gives a session to a connection. Neither has another.
-    fn join(&mut self, conn: u64, session: u64)
-        requires sound { AreSound self.old }
+    pub(crate) fn join(&mut self, conn: u64, session: u64)
         requires free_connection { session_on self.old.connections conn ≡ None }
-        requires connected { IsTrue (is_connected (front_of self.old) conn) }
+        requires connected { IsTrue (is_connected self.old conn) }
         requires free_session { holder_of self.old.service.seats session ≡ None }
         requires sit { MaySit self.old.service session }
         requires room { HasRoom self.old.service }
-        ensures sound { AreSound self.new }
-        ensures joined { front_of self.new ≡ joined (front_of self.old) conn session }
+        ensures joined { self.new ≡ joined self.old conn session }
     {
         self.service.attach(session, conn);
         self.connections.set_session(conn, Some(session));
-    }
-
-    /// Attaches a session to a connection, or says why it may not.
-    pub(crate) fn attach(&mut self, conn: u64, session: u64) -> Result<(), Refusal>
-        requires sound { AreSound self.old }
-        requires room { IsTrue (has_room (front_of self.old)) }
-        ensures sound { AreSound self.new }
-        ensures attached { MatchResult (attaching (front_of self.old) conn session)
-            (λ _. IsOk result × (front_of self.new ≡ attached_to (front_of self.old) conn session))
-            (λ refusal. (result ≡ Err refusal) × (self.new ≡ self.old)) }
-    {
-        self.attaching(conn, session)?;
-        self.release(conn);
-        self.free(session);
-        self.join(conn, session);
-        Ok(())
     }
 
     /// Whether a request of the session waits under a number below this floor.
@@ -86,7 +124,7 @@ impl Tables {
     {
         self.limits();
         for number in self.floor(session)..floor {
-            if self.service.find(session, number).is_some() {
+            if self.waiting(session, number).is_some() {
                 return true;
             }
         }
@@ -95,7 +133,7 @@ impl Tables {
 
     /// The session, if its floor may rise to this one, or why it may not.
     fn may_settle(&self, session: u64, floor: u64) -> Result<u64, Refusal>
-        ensures { result ≡ may_settle (front_of self.now) floor session }
+        ensures { result ≡ may_settle self.now floor session }
     {
         self.limits();
         let old = self.floor(session);
@@ -110,8 +148,8 @@ impl Tables {
         }
     }
 
-    fn settling(&self, conn: u64, floor: u64) -> Result<u64, Refusal>
-        ensures { result ≡ settling (front_of self.now) conn floor }
+    pub(crate) fn settling(&self, conn: u64, floor: u64) -> Result<u64, Refusal>
+        ensures { result ≡ settling self.now conn floor }
     {
         match self.own(conn) {
             Ok(session) => self.may_settle(session, floor),
@@ -119,23 +157,8 @@ impl Tables {
         }
     }
 
-    /// Raises the floor of a connection's session, or says why it may not.
-    pub(crate) fn settle(&mut self, conn: u64, floor: u64) -> Result<(), Refusal>
-        requires sound { AreSound self.old }
-        requires room { IsTrue (has_room (front_of self.old)) }
-        ensures sound { AreSound self.new }
-        ensures settled { MatchResult (settling (front_of self.old) conn floor)
-            (λ session. IsOk result × (front_of self.new ≡ settled_to (front_of self.old) session floor))
-            (λ refusal. (result ≡ Err refusal) × (self.new ≡ self.old)) }
-    {
-        self.limits();
-        let session = self.settling(conn, floor)?;
-        self.service.settle(session, floor);
-        Ok(())
-    }
-
-    fn leaving(&self, conn: u64) -> Result<u64, Refusal>
-        ensures { result ≡ leaving (front_of self.now) conn }
+    pub(crate) fn leaving(&self, conn: u64) -> Result<u64, Refusal>
+        ensures { result ≡ leaving self.now conn }
     {
         match self.own(conn) {
             Ok(session) => self.unspent(session),
@@ -143,24 +166,8 @@ impl Tables {
         }
     }
 
-    /// Closes a connection's session, or says why it may not.
-    pub(crate) fn bye(&mut self, conn: u64) -> Result<(), Refusal>
-        requires sound { AreSound self.old }
-        requires room { IsTrue (has_room (front_of self.old)) }
-        ensures sound { AreSound self.new }
-        ensures closed { MatchResult (leaving (front_of self.old) conn)
-            (λ session. IsOk result × (front_of self.new ≡ closed_by (front_of self.old) session))
-            (λ refusal. (result ≡ Err refusal) × (self.new ≡ self.old)) }
-    {
-        self.limits();
-        let session = self.leaving(conn)?;
-        let count = self.service.close(session);
-        self.books.waiters_withdrawn(count);
-        Ok(())
-    }
-
-    fn cancelling(&self, conn: u64, number: u64) -> Result<u64, Refusal>
-        ensures { result ≡ cancelling (front_of self.now) conn number }
+    pub(crate) fn cancelling(&self, conn: u64, number: u64) -> Result<u64, Refusal>
+        ensures { result ≡ cancelling self.now conn number }
     {
         match self.own(conn) {
             Ok(session) => {
@@ -174,27 +181,10 @@ impl Tables {
         }
     }
 
-    /// Takes a waiting request of a connection's session out and mails the connection its withdrawal, or says why it
-    /// may not.
-    pub(crate) fn cancel(&mut self, conn: u64, number: u64) -> Result<(), Refusal>
-        requires sound { AreSound self.old }
-        ensures sound { AreSound self.new }
-        ensures cancelled { MatchResult (cancelling (front_of self.old) conn number)
-            (λ session. IsOk result × (front_of self.new ≡ cancelled_by (front_of self.old) conn session number))
-            (λ refusal. (result ≡ Err refusal) × (self.new ≡ self.old)) }
-    {
-        let session = self.cancelling(conn, number)?;
-        self.take_out(session, number);
-        self.mail(conn, Mail::Withdrawn { number });
-        Ok(())
-    }
-
     /// Takes out a request that waits.
-    fn take_out(&mut self, session: u64, number: u64)
-        requires sound { AreSound self.old }
+    pub(crate) fn take_out(&mut self, session: u64, number: u64)
         requires waits { IsSome (get self.old.service.waiting (session, number)) }
-        ensures sound { AreSound self.new }
-        ensures cancelled { front_of self.new ≡ cancelled_from (front_of self.old) session number }
+        ensures cancelled { self.new ≡ cancelled_from self.old session number }
     {
         let _ = self.service.cancel(session, number);
         self.books.waiters_withdrawn(1);

@@ -51,6 +51,10 @@ turns_present s waiting (e ∷ es) turns other = turns_present (after s e) (with
 pub own_legal : (s : ServiceState) (session number : ℕ) (request : Request) (answer : Answer) → IsFree s session number → reply s.state request ≡ Some answer → HasRoom s → IsLegal s.state (Finished session number request answer)
 own_legal s session number request answer free answered room = record { has_place = omega (arith, room.places); allowed = free.usable; answered = answered }
 
+-- a number is free in equal services
+pub free_in : {s t : ServiceState} {session number : ℕ} → s ≡ t → IsFree t session number → IsFree s session number
+free_in {session = session} {number = number} same free = subst (λ (s : ServiceState). IsFree s session number) (sym same) free
+
 -- what is known once it is entered
 pub record IsEntered (old mid : Parts) (own : Entry) : Type 0 where
   pub state : mid.state ≡ after old.state own
@@ -85,6 +89,10 @@ entered_completes old mid new own es e t quiet = record {
   pending = t.pending ∙ ap (λ p. p ++ es) e.pending ∙ append_one old.pending own es;
   seats = t.seats ∙ e.seats;
 }
+
+-- an event of a service is one of its equal
+pub completes_in : {s t u : ServiceState} {own : Entry} {es : List Entry} → s ≡ t → Completes s u own es → Completes t u own es
+completes_in {u = u} {own = own} {es = es} same completes = subst (λ (s : ServiceState). Completes s u own es) same completes
 
 -- and the parts are those of a service
 pub entered_service : (old mid new : Parts) (session number : ℕ) (request : Request) (answer : Answer) (es : List Entry) → IsService (service_of old) → IsFree (service_of old) session number

@@ -5,15 +5,14 @@ ghost use Rattle.fe_state.specs.declared.entry.Entry.{Entry};
 ghost use Rattle.fe_state.specs.declared.entry.Entry.TheVariants.{Finished};
 ghost use Rattle.fe_state.specs.declared.request.Request.TheVariants as requests;
 ghost use Rattle.fe_state.specs.declared.answer.Answer.TheVariants as answers;
-ghost use Rattle.fe_service.specs.ServiceState.{service_of, AreSoundParts};
 ghost use Rattle.fe_service.specs.Events.{IsFree, HasRoom, Completes};
 
-use crate::parts::Parts;
+use crate::service::Service;
 use fe_state::{Answer, Entry, Name, Request};
 use fe_words::{Op, Tag};
 use std::alloc::AllocError;
 
-impl Parts {
+impl Service {
     /// Finishes an access, and serves those that wait on its word. It counts the entries.
     pub(crate) fn finish_access(
         &mut self,
@@ -25,32 +24,30 @@ impl Parts {
         no_wait: bool,
         answer: Answer,
     ) -> u32
-        requires sound { AreSoundParts self.old }
-        requires free { IsFree (service_of self.old) session number }
+        requires free { IsFree self.old session number }
         requires answered { reply self.old.state (requests.Access array index op no_wait) ≡ Some answer }
-        requires room { HasRoom (service_of self.old) }
-        ensures sound { AreSoundParts self.new }
+        requires room { HasRoom self.old }
         ensures completes { (served : List Entry)
-            × Completes (service_of self.old) (service_of self.new)
+            × Completes self.old self.new
             (Finished session number (requests.Access array index op no_wait) answer) served
             × (result ≡ 1 + length_of served) }
     {
-        self.limits();
-        let is_there = self.state.word(array, index).is_some();
+        self.parts.limits();
+        let is_there = self.parts.state.word(array, index).is_some();
         let request = Request::Access {
             array,
             index,
             op,
             no_wait,
         };
-        self.enter(Entry::Finished {
+        self.parts.enter(Entry::Finished {
             session,
             number,
             request,
             answer,
         });
         if is_there {
-            1 + self.serve_word(array, index)
+            1 + self.parts.serve_word(array, index)
         } else {
             1
         }
@@ -64,18 +61,16 @@ impl Parts {
         array: u64,
         answer: Answer,
     ) -> u32
-        requires sound { AreSoundParts self.old }
-        requires free { IsFree (service_of self.old) session number }
+        requires free { IsFree self.old session number }
         requires answered { reply self.old.state (requests.Remove array) ≡ Some answer }
-        requires room { HasRoom (service_of self.old) }
-        ensures sound { AreSoundParts self.new }
+        requires room { HasRoom self.old }
         ensures completes { (served : List Entry)
-            × Completes (service_of self.old) (service_of self.new)
-            (Finished session number (requests.Remove array) answer) served × (result ≡ 1 + length_of served) }
+            × Completes self.old self.new (Finished session number (requests.Remove array) answer) served
+            × (result ≡ 1 + length_of served) }
     {
-        self.limits();
-        let length = self.state.length(array);
-        self.enter(Entry::Finished {
+        self.parts.limits();
+        let length = self.parts.state.length(array);
+        self.parts.enter(Entry::Finished {
             session,
             number,
             request: Request::Remove { array },
@@ -83,8 +78,8 @@ impl Parts {
         });
         match length {
             Some(length) => {
-                let served = self.serve_array(array, length);
-                self.seats.drop_array(array);
+                let served = self.parts.serve_array(array, length);
+                self.parts.seats.drop_array(array);
                 1 + served
             }
             None => 1,
@@ -93,15 +88,12 @@ impl Parts {
 
     /// Finishes a look-up by name.
     pub(crate) fn finish_find(&mut self, session: u64, number: u64, name: Name, answer: Answer)
-        requires sound { AreSoundParts self.old }
-        requires free { IsFree (service_of self.old) session number }
+        requires free { IsFree self.old session number }
         requires answered { reply self.old.state (requests.Find name) ≡ Some answer }
-        requires room { HasRoom (service_of self.old) }
-        ensures sound { AreSoundParts self.new }
-        ensures completes { Completes (service_of self.old) (service_of self.new)
-            (Finished session number (requests.Find name) answer) [] }
+        requires room { HasRoom self.old }
+        ensures completes { Completes self.old self.new (Finished session number (requests.Find name) answer) [] }
     {
-        self.enter(Entry::Finished {
+        self.parts.enter(Entry::Finished {
             session,
             number,
             request: Request::Find { name },
@@ -119,17 +111,15 @@ impl Parts {
         tag: Tag,
         answer: Answer,
     )
-        requires sound { AreSoundParts self.old }
-        requires free { IsFree (service_of self.old) session number }
+        requires free { IsFree self.old session number }
         requires answered { reply self.old.state (requests.Create name length tag) ≡ Some answer }
         requires refused { IsNewArray answer → ⊥ }
-        requires room { HasRoom (service_of self.old) }
-        ensures sound { AreSoundParts self.new }
-        ensures completes { Completes (service_of self.old) (service_of self.new)
+        requires room { HasRoom self.old }
+        ensures completes { Completes self.old self.new
             (Finished session number (requests.Create name length tag) answer) [] }
     {
-        self.limits();
-        self.enter(Entry::Finished {
+        self.parts.limits();
+        self.parts.enter(Entry::Finished {
             session,
             number,
             request: Request::Create { name, length, tag },
@@ -147,18 +137,16 @@ impl Parts {
         tag: Tag,
         id: u64,
     ) -> Result<(), AllocError>
-        requires sound { AreSoundParts self.old }
-        requires free { IsFree (service_of self.old) session number }
+        requires free { IsFree self.old session number }
         requires answered { reply self.old.state (requests.Create name length tag) ≡ Some (answers.Array id length) }
-        requires room { HasRoom (service_of self.old) }
-        ensures sound { AreSoundParts self.new }
+        requires room { HasRoom self.old }
         ensures completes { OnOk result
-            (Completes (service_of self.old) (service_of self.new)
+            (Completes self.old self.new
             (Finished session number (requests.Create name length tag) (answers.Array id length)) []) }
-        ensures err { OnErr result (service_of self.new ≡ service_of self.old) }
+        ensures err { OnErr result (self.new ≡ self.old) }
     {
-        self.limits();
-        self.seats.add_array(id, length)?;
+        self.parts.limits();
+        self.parts.seats.add_array(id, length)?;
         let entry = Entry::Finished {
             session,
             number,
@@ -166,11 +154,11 @@ impl Parts {
             answer: Answer::Array { id, length },
         };
         let made = entry;
-        if let Err(fault) = self.state.advance(made) {
-            self.seats.drop_array(id);
+        if let Err(fault) = self.parts.state.advance(made) {
+            self.parts.seats.drop_array(id);
             return Err(fault);
         }
-        self.pending.push(entry);
+        self.parts.pending.push(entry);
         Ok(())
     }
 }

@@ -2,7 +2,6 @@
 #![tactic(auto)]
 
 mod beginning;
-mod events;
 mod finishing;
 mod laws;
 mod parts;

@@ -1,12 +1,14 @@
 ghost use Rattle.std.specs.Prelude.{◌≡◌, ◌≢◌, ◌+◌, ◌<◌, ◌≤◌, ℕ, true, false, List, [], ◌∷◌, ◌++◌, length as length_of, Some};
-ghost use Rattle.std.specs.FinMap.{get, len};
+ghost use Rattle.std.specs.FinMap.{get, insert, len};
 ghost use Rattle.fe_words.specs.declared.word.Tag.{Tag};
 ghost use Rattle.fe_waits.specs.Waiting.{IsWord};
 ghost use Rattle.fe_state.specs.State as state_limits;
 ghost use Rattle.fe_state.specs.State.{IsLegal, MakesArray, after};
 ghost use Rattle.fe_state.specs.declared.entry.Entry.{Entry};
 ghost use Rattle.fe_seats.specs.Seating.{waiter_of, IsWithinLimits};
+ghost use Rattle.fe_service.specs.Events.{MaySit};
 ghost use Rattle.fe_service.specs.Service.{AreUsable, request_of};
+ghost use Rattle.fe_service.specs.ServiceState.{service_of};
 ghost use Rattle.fe_service.specs.within.Parts.{IsQuietAt, WaitAtTag, IsAtRest, TakesTurn, TakesTurns};
 ghost use Rattle.fe_state.specs.Limits.{most_batch_entries, greatest_place};
 
@@ -43,14 +45,20 @@ impl Parts {
         let _ = self.seats.len();
     }
 
-    /// Looks for a session and the array of a request, so that the look-ups of them that follow take one comparison
-    /// each.
-    pub(crate) fn aim(&mut self, session: u64, request: &Request)
-        ensures { self.new ≡ self.old }
+    /// A connection has the seat of a session, which it gets if it has none.
+    pub(crate) fn take_seat(&mut self, session: u64, conn: u64)
+        requires { MaySit (service_of self.old) session }
+        ensures seats { self.new.seats.seats
+            ≡ insert self.old.seats.seats session (record { holder = Some conn; closing = false }) }
+        ensures waiting { self.new.seats.waiting ≡ self.old.seats.waiting }
+        ensures arrays { self.new.seats.arrays ≡ self.old.seats.arrays }
+        ensures state { self.new.state ≡ self.old.state }
+        ensures pending { self.new.pending ≡ self.old.pending }
     {
-        // Mostly the same sessions are in the state and have seats.
-        let guess = self.seats.aim(session);
-        self.state.aim(session, guess, request);
+        if self.seats.seat(session).is_none() {
+            self.seats.sit(session);
+        }
+        self.seats.set_holder(session, Some(conn));
     }
 
     /// Makes a legal entry that needs no memory.

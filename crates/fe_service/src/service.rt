@@ -8,7 +8,7 @@ ghost use Rattle.fe_state.specs.declared.entry.Entry.TheVariants.{Finished};
 ghost use Rattle.fe_state.specs.declared.request.Request.TheVariants as requests;
 ghost use Rattle.fe_seats.specs.Seating.{turn_at, count_of, is_closing};
 ghost use Rattle.fe_service.specs.ServiceState.{IsService, is_open};
-ghost use Rattle.fe_service.specs.Events.{IsFree, HasRoom, MaySettle, MaySit, Completes, IsSeated, attached, settled, closed, withdrawn, cancelled, held, left, waited};
+ghost use Rattle.fe_service.specs.Events.{IsFree, HasRoom, MaySettle, MaySit, Completes, IsSeated, floor_of, attached, settled, closed, withdrawn, cancelled, held, left, waited};
 ghost use Rattle.fe_state.specs.Limits.{most_sessions, most_waiting, most_batch_entries};
 
 use crate::beginning::{add_arrays, seat_sessions};
@@ -18,12 +18,13 @@ use fe_state::{Answer, Entries, Entry, Request, State};
 use fe_words::Op;
 use std::alloc::{AllocError, Global};
 use std::marker::Model;
+use std::mem;
 
 /// The state of the server with the sessions' seats, what waits, and the entries that were made and not yet taken.
 ///
 /// After each call no waiting request may be served. Only `new` and a request that makes an array allocate memory.
 pub struct Service {
-    parts: Parts,
+    pub(crate) parts: Parts,
 }
 
 impl Drop for Service {
@@ -88,7 +89,9 @@ impl Service {
     pub fn aim(&mut self, session: u64, request: &Request)
         ensures { self.new ≡ self.old }
     {
-        self.parts.aim(session, request);
+        // Mostly the same sessions are in the state and have seats.
+        let guess = self.parts.seats.aim(session);
+        self.parts.state.aim(session, guess, request);
     }
 
     /// How many sessions have a seat, 0 to `SESSIONS`.
@@ -142,13 +145,26 @@ impl Service {
         self.parts.pending.as_slice().len()
     }
 
+    // The least usable number of a session, 1 where it begins.
+    fn floor(&self, session: u64) -> u64
+        ensures { result ≡ floor_of self.now session }
+    {
+        match self.parts.state.floor(session) {
+            Some(floor) => floor,
+            None => 1,
+        }
+    }
+
     /// Attaches a session to a connection, with an entry. A new session begins.
     pub fn attach(&mut self, session: u64, conn: u64)
         requires sit { MaySit self.old session }
         requires room { HasRoom self.old }
         ensures { self.new ≡ attached self.old session conn }
     {
-        self.parts.attach(session, conn);
+        self.parts.limits();
+        let floor = self.floor(session);
+        self.parts.take_seat(session, conn);
+        self.parts.enter(Entry::Attached { session, floor });
     }
 
     /// Raises a session's floor, with an entry.
@@ -157,7 +173,7 @@ impl Service {
         requires room { HasRoom self.old }
         ensures { self.new ≡ settled self.old session floor }
     {
-        self.parts.settle(session, floor);
+        self.parts.enter(Entry::Settled { session, floor });
     }
 
     /// Closes a session, with an entry, and marks it as closing. Its waiting requests are withdrawn. Returns how many
@@ -168,7 +184,10 @@ impl Service {
         ensures count { result ≡ count_of self.old.waiting session }
         ensures closed { self.new ≡ closed self.old session }
     {
-        self.parts.close(session)
+        let count = self.parts.seats.drop_session(session);
+        self.parts.seats.set_closing(session);
+        self.parts.enter(Entry::Closed { session });
+        count
     }
 
     /// Withdraws a session's waiting requests. Returns how many there were.
@@ -176,7 +195,7 @@ impl Service {
         ensures count { result ≡ count_of self.old.waiting session }
         ensures withdrawn { self.new ≡ withdrawn self.old session }
     {
-        self.parts.withdraw(session)
+        self.parts.seats.drop_session(session)
     }
 
     /// Withdraws the waiting request of a session's number. Returns whether one waited.
@@ -184,7 +203,7 @@ impl Service {
         ensures waited { result ≡ is_some (get self.old.waiting (session, number)) }
         ensures cancelled { self.new ≡ cancelled self.old session number }
     {
-        self.parts.cancel(session, number)
+        self.parts.seats.cancel(session, number).is_some()
     }
 
     /// Says which connection holds the session from now on, if one does.
@@ -192,7 +211,7 @@ impl Service {
         requires { IsSome (get self.old.seats session) }
         ensures { self.new ≡ held self.old session holder }
     {
-        self.parts.set_holder(session, holder);
+        self.parts.seats.set_holder(session, holder);
     }
 
     /// Takes the seat of a session that is closing.
@@ -200,7 +219,7 @@ impl Service {
         requires { is_closing self.old.seats session ≡ true }
         ensures { self.new ≡ left self.old session }
     {
-        self.parts.leave(session);
+        self.parts.seats.leave(session);
     }
 
     /// Completes a request with its reply, and serves the waiting requests that this lets through. Returns how many
@@ -223,7 +242,29 @@ impl Service {
         ensures memory { OnErr result (MakesArray (Finished session number request answer)) }
         ensures err { OnErr result (self.new ≡ self.old) }
     {
-        self.parts.complete(session, number, request, answer)
+        match request {
+            Request::Create { name, length, tag } => match answer {
+                Answer::Array { id, .. } => {
+                    self.finish_create(session, number, name, length, tag, id)?;
+                    Ok(1)
+                }
+                _ => {
+                    self.finish_refused(session, number, name, length, tag, answer);
+                    Ok(1)
+                }
+            },
+            Request::Find { name } => {
+                self.finish_find(session, number, name, answer);
+                Ok(1)
+            }
+            Request::Remove { array } => Ok(self.finish_remove(session, number, array, answer)),
+            Request::Access {
+                array,
+                index,
+                op,
+                no_wait,
+            } => Ok(self.finish_access(session, number, array, index, op, no_wait, answer)),
+        }
     }
 
     /// Adds a waiting request, which has no reply yet.
@@ -232,7 +273,7 @@ impl Service {
         requires waits { reply self.old.state (requests.Access array index op false) ≡ None }
         ensures { self.new ≡ waited self.old session number (record { array = array; index = index; op = op }) }
     {
-        self.parts.wait(session, number, array, index, op);
+        self.parts.seats.add(session, number, array, index, op);
     }
 
     /// Takes the entries that were made, and goes on with an empty list.
@@ -241,6 +282,6 @@ impl Service {
         ensures entries { result ≡ self.old.pending }
         ensures taken { self.new ≡ record self.old { pending = [] } }
     {
-        self.parts.take_pending(spare)
+        mem::replace(&mut self.parts.pending, spare)
     }
 }

@@ -1,0 +1,32 @@
+use Rattle.std.proofs.Common.{sym, ap, subst, ◌∙◌}
+use Rattle.fe_mail.specs.Connections.{session_on}
+use Rattle.fe_seats.specs.Seating.{holder_of}
+use Rattle.fe_service.specs.Events.{MaySit}
+use Rattle.fe_front.specs.Front.{is_connected}
+use Rattle.fe_front.proofs.Sitting.{released-free, released-connected, released-sit, freed-free, freed-connected, freed-holder, freed-sit, attaches}
+use Rattle.fe_front.proofs.front.Front.attach.Goals as goal
+
+pub join-requires-clause-free_connection : goal.join-requires-clause-free_connection
+join-requires-clause-free_connection c =
+    let mid = c.release.new.self in
+    let free = ap (λ f. session_on f.connections c.args.conn) c.release.ensures.released ∙ released-free c.args.self.now c.args.conn in
+    ap (λ f. session_on f.connections c.args.conn) c.free.ensures.freed ∙ freed-free mid c.args.session c.limits-2.ensures.front.tied.agree c.args.conn free
+
+pub join-requires-clause-connected : goal.join-requires-clause-connected
+join-requires-clause-connected c =
+    let found = attaches c.args.self.now c.args.conn c.args.session _ (sym c.attaching.ensures ∙ c.in_ok-attaching.was) in
+    ap (λ f. is_connected f c.args.conn) c.free.ensures.freed
+    ∙ freed-connected c.release.new.self c.args.session c.args.conn
+    ∙ ap (λ f. is_connected f c.args.conn) c.release.ensures.released
+    ∙ released-connected c.args.self.now c.args.conn c.args.conn
+    ∙ found.connected
+
+pub join-requires-clause-free_session : goal.join-requires-clause-free_session
+join-requires-clause-free_session c = ap (λ f. holder_of f.service.seats c.args.session) c.free.ensures.freed ∙ freed-holder c.release.new.self c.args.session
+
+pub join-requires-clause-sit : goal.join-requires-clause-sit
+join-requires-clause-sit c =
+    let old = c.args.self.now in
+    let found = attaches old c.args.conn c.args.session _ (sym c.attaching.ensures ∙ c.in_ok-attaching.was) in
+    let mid = subst (λ f. MaySit f.service c.args.session) (sym c.release.ensures.released) (released-sit old c.args.conn c.args.session c.limits.ensures.front.tied.agree found.sit) in
+    subst (λ f. MaySit f.service c.args.session) (sym c.free.ensures.freed) (freed-sit c.release.new.self c.args.session c.args.session mid)

@@ -1,0 +1,31 @@
+use Rattle.std.specs.Prelude.{is_some}
+use Rattle.fe_front.specs.Front.{FrontState}
+use Rattle.std.proofs.Common.{◌+◌, length, length-append, sym, ap, subst, ◌∙◌}
+use Rattle.std.specs.FinMap.{get, len}
+use Rattle.fe_seats.specs.Seating.{without_session}
+use Rattle.fe_mail.specs.Books.{Balances}
+use Rattle.fe_mail.specs.Connections.{mails_in}
+use Rattle.fe_front.proofs.Admitted.{leaves, own_there}
+use Rattle.fe_front.proofs.Agreement.{Agree, agree-closing}
+use Rattle.fe_front.proofs.Counts.{waiting-split}
+use Rattle.fe_front.proofs.Ties.{made_sound}
+use Rattle.fe_front.proofs.front.Front.bye.Goals as goal
+
+pub close-count-requires-clause-open : goal.close-count-requires-clause-open
+close-count-requires-clause-open c =
+    let old = c.args.self.now in
+    let (mine, left) = leaves old c.args.conn c.in_ok-session.session (sym c.leaving.ensures ∙ c.in_ok-session.was) in
+    ap (λ (f : FrontState). is_some (get f.service.state.sessions c.in_ok-session.session)) c.self.view_is ∙ own_there old c.args.conn c.in_ok-session.session c.limits.ensures.front.service c.limits.ensures.front.tied.agree mine
+
+pub invariant_of-self : goal.invariant_of-self
+invariant_of-self c =
+    let old = c.self.inside in
+    let session = c.in_ok-session.session in
+    let is = c.close-count.ensures.closed in
+    let all = waiting-split old.service.waiting session ∙ ap (λ n. len (without_session old.service.waiting session) + n) (sym c.close-count.ensures.count) in
+    let books = c.waiters_withdrawn.ensures.balance (len (without_session old.service.waiting session)) (mails_in old.connections) (subst (λ n. Balances old.books n (mails_in old.connections)) all c.self.invariant.tied.balance) in
+    made_sound old c.close-count.new.self old.connections c.waiters_withdrawn.new.self 1 c.self.invariant
+    (ap (λ s. s.state.place) is)
+    (ap (λ s. length s.pending) is ∙ length-append old.service.pending _)
+    (subst (λ s. Agree s.seats old.connections) (sym is) (agree-closing old.service.seats old.connections c.self.invariant.tied.agree session))
+    (subst (λ s. Balances c.waiters_withdrawn.new.self (len s.waiting) (mails_in old.connections)) (sym is) books)

@@ -1,0 +1,28 @@
+use Rattle.fe_front.specs.Front.{FrontState}
+use Rattle.std.proofs.Common.{refl, sym, ap, subst, ◌∙◌}
+use Rattle.std.specs.FinMap.{get, len}
+use Rattle.fe_mail.specs.Books.{Balances}
+use Rattle.fe_mail.specs.Connections.{mails_in}
+use Rattle.fe_mail.proofs.MailCounts.{mails_in-connect}
+use Rattle.fe_front.specs.within.Inside.{IsSound}
+use Rattle.fe_front.proofs.Agreement.{Agree, agree-connected}
+use Rattle.fe_front.proofs.Ties.{quiet_sound}
+use Rattle.fe_front.proofs.front.Front.connect.Goals.{in-Ok, in-Err}
+use Rattle.fe_front.proofs.front.Front.connect.Goals as goal
+
+pub invariant_of-self : goal.invariant_of-self
+invariant_of-self c = elim c.match-connect.branch [
+  | in-Ok w ↦
+      let old = c.self.inside in
+      let is = w.in-Ok.ensures.connected in
+      let absent = ap (λ (f : FrontState). get f.connections c.args.conn) c.self.view_is ∙ c.requires.unconnected in
+      let mails = ap mails_in is ∙ mails_in-connect old.connections c.args.conn absent in
+      quiet_sound old old.service c.connect.new.self old.books c.self.invariant refl refl
+      (subst (λ m. Agree old.service.seats m) (sym is) (agree-connected old.service.seats old.connections c.self.invariant.tied.agree c.args.conn absent))
+      (subst (λ n. Balances old.books (len old.service.waiting) n) (sym mails) c.self.invariant.tied.balance)
+  | in-Err w ↦
+      let old = c.self.inside in
+      subst IsSound
+      (λ i. record { service = old.service; connections = sym w.in-Err.ensures.err i; books = old.books; durable = old.durable; out = old.out; spare = old.spare })
+      c.self.invariant
+]

@@ -1,0 +1,125 @@
+use Rattle.std.proofs.Common.{◌≡◌, inl, inr, [], refl, sym, ap, subst, ◌∙◌, arith}
+use Rattle.std.specs.FinMap.{get, len, remove}
+use Rattle.fe_state.proofs.Maps.{same_or_other, get_removed, get_left}
+use Rattle.fe_state.specs.Directory.{words_in}
+use Rattle.fe_state.specs.declared.request.Request.TheVariants.{Remove}
+use Rattle.fe_state.specs.declared.entry.Entry.TheVariants.{Finished}
+use Rattle.fe_service.specs.Service.{IsQuiet}
+use Rattle.fe_service.specs.ServiceState.{IsService}
+use Rattle.fe_service.specs.Events.{Completes}
+use Rattle.fe_service.proofs.Quiet.{none_on_absent}
+use Rattle.fe_service.proofs.Completing.{IsEntered, free_in, completes_in, entered_by, entered_usable, entered_service, entered_completes}
+use Rattle.fe_service.proofs.Removing.{removed_quiet, nothing_removed, removed_absent, removed_lengths}
+use Rattle.fe_service.proofs.Serving.{none_taken, taken_len, taken_lengths}
+use Rattle.fe_service.proofs.service.Service.finish_remove.Goals.{After-serve_array-served}
+use Rattle.fe_service.proofs.service.Service.finish_remove.Goals as goal
+
+pub serve_array-served-requires-clause-usable : goal.serve_array-served-requires-clause-usable
+serve_array-served-requires-clause-usable c =
+    let entered : IsEntered c.self.inside.parts c.enter.new.self _ = entered_by c.self.inside.parts c.enter.new.self _ c.enter.ensures.state c.enter.ensures.seats c.enter.ensures.pending in
+    entered_usable c.self.inside.parts c.enter.new.self c.args.session c.args.number (Remove c.args.array) c.args.answer c.self.invariant.service.usable (free_in c.self.view_is c.requires.free) entered
+
+-- nobody that waits may be served any more
+all_quiet : (c : After-serve_array-served) → IsQuiet c.serve_array-served.new.self.state c.serve_array-served.new.self.seats.waiting
+all_quiet c =
+    let old = c.self.inside.parts in
+    let mid = c.enter.new.self in
+    let new = c.serve_array-served.new.self in
+    let entered : IsEntered old mid _ = entered_by old mid _ c.enter.ensures.state c.enter.ensures.seats c.enter.ensures.pending in
+    let (es, t, counted) = c.serve_array-served.ensures.served in
+    removed_quiet old mid new c.args.session c.args.number c.args.array c.in-Some.length c.args.answer es c.self.invariant.service.quiet entered t (sym c.length-length.ensures ∙ c.in-Some.is) c.serve_array-served.ensures.here c.serve_array-served.ensures.beside
+
+pub drop_array-requires : goal.drop_array-requires
+drop_array-requires c =
+    let old = c.self.inside.parts in
+    let mid = c.enter.new.self in
+    let new = c.serve_array-served.new.self in
+    let entered : IsEntered old mid _ = entered_by old mid _ c.enter.ensures.state c.enter.ensures.seats c.enter.ensures.pending in
+    let (es, t, counted) = c.serve_array-served.ensures.served in
+    let quiet = all_quiet (goal.at.drop_array-requires c).After-serve_array-served in
+    record { unused = none_on_absent new.state new.seats.waiting c.args.array quiet (taken_lengths mid new es t c.args.array ∙ removed_absent old mid c.args.session c.args.number c.args.array c.args.answer entered) }
+
+pub overflow_add-result : goal.overflow_add-result
+overflow_add-result c =
+    let (es, t, counted) = c.serve_array-served.ensures.served in
+    let fewer = taken_len c.enter.new.self c.serve_array-served.new.self es t in
+    let same = ap (λ s. len s.waiting) c.enter.ensures.seats in
+    omega (arith, counted, fewer, same, c.limits.ensures.seats.all)
+
+pub invariant_of-self : goal.invariant_of-self
+invariant_of-self c =
+    let old = c.self.inside.parts in
+    let mid = c.enter.new.self in
+    let new = c.serve_array-served.new.self in
+    let entered : IsEntered old mid _ = entered_by old mid _ c.enter.ensures.state c.enter.ensures.seats c.enter.ensures.pending in
+    let (es, t, counted) = c.serve_array-served.ensures.served in
+    let quiet = all_quiet (goal.at.invariant_of-self c).After-serve_array-served in
+    let service = entered_service old mid new c.args.session c.args.number (Remove c.args.array) c.args.answer es c.self.invariant.service (free_in c.self.view_is c.requires.free) entered t quiet in
+    record {
+      service = subst IsService (λ i. record { state = new.state; seats = sym c.drop_array.ensures.seats i; waiting = sym c.drop_array.ensures.waiting i; pending = new.pending }) service;
+      arrays = λ id.
+          elim (same_or_other id c.args.array) as (λ _. get c.drop_array.new.self.arrays id ≡ words_in (get new.state.arrays id)) [
+            | inl same ↦
+                ap (λ m. get m id) c.drop_array.ensures.arrays
+                ∙ ap (get (remove new.seats.arrays c.args.array)) same
+                ∙ get_removed new.seats.arrays c.args.array
+                ∙ sym (removed_absent old mid c.args.session c.args.number c.args.array c.args.answer entered)
+                ∙ sym (taken_lengths mid new es t c.args.array)
+                ∙ ap (λ id. words_in (get new.state.arrays id)) (sym same)
+            | inr other ↦
+                ap (λ m. get m id) c.drop_array.ensures.arrays
+                ∙ get_left new.seats.arrays c.args.array id other
+                ∙ ap (λ m. get m id) t.arrays
+                ∙ ap (λ s. get s.arrays id) c.enter.ensures.seats
+                ∙ c.self.invariant.arrays id
+                ∙ sym (removed_lengths old mid c.args.session c.args.number c.args.array c.args.answer entered id other)
+                ∙ sym (taken_lengths mid new es t id)
+          ];
+    }
+
+pub returns-in-Some : goal.returns-in-Some
+returns-in-Some c =
+    let old = c.self.inside.parts in
+    let mid = c.enter.new.self in
+    let new = c.serve_array-served.new.self in
+    let entered : IsEntered old mid _ = entered_by old mid _ c.enter.ensures.state c.enter.ensures.seats c.enter.ensures.pending in
+    let (es, t, counted) = c.serve_array-served.ensures.served in
+    let quiet = all_quiet (goal.at.returns-in-Some c).After-serve_array-served in
+    let completes = completes_in c.self.view_is (entered_completes old mid new _ es entered t quiet) in
+    record {
+      completes = (
+        es,
+        subst (λ s. Completes c.args.self.now s (Finished c.args.session c.args.number (Remove c.args.array) c.args.answer) es) (λ i. record { state = new.state; seats = sym c.drop_array.ensures.seats i; waiting = sym c.drop_array.ensures.waiting i; pending = new.pending }) completes,
+        omega (arith, counted),
+      );
+    }
+
+pub invariant_of-self-in-None : goal.invariant_of-self-in-None
+invariant_of-self-in-None c =
+    let old = c.self.inside.parts in
+    let mid = c.enter.new.self in
+    let entered : IsEntered old mid _ = entered_by old mid _ c.enter.ensures.state c.enter.ensures.seats c.enter.ensures.pending in
+    let absent = sym c.length-length.ensures ∙ c.in-None.is in
+    let quiet = nothing_removed old mid c.args.session c.args.number c.args.array c.args.answer c.self.invariant.service.quiet entered absent in
+    record {
+      service = entered_service old mid mid c.args.session c.args.number (Remove c.args.array) c.args.answer [] c.self.invariant.service (free_in c.self.view_is c.requires.free) entered (none_taken mid) quiet;
+      arrays = λ id.
+          elim (same_or_other id c.args.array) as (λ _. get mid.seats.arrays id ≡ words_in (get mid.state.arrays id)) [
+            | inl same ↦
+                ap (λ s. get s.arrays id) c.enter.ensures.seats
+                ∙ c.self.invariant.arrays id
+                ∙ ap (λ id. words_in (get old.state.arrays id)) same
+                ∙ absent
+                ∙ sym (removed_absent old mid c.args.session c.args.number c.args.array c.args.answer entered)
+                ∙ ap (λ id. words_in (get mid.state.arrays id)) (sym same)
+            | inr other ↦ ap (λ s. get s.arrays id) c.enter.ensures.seats ∙ c.self.invariant.arrays id ∙ sym (removed_lengths old mid c.args.session c.args.number c.args.array c.args.answer entered id other)
+          ];
+    }
+
+pub returns-in-None : goal.returns-in-None
+returns-in-None c =
+    let old = c.self.inside.parts in
+    let mid = c.enter.new.self in
+    let entered : IsEntered old mid _ = entered_by old mid _ c.enter.ensures.state c.enter.ensures.seats c.enter.ensures.pending in
+    let quiet = nothing_removed old mid c.args.session c.args.number c.args.array c.args.answer c.self.invariant.service.quiet entered (sym c.length-length.ensures ∙ c.in-None.is) in
+    record { completes = ([], completes_in c.self.view_is (entered_completes old mid mid _ [] entered (none_taken mid) quiet), refl) }
