@@ -1,11 +1,11 @@
 -- How calls of a store end, one after the other, and what a keeper tells of their faults.
-use Rattle.std.proofs.Common.{◌≡◌, ◌⊎◌, ◌↔◌, inl, ℕ, ◌+◌, List, true, false, Bool, IsTrue, refl, sym, ap, subst, ◌∙◌}
-use Rattle.std.specs.Prelude.{Result, Ok, Err, MatchResult, IsErrAnd, OnOk}
+use Rattle.std.proofs.Common.{◌≡◌, ◌↔◌, inl, ℕ, ◌+◌, List, true, false, Bool, IsTrue, refl, sym, ap, subst, ◌∙◌}
+use Rattle.std.specs.Prelude.{Result, Ok, Err, MatchResult, IsErrAnd}
 use Rattle.fe_disk.specs.Disk.{LeavesOnly, Rises}
 use Rattle.fe_disk.proofs.Moments.{joined}
 use Rattle.fe_state.specs.State.{ServerState}
 use Rattle.fe_state.specs.declared.entry.Entry.{Entry}
-use Rattle.fe_replica.specs.Taking.{Continues, IsMismatch, MakesSomeArray}
+use Rattle.fe_replica.specs.Taking.{IsMismatch, MakesSomeArray}
 use Rattle.fe_replica.specs.declared.taking.Refused.{Refused}
 use Rattle.fe_replica.specs.declared.taking.Refused.TheVariants as replica
 use Rattle.fe_journal.specs.Journal.{JournalState}
@@ -13,15 +13,15 @@ use Rattle.fe_journal.specs.declared.fault.JournalFault.{JournalFault}
 use Rattle.fe_journal.specs.declared.fault.JournalFault.TheVariants as journal
 use Rattle.fe_state.specs.declared.batch.Batch.{Batch}
 use Rattle.fe_keeper.specs.Ends.{Works, Breaks, Refuses, Fails, Ends, ForBatch, AppendEnds}
-use Rattle.fe_keeper.specs.Keeper.{KeeperState, must_begin}
+use Rattle.fe_keeper.specs.Keeper.{KeeperState}
 use Rattle.fe_keeper.specs.Stands.{StandsFor}
 use Rattle.fe_keeper.specs.within.Ends.{WorksOn, BreaksOff, StoreEnds, CountsBatch, Carries}
 use Rattle.fe_keeper.specs.within.Faults.{fault_of_journal, fault_of_refused}
-use Rattle.fe_keeper.specs.within.Parts.{kept_of}
-use Rattle.fe_keeper.specs.within.Upholds.{Upholds, store_of}
+use Rattle.fe_keeper.specs.within.Kept.{kept_of}
+use Rattle.fe_keeper.specs.within.Upholds.{store_of}
 use Rattle.fe_keeper.specs.declared.fault.Fault.{Fault}
-use Rattle.fe_keeper.specs.declared.fault.Fault.TheVariants.{Device, NoMemory, Mismatch}
-use Rattle.fe_keeper.specs.declared.parts.Parts.{Parts}
+use Rattle.fe_keeper.specs.declared.fault.Fault.TheVariants.{Device, NoMemory}
+use Rattle.fe_keeper.specs.declared.keeper.Keeper.TheInside.{Inside}
 use Rattle.fe_keeper.specs.declared.store.Store.{Store}
 use Rattle.fe_keeper.specs.declared.store.Store.{Store}
 
@@ -78,24 +78,20 @@ pub must_be : (b : Bool) → (b ≡ false → ⊥) → IsTrue b
 must_be true none = refl
 must_be false none = absurd (none refl)
 
--- an append, seen from outside
-pub append_works : {D : Type 0} (failures : D → ℕ) (result : Result Batch (Fault × Batch)) (was old new : KeeperState D) (batch back : Batch) → result ≡ Ok back → was ≡ old → Works failures was new → AppendEnds failures result old new batch
-append_works {D} failures result was old new batch back is same works =
-    subst (λ (r : Result Batch (Fault × Batch)). AppendEnds failures r old new batch) (sym is) (subst (λ (k : KeeperState D). Works failures k new) same works)
-
-pub append_fails : {D : Type 0} (failures : D → ℕ) (result : Result Batch (Fault × Batch)) (was old new : KeeperState D) (batch back : Batch) (fault : Fault) (entries : List Entry) → result ≡ Err (fault, back) → was ≡ old
-    → entries ≡ batch.entries → Fails failures (ForBatch was batch.first entries) was new fault → AppendEnds failures result old new batch
-append_fails {D} failures result was old new batch back fault entries is same spelled fails =
-    subst (λ (r : Result Batch (Fault × Batch)). AppendEnds failures r old new batch) (sym is)
-    (subst (λ (k : KeeperState D). Fails failures (ForBatch k batch.first batch.entries) k new fault) same
-    (subst (λ (es : List Entry). Fails failures (ForBatch was batch.first es) was new fault) spelled fails))
+-- an append that fails, seen from outside
+pub append_fails : {D : Type 0} (failures : D → ℕ) (was old new : KeeperState D) (batch back : Batch) (told fault : Fault) (entries : List Entry) → told ≡ fault → was ≡ old → entries ≡ batch.entries
+    → Fails failures (ForBatch was batch.first entries) was new fault → AppendEnds failures (Err (told, back)) old new batch
+append_fails {D} failures was old new batch back told fault entries is same spelled fails =
+    subst (λ (k : KeeperState D). Fails failures (ForBatch k batch.first batch.entries) k new told) same
+    (subst (λ (es : List Entry). Fails failures (ForBatch was batch.first es) was new told) spelled
+    (subst (λ (f : Fault). Fails failures (ForBatch was batch.first entries) was new f) (sym is) fails))
 
 -- a call of the store in which the device fails, as the keeper tells it
-pub device_told : {T D : Type 0} (failures : D → ℕ) (Cause : Fault → Type 0) (result : Result T Fault) (fault : JournalFault) (parts : Parts D) (new : Store D) (old : KeeperState D) → kept_of parts ≡ old
-    → IsErrAnd result (λ f. f ≡ fault_of_journal fault) → parts.store.journal.has_failed ≡ false → (fault ≡ journal.Device) × BreaksOff failures parts.store.journal new.journal → Cause Device
-    → Ends failures Cause result old (record { state = parts.state; store = store_of new })
-device_told {D = D} failures Cause result fault parts new old same is works failed cause =
-    let after : KeeperState D = record { state = parts.state; store = store_of new } in
-    let breaks : Breaks failures (kept_of parts) after = record { before = works; failed = failed.1.failed; rises = failed.1.rises } in
+pub device_told : {T D : Type 0} (failures : D → ℕ) (Cause : Fault → Type 0) (result : Result T Fault) (fault : JournalFault) (inside : Inside D) (new : Store D) (old : KeeperState D) → kept_of inside ≡ old
+    → IsErrAnd result (λ f. f ≡ fault_of_journal fault) → inside.store.journal.has_failed ≡ false → (fault ≡ journal.Device) × BreaksOff failures inside.store.journal new.journal → Cause Device
+    → Ends failures Cause result old (record { state = inside.state; store = store_of new })
+device_told {D = D} failures Cause result fault inside new old same is works failed cause =
+    let after : KeeperState D = record { state = inside.state; store = store_of new } in
+    let breaks : Breaks failures (kept_of inside) after = record { before = works; failed = failed.1.failed; rises = failed.1.rises } in
     told result (fault_of_journal fault) (Works failures old after) (Fails failures Cause old after) is
     (device_fails failures Cause fault old after failed.0 cause (subst (λ (k : KeeperState D). Breaks failures k after) same breaks))

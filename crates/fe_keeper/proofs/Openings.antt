@@ -8,7 +8,6 @@ use Rattle.fe_format.specs.declared.format.Format.{Format}
 use Rattle.fe_journal.specs.Contents.{Contents, Holds}
 use Rattle.fe_journal.specs.Cursor.{Cursor, Lists}
 use Rattle.fe_journal.specs.Found.{IsFound, AsksToOpen}
-use Rattle.fe_journal.specs.declared.fault.StoreFault.{StoreFault}
 use Rattle.fe_journal.specs.declared.fault.StoreFault.TheVariants as store
 use Rattle.fe_journal.proofs.Founds.{opens_as}
 use Rattle.fe_journal.specs.Journal.{JournalState}

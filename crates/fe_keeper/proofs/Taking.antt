@@ -1,11 +1,13 @@
 -- A batch that is taken, and the moments of calls that leave the state as it is.
-use Rattle.std.proofs.Common.{◌≡◌, ◌↔◌, inl, false, ℕ, List, refl, sym, ap, subst, ◌∙◌}
-use Rattle.std.specs.Prelude.{Result, Ok, Err, IfErr, OnErr, IsErrAnd, IsErrOf}
+use Rattle.std.proofs.Common.{◌≡◌, ◌↔◌, ◌≤◌, inl, false, ℕ, List, length, Option, Some, None, refl, ap, subst, ◌∙◌, arith}
+use Rattle.std.specs.Prelude.{Result, Ok, Err, IfErr, IfSome, IsErrAnd, vec_len}
 use Rattle.fe_disk.specs.Disk.{LeavesOnly}
+use Rattle.fe_disk.specs.declared.calls.Calls.{Calls}
 use Rattle.fe_disk.proofs.Moments.{started, joined, weaker}
 use Rattle.fe_state.specs.State.{ServerState, after_all}
-use Rattle.fe_state.specs.UndoLog.{UndoLog}
 use Rattle.fe_state.specs.declared.entry.Entry.{Entry}
+use Rattle.fe_codec.specs.Image.{image_spelling}
+use Rattle.fe_format.specs.declared.format.Format.TheVariants.{Two}
 use Rattle.fe_replica.specs.declared.taking.Refused.{Refused}
 use Rattle.fe_replica.specs.declared.taking.Refused.TheVariants as replica
 use Rattle.fe_keeper.specs.within.Faults.{fault_of_refused}
@@ -13,13 +15,15 @@ use Rattle.fe_keeper.specs.declared.fault.Fault.{Fault}
 use Rattle.fe_keeper.specs.declared.fault.Fault.TheVariants.{NoMemory, Mismatch}
 use Rattle.fe_keeper.specs.Stands.{StandsFor, StandsForEither, EachStandsFor}
 use Rattle.fe_journal.specs.declared.fault.JournalFault.{JournalFault}
-use Rattle.fe_keeper.specs.Keeper.{KeeperState}
-use Rattle.fe_keeper.specs.Ends.{IsDurable, Rests}
-use Rattle.fe_keeper.specs.within.Ends.{Carries, Leads}
-use Rattle.fe_keeper.specs.within.Parts.{IsKept, kept_of}
+use Rattle.fe_keeper.specs.Keeper.{KeeperState, StoreState, slices_of}
+use Rattle.fe_keeper.specs.Ends.{IsDurable, MakesToAppend, Rests, StopsLeave}
+use Rattle.fe_keeper.specs.within.Ends.{Carries}
+use Rattle.fe_keeper.specs.within.Fresh.{IsImageOf, whole_slices}
+use Rattle.fe_keeper.specs.within.Kept.{IsKept, kept_of}
 use Rattle.fe_keeper.specs.within.Upholds.{Upholds, store_of}
+use Rattle.fe_keeper.specs.declared.checkpoint.Checkpoint.{Checkpoint}
 use Rattle.fe_keeper.specs.declared.store.Store.{Store}
-use Rattle.fe_keeper.specs.declared.parts.Parts.{Parts}
+use Rattle.fe_keeper.specs.declared.keeper.Keeper.TheInside.{Inside}
 
 -- ---- what is refused
 
@@ -41,13 +45,7 @@ memory_alone P (Err fault) refused told none p = (told ∙ memory_told refused n
 
 -- ---- a keeper as it was
 
-abbrev parts_of : {D : Type 0} → Parts D → ServerState → UndoLog → Parts D
-parts_of old state log = record { store = old.store; state = state; log = log; alloc = old.alloc }
-
-pub same_parts : {D : Type 0} (old : Parts D) (state : ServerState) (log : UndoLog) → state ≡ old.state → log ≡ old.log → parts_of old state log ≡ old
-same_parts old state log s l = ap (λ (t : ServerState). parts_of old t log) s ∙ ap (λ (t : UndoLog). parts_of old old.state t) l
-
-pub same_kept : {D : Type 0} (old new : Parts D) → new.state ≡ old.state → new.store ≡ old.store → kept_of new ≡ kept_of old
+pub same_kept : {D : Type 0} (old new : Inside D) → new.state ≡ old.state → new.store ≡ old.store → kept_of new ≡ kept_of old
 same_kept {D} old new state store =
     ap (λ (s : ServerState). kept_in s new.store) state ∙ ap (λ (t : Store D). kept_in old.state t) store
   where
@@ -66,19 +64,19 @@ module _ {D : Type 0} (moment : D → ℕ) (left_since : D → ℕ → List ℕ 
   none_left store s only_now u = started moment left_since store.journal.disk (λ image. StandsFor image s) (λ image left. each_stands store s u image (only_now image left))
 
   -- a call of the store that carries the state over leaves the keeper's state as it is
-  pub carries_rest : {T : Type 0} (honest : D → Type 0) (result : Result T JournalFault) (parts : Parts D) (new : Store D) (old : KeeperState D) → IsKept honest seen may_leave parts → kept_of parts ≡ old
-      → (honest parts.store.journal.disk → Upholds seen may_leave parts.store parts.state → Carries moment left_since seen may_leave result parts.store new parts.state)
-      → (honest new.journal.disk ↔ honest parts.store.journal.disk) → Rests honest moment left_since old (record { state = parts.state; store = store_of new })
-  carries_rest honest result parts new old kept same carries honesty =
-      subst (λ (k : KeeperState D). Rests honest moment left_since k (record { state = parts.state; store = store_of new })) same
+  pub carries_rest : {T : Type 0} (honest : D → Type 0) (result : Result T JournalFault) (inside : Inside D) (new : Store D) (old : KeeperState D) → IsKept honest seen may_leave inside → kept_of inside ≡ old
+      → (honest inside.store.journal.disk → Upholds seen may_leave inside.store inside.state → Carries moment left_since seen may_leave result inside.store new inside.state)
+      → (honest new.journal.disk ↔ honest inside.store.journal.disk) → Rests honest moment left_since old (record { state = inside.state; store = store_of new })
+  carries_rest honest result inside new old kept same carries honesty =
+      subst (λ (k : KeeperState D). Rests honest moment left_since k (record { state = inside.state; store = store_of new })) same
       (record { state = refl; any_moment = λ h works. (carries h (kept.upheld h works)).any_moment; honesty = honesty })
 
   -- and what it leaves is durable
-  pub carries_durable : (honest : D → Type 0) (parts : Parts D) (new : Store D) → IsKept honest seen may_leave parts → parts.store.journal.has_failed ≡ false → (honest new.journal.disk ↔ honest parts.store.journal.disk)
-      → (honest parts.store.journal.disk → Upholds seen may_leave parts.store parts.state → Upholds seen may_leave new parts.state)
-      → IsDurable honest may_leave (record { state = parts.state; store = store_of new })
-  carries_durable honest parts new kept works honesty upholds =
-      λ h _. let before = honesty.0 h in each_stands new parts.state (upholds before (kept.upheld before works))
+  pub carries_durable : (honest : D → Type 0) (inside : Inside D) (new : Store D) → IsKept honest seen may_leave inside → inside.store.journal.has_failed ≡ false → (honest new.journal.disk ↔ honest inside.store.journal.disk)
+      → (honest inside.store.journal.disk → Upholds seen may_leave inside.store inside.state → Upholds seen may_leave new inside.state)
+      → IsDurable honest may_leave (record { state = inside.state; store = store_of new })
+  carries_durable honest inside new kept works honesty upholds =
+      λ h _. let before = honesty.0 h in each_stands new inside.state (upholds before (kept.upheld before works))
 
   -- a state that stays is one of the two
   pub stays : (old new : D) (s : ServerState) (entries : List Entry) → LeavesOnly moment left_since old new (λ image. StandsFor image s) → LeavesOnly moment left_since old new (StandsForEither s (after_all s entries))
@@ -89,10 +87,33 @@ module _ {D : Type 0} (moment : D → ℕ) (left_since : D → ℕ → List ℕ 
       → LeavesOnly moment left_since mid new (StandsForEither s (after_all s entries)) → LeavesOnly moment left_since old new (StandsForEither s (after_all s entries))
   then_stored old mid new s entries room run = joined moment left_since old mid new (StandsForEither s (after_all s entries)) (stays old mid s entries room) run
 
--- what is said of a store and a state that are the same
-pub leads_as : {T D : Type 0} (honest : D → Type 0) (moment : D → ℕ) (left_since : D → ℕ → List ℕ → Type 0) (seen : D → List ℕ) (may_leave : D → List ℕ → Type 0) (result : Result T JournalFault) (was old new : Store D) (t s : ServerState) (entries : List Entry)
-    → was ≡ old → t ≡ s → (honest was.journal.disk → Upholds seen may_leave was t → Leads moment left_since seen may_leave result was new t (after_all t entries))
-    → honest old.journal.disk → Upholds seen may_leave old s → Leads moment left_since seen may_leave result old new s (after_all s entries)
-leads_as {T} {D} honest moment left_since seen may_leave result was old new t s entries same state leads =
-    subst (λ (x : Store D). honest x.journal.disk → Upholds seen may_leave x s → Leads moment left_since seen may_leave result x new s (after_all s entries)) same
-    (subst (λ (x : ServerState). honest was.journal.disk → Upholds seen may_leave was x → Leads moment left_since seen may_leave result was new x (after_all x entries)) state leads)
+  -- a batch that is not put leaves what was left
+  pub none_put : (honest : D → Type 0) (inside : Inside D) (state : ServerState) (old : KeeperState D) (entries : List Entry) → IsKept honest seen may_leave inside → kept_of inside ≡ old
+      → ((image : List ℕ) → honest inside.store.journal.disk → left_since inside.store.journal.disk (moment inside.store.journal.disk) image → may_leave inside.store.journal.disk image)
+      → StopsLeave honest moment left_since old (record { state = state; store = store_of inside.store }) (StandsForEither old.state (after_all old.state entries))
+  none_put honest inside state old entries kept same only_now =
+      subst (λ (k : KeeperState D). StopsLeave honest moment left_since k (record { state = state; store = store_of inside.store }) (StandsForEither k.state (after_all k.state entries))) same
+      (λ h works. stays inside.store.journal.disk inside.store.journal.disk inside.state entries (none_left inside.store inside.state (λ image left. only_now image h left) (kept.upheld h works)))
+
+-- ---- the calls of an append
+
+-- a whole checkpoint has as many slices as the image of its state
+made_slices : (whole : Option Checkpoint) (s : ServerState) → IfSome whole (λ made. IsImageOf made s) → whole_slices whole ≤ slices_of (length (image_spelling Two s))
+made_slices None s is = omega arith
+made_slices (Some made) s is =
+    let size : made.image.len ≡ length (image_spelling Two s) = made.image.ok.0 ∙ ap (λ (xs : List ℕ). length xs) is.image_is in
+    let same : slices_of (vec_len made.image) ≡ slices_of (length (image_spelling Two s)) = ap slices_of size in
+    omega (arith, same)
+
+more_slices : {D : Type 0} (store : StoreState D) (entries : List Entry) (n m : ℕ) (before after : Calls) → n ≤ m → MakesToAppend store entries n before after → MakesToAppend store entries m before after
+more_slices store entries n m before after le made = record { to_append = made.to_append; to_finish = made.to_finish; most = (made.most.0, (made.most.1.0, omega (arith, le, made.most.1.1)), made.most.2) }
+
+-- the calls of a put, as the keeper's callers count them
+pub calls_there : {D : Type 0} (calls : D → Calls) (inside : Inside D) (old : KeeperState D) (new : D) (entries spelled : List Entry) (whole : Option Checkpoint) → kept_of inside ≡ old → entries ≡ spelled
+    → IfSome whole (λ made. IsImageOf made inside.state) → MakesToAppend (store_of inside.store) entries (whole_slices whole) (calls inside.store.journal.disk) (calls new)
+    → MakesToAppend old.store spelled (slices_of (length (image_spelling Two old.state))) (calls old.store.disk) (calls new)
+calls_there {D} calls inside old new entries spelled whole same is image made =
+    let slices : ℕ = slices_of (length (image_spelling Two inside.state)) in
+    let there = more_slices (store_of inside.store) entries (whole_slices whole) slices (calls inside.store.journal.disk) (calls new) (made_slices whole inside.state image) made in
+    subst (λ (k : KeeperState D). MakesToAppend k.store spelled (slices_of (length (image_spelling Two k.state))) (calls k.store.disk) (calls new)) same
+    (subst (λ (es : List Entry). MakesToAppend (store_of inside.store) es slices (calls inside.store.journal.disk) (calls new)) is there)

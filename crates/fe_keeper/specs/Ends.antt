@@ -2,7 +2,7 @@
 use Rattle.std.specs.Prelude.{◌≡◌, ◌⊎◌, ◌↔◌, ℕ, ◌+◌, true, false, IsTrue, List, MatchBool, Result, Ok, Err, MatchResult}
 use Rattle.fe_disk.specs.Disk.{LeavesOnly, Rises, MakesAtMost}
 use Rattle.fe_disk.specs.declared.calls.Calls.{Calls}
-use Rattle.fe_state.specs.State.{ServerState, after_all}
+use Rattle.fe_state.specs.State.{after_all}
 use Rattle.fe_state.specs.declared.batch.Batch.{Batch}
 use Rattle.fe_state.specs.declared.entry.Entry.{Entry}
 use Rattle.fe_replica.specs.Taking.{Continues, IsMismatch, MakesSomeArray}

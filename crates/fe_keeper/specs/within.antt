@@ -3,7 +3,8 @@ pub mod Upholds
 pub mod Slices
 pub mod Fresh
 pub mod Faults
-pub mod Parts
+pub mod Kept
+pub mod Taken
 pub mod Replaying
 pub mod Rooms
 pub mod Ends

@@ -54,7 +54,12 @@ pub(crate) fn keeper_over<D: Disk>(
         place,
         checkpoint: None,
     };
-    Keeper::opened(alloc, store, state, log)
+    Keeper {
+        store,
+        state,
+        log,
+        alloc,
+    }
 }
 
 /// The same, with room that is made now.

@@ -1,22 +1,25 @@
-ghost use Rattle.std.specs.Prelude.{◌≡◌, ◌↔◌, false, IsTrue, ◌+◌, length, is_some, IfOk, OnOk, OnErr};
+ghost use Rattle.std.specs.Prelude.{◌≡◌, ◌↔◌, false, IsTrue, ◌+◌, length, is_some, IfOk, IfErr, OnOk, OnErr};
 ghost use Rattle.fe_disk.specs.Disk.{MakesAtMost};
-ghost use Rattle.fe_state.specs.State.{after_all};
+ghost use Rattle.fe_state.specs.State.{IsWithinLimits, after_all};
+ghost use Rattle.fe_state.specs.UndoLog.{empty_log, rewound};
 ghost use Rattle.fe_codec.specs.Image.{image_spelling};
 ghost use Rattle.fe_format.specs.declared.format.Format.TheVariants.{Two};
 ghost use Rattle.fe_journal.specs.Layout.{device_bytes};
+ghost use Rattle.fe_replica.specs.Taking.{Continues};
 ghost use Rattle.fe_keeper.specs.Stands.{StandsForEither};
 ghost use Rattle.fe_keeper.specs.Ends.{StopsLeave, IsDurable, Rests, Ends, ForDevice, ForDeviceAndMemory, HasBegun};
 ghost use Rattle.fe_keeper.specs.Ends.{IsAppended, AppendEnds, MakesToAppend, batch_of};
-ghost use Rattle.fe_keeper.specs.Keeper.{can_begin, has_slices, slices_of, slices_left, stepped, finished};
+ghost use Rattle.fe_keeper.specs.Keeper.{can_begin, has_slices, must_begin, slices_of, slices_left, stepped, finished};
+ghost use Rattle.fe_keeper.specs.within.Taken.{HasBatch, HasTaken, IsMadeFor};
 ghost use Rattle.fe_keeper.specs.within.Upholds.{store_of};
-ghost use Rattle.fe_keeper.specs.within.Parts.{IsKept};
+ghost use Rattle.fe_keeper.specs.declared.fault.Fault.TheVariants.{NoMemory};
 
 use crate::checkpoint::Checkpoint;
-use crate::parts::Parts;
 use crate::store::Store;
 use crate::{Fault, Format};
 use fe_disk::Disk;
-use fe_state::{Batch, State, UndoLog};
+use fe_replica::take;
+use fe_state::{Batch, Entry, State, UndoLog};
 use std::alloc::Global;
 use std::marker::Model;
 
@@ -26,13 +29,24 @@ use std::marker::Model;
 /// After a fault of the device every call returns `Failed` and makes no device call. Opening the store again
 /// tells what was stored.
 pub struct Keeper<D: Disk> {
-    parts: Parts<D>,
+    pub(crate) store: Store<D>,
+    pub(crate) state: State,
+    /// The way back from a batch that is taken and not yet stored.
+    pub(crate) log: UndoLog,
+    pub(crate) alloc: Global,
 }
 
 impl<D: Disk + Drop> Drop for Keeper<D> {
     fn drop(self) {
-        let Keeper { parts } = self;
-        drop(parts);
+        let Keeper {
+            store,
+            state,
+            log,
+            alloc: _,
+        } = self;
+        drop(store);
+        drop(state);
+        drop(log);
     }
 }
 
@@ -45,36 +59,21 @@ impl<D: Disk> Model for Keeper<D> {
 
     ghost coded = { Prim.hlevel (codes, state_code) };
 
-    ghost use Rattle.fe_keeper.specs.within.Parts.{kept_of, IsKept};
+    ghost use Rattle.fe_keeper.specs.within.Kept.{kept_of, IsKept};
 
-    ghost view = { λ k. kept_of k.parts };
+    ghost view = { kept_of };
 
-    ghost invariant = { λ k. IsKept D.honest D.seen D.may_leave k.parts };
+    ghost invariant = { IsKept D.honest D.seen D.may_leave };
 }
 
 impl<D: Disk> Keeper<D> {
-    /// The keeper of an opened or a new store.
-    pub(crate) fn opened(alloc: Global, store: Store<D>, state: State, log: UndoLog) -> Keeper<D>
-        requires kept { IsKept D.honest D.seen D.may_leave
-            (record { store = store; state = state; log = log; alloc = alloc }) }
-        ensures { result ≡ record { state = state; store = store_of store } }
-    {
-        let parts = Parts {
-            store,
-            state,
-            log,
-            alloc,
-        };
-        Keeper { parts }
-    }
-
     /// The replica of the state. Each image that a stop may leave stands for it.
     pub fn state(&self) -> &State
         ensures state { result.now ≡ self.now.state }
         ensures durable { IsDurable D.honest D.may_leave self.now }
         ensures place { self.now.store.place ≡ self.now.state.place }
     {
-        &self.parts.state
+        &self.state
     }
 
     /// Appends a batch and stores it. The batch comes back unchanged.
@@ -95,9 +94,35 @@ impl<D: Disk> Keeper<D> {
             (D.calls self.old.store.disk) (D.calls self.new.store.disk) }
         ensures honesty { D.honest self.new.store.disk ↔ D.honest self.old.store.disk }
     {
-        match self.parts.append(batch.first, batch.entries.as_slice()) {
-            Ok(()) => Ok(batch),
-            Err(fault) => Err((fault, batch)),
+        if self.store.journal.has_failed() {
+            return Err((Fault::Failed, batch));
+        }
+        let entries = batch.entries.as_slice();
+        limits(&self.state);
+        if let Err(refused) = take(&mut self.state, &mut self.log, batch.first, entries) {
+            return Err((Fault::from(refused), batch));
+        }
+        let whole = match whole_before(
+            self.alloc,
+            &self.store,
+            &mut self.state,
+            &mut self.log,
+            batch.first,
+            entries,
+        ) {
+            Ok(whole) => whole,
+            Err(fault) => return Err((fault, batch)),
+        };
+        limits(&self.state);
+        match self.store.put(entries, whole) {
+            Ok(()) => {
+                self.log.clear();
+                Ok(batch)
+            }
+            Err(fault) => {
+                self.state.rewind(&mut self.log);
+                Err((Fault::from(fault), batch))
+            }
         }
     }
 
@@ -113,14 +138,14 @@ impl<D: Disk> Keeper<D> {
             (ForDeviceAndMemory (IsTrue (can_begin self.old.store))) result self.old self.new }
         ensures calls { MakesAtMost 1 2 1 (D.calls self.old.store.disk) (D.calls self.new.store.disk) }
     {
-        if self.parts.store.journal.has_failed() {
+        if self.store.journal.has_failed() {
             return Err(Fault::Failed);
         }
-        if !self.parts.store.can_begin() {
+        if !self.store.can_begin() {
             return Ok(false);
         }
-        let checkpoint = Checkpoint::new(self.parts.alloc, &self.parts.state)?;
-        self.parts.store.begin(checkpoint)?;
+        let checkpoint = Checkpoint::new(self.alloc, &self.state)?;
+        self.store.begin(checkpoint)?;
         Ok(true)
     }
 
@@ -137,13 +162,13 @@ impl<D: Disk> Keeper<D> {
             (ForDevice (IsTrue (has_slices self.old.store.checkpoint))) result self.old self.new }
         ensures calls { MakesAtMost 0 1 0 (D.calls self.old.store.disk) (D.calls self.new.store.disk) }
     {
-        if self.parts.store.journal.has_failed() {
+        if self.store.journal.has_failed() {
             return Err(Fault::Failed);
         }
-        if self.parts.store.checkpoint.is_none() {
+        if self.store.checkpoint.is_none() {
             return Ok(false);
         }
-        let more = self.parts.store.step()?;
+        let more = self.store.step()?;
         Ok(more)
     }
 
@@ -161,13 +186,13 @@ impl<D: Disk> Keeper<D> {
         ensures calls { MakesAtMost 0 (slices_left self.old.store.checkpoint + 2) 2 (D.calls self.old.store.disk)
             (D.calls self.new.store.disk) }
     {
-        if self.parts.store.journal.has_failed() {
+        if self.store.journal.has_failed() {
             return Err(Fault::Failed);
         }
-        if self.parts.store.checkpoint.is_none() {
+        if self.store.checkpoint.is_none() {
             return Ok(false);
         }
-        self.parts.store.finish()?;
+        self.store.finish()?;
         Ok(true)
     }
 
@@ -175,21 +200,21 @@ impl<D: Disk> Keeper<D> {
     pub fn has_failed(&self) -> bool
         ensures { result ≡ self.now.store.has_failed }
     {
-        self.parts.store.journal.has_failed()
+        self.store.journal.has_failed()
     }
 
     /// How many bytes of the journal area are used: the offset of the closed gate after the groups.
     pub fn used(&self) -> u32
         ensures { result ≡ self.now.store.used }
     {
-        self.parts.store.journal.used()
+        self.store.journal.used()
     }
 
     /// The format of the slot that counts, in which groups are appended.
     pub fn store_format(&self) -> Format
         ensures { result ≡ self.now.store.format }
     {
-        self.parts.store.journal.store_format()
+        self.store.journal.store_format()
     }
 
     /// The disk, as the calls of the keeper left it.
@@ -197,9 +222,49 @@ impl<D: Disk> Keeper<D> {
         ensures disk { result ≡ self.store.disk }
         ensures size { D.size result ≡ device_bytes }
     {
-        let Keeper { parts } = self;
-        let Parts { store, .. } = parts;
+        let Keeper {
+            store,
+            state,
+            log,
+            alloc: _,
+        } = self;
+        drop(state);
+        drop(log);
         let Store { journal, .. } = store;
         journal.into_disk()
     }
+}
+
+/// What is always true of a replica.
+fn limits(state: &State)
+    ensures { IsWithinLimits state.now }
+{
+    let _ = state.place();
+}
+
+/// The checkpoint of the state before a batch that was taken, where a whole one has to be made for it:
+/// for that time the replica is that state. So all memory is taken before any call of the device.
+fn whole_before<D: Disk>(
+    alloc: Global,
+    store: &Store<D>,
+    state: &mut State,
+    log: &mut UndoLog,
+    first: u64,
+    entries: &[Entry],
+) -> Result<Option<Checkpoint>, Fault>
+    requires batch { HasBatch store.now state.old log.old entries.now }
+    requires continues { Continues (rewound log.old state.old) first entries.now }
+    ensures taken { OnOk result (HasTaken (rewound log.old state.old) entries.now state.new log.new) }
+    ensures room { log.new.room ≡ log.old.room }
+    ensures made { IfOk result (IsMadeFor store.now (rewound log.old state.old) entries.now) }
+    ensures err { OnErr result ((state.new ≡ rewound log.old state.old) × (log.new ≡ empty_log log.old.room)) }
+    ensures memory { IfErr result (λ fault. (fault ≡ NoMemory) × IsTrue (must_begin (store_of store.now) entries.now)) }
+{
+    if !store.must_begin(entries) {
+        return Ok(None);
+    }
+    state.rewind(log);
+    let whole = Checkpoint::new(alloc, state)?;
+    take(state, log, first, entries)?;
+    Ok(Some(whole))
 }

@@ -11,7 +11,6 @@ mod fault;
 mod keeper;
 mod laws;
 mod opening;
-mod parts;
 mod recovering;
 mod store;
 

@@ -2,7 +2,7 @@ use Rattle.std.proofs.Common.{◌≡◌, ◌∙◌, IsTrue, sym, ap, subst}
 use Rattle.std.specs.Prelude.{false, true}
 use Rattle.fe_keeper.specs.Ends.{ForDevice}
 use Rattle.fe_keeper.specs.Keeper.{KeeperState, has_slices}
-use Rattle.fe_keeper.specs.within.Parts.{kept_of}
+use Rattle.fe_keeper.specs.within.Kept.{kept_of}
 use Rattle.fe_keeper.specs.declared.store.Store.{Store}
 use Rattle.fe_keeper.proofs.Ends.{device_told, must_be}
 use Rattle.fe_keeper.proofs.Taking.{carries_durable, carries_rest}
@@ -11,26 +11,26 @@ use Rattle.fe_keeper.proofs.keeper.Keeper.checkpoint_step.Goals as goal
 pub returns-in_err-more-clause-ends : goal.returns-in_err-more-clause-ends
 returns-in_err-more-clause-ends g c =
     let old = c.args.self.now in
-    let parts = c.self.inside.parts in
+    let inside = c.self.inside in
     let failed = c.in_err-more.ensures.ends.outcome in
-    let works : parts.store.journal.has_failed ≡ false = sym c.has_failed.ensures ∙ c.if-has_failed.false in
-    let must : IsTrue (has_slices (kept_of parts).store.checkpoint) =
-    must_be (has_slices (kept_of parts).store.checkpoint)
-    (λ none. let same : c.step.new.self.journal.has_failed ≡ parts.store.journal.has_failed = ap (λ (s : Store g.row.D.Denot). s.journal.has_failed) (c.step.ensures.rests none) in let odd : true ≡ false = sym failed.1.failed ∙ same ∙ works in absurd (cc odd)) in
+    let works : inside.store.journal.has_failed ≡ false = sym c.has_failed.ensures ∙ c.if-has_failed.false in
+    let must : IsTrue (has_slices (kept_of inside).store.checkpoint) =
+    must_be (has_slices (kept_of inside).store.checkpoint)
+    (λ none. let same : c.step.new.self.journal.has_failed ≡ inside.store.journal.has_failed = ap (λ (s : Store g.row.D.Denot). s.journal.has_failed) (c.step.ensures.rests none) in let odd : true ≡ false = sym failed.1.failed ∙ same ∙ works in absurd (cc odd)) in
     let cause : IsTrue (has_slices old.store.checkpoint) = subst (λ (k : KeeperState g.row.D.Denot). IsTrue (has_slices k.store.checkpoint)) c.self.view_is must in
-    device_told g.D.Disk.failures (ForDevice (IsTrue (has_slices old.store.checkpoint))) c.from_residual.result c.in_err-more.field-0.0 parts c.step.new.self old c.self.view_is c.from_residual.ensures.1 works failed cause
+    device_told g.D.Disk.failures (ForDevice (IsTrue (has_slices old.store.checkpoint))) c.from_residual.result c.in_err-more.field-0.0 inside c.step.new.self old c.self.view_is c.from_residual.ensures.1 works failed cause
 
 pub returns-in_err-more-clause-rests : goal.returns-in_err-more-clause-rests
 returns-in_err-more-clause-rests g c =
-    carries_rest g.D.Disk.moment g.D.Disk.left_since g.D.Disk.seen g.D.Disk.may_leave g.D.Disk.honest c.step.result c.self.inside.parts c.step.new.self c.args.self.now c.self.invariant c.self.view_is
-    (λ honest kept. c.step.ensures.carries honest c.self.inside.parts.state kept) c.step.ensures.ends.honesty
+    carries_rest g.D.Disk.moment g.D.Disk.left_since g.D.Disk.seen g.D.Disk.may_leave g.D.Disk.honest c.step.result c.self.inside c.step.new.self c.args.self.now c.self.invariant c.self.view_is
+    (λ honest kept. c.step.ensures.carries honest c.self.inside.state kept) c.step.ensures.ends.honesty
 
 pub returns-clause-rests : goal.returns-clause-rests
 returns-clause-rests g c =
-    carries_rest g.D.Disk.moment g.D.Disk.left_since g.D.Disk.seen g.D.Disk.may_leave g.D.Disk.honest c.step.result c.self.inside.parts c.step.new.self c.args.self.now c.self.invariant c.self.view_is
-    (λ honest kept. c.step.ensures.carries honest c.self.inside.parts.state kept) c.step.ensures.ends.honesty
+    carries_rest g.D.Disk.moment g.D.Disk.left_since g.D.Disk.seen g.D.Disk.may_leave g.D.Disk.honest c.step.result c.self.inside c.step.new.self c.args.self.now c.self.invariant c.self.view_is
+    (λ honest kept. c.step.ensures.carries honest c.self.inside.state kept) c.step.ensures.ends.honesty
 
 pub returns-clause-durable : goal.returns-clause-durable
 returns-clause-durable g c =
-    carries_durable g.D.Disk.moment g.D.Disk.left_since g.D.Disk.seen g.D.Disk.may_leave g.D.Disk.honest c.self.inside.parts c.step.new.self c.self.invariant (sym c.has_failed.ensures ∙ c.if-has_failed.false) c.step.ensures.ends.honesty
-    (λ honest kept. (c.in_ok-more.ensures.carries honest c.self.inside.parts.state kept).upheld)
+    carries_durable g.D.Disk.moment g.D.Disk.left_since g.D.Disk.seen g.D.Disk.may_leave g.D.Disk.honest c.self.inside c.step.new.self c.self.invariant (sym c.has_failed.ensures ∙ c.if-has_failed.false) c.step.ensures.ends.honesty
+    (λ honest kept. (c.in_ok-more.ensures.carries honest c.self.inside.state kept).upheld)
