@@ -1,5 +1,5 @@
-ghost use Rattle.std.specs.Prelude.{◌≡◌, ◌+◌, ◌≤◌, ◌⊎◌, ◌↔◌, ℕ, List, [], length, Some, None, Ok, Err, IsTrue, false, IfOk, IfErr, OnErr, MatchResult};
-ghost use Rattle.fe_front.specs.Call.{request_at, IsCallRefused, IsNumberRefused, WantsMemory, Called, Completed, Waits, repeat_of, repeated, waiters_completed};
+ghost use Rattle.std.specs.Prelude.{◌≡◌, ◌+◌, ◌≤◌, ◌⊎◌, ◌↔◌, ℕ, List, [], Some, None, Ok, Err, IsTrue, false, IfOk, IfErr, OnErr};
+ghost use Rattle.fe_front.specs.Call.{request_at, IsCallRefused, WantsMemory, Called, Completed, Waits, repeat_of, repeated, waiters_completed};
 ghost use Rattle.fe_front.specs.Front.{has_room, is_spent};
 ghost use Rattle.fe_front.specs.Refusals.{addressed, own, in_window};
 ghost use Rattle.fe_mail.specs.Books.{Balances};

@@ -1,4 +1,4 @@
-ghost use Rattle.std.specs.Prelude.{◌≡◌, ◌⊎◌, ◌+◌, ◌↔◌, ◌≤◌, ℕ, List, not, nat_lt, length, slice_get, Some, None, Ok, Err, IsTrue, IsOk, IsErr, IfOk, IfErr, OnOk, OnErr, MatchResult};
+ghost use Rattle.std.specs.Prelude.{◌≡◌, ◌⊎◌, ◌+◌, ◌↔◌, ◌≤◌, List, not, nat_lt, length, slice_get, Some, None, Ok, Err, IsTrue, IsOk, IsErr, IfOk, IfErr, OnOk, OnErr, MatchResult};
 ghost use Rattle.std.specs.Option.{option_map};
 ghost use Rattle.std.specs.FinMap.{get, len};
 ghost use Rattle.fe_waits.specs.Waiting.{AreWaitersOf, AreListedOnce};

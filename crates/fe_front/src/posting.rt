@@ -1,6 +1,5 @@
 ghost use Rattle.std.specs.Prelude.{◌≡◌, ◌+◌, ◌^◌, ◌<◌, ◌≤◌, ◌↔◌, ℕ, length, Some, IsTrue};
-ghost use Rattle.fe_front.specs.Front.{IsTied};
-ghost use Rattle.fe_front.specs.Posting.{IsOut, delivered, vacated, ended, posted_entry, posted_all};
+ghost use Rattle.fe_front.specs.Posting.{IsOut, delivered, ended, posted_entry, posted_all};
 ghost use Rattle.fe_front.specs.Ringing.{IsRung, Rings};
 
 use crate::front::Front;

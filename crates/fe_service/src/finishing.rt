@@ -1,4 +1,4 @@
-ghost use Rattle.std.specs.Prelude.{◌≡◌, ◌+◌, List, [], length as length_of, Some, OnOk, OnErr, IfOk};
+ghost use Rattle.std.specs.Prelude.{◌≡◌, ◌+◌, List, [], length as length_of, Some, OnOk, OnErr};
 ghost use Rattle.fe_state.specs.Effect.{IsNewArray};
 ghost use Rattle.fe_state.specs.State.{reply};
 ghost use Rattle.fe_state.specs.declared.entry.Entry.{Entry};

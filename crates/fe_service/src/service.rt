@@ -1,13 +1,13 @@
-ghost use Rattle.std.specs.Prelude.{◌≡◌, ◌≢◌, ◌+◌, ◌<◌, ◌≤◌, ◌↔◌, ℕ, List, [], length, Some, None, IsSome, IsTrue, IfOk, OnOk, OnErr, is_some, true, false};
+ghost use Rattle.std.specs.Prelude.{◌≡◌, ◌≢◌, ◌+◌, ◌<◌, ◌≤◌, ◌↔◌, List, [], length, Some, None, IsSome, IfOk, OnErr, is_some, true, false};
 ghost use Rattle.std.specs.FinMap.{get, len, empty};
-ghost use Rattle.fe_waits.specs.Waiting.{Waiter, AreWaitersOf, AreListedOnce};
+ghost use Rattle.fe_waits.specs.Waiting.{AreWaitersOf, AreListedOnce};
 ghost use Rattle.fe_state.specs.State as states;
 ghost use Rattle.fe_state.specs.State.{reply, MakesArray};
 ghost use Rattle.fe_state.specs.declared.entry.Entry.{Entry};
 ghost use Rattle.fe_state.specs.declared.entry.Entry.TheVariants.{Finished};
 ghost use Rattle.fe_state.specs.declared.request.Request.TheVariants as requests;
 ghost use Rattle.fe_seats.specs.Seating.{turn_at, count_of, is_closing};
-ghost use Rattle.fe_service.specs.ServiceState.{IsService, is_open};
+ghost use Rattle.fe_service.specs.ServiceState.{IsService};
 ghost use Rattle.fe_service.specs.Events.{IsFree, HasRoom, MaySettle, MaySit, Completes, IsSeated, floor_of, attached, settled, closed, withdrawn, cancelled, held, left, waited};
 ghost use Rattle.fe_state.specs.Limits.{most_sessions, most_waiting, most_batch_entries};
 
