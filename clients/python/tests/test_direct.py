@@ -1,5 +1,6 @@
 """Calls that the caller itself sends and reads, over numbers that the client's thread lent: each hazard, and its outcome."""
 
+import errno
 import itertools
 import os
 import random
@@ -13,6 +14,7 @@ from unittest import mock
 import paths  # noqa: F401
 from model import frame
 from serving import BadServer, WithFolder
+from test_ends import Unwilling
 from test_malice import FIRST, attached
 from test_unspoilt import Stop, interrupted
 
@@ -310,6 +312,27 @@ class Direct(WithFolder):
             self.assertLess(len(asked), 400)
             del client._ask
             client._ask = client._worker.ask
+
+    def test_a_send_that_fails_is_made_up_for(self):
+        """The connection stands, so no read fails: it is given up, and everything is sent again over the next one."""
+        self.server()
+        with Client(self.path, 7, reconnect_timeout=LONG, probe_interval=100.0) as client:
+            word, queue, added = client.create("word", 1, full=True), BoundedQueue(client, "queue", 4), []
+
+            def hand_on():
+                queue.put(7, LONG)
+                self.assertEqual(queue.get(LONG), 7)
+
+            for work in (lambda: added.append(client.int_fetch_add(word, 0, 1, timeout=LONG)), hand_on):
+                for failure in (errno.ENOBUFS, errno.ENOMEM):
+                    failures = [failure]
+                    while failures:
+                        self.warm(client, word)
+                        lent = client._worker.lease
+                        if lent is not None:
+                            lent.connection = Unwilling(lent.connection, failures)
+                        work()
+            self.assertEqual((added, queue.qsize(), client.failure), (list(range(len(added))), 0, None))
 
     def test_a_caller_that_is_held_up_keeps_its_numbers(self):
         """Between the choice of its number and its send, and behind it: longer than the thread waits for it."""
