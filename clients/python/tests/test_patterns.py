@@ -375,9 +375,10 @@ class Patterns(WithClients):
         """Another thread of the same client may have that, in the same session."""
         self.server()
         with Client(self.path, 1) as one, Client(self.path, 2) as two:
-            reader, mine, other = (ReadWriteLock(client, "book", 1) for client in (one, two, two))
-            for wait, give in ((mine.acquire_read, mine.release_read), (mine.acquire_write, mine.release_write)):
-                with self.subTest(wait.__name__):
+            for act in ("read", "write"):
+                reader, mine, other = (ReadWriteLock(client, act, 1) for client in (one, two, two))
+                wait, give = getattr(mine, f"acquire_{act}"), getattr(mine, f"release_{act}")
+                with self.subTest(act):
                     self.assertTrue(reader.acquire_read())
                     got, is_taken, find = [], threading.Event(), type(mine)._find
                     thread = threading.Thread(target=lambda: got.append(wait(timeout=60)))
