@@ -33,6 +33,23 @@ def count_asks(client):
     return asked
 
 
+class Slow:
+    """A connection whose caller is held up by `wait`, before and behind each send."""
+
+    def __init__(self, inner, wait):
+        self.inner = inner
+        self.wait = wait
+
+    def send(self, content, *flags):
+        self.wait("sending")
+        sent = self.inner.send(content, *flags)
+        self.wait("sent")
+        return sent
+
+    def __getattr__(self, name):
+        return getattr(self.inner, name)
+
+
 class Direct(WithFolder):
     def warm(self, client, word):
         """Calls until the client's thread lends numbers. Returns how many calls it took."""
@@ -350,36 +367,32 @@ class Direct(WithFolder):
             with self.subTest(where=where), Client(self.path, 7) as client:
                 word = shared_array(client, "word", 1, full=True)
                 begin = client.readff(word, 0)
-                self.warm(client, word)
-                lent, slow = client._worker.lease, []
-                inner = lent.connection
                 held.clear()
+                got, slow = [], []
 
                 def wait(at):
-                    if at == where and threading.current_thread() in slow:
+                    if at == where and threading.get_ident() in slow:
                         held.set()
                         time.sleep(5 * lease.READ_TIME)
 
-                class Slow:
-                    def send(self, content, *flags):
-                        wait("sending")
-                        sent = inner.send(content, *flags)
-                        wait("sent")
-                        return sent
+                def call_slowly():
+                    while not held.is_set():
+                        self.warm(client, word)
+                        lent = client._worker.lease
+                        if lent is not None:  # (a thread that is not scheduled for a while takes its numbers back)
+                            lent.connection = Slow(lent.connection, wait)
+                        slow.append(threading.get_ident())
+                        got.append(client.int_fetch_add(word, 0, 100))
+                        slow.clear()
 
-                    def __getattr__(self, name):
-                        return getattr(inner, name)
-
-                lent.connection = Slow()
                 lease.pack_number = lambda *args: (wait("before"), pack(*args))
-                got = []
-                slow.append(threading.Thread(target=lambda: got.append(client.int_fetch_add(word, 0, 100))))
-                slow[0].start()
+                thread = threading.Thread(target=call_slowly)
+                thread.start()
                 self.assertTrue(held.wait(LONG))
                 for _ in range(3):
                     client.int_fetch_add(word, 0, 1)
-                slow[0].join(LONG)
-                self.assertEqual((client.readff(word, 0), len(got)), (begin + 103, 1))
+                thread.join(LONG)
+                self.assertEqual((client.readff(word, 0), thread.is_alive()), (begin + 3 + 100 * len(got), False))
                 self.assertIsNone(client.failure)
                 self.assertEqual([number for number, operands in asked.items() if len(operands) > 1], [])
 
