@@ -12,9 +12,11 @@ from serving import WithFolder
 
 import femem
 from femem import Client, requests
+from femem.jobs import Pause
 from femem.locks import GENERATIONS
 from femem.patterns import Barrier, BoundedQueue, Channel, Counter, Election, Future, Lock, ReadWriteLock, Semaphore
 from femem.patterns import WorkQueue
+from femem.ring import Ring
 
 # How long what was begun may take to end, in seconds.
 BOUND = 60
@@ -139,8 +141,15 @@ class Kills(WithFolder):
 
     def test_a_client_that_is_stopped_within_a_queue_holds_up_nobody(self):
         """As by a debugger, or while its machine swaps, at any moment of a put or a get. When it goes on, it is well."""
+        new_ticket = Ring._new_ticket
+
+        def ticket_and_pause(ring, words, counter):
+            ticket = yield from new_ticket(ring, words, counter)
+            yield Pause(0.02)  # so that most stops come between a ticket and its use
+            return ticket
 
         def work(k):
+            Ring._new_ticket = ticket_and_pause  # in this process
             with Client(self.path, 100 + k) as client:
                 queue, log = BoundedQueue(client, "queue", 4), self.log(f"stopped{k}")
                 while not self.is_enough():
@@ -149,24 +158,33 @@ class Kills(WithFolder):
 
         with Client(self.path, 7) as client:
             queue, stopped = BoundedQueue(client, "queue", 4), [self.fork(work, k) for k in range(3)]
-            for turn in range(24):
-                time.sleep(0.02 * self.chance.random() + 0.03 * (turn < 3))
-                pid = stopped[turn % 3]
-                os.kill(pid, signal.SIGSTOP)
-                try:
-                    if turn % 8 == 7:
-                        self.model.kill()
-                        self.model.start()
-                    for _ in range(3):
-                        queue.put(7, timeout=10)
-                        queue.get(timeout=10)
-                finally:
-                    os.kill(pid, signal.SIGCONT)
-            with open(self.path + ".enough", "w"):
-                pass
+            try:
+                for turn in range(24):
+                    time.sleep(0.03 + 0.03 * self.chance.random())
+                    self.use_beside(queue, stopped, turn % 8 == 7)
+            finally:
+                with open(self.path + ".enough", "w"):
+                    pass
             self.assertEqual([os.waitpid(pid, 0)[1] for pid in stopped], [0] * 3)
             self.assertEqual(self.log("errors").lines(), [])
             self.assertGreater(sum(len(self.log(f"stopped{k}").lines()) for k in range(3)), 24)
+
+    def use_beside(self, queue, stopped, kills_server):
+        """Uses the queue while these processes are stopped."""
+        for pid in stopped:
+            os.kill(pid, signal.SIGSTOP)
+        try:
+            if kills_server:
+                self.model.kill()
+                self.model.start()
+            for act in (lambda: queue.put(7, timeout=BOUND), lambda: queue.get(timeout=BOUND)) * 3:
+                begin = time.monotonic()
+                act()
+                # (a client looks at all slots each second, and once more when its time is over)
+                self.assertLess(time.monotonic() - begin, BOUND / 2)
+        finally:
+            for pid in stopped:
+                os.kill(pid, signal.SIGCONT)
 
     # Queues.
 
