@@ -509,6 +509,7 @@ static void refused_records(void) {
   add_asked(&p, 1, 1, ""), add_number(&p, 2, 1), add_asked(&p, 1, 1, ""); REFUSED;
   add_asked(&p, 1, 1, "a"), add_asked(&p, 2, 2, "a"); REFUSED;
   add_asked(&p, 1, 1, "a"), add_asked(&p, 33, 33, "b"); ONE(1, 1, 34, FEMEM_FILE_DAMAGED);
+  add_asked(&p, 1, 1, "a"), add_asked(&p, 33, 33, "b"); ONE(1, 2, 34, FEMEM_FILE_DAMAGED);
   add_asked(&p, 1, 1, ""), add_number(&p, 2, 1); TAKEN_AS(1, 1, 5);
   add_asked(&p, 1, 1, ""), add_number(&p, 2, 2); REFUSED;
   add_number(&p, 2, 0); REFUSED;
@@ -521,6 +522,7 @@ static void refused_records(void) {
   add_asked(&p, 1, 1, "a"), add_moved(&p, 1, 0); REFUSED;
   add_asked(&p, 1, 1, "a"), add_asked(&p, 2, 2, "b"), add_moved(&p, 1, 2); REFUSED;
   add_asked(&p, 1, 1, "a"), add_asked(&p, 2, 2, "b"), add_moved(&p, 1, 34); ONE(1, 2, 35, FEMEM_FILE_DAMAGED);
+  add_asked(&p, 1, 1, "a"), add_asked(&p, 2, 2, "b"), add_moved(&p, 1, 34); ONE(1, 3, 35, FEMEM_FILE_DAMAGED);
   add_asked(&p, 1, 1, "a"), add_moved(&p, 2, 3); REFUSED;
   add_asked(&p, 1, 1, "a"), add_forgotten(&p, "a"); REFUSED;
   add_asked(&p, 1, 1, "a"), add_forgotten(&p, "a"), add_number(&p, 2, 1); REFUSED;
