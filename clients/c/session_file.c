@@ -117,6 +117,12 @@ static bool append(session_file *file) {
   return fdatasync(file->descriptor) == 0;
 }
 
+/* Whether it got a hard link since it was opened. In a new file's place, that would be a copy that nobody locks. */
+static bool has_other_name(const session_file *file) {
+  struct stat own;
+  return fstat(file->descriptor, &own) == 0 && own.st_nlink > 1;
+}
+
 bool session_file_sync(session_file *file, uint64_t floor, uint64_t asked, uint64_t next) {
   if (file->failed) return errno = EIO, false;
   /* A settle needs a block of its own if nothing else does. */
@@ -125,7 +131,7 @@ bool session_file_sync(session_file *file, uint64_t floor, uint64_t asked, uint6
   file->asked = asked;
   file->next = next;
   bool grown = file->size + file->payload > FEMEM_COMPACT_FROM && file->size > 3 * file->compacted;
-  file->failed = !(grown ? write_anew(file) : append(file));
+  file->failed = !(grown && !has_other_name(file) ? write_anew(file) : append(file));
   file->payload = 0;
   if (!file->failed) FEMEM_POINT("synced");
   return !file->failed;

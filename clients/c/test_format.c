@@ -209,6 +209,28 @@ static void compaction(void) {
   session_file_close(kept);
 }
 
+/* A file that gets a hard link while it is open is not rewritten until that is gone: a copy would be locked by nobody. */
+static void another_name(void) {
+  test = "a file that gets another name";
+  fresh();
+  session_file *kept = OPEN_FILE(FEMEM_OK), *second;
+  struct stat there, other;
+  CHECK(link(kept_at, victim) == 0);
+  uint64_t wire = 33;
+  for (; wire < 1233; wire++) {
+    CHECK(session_file_ask(kept, wire, wire, &add_one, NULL, false) && session_file_sync(kept, wire, wire, wire + 1));
+    session_file_end(kept, wire, &(femem_answer){.number = wire});
+  }
+  CHECK(stat(kept_at, &there) == 0 && stat(victim, &other) == 0 && there.st_ino == other.st_ino && kept->size > 100000);
+  CHECK(session_file_open(&second, victim) == FEMEM_FILE_IN_USE);
+  CHECK(unlink(victim) == 0);
+  CHECK(session_file_sync(kept, wire, wire, wire) && kept->size < 1000);
+  session_file_close(kept);
+  kept = OPEN_FILE(FEMEM_OK);
+  CHECK(kept->next == wire);
+  session_file_close(kept);
+}
+
 /* What is buffered is one block, however much it is: a process that ends before its sync leaves nothing of it. */
 static void one_block(void) {
   test = "much between two syncs";
@@ -487,6 +509,7 @@ static void refused_records(void) {
   add_asked(&p, 1, 1, ""), add_number(&p, 2, 1), add_asked(&p, 1, 1, ""); REFUSED;
   add_asked(&p, 1, 1, "a"), add_asked(&p, 2, 2, "a"); REFUSED;
   add_asked(&p, 1, 1, "a"), add_asked(&p, 33, 33, "b"); ONE(1, 1, 34, FEMEM_FILE_DAMAGED);
+  add_asked(&p, 1, 1, "a"), add_asked(&p, 33, 33, "b"); ONE(1, 2, 34, FEMEM_FILE_DAMAGED);
   add_asked(&p, 1, 1, ""), add_number(&p, 2, 1); TAKEN_AS(1, 1, 5);
   add_asked(&p, 1, 1, ""), add_number(&p, 2, 2); REFUSED;
   add_number(&p, 2, 0); REFUSED;
@@ -499,6 +522,7 @@ static void refused_records(void) {
   add_asked(&p, 1, 1, "a"), add_moved(&p, 1, 0); REFUSED;
   add_asked(&p, 1, 1, "a"), add_asked(&p, 2, 2, "b"), add_moved(&p, 1, 2); REFUSED;
   add_asked(&p, 1, 1, "a"), add_asked(&p, 2, 2, "b"), add_moved(&p, 1, 34); ONE(1, 2, 35, FEMEM_FILE_DAMAGED);
+  add_asked(&p, 1, 1, "a"), add_asked(&p, 2, 2, "b"), add_moved(&p, 1, 34); ONE(1, 3, 35, FEMEM_FILE_DAMAGED);
   add_asked(&p, 1, 1, "a"), add_moved(&p, 2, 3); REFUSED;
   add_asked(&p, 1, 1, "a"), add_forgotten(&p, "a"); REFUSED;
   add_asked(&p, 1, 1, "a"), add_forgotten(&p, "a"), add_number(&p, 2, 1); REFUSED;
@@ -818,7 +842,7 @@ int main(void) {
   snprintf(kept_at, sizeof kept_at, "%s/session", folder);
   snprintf(kept_new, sizeof kept_new, "%s/session.new", folder);
   snprintf(victim, sizeof victim, "%s/victim", folder);
-  void (*const tests[])(void) = {keeps, settles, no_plain_file, a_link_beside_it, compaction, one_block,
+  void (*const tests[])(void) = {keeps, settles, no_plain_file, a_link_beside_it, another_name, compaction, one_block,
                                  unused_fields, worked_example, damage, refused_records, refused_numbers,
                                  refused_requests, version_one, any_records, any_old_records};
   for (size_t i = 0; i < sizeof tests / sizeof *tests; i++) tests[i]();

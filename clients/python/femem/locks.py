@@ -176,9 +176,12 @@ class Owned(Pattern):
             except NoArray:
                 self._array = None
 
-    def _release(self) -> Steps[None]:
-        """`NotOwner` if this session does not hold it. Only a session's own client empties a word with that session."""
-        array, holdings = (yield from self._find()), self._core.holdings
+    def _release(self, of: Optional[Array] = None) -> Steps[None]:
+        """`NotOwner` if this session does not hold it. Only a session's own client empties a word with that session.
+
+        `of`: the array that was acquired. If it was broken, another thread of this client may have the next one.
+        """
+        array, holdings = of or (yield from self._find()), self._core.holdings
         if array.id in holdings.releasing:
             raise NotOwner(f"{self._name} is being released")
         holdings.releasing.add(array.id)
@@ -198,11 +201,11 @@ class Owned(Pattern):
             self._array = None
             raise NotOwner(f"{self._name} was taken over") from None
 
-    def _release_if_got(self, got: object) -> Steps[None]:
+    def _release_if_got(self, got: object, of: Optional[Array] = None) -> Steps[None]:
         """Releases it after an acquisition that no caller waits for any more."""
         if got:
             try:
-                yield from self._release()
+                yield from self._release(of)
             except NotOwner:
                 pass
 
@@ -316,13 +319,18 @@ class ReadWriteLock(Owned):
     @operation_with(undo="_leave_if_got")
     def acquire_read(self, timeout: Optional[float] = None, *, takeover_after: Optional[float] = None) -> Steps[bool]:
         """Waits until this client may read. Returns whether it may, in time."""
-        end = end_of(timeout)
-        while (yield from self._acquire(end, False, seconds_of(takeover_after, "takeover_after"), None)):
+        end, patience = end_of(timeout), seconds_of(takeover_after, "takeover_after")
+        broke: Optional[int] = None
+        while (yield from self._acquire(end, False, patience, None)):
+            self._broke = self._broke or broke
             array = yield from self._find()
             try:
                 seat = yield from self._sit(array, end)
+            except NoArray:
+                self._array, broke = None, self._broke  # it was broken
+                continue
             finally:
-                yield from self._release_if_got(True)
+                yield from self._release_if_got(True, array)
             if seat is not None:
                 self._seats.append((array, seat))
                 return True
@@ -376,14 +384,15 @@ class ReadWriteLock(Owned):
         while (yield from self._acquire(end, False, patience, None)):
             is_alone = False
             self._broke = self._broke or broke
+            array = yield from self._find()
             try:
-                is_alone = yield from self._wait_for_readers((yield from self._find()), end, patience)
+                is_alone = yield from self._wait_for_readers(array, end, patience)
             except NoArray:
                 self._array, broke = None, self._broke  # it was broken
                 continue
             finally:
                 if not is_alone:
-                    yield from self._release_if_got(True)
+                    yield from self._release_if_got(True, array)
             return is_alone
         return False
 
@@ -430,9 +439,13 @@ class ReadWriteLock(Owned):
     @operation
     def owners(self) -> Steps[Tuple[Optional[int], List[int]]]:
         """The session of the writer, or `None`, and those of the readers."""
-        array = yield from self._find()
-        writer = yield from self._owner_of(array)
-        return writer, [holder for holder in (yield from self._seats_of(array)) if holder is not None]
+        while True:
+            array = yield from self._find()
+            try:
+                writer = yield from self._owner_of(array)
+                return writer, [holder for holder in (yield from self._seats_of(array)) if holder is not None]
+            except NoArray:
+                self._array = None  # it was broken
 
     @operation
     def break_(self) -> Steps[bool]:

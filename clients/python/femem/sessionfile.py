@@ -296,7 +296,7 @@ class SessionFile:
         if self._is_broken:
             raise SessionFileError(f"{self.path} could not be written")
         try:
-            if self._size + len(self._pending) > self._limit:
+            if self._size + len(self._pending) > self._limit and not self._has_other_name():
                 self.compact()
                 return
             block = self._block(bytes(self._pending))
@@ -309,6 +309,10 @@ class SessionFile:
         self._noted = self._numbers()
         self._pending.clear()
         self.must_sync = False
+
+    def _has_other_name(self) -> bool:
+        """Whether it got a hard link since it was opened. In a new file's place, that would be a copy that nobody locks."""
+        return os.fstat(self._file).st_nlink > 1
 
     def compact(self) -> None:
         """Writes what must be kept into a new file, and replaces the old one with it."""

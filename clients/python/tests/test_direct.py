@@ -1,5 +1,6 @@
 """Calls that the caller itself sends and reads, over numbers that the client's thread lent: each hazard, and its outcome."""
 
+import errno
 import itertools
 import os
 import random
@@ -13,6 +14,7 @@ from unittest import mock
 import paths  # noqa: F401
 from model import frame
 from serving import BadServer, WithFolder
+from test_ends import Unwilling
 from test_malice import FIRST, attached
 from test_unspoilt import Stop, interrupted
 
@@ -29,6 +31,23 @@ def count_asks(client):
     ask = client._ask
     client._ask = lambda what: (asked.append(what), ask(what))
     return asked
+
+
+class Slow:
+    """A connection whose caller is held up by `wait`, before and behind each send."""
+
+    def __init__(self, inner, wait):
+        self.inner = inner
+        self.wait = wait
+
+    def send(self, content, *flags):
+        self.wait("sending")
+        sent = self.inner.send(content, *flags)
+        self.wait("sent")
+        return sent
+
+    def __getattr__(self, name):
+        return getattr(self.inner, name)
 
 
 class Direct(WithFolder):
@@ -311,6 +330,27 @@ class Direct(WithFolder):
             del client._ask
             client._ask = client._worker.ask
 
+    def test_a_send_that_fails_is_made_up_for(self):
+        """The connection stands, so no read fails: it is given up, and everything is sent again over the next one."""
+        self.server()
+        with Client(self.path, 7, reconnect_timeout=LONG, probe_interval=100.0) as client:
+            word, queue, added = client.create("word", 1, full=True), BoundedQueue(client, "queue", 4), []
+
+            def hand_on():
+                queue.put(7, LONG)
+                self.assertEqual(queue.get(LONG), 7)
+
+            for work in (lambda: added.append(client.int_fetch_add(word, 0, 1, timeout=LONG)), hand_on):
+                for failure in (errno.ENOBUFS, errno.ENOMEM):
+                    failures = [failure]
+                    while failures:
+                        self.warm(client, word)
+                        lent = client._worker.lease
+                        if lent is not None:
+                            lent.connection = Unwilling(lent.connection, failures)
+                        work()
+            self.assertEqual((added, queue.qsize(), client.failure), (list(range(len(added))), 0, None))
+
     def test_a_caller_that_is_held_up_keeps_its_numbers(self):
         """Between the choice of its number and its send, and behind it: longer than the thread waits for it."""
         model = self.server().model
@@ -327,36 +367,32 @@ class Direct(WithFolder):
             with self.subTest(where=where), Client(self.path, 7) as client:
                 word = shared_array(client, "word", 1, full=True)
                 begin = client.readff(word, 0)
-                self.warm(client, word)
-                lent, slow = client._worker.lease, []
-                inner = lent.connection
                 held.clear()
+                got, slow = [], []
 
                 def wait(at):
-                    if at == where and threading.current_thread() in slow:
+                    if at == where and threading.get_ident() in slow:
                         held.set()
                         time.sleep(5 * lease.READ_TIME)
 
-                class Slow:
-                    def send(self, content, *flags):
-                        wait("sending")
-                        sent = inner.send(content, *flags)
-                        wait("sent")
-                        return sent
+                def call_slowly():
+                    while not held.is_set():
+                        self.warm(client, word)
+                        lent = client._worker.lease
+                        if lent is not None:  # (a thread that is not scheduled for a while takes its numbers back)
+                            lent.connection = Slow(lent.connection, wait)
+                        slow.append(threading.get_ident())
+                        got.append(client.int_fetch_add(word, 0, 100))
+                        slow.clear()
 
-                    def __getattr__(self, name):
-                        return getattr(inner, name)
-
-                lent.connection = Slow()
                 lease.pack_number = lambda *args: (wait("before"), pack(*args))
-                got = []
-                slow.append(threading.Thread(target=lambda: got.append(client.int_fetch_add(word, 0, 100))))
-                slow[0].start()
+                thread = threading.Thread(target=call_slowly)
+                thread.start()
                 self.assertTrue(held.wait(LONG))
                 for _ in range(3):
                     client.int_fetch_add(word, 0, 1)
-                slow[0].join(LONG)
-                self.assertEqual((client.readff(word, 0), len(got)), (begin + 103, 1))
+                thread.join(LONG)
+                self.assertEqual((client.readff(word, 0), thread.is_alive()), (begin + 3 + 100 * len(got), False))
                 self.assertIsNone(client.failure)
                 self.assertEqual([number for number, operands in asked.items() if len(operands) > 1], [])
 

@@ -431,6 +431,12 @@ class Exits(WithFolder):
             ("run", "asyncio.run(main())"),
             ("stop", "asyncio.new_event_loop().run_until_complete(main())"),
             ("fail", "asyncio.run(main())\n1/0"),
+            # (the interpreter does not end the frames of such threads)
+            (
+                "keep",
+                "asyncio.new_event_loop().run_until_complete(main())\nimport threading, time\n"
+                "threading.Thread(target=lambda mine: time.sleep(1000), args=(client,), daemon=True).start()",
+            ),
         ):
             with self.subTest(run=name):
                 self.run_program(f"{head}{main}{run}\n", fails=name == "fail")

@@ -12,8 +12,11 @@ from serving import WithFolder
 
 import femem
 from femem import Client, requests
+from femem.jobs import Pause
+from femem.locks import GENERATIONS
 from femem.patterns import Barrier, BoundedQueue, Channel, Counter, Election, Future, Lock, ReadWriteLock, Semaphore
 from femem.patterns import WorkQueue
+from femem.ring import Ring
 
 # How long what was begun may take to end, in seconds.
 BOUND = 60
@@ -53,9 +56,12 @@ class Kills(WithFolder):
         log.add("life")
         return (10**6 * k + len(log.lines())) * 10**6
 
-    def has_put(self, count, *names):
-        """Whether more values than that are in these logs."""
-        return lambda: sum(len(self.log(name).numbers("p")) for name in names) > count
+    def put_in(self, *names):
+        """How many values these logs say were put."""
+        return lambda: sum(len(self.log(name).numbers("p")) for name in names)
+
+    def held(self):
+        return len(self.log("held").lines())
 
     def is_enough(self):
         return os.path.exists(self.path + ".enough")
@@ -74,16 +80,24 @@ class Kills(WithFolder):
         finally:
             os._exit(status)
 
-    def history(self, work, count, killed=None, server_kills=2, has_enough=lambda: True):
-        """`count` processes run `work(k)` until it is enough. Those in `killed` are killed and started again."""
+    def history(self, work, count, made=lambda: 1, enough=0):
+        """`count` processes run `work(k)` until more than `enough` is made. Each is killed and started again, at any moment.
+
+        For three seconds and twelve kills that goes on whatever they do. If not enough is made by then, each kill waits until
+        something more is made: however busy the machine is, a history ends, and nothing stands still in it.
+        """
         running = {k: self.fork(work, k) for k in range(count)}
-        killed = list(range(count)) if killed is None else killed
-        kills, begin = 0, time.monotonic()
-        server_at = [begin + self.SECONDS * (k + 1) / (server_kills + 1) for k in range(server_kills)]
-        # (on a busy machine a kill takes long, and so does what is done between two kills)
-        while time.monotonic() < begin + self.SECONDS or not (kills >= 12 and has_enough()) and time.monotonic() < begin + BOUND:
+        kills, seen, begin = 0, 0, time.monotonic()
+        server_at = [begin + self.SECONDS / 3, begin + self.SECONDS * 2 / 3]
+
+        def is_at_pace():
+            return time.monotonic() < begin + self.SECONDS or kills < 12 or len(server_at) > 0
+
+        while is_at_pace() or made() <= enough:
+            if not is_at_pace():
+                self.wait_for_more(made, seen, running.values())
             time.sleep(0.02 + 0.12 * self.chance.random())
-            k = self.chance.choice(killed)
+            k = self.chance.randrange(count)
             os.kill(running[k], signal.SIGKILL)
             os.waitpid(running[k], 0)
             kills += 1
@@ -92,30 +106,50 @@ class Kills(WithFolder):
                 server_at.pop(0)
                 self.model.kill()
                 self.model.start()
+            seen = made()
+        self.end_all(running.values())
+        self.assertGreater(kills, 11)
+        self.assertGreater(made(), enough)
+        return kills
+
+    def end_all(self, processes):
+        """Says that it is enough. Each process ends by itself."""
         with open(self.path + ".enough", "w"):
             pass
         end = time.monotonic() + BOUND
-        for pid in running.values():
+        for pid in processes:
             while os.waitpid(pid, os.WNOHANG) == (0, 0):
                 if time.monotonic() > end:
-                    self.give_up(running.values())
+                    self.give_up(processes, "a process does not end")
                 time.sleep(0.01)
         self.assertEqual(self.log("errors").lines(), [])
-        self.assertGreater(kills, 11)
-        return kills
 
-    def give_up(self, processes):
+    def wait_for_more(self, made, seen, processes):
+        end = time.monotonic() + BOUND
+        while made() <= seen:
+            if time.monotonic() > end:
+                self.give_up(processes, f"nothing is made after {seen}: {self.log('errors').lines()}")
+            time.sleep(0.002)
+
+    def give_up(self, processes, why):
         for pid in processes:
             try:
                 os.kill(pid, signal.SIGKILL)
             except ProcessLookupError:
                 pass  # it has ended
-        self.fail("a process does not end")
+        self.fail(why)
 
     def test_a_client_that_is_stopped_within_a_queue_holds_up_nobody(self):
         """As by a debugger, or while its machine swaps, at any moment of a put or a get. When it goes on, it is well."""
+        new_ticket = Ring._new_ticket
+
+        def ticket_and_pause(ring, words, counter):
+            ticket = yield from new_ticket(ring, words, counter)
+            yield Pause(0.02)  # so that most stops come between a ticket and its use
+            return ticket
 
         def work(k):
+            Ring._new_ticket = ticket_and_pause  # in this process
             with Client(self.path, 100 + k) as client:
                 queue, log = BoundedQueue(client, "queue", 4), self.log(f"stopped{k}")
                 while not self.is_enough():
@@ -124,24 +158,33 @@ class Kills(WithFolder):
 
         with Client(self.path, 7) as client:
             queue, stopped = BoundedQueue(client, "queue", 4), [self.fork(work, k) for k in range(3)]
-            for turn in range(24):
-                time.sleep(0.02 * self.chance.random() + 0.03 * (turn < 3))
-                pid = stopped[turn % 3]
-                os.kill(pid, signal.SIGSTOP)
-                try:
-                    if turn % 8 == 7:
-                        self.model.kill()
-                        self.model.start()
-                    for _ in range(3):
-                        queue.put(7, timeout=10)
-                        queue.get(timeout=10)
-                finally:
-                    os.kill(pid, signal.SIGCONT)
-            with open(self.path + ".enough", "w"):
-                pass
+            try:
+                for turn in range(24):
+                    time.sleep(0.03 + 0.03 * self.chance.random())
+                    self.use_beside(queue, stopped, turn % 8 == 7)
+            finally:
+                with open(self.path + ".enough", "w"):
+                    pass
             self.assertEqual([os.waitpid(pid, 0)[1] for pid in stopped], [0] * 3)
             self.assertEqual(self.log("errors").lines(), [])
             self.assertGreater(sum(len(self.log(f"stopped{k}").lines()) for k in range(3)), 24)
+
+    def use_beside(self, queue, stopped, kills_server):
+        """Uses the queue while these processes are stopped."""
+        for pid in stopped:
+            os.kill(pid, signal.SIGSTOP)
+        try:
+            if kills_server:
+                self.model.kill()
+                self.model.start()
+            for act in (lambda: queue.put(7, timeout=BOUND), lambda: queue.get(timeout=BOUND)) * 3:
+                begin = time.monotonic()
+                act()
+                # (a client looks at all slots each second, and once more when its time is over)
+                self.assertLess(time.monotonic() - begin, BOUND / 2)
+        finally:
+            for pid in stopped:
+                os.kill(pid, signal.SIGCONT)
 
     # Queues.
 
@@ -194,7 +237,7 @@ class Kills(WithFolder):
         def work(k):
             (self.put_under_keys if k < 2 else self.get_under_keys)(k, make)
 
-        self.history(work, 4, has_enough=self.has_put(20, "put0", "put1"))
+        self.history(work, 4, made=self.put_in("put0", "put1"), enough=20)
         got = [value for k in (2, 3) for value in self.log(f"got{k}").numbers("g")]
         with Client(self.path, 7) as client:
             queue = make(client)
@@ -230,7 +273,7 @@ class Kills(WithFolder):
         for thread in threads:
             thread.start()
         try:
-            self.history(lambda k: self.put_under_keys(k, make), 3, has_enough=self.has_put(50, "put0", "put1", "put2"))
+            self.history(lambda k: self.put_under_keys(k, make), 3, made=self.put_in("put0", "put1", "put2"), enough=50)
         finally:
             stop.set()
             for thread in threads:
@@ -283,7 +326,7 @@ class Kills(WithFolder):
                     except femem.TimedOut:
                         pass
 
-        kills = self.history(work, 6, has_enough=self.has_put(50, "w0", "w2", "w4"))
+        kills = self.history(work, 6, made=self.put_in("w0", "w2", "w4"), enough=50)
         with Client(self.path, 1) as client:
             queue = BoundedQueue(client, "queue", 4)
             got = [queue.get(timeout=BOUND) for _ in range(queue.qsize())]
@@ -313,7 +356,7 @@ class Kills(WithFolder):
                     except femem.TimedOut:
                         pass
 
-        kills = self.history(work, 4, has_enough=self.has_put(50, "w0", "w2"))
+        kills = self.history(work, 4, made=self.put_in("w0", "w2"), enough=50)
         with Client(self.path, 1) as client:
             words = self.two_words(client)
             rest = client.submit_many([requests.readfe(words, k, nowait=True) for k in range(2)])
@@ -333,12 +376,17 @@ class Kills(WithFolder):
 
     # What is held.
 
-    def hold(self, acquire, release, files, how=fcntl.LOCK_EX):
-        """While it is held, one of these files is locked: there are as many as may hold it at a time."""
+    def hold(self, acquire, release, files, how=fcntl.LOCK_EX, lock=None):
+        """While it is held, one of these files is locked: there are as many as may hold it at a time.
+
+        `lock` is what may be taken over: then each of its arrays has files of its own. Only a client that was absent, or
+        was just started, may find that it was taken over.
+        """
         if not acquire():
             return
+        of = "" if lock is None else lock.generation // GENERATIONS
         for name in files:
-            file = os.open(os.path.join(self.folder, name), os.O_RDWR | os.O_CREAT)
+            file = os.open(os.path.join(self.folder, f"{name}{of}"), os.O_RDWR | os.O_CREAT)
             try:
                 fcntl.flock(file, how | fcntl.LOCK_NB)
                 break
@@ -349,21 +397,31 @@ class Kills(WithFolder):
         self.log("held").add("h")
         time.sleep(0.002)
         os.close(file)
-        release()
+        try:
+            release()
+        except femem.NotOwner:
+            if lock is None or self.turn - self.away_in > 1:
+                raise
 
     def check_held(self, make, work):
         def run(k):
-            with Client(self.path, 20 + k, wait_for_server=True) as client:
+            self.turn = self.away_in = 0
+
+            def note(kind, *_):
+                if kind in ("attached", "lost"):
+                    self.away_in = self.turn
+
+            with Client(self.path, 20 + k, wait_for_server=True, on_event=note) as client:
                 held = make(client)
                 while not self.is_enough():
                     work(held, k)
+                    self.turn += 1
 
-        self.history(run, 4, has_enough=lambda: len(self.log("held").lines()) > 20)
-        self.assertGreater(len(self.log("held").lines()), 20)
+        self.history(run, 4, made=self.held, enough=20)
 
     def test_a_lock(self):
         def work(lock, k):
-            self.hold(lambda: lock.acquire(timeout=5, takeover_after=0.5), lock.release, ["one"])
+            self.hold(lambda: lock.acquire(timeout=5, takeover_after=0.5), lock.release, ["one"], lock=lock)
 
         self.check_held(lambda client: Lock(client, "lock"), work)
 
@@ -385,9 +443,10 @@ class Kills(WithFolder):
     def test_readers_and_writers(self):
         def work(lock, k):
             if k % 2:
-                self.hold(lambda: lock.acquire_read(5, takeover_after=0.5), lock.release_read, ["one"], fcntl.LOCK_SH)
+                begin, how = lambda: lock.acquire_read(5, takeover_after=0.5), fcntl.LOCK_SH
+                self.hold(begin, lock.release_read, ["one"], how, lock)
             else:
-                self.hold(lambda: lock.acquire_write(5, takeover_after=0.5), lock.release_write, ["one"])
+                self.hold(lambda: lock.acquire_write(5, takeover_after=0.5), lock.release_write, ["one"], lock=lock)
 
         self.check_held(lambda client: ReadWriteLock(client, "book", 8), work)
 
@@ -399,10 +458,18 @@ class Kills(WithFolder):
                     self.log("numbers").add("n", number)
                 return number is not None
 
-            self.hold(begin, election.resign, ["one"])
+            def end():
+                try:
+                    election.resign()
+                except femem.NotOwner:
+                    self.log("numbers").add("over", election.generation)  # perhaps before its number was noted
+                    raise
+
+            self.hold(begin, end, ["one"], lock=election)
 
         self.check_held(lambda client: Election(client, "leader"), work)
-        numbers = self.log("numbers").numbers("n")
+        over = self.log("numbers").numbers("over")
+        numbers = [number for number in self.log("numbers").numbers("n") if number not in over]
         self.assertEqual(numbers, sorted(set(numbers)))
 
     # The others.
@@ -476,7 +543,7 @@ class Kills(WithFolder):
                         continue
                     log.add("d", job.value)
 
-        kills = self.history(work, 5, has_enough=self.has_put(20, "put0", "put1"))
+        kills = self.history(work, 5, made=self.put_in("put0", "put1"), enough=20)
         put = sorted(value for k in range(2) for value in self.log(f"put{k}").numbers("p"))
         with Client(self.path, 1) as client:
             queue = WorkQueue(client, "jobs", 32, attempts=16, away_after=0.5)

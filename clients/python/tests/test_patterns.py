@@ -12,6 +12,7 @@ import femem
 from femem import Client
 from femem.aio import AsyncClient
 from femem import requests
+from femem.jobs import Pause
 from femem.patterns import Barrier, BoundedQueue, Channel, Counter, Election, Future, Lock, Once, ReadWriteLock, Semaphore
 from femem.patterns import WorkQueue
 
@@ -266,11 +267,19 @@ class Patterns(WithClients):
         self.server()
         with Client(self.path, 904) as gone:
             Lock(gone, "lock").acquire()
-        broke, generations = [], []
+        broke, generations, breaking, break_ = [], [], [], Lock._break
 
         def take(k):
             with Client(self.path, 910 + k) as client:
                 lock = Lock(client, "lock")
+
+                def break_together(array):
+                    breaking.append(k)
+                    while len(breaking) < 6:
+                        yield Pause(0.005)
+                    return (yield from break_(lock, array))
+
+                lock._break = break_together
                 self.assertTrue(lock.acquire(timeout=30, takeover_after=0.3))
                 broke.append(lock.broke)
                 generations.append(lock.generation)
@@ -345,6 +354,69 @@ class Patterns(WithClients):
                 lock = ReadWriteLock(back, "book", 3)
                 self.assertTrue(lock.acquire_write(timeout=30))
                 lock.release_write()
+
+    def test_a_reader_that_waits_for_a_seat_of_a_broken_lock_gets_one_of_the_next(self):
+        self.server()
+        with Client(self.path, 1) as one, Client(self.path, 2) as two, Client(self.path, 3) as three:
+            first, second, third = (ReadWriteLock(client, "book", 1) for client in (one, two, three))
+            self.assertTrue(first.acquire_read())
+            got = []
+            thread = threading.Thread(target=lambda: got.append(second.acquire_read(timeout=60)))
+            thread.start()
+            self.wait_for(lambda: third.owners() == (2, [1]))
+            third.break_()
+            thread.join(60)
+            self.assertEqual((got, third.owners()), ([True], (None, [2])))
+            with self.assertRaises(femem.NotOwner):
+                first.release_read()
+            second.release_read()
+
+    def test_who_waits_at_a_broken_lock_leaves_the_next_one_to_its_owner(self):
+        """Another thread of the same client may have that, in the same session."""
+        self.server()
+        with Client(self.path, 1) as one, Client(self.path, 2) as two:
+            for act in ("read", "write"):
+                reader, mine, other = (ReadWriteLock(client, act, 1) for client in (one, two, two))
+                wait, give = getattr(mine, f"acquire_{act}"), getattr(mine, f"release_{act}")
+                with self.subTest(act):
+                    self.assertTrue(reader.acquire_read())
+                    got, is_taken, find = [], threading.Event(), type(mine)._find
+                    thread = threading.Thread(target=lambda: got.append(wait(timeout=60)))
+                    thread.start()
+                    self.wait_for(lambda: reader.owners() == (2, [1]))
+
+                    def find_late():
+                        while not is_taken.is_set():
+                            yield Pause(0.005)
+                        return (yield from find(mine))
+
+                    mine._find = find_late
+                    reader.break_()
+                    self.assertTrue(other.acquire_write(timeout=60))
+                    is_taken.set()
+                    self.wait_for(lambda: got or any(w.operation == "writeef" for w in one.report().waiters))
+                    self.assertEqual((got, reader.owners()), ([], (2, [])))
+                    other.release_write()
+                    thread.join(60)
+                    self.assertEqual(got, [True])
+                    del mine._find
+                    give()
+                    self.assertRaises(femem.NotOwner, reader.release_read)
+
+    def test_the_owners_of_a_broken_lock_are_those_of_the_next(self):
+        self.server()
+        with Client(self.path, 1) as one, Client(self.path, 2) as two:
+            mine, yours = ReadWriteLock(one, "book", 2), ReadWriteLock(two, "book", 2)
+            self.assertTrue(mine.acquire_read())
+            self.assertEqual(yours.owners(), (None, [1]))
+            mine.break_()
+            self.assertEqual(yours.owners(), (None, []))
+
+    def wait_for(self, holds):
+        end = time.monotonic() + 60
+        while not holds():
+            self.assertLess(time.monotonic(), end)
+            time.sleep(0.005)
 
     def test_leaders_follow_each_other_with_greater_numbers(self):
         self.server()

@@ -281,8 +281,14 @@ class Files(WithFolder):
             def __bytes__(self):
                 return b"odd"
 
-        keys = [key_bytes(key) for key in (step.PAY, 1, "1", b"1", name.PAY, Odd(b"x"), -5)]
-        self.assertEqual(keys, [b"1", b"1", b"1", b"1", b"pay", b"x", b"-5"])
+        class OddNumber(int):
+            def __repr__(self):
+                return "odd"
+
+            __str__ = __repr__
+
+        keys = [key_bytes(key) for key in (step.PAY, 1, "1", b"1", name.PAY, Odd(b"x"), -5, OddNumber(7))]
+        self.assertEqual(keys, [b"1", b"1", b"1", b"1", b"pay", b"x", b"-5", b"7"])
 
     def test_two_that_ask_a_key_at_once_ask_it_once(self):
         self.server()
@@ -460,6 +466,27 @@ class Files(WithFolder):
             self.assertEqual(self.error_of(path), "SessionFileError")
         os.unlink(self.file)
         SessionFile(self.path + ".other").abandon()
+
+    def test_a_file_that_gets_another_name_is_one_file_as_long_as_it_has_it(self):
+        """It is not rewritten: a copy would be of nobody, and the next client would have the same session."""
+        self.server()
+        other = self.path + ".other"
+        with Client(self.path, session_file=self.file) as client:
+            word = client.create("word", 1, full=True)
+            os.link(self.file, other)
+            for _ in range(3):
+                client._core.file._limit = 0
+                client.int_fetch_add(word, 0, 1)
+            with self.assertRaises(femem.SessionInUse):
+                Client(self.path, session_file=other)
+            self.assertTrue(os.path.samefile(self.file, other))
+            kept = os.stat(other)
+            os.unlink(other)
+            self.assertEqual(client.int_fetch_add(word, 0, 1), 3)
+            self.assertFalse(os.path.samestat(os.stat(self.file), kept))
+            session = client.session
+        with Client(self.path, session_file=self.file) as client:
+            self.assertEqual((client.session, client.readff(word, 0)), (session, 4))
 
     @staticmethod
     def error_of(path):
