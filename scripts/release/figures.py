@@ -1,11 +1,13 @@
 """Writes docs/figures.md: how large the repository is, and what the last run of the gate on this machine took.
 
-Usage: scripts/figures
+Usage: scripts/figures [--before NAME COSTS.. --after COSTS..]
 
 The gate leaves its last line, its log and its costs in out/gate, and scripts/plant what it found in out/plant. No figure of this page
-is written by hand, and no other page has one of them.
+is written by hand, and no other page has one of them. With --before and --after it compares the costs of another text, which it calls
+NAME, with those of this one. A file of COSTS is as scripts/measure writes it, and counts for a crate where no later one has it.
 """
 
+import argparse
 import glob
 import os
 import re
@@ -67,9 +69,9 @@ def size():
         yield row((crate, *(f"{it:,}" if it else "" for it in found)))
 
 
-def costs():
-    """The costs of the last gate: its seconds of the clock, and from crate and kind to seconds of a processor."""
-    with open(os.path.join(GATE, "costs"), encoding="ascii") as file:
+def costs(path):
+    """The costs of a run: its seconds of the clock, and from crate and kind to seconds of a processor."""
+    with open(path, encoding="ascii") as file:
         (_, seconds), *rest = (line.rstrip("\n").split(" ", 1) for line in file)
     found = {}
     for crate, said in rest:
@@ -111,7 +113,7 @@ def gate():
         return
     with open(os.path.join(GATE, "last"), encoding="utf-8") as file:
         last = file.read().strip().splitlines()
-    seconds, found = costs()
+    seconds, found = costs(os.path.join(GATE, "costs"))
     of_kind = lambda kind: sum(spent for (_, it), spent in found.items() if it == kind)
     with open(os.path.join(GATE, "commit"), encoding="ascii") as file:
         commit, processors = file.read().split()
@@ -132,6 +134,40 @@ def gate():
     yield "|---|---|---|---|"
     for crate in crates():
         yield row((f"`{crate}`", *(minutes(found.get((crate, kind), 0)) for kind in ("proofs", "tests", "edits"))))
+
+
+def sums(paths):
+    """From crate to the seconds of a processor that the last of these runs with it took."""
+    found = {}
+    for path in paths:
+        for crate, seconds in summed(costs(path)[1]).items():
+            found[crate] = seconds
+    return found
+
+
+def summed(found):
+    """The seconds of each crate, for all kinds together."""
+    return {crate: sum(seconds for (it, _), seconds in found.items() if it == crate) for crate, _ in found}
+
+
+def compared(asked):
+    """The costs of two texts."""
+    if not asked.before:
+        return
+    name, *paths = asked.before
+    before, after = sums(paths), sums(asked.after)
+    yield from ("## Before and after", "")
+    yield (
+        "Processor minutes of the prover for a crate's proof, its tests and its must-fail edits together, each from nothing, on one machine"
+        f" and one day: of the text {name}, and of this one."
+    )
+    yield ""
+    yield row(("crate", "before", "after"))
+    yield "|---|---|---|"
+    for crate in [*crates(), *sorted(set(before) - set(crates()))]:
+        yield row((f"`{crate}`", minutes(before.get(crate, 0)), minutes(after.get(crate, 0))))
+    yield row(("together", minutes(sum(before.values())), minutes(sum(after.values()))))
+    yield ""
 
 
 def wrong_bodies():
@@ -166,14 +202,14 @@ def words():
     yield row(("together", f"{sum(found.values()):,}"))
 
 
-def page():
+def page(asked):
     """The page, from the sources and from what the last gate left."""
     parts = [
         "# Figures", "",
         "Written by `make figures` after a run of the gate. Times are of one machine and one hour: hosts vary by 1.7 times, so compare"
         " two texts in one hour.", "",
         "## Size", "", "Lines that are not empty.", "", *size(), "",
-        "## The last gate", "", *gate(), "",
+        "## The last gate", "", *gate(), "", *compared(asked),
         "## Wrong bodies", "",
         "What `rt plant` tried, without bodies that could not be judged. A body that is proved gives the same as the right one, or"
         " `scripts/planted.txt` has the reason why it does no harm.", "", *wrong_bodies(), "",
@@ -183,6 +219,12 @@ def page():
 
 
 def main():
+    parser = argparse.ArgumentParser(usage="scripts/figures [--before NAME COSTS.. --after COSTS..]")
+    parser.add_argument("--before", nargs="+")
+    parser.add_argument("--after", nargs="+")
+    asked = parser.parse_args()
+    if bool(asked.before) != bool(asked.after) or asked.before and len(asked.before) < 2:
+        parser.error("--before and --after belong together")
     with open(PAGE, "w", encoding="utf-8") as file:
-        file.write(page())
+        file.write(page(asked))
     print(os.path.relpath(PAGE, TOP))
