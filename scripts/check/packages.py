@@ -1,4 +1,4 @@
-"""The Debian packages as files: what is in them, what they depend on, where their links lead, and what lintian says of them."""
+"""The Debian packages as files: what is in them, what they depend on, and where their links lead."""
 
 import os
 import re
@@ -8,7 +8,7 @@ import tarfile
 
 from . import texts
 from .clean import NAMES, SOCKET, STORE
-from .harness import Skipped, compiler, holds, same, within
+from .harness import compiler, holds, same, within
 from .manuals import pages
 
 TOP = texts.TOP
@@ -155,16 +155,4 @@ def links(place):
     return texts.told(missing, count, 150, "links")
 
 
-@within(300)
-def lint(place):
-    """lintian finds no error and no warning in the packages"""
-    if not shutil.which("lintian"):
-        raise Skipped("there is no lintian, of Debian's package lintian")
-    folder = built(place)
-    words = ["lintian", "--fail-on", "error,warning", *(os.path.join(folder, it) for it in sorted(os.listdir(folder)))]
-    ran = subprocess.run(words, stdout=subprocess.PIPE, stderr=subprocess.STDOUT, text=True, timeout=290, check=False)
-    same((ran.returncode, re.findall(r"^[EW]: .*$", ran.stdout, re.M)), (0, []), ran.stdout)
-    return f"{len(os.listdir(folder))} packages"
-
-
-CHECKS = (package, links, lint)
+CHECKS = (package, links)
