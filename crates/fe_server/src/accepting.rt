@@ -146,8 +146,9 @@ impl<
         requires calls { C.all ≡ C.parts }
         requires mails { M.all ≡ M.parts }
     {
-        let (rt, alloc, house, right, gate) =
-            (self.rt, self.alloc, self.house, self.right, self.gate);
+        let (rt, alloc, house, right, gate) = (
+            self.rt, self.alloc, self.house, self.right, self.gate,
+        );
         let started = Stack::new().stack_size(STACK).spawn_scoped_with(
             scope,
             Anything,
