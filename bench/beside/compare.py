@@ -89,16 +89,21 @@ def lock(words, runs):
     return statistics.median(took) * 1e3
 
 
-def locks(folder, socket, runs):
+def built():
+    """femem-cli, built in this clone."""
+    folder = ROOT / "clients" / "cli"
+    subprocess.run(["make", "-s", "-C", folder], check=True)
+    return folder / "out" / "femem-cli"
+
+
+def locks(command, folder, socket, runs):
     """The row of the table on locks."""
-    command = ROOT / "clients" / "cli"
-    subprocess.run(["make", "-s", "-C", command], check=True)
-    ours = lock([command / "out" / "femem-cli", "--socket", socket, "lock", "bench", "--", "true"], runs)
+    ours = lock([command, "--socket", socket, "lock", "bench", "--", "true"], runs)
     theirs = lock(["flock", os.path.join(folder, "lock"), "true"], runs)
     return f"| a lock around `true` | {ours:.1f} ms | {theirs:.1f} ms (`flock`) |"
 
 
-def compare(program, folder, seconds):
+def compare(program, command, folder, seconds):
     with tempfile.TemporaryDirectory(dir=folder) as room, tempfile.TemporaryDirectory() as near:
         socket, settings = os.path.join(near, "socket"), os.path.join(near, "toml")
         store = os.path.join(room, "store")
@@ -112,23 +117,24 @@ def compare(program, folder, seconds):
             print("| | femem | in its place |\n|---|---|---|")
             for row in counters(room, socket, seconds):
                 print(row, flush=True)
-            print(locks(room, socket, int(20 * seconds)))
+            print(locks(command, room, socket, int(20 * seconds)))
         finally:
             server.kill()
             server.wait()
 
 
 def main():
-    parser = argparse.ArgumentParser(usage="bench/beside/run PROGRAM [--folder FOLDER] [--seconds N]")
+    parser = argparse.ArgumentParser(usage="bench/beside/run PROGRAM [--folder FOLDER] [--seconds N] [--cli FILE]")
     parser.add_argument("program", nargs="?")
     parser.add_argument("--work", nargs=2, help=argparse.SUPPRESS)
     parser.add_argument("--folder", default=str(ROOT))
+    parser.add_argument("--cli", help="femem-cli, if it is not to be built")
     parser.add_argument("--seconds", type=float, default=10)
     asked = parser.parse_args()
     if asked.work:
         work(*asked.work, asked.seconds)
     else:
-        compare(os.path.realpath(asked.program), asked.folder, asked.seconds)
+        compare(os.path.realpath(asked.program), asked.cli or built(), asked.folder, asked.seconds)
 
 
 main()

@@ -39,6 +39,18 @@ def loads(place):
     return f"{checked} values"
 
 
+@within(120)
+def beside(place):
+    """bench/beside compares a counter with a row of SQLite, whose counts it checks, and a lock with flock"""
+    for folder in ("clients/c", "clients/cli"):
+        shutil.copytree(os.path.join(TOP, folder), place.path(folder), ignore=shutil.ignore_patterns("out"))
+    output_of(place, ["make", "-s", "-C", place.path("clients/cli"), f"CC={compiler()}"], 60)
+    words = [os.path.join(TOP, "bench", "beside", "run"), place.program, "--folder", place.folder, "--seconds", "0.3"]
+    said = output_of(place, [*words, "--cli", place.path("clients/cli/out/femem-cli")], 60)
+    rows = re.findall(r"^\| (.*?) \| [\d,.]+ (?:/s|ms).* \| [\d,.]+ (?:/s|ms).*\|$", said, re.M)
+    same(rows, ["a client adds to a counter", "8 clients add to one counter", "a lock around `true`"], said)
+
+
 @within(900)
 def competing_threads(place):
     """bench/hall/threads builds a copy of the hall that reads the clock, and times almost every message, mail and entry"""
@@ -83,4 +95,4 @@ def all_run(_place):
     return f"{len(run)} checks"
 
 
-CHECKS = (loads, competing_threads, disk_edits, all_run)
+CHECKS = (loads, beside, competing_threads, disk_edits, all_run)
