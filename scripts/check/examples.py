@@ -161,7 +161,7 @@ def wavefront(place):
     first, second = ("".join(random.choice("ACGT") for _ in range(224)) for _ in range(2))
     second = second[:60] + first[40:150] + second[170:]
     crew = Crew(place, env, [[program, server.socket, place.path(f"session{who}"), first, second] for who in range(3)])
-    said = storm(crew, server, 30, 0.03)
+    said = storm(crew, server, 30, 0.008)
     tiles = {tuple(line.split()[:2]): int(line.split()[2]) for line in crew.lines()}
     same(len(tiles), (224 // 16) ** 2, "tiles")
     same(max(tiles.values()), alignment(first, second), "the score")
