@@ -41,10 +41,11 @@ mount -t tmpfs -o mode=755 tmpfs "$root/run"
 mount -t tmpfs -o mode=1777 tmpfs "$root/tmp"
 cp "$PACKAGES"/*.deb "$root/srv"
 rm -f "$root"/etc/systemd/system/*.wants/* "$root/usr/sbin/policy-rc.d"
-if [ ! -x "$root/lib/systemd/systemd" ]; then
+# (without dbus no user but root can ask systemd)
+if [ ! -x "$root/lib/systemd/systemd" ] || [ ! -x "$root/usr/bin/dbus-daemon" ]; then
   cp /etc/resolv.conf "$root/etc/resolv.conf" || true
-  { chroot "$root" apt-get -q update && chroot "$root" apt-get -q install -y --no-install-recommends systemd; } \
-    || { echo "Debian's package systemd is missing, and can't be installed" >&2; exit 9; }
+  { chroot "$root" apt-get -q update && chroot "$root" apt-get -q install -y --no-install-recommends systemd dbus; } \
+    || { echo "Debian's packages systemd and dbus are missing, and can't be installed" >&2; exit 9; }
 fi
 for it in $NAMES; do chroot "$root" dpkg --no-triggers --force-depends -P "$it" > /dev/null 2>&1 || true; done
 # (in a root that is only changed no namespace of users can be made, and the unit has one)
