@@ -140,8 +140,7 @@ def dist_refuses(place):
         (shutil.copytree if os.path.isdir(os.path.join(TOP, name)) else shutil.copyfile)(os.path.join(TOP, name), there)
     before = record.sources(copy)
     same(record.sources(copy), before)
-    text = next(os.path.join(at, it) for at, _, names in os.walk(copy) for it in names if it.endswith(".rt"))
-    with open(text, "ab") as file:
+    with open(os.path.join(copy, "crates", "fe_words", "src", "op.rt"), "ab") as file:
         file.write(b"\n")
     holds(record.sources(copy) != before, "a changed source has the same sum")
 

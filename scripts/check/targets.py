@@ -115,7 +115,7 @@ def adds_up(place):
 # What the gate names if a machine lacks it, and Debian's package of each. Every Debian has those of EACH_HAS.
 NEEDS = {
     "gcc": "gcc", "nm": "binutils", "patch": "patch", "man": "man-db", "dpkg-deb": "dpkg", "pkg-config": "pkgconf", "unshare": "util-linux",
-    "ss": "iproute2", "strace": "strace", "valgrind": "valgrind", "lintian": "lintian",
+    "ss": "iproute2", "ps": "procps", "strace": "strace", "valgrind": "valgrind", "lintian": "lintian",
 }
 EACH_HAS = {"dpkg", "util-linux"}
 # In place of a toolchain that fails: it notes what it is asked, and says why.
