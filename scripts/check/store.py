@@ -12,7 +12,7 @@ SIZE, SLOT = tables.said("docs/formats.md", "A store's device has N bytes: two s
 GATE = tables.said("docs/formats.md", "The last byte of its area, at N, is its **gate**")
 IMAGE, (JOURNAL, AREA) = AREAS["image"][0], AREAS["journal area"]
 # In formats 1 and 2.
-MOST_RECORDS = tables.said("docs/formats.md", "1 to N in format 1, 1 to N in format 2.", 2)
+MOST_RECORDS = tables.said("docs/formats.md", "at most N of them in format 1, 80 bytes each and at most N in format 2.", 2)
 MOST_IMAGES = tables.said("docs/formats.md", "at most N in format 1 and N in format 2", 2)
 
 
