@@ -1,11 +1,12 @@
 """What docs/proved.md says of its tests: the faults that are tried and how many they are, the wrong bodies of the disk, and the tests of
 the server's sockets."""
 
+import re
 
-from . import cases, stops
+from . import cases, files, histories, looks, stops
 from .harness import same
 from .tables import rows
-from .texts import text_of
+from .texts import NAME, exists, rows_of, text_of, told
 
 PAGE = "docs/proved.md"
 PATHS = ("first_path", "broadcast", "removal")
@@ -52,4 +53,26 @@ def laboratory(_place):
     return f"{keeper} and {desk} calls"
 
 
-CHECKS = (laboratory,)
+def parts(_place):
+    """the parts, scripts and cases that docs/proved.md's table of faults names are there, and what it counts of parts is what they try"""
+    cases_of, missing, count = script(), [], 0
+    for number, (_, where, _) in rows_of(text_of(PAGE), "## Faults that are tried")[: len(rows_in_order())]:
+        for name in NAME.findall(where):
+            count += 1
+            name = name.split()[0]
+            known = any(it.endswith(name) for it in cases_of) or exists("crates", name) or exists("scripts", "check", f"{name}.py")
+            missing += [] if known or exists(name) else [f"{PAGE}:{number}: no {name}"]
+    found = how_many()
+    same(found["histories"], f"{histories.KILLS} kills")
+    same(found["looks"].split(";")[0], f"{looks.LOOKS:,} looks")
+    changes = [it for where, it in rows_in_order() if where == "files"]
+    found_of = [changes[0].split(" changes")[0], changes[1].split(" ways")[0]]
+    same(found_of, [str(len(files.CHANGES)), str(len(files.OVERWRITES))], "changes of files")
+    usual = int(re.search(r'"--stops", type=int, default=(\d+)', text_of("scripts/check_programs"))[1])
+    same((stops.COVERED // usual, found["scripts/check, stops"].split(" of ")[0]), (9, "a ninth"), "the share of the points")
+    every = int(re.search(r"`--stops (\d+)` all", text_of(PAGE))[1])
+    same(stops.share_of(list(range(1000)), every, 5), list(range(1000)), "all points")
+    return told(missing, count, 25, "names")
+
+
+CHECKS = (laboratory, parts)
