@@ -1,12 +1,14 @@
 """What docs/proved.md says of its tests: the faults that are tried and how many they are, the wrong bodies of the disk, and the tests of
 the server's sockets."""
 
+import os
 import re
+import runpy
 
 from . import cases, files, histories, looks, stops
 from .harness import same
-from .tables import rows
-from .texts import NAME, exists, rows_of, text_of, told
+from .tables import rows, said
+from .texts import NAME, TOP, exists, rows_of, text_of, told
 
 PAGE = "docs/proved.md"
 PATHS = ("first_path", "broadcast", "removal")
@@ -75,4 +77,15 @@ def parts(_place):
     return told(missing, count, 25, "names")
 
 
-CHECKS = (laboratory, parts)
+def wrong_disks(_place):
+    """docs/proved.md names each wrong body of scripts/try_disks, with how many checks have to notice it"""
+    wrong = runpy.run_path(os.path.join(TOP, "scripts", "try_disks"))["WRONG"]
+    said_of = {}
+    for names, count in re.findall(r"^\| (`\w+`[^|]*) \| (\d+)(?: each| checks each)? \|$", text_of(PAGE), re.M):
+        said_of.update({name: int(count) for name in NAME.findall(names)})
+    same(said_of, {name: len(checks) for name, checks in wrong.items()})
+    same(said(PAGE, "All N are noticed"), len(wrong))
+    return f"{len(wrong)} wrong bodies"
+
+
+CHECKS = (laboratory, parts, wrong_disks)
