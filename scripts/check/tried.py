@@ -1,12 +1,14 @@
 """What docs/proved.md says of its tests: the faults that are tried and how many they are, the wrong bodies of the disk, and the tests of
 the server's sockets."""
 
+import glob
 import os
 import re
 import runpy
 
 from . import cases, files, histories, looks, stops
 from .harness import same
+from .sources import source_of
 from .tables import rows, said
 from .texts import NAME, TOP, exists, rows_of, text_of, told
 
@@ -88,4 +90,18 @@ def wrong_disks(_place):
     return f"{len(wrong)} wrong bodies"
 
 
-CHECKS = (laboratory, parts, wrong_disks)
+def sockets(_place):
+    """each test of the server's sockets that docs/proved.md names is there, and so is each function that it is about"""
+    checks = "".join(text_of(os.path.relpath(it, TOP)) for it in glob.glob(os.path.join(TOP, "scripts", "check", "*.py")))
+    crates = "".join(source_of(it, "src") for it in ("fe_server", "fe_hall", "fe_streams", "test_sockets"))
+    functions, words = set(re.findall(r"\b(?:def|fn) (\w+)\(", checks + crates)), set(re.findall(r"\w+", crates))
+    missing, count = [], 0
+    for number, (what, tests) in rows_of(text_of(PAGE), "## What no clause says of the server's sockets"):
+        for kind, names, known in (("test", tests, functions), ("function", what, words)):
+            for name in NAME.findall(names):
+                count += 1
+                missing += [] if known.issuperset(name.split("::")) else [f"{PAGE}:{number}: no {kind} {name}"]
+    return told(missing, count, 35, "tests and functions")
+
+
+CHECKS = (laboratory, parts, wrong_disks, sockets)
