@@ -1,10 +1,13 @@
 """The schedules of examples/ against a real server: with `femem call` if one client can send them, and over sockets."""
 
 import os
+import re
 import time
 
 from . import wire
 from .harness import Server, holds, same, within
+from .tables import number
+from .texts import NAME, text_of
 
 EXAMPLES = os.path.join(os.path.dirname(os.path.realpath(__file__)), "..", "..", "examples")
 
@@ -114,4 +117,34 @@ def by_sockets(place):
     return f"{count} schedules"
 
 
-CHECKS = (by_call, by_sockets)
+def in_patterns(place):
+    """each table of docs/patterns.md shows the lines of its schedule in their order, and what each of them prints; it leaves out only attaches and finds"""
+    name, left, at, count = "", [], 0, 0
+    for line in text_of("docs/patterns.md").split("\n"):
+        if links := re.findall(r"\]\(\.\./examples/(\w+)\.txt\)", line):
+            name = links[-1]
+        if line == "| line | printed | |":
+            with open(os.path.join(EXAMPLES, f"{name}.txt"), "rb") as file:
+                lines = file.read().splitlines()
+            left, at = list(zip(lines, expected(place, lines))), 0
+        elif left and line.startswith("| `c"):
+            cells = [NAME.findall(cell) for cell in line.strip("|").split("|")]
+            begin = at
+            while at < len(left) and left[at][0].decode() != cells[0][0]:
+                at += 1
+            holds(at < len(left), f"docs/patterns.md: {name}.txt has no such line there: {line}")
+            same([it.decode() for it in left[at][1]], cells[1], line)
+            holds(all(b" attach " in it or b" find " in it for it, _ in left[begin:at]), f"docs/patterns.md: {name}.txt has more before: {line}")
+            at, count = at + 1, count + 1
+        elif left and not line.startswith("|"):
+            same(left[at:], [], f"docs/patterns.md: what the table of {name}.txt leaves out")
+            left = []
+    holds(count >= 30, f"only {count} lines")
+    return f"{count} lines"
+
+
+# What stands for the capitals of docs/schedules.md.
+VALUES = {"cN": "c1", "SESSION": "7", "NAME": "cells", "LENGTH": "2", "ARRAY": "1", "INDEX": "0", "OPERAND": "5", "FLOOR": "1", "NUMBER": "1"}
+
+
+CHECKS = (by_call, by_sockets, in_patterns)
