@@ -6,7 +6,7 @@ import time
 
 from . import wire
 from .harness import Server, holds, same, within
-from .tables import number
+from .tables import number, rows
 from .texts import NAME, text_of
 
 EXAMPLES = os.path.join(os.path.dirname(os.path.realpath(__file__)), "..", "..", "examples")
@@ -147,4 +147,29 @@ def in_patterns(place):
 VALUES = {"cN": "c1", "SESSION": "7", "NAME": "cells", "LENGTH": "2", "ARRAY": "1", "INDEX": "0", "OPERAND": "5", "FLOOR": "1", "NUMBER": "1"}
 
 
-CHECKS = (by_call, by_sockets, in_patterns)
+def in_the_syntax(place):
+    """each line in the table of docs/schedules.md, with each operation that it names and no other, is one that `femem run` takes"""
+    ops, lines = [], []
+    for form, what in rows("docs/schedules.md", "| line | what |"):
+        words = re.sub(r" \(.*", "", form)
+        spelled = [words]
+        if " OP " in words:
+            spelled = [words.replace(" OP ", f" {it.decode()} ") for it in wire.OPS if re.search(rf"\b{it.decode()}\b", what)]
+            ops += [it.split()[2] for it in spelled]
+            same([it.endswith("OPERAND") for it in spelled], [wire.OPS[it.split()[2].encode()] in wire.WITH_OPERAND for it in spelled], form)
+            same(len(spelled), len(re.findall(r"\w+_\w+|\w{5,}", what.replace(" of a word", ""))), f"operations of {form}")
+        if words.startswith("the last two"):
+            lines += [f"{it} nowait" for it in lines if it.split()[2].encode() in wire.OPS]
+            continue
+        lines += spelled
+    same(sorted(ops), sorted(it.decode() for it in wire.OPS), "operations")
+    for word, value in VALUES.items():
+        lines = [re.sub(rf"\b{word}\b", value, it) for it in lines]
+    same(place.run("run", given="".join(f"{line}\n" for line in lines).encode())[::2], (0, b""), "\n".join(lines))
+    most = number(re.search(r"connections `c1` to `c(\d+)` \|", text_of("docs/schedules.md"))[1])
+    ends = [place.run("run", given=f"c{it} attach 7\n".encode())[0] for it in (most, most + 1)]
+    same(ends, [0, 2], "the greatest connection")
+    return f"{len(lines)} lines"
+
+
+CHECKS = (by_call, by_sockets, in_patterns, in_the_syntax)
