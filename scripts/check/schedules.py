@@ -172,4 +172,24 @@ def in_the_syntax(place):
     return f"{len(lines)} lines"
 
 
-CHECKS = (by_call, by_sockets, in_patterns, in_the_syntax)
+def in_the_replies(_place):
+    """each line that the schedules print has a form of the second table of docs/schedules.md, and each form is printed"""
+    forms = {}
+    for form, to in rows("docs/schedules.md", "| line | reply to |"):
+        given = re.sub(r" before each line of a report", " .*", form)
+        head, _, named = given.partition(" and one of ")
+        for it in [f"{head} {name}" for name in named.split(", ")] if named else given.split(", "):
+            pattern = re.sub(r"\b(SESSION|FLOOR|NUMBER|V|ID|LENGTH)\b", r"\\d+", it.replace("cN", r"c\d+"))
+            forms[it] = re.compile(re.sub(r"\bNAME\b", "(?:" + "|".join(wire.REFUSALS.values()) + ")", pattern)), to
+    met = set()
+    for name, lines, output in schedules():
+        is_told = any(line.endswith(b" report") for line in lines)
+        for line in output:
+            found = [it for it, (pattern, to) in forms.items() if pattern.fullmatch(line.decode()) and (is_told or to != "a report")]
+            holds(found, f"docs/schedules.md has no such form: {name} prints {line.decode()}")
+            met.update(found[:1])
+    same(sorted(set(forms) - met), [], "forms that no schedule prints")
+    return f"{len(forms)} forms"
+
+
+CHECKS = (by_call, by_sockets, in_patterns, in_the_syntax, in_the_replies)
