@@ -38,6 +38,13 @@ def images(_place):
     return f"{len(sizes)} fields"
 
 
+def areas(_place):
+    """the areas of a slot follow one another in the table of docs/formats.md and fill the slot"""
+    ends = [at + size for at, size in store.AREAS.values()]
+    same([at for at, _ in store.AREAS.values()], [0, *ends[:-1]], "where areas begin")
+    same(ends[-1], store.SLOT, "where the last area ends")
+
+
 # A schedule before a message that is refused, for each refusal that a schedule can bring about, and the messages that are tried. A session
 # that is being ended is ended within a hold.
 SIXTY_FOUR = "".join(f"c{it} attach {it}\n" for it in range(1, 65))
@@ -55,4 +62,4 @@ TRIES = {
 }
 
 
-CHECKS = (images,)
+CHECKS = (images, areas)
