@@ -3,10 +3,10 @@ their sizes and bounds, the bounds of frames, and which message gets which reply
 
 import re
 
-from . import store
+from . import store, wire
 from .harness import same
-from .model import LIMITS
-from .tables import rows, text
+from .model import LIMITS, TOP_FLOOR, TOP_PLACE
+from .tables import rows, said, text
 
 PAGE = "docs/formats.md"
 HEADS = ("| 8 | place, at", "| 8 | id, at", "| 8 | session, above", "| 8 | place of the entry")
@@ -45,6 +45,28 @@ def areas(_place):
     same(ends[-1], store.SLOT, "where the last area ends")
 
 
+def bounds(_place):
+    """each bound in the tables of docs/formats.md is the limit of the README, or of the checks' model"""
+    words, window = LIMITS["words in all arrays"][0], LIMITS["request numbers of a session in use"][0]
+    longest, sessions = LIMITS["name of an array"][1], LIMITS["sessions kept"][0]
+    for form, wanted in (
+        ("| 8 | place, at most N - 1 |", TOP_PLACE + 1), ("next array id, 1 to place + N |", 1),
+        ("length of the name, 1 to N in format 1 and to N in format 2;", [store.ONE.name, store.TWO.name]),
+        ("| 4 | length, 1 to N, and with the arrays before at most N words |", [words, words]),
+        ("| 9 each | the words: tag (1), N or N, and value (8) |", [0, 1]), ("how many answers are kept, 0 to N |", window),
+        ("| 8 | floor, 1 to N - N |", [2**63, 2**63 - TOP_FLOOR]), ("number (finished) or floor (attached, settled), below N |", 2**63),
+        ("flag: N for an access that must not wait, else 0", 1), ("| attach | N sessions are kept, and", sessions),
+        ("the number is N or more above the floor; the floor asked for is more than N above it, or above N - N |",
+         [window, window, 2**63, 2**63 - TOP_FLOOR]),
+        ("operation code 1 (N to N)", [min(wire.OPS.values()), max(wire.OPS.values())]),
+        ("refusal number 1 (N to N)", [min(wire.REFUSALS), max(wire.REFUSALS)]),
+        ("UTF-8 text, 1 to N bytes | 2 to N |", [wire.MOST_TEXT, wire.MOST_TEXT + 1]),
+    ):
+        count = 1 if isinstance(wanted, int) else len(wanted)
+        same(said(PAGE, form, count), wanted, form)
+    same(longest, store.TWO.name, "the longest name")
+
+
 # A schedule before a message that is refused, for each refusal that a schedule can bring about, and the messages that are tried. A session
 # that is being ended is ended within a hold.
 SIXTY_FOUR = "".join(f"c{it} attach {it}\n" for it in range(1, 65))
@@ -62,4 +84,4 @@ TRIES = {
 }
 
 
-CHECKS = (images, areas)
+CHECKS = (images, areas, bounds)
