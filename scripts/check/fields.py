@@ -4,7 +4,8 @@ their sizes and bounds, the bounds of frames, and which message gets which reply
 import re
 
 from . import store, wire
-from .harness import same
+from .crowds import TALK
+from .harness import holds, same
 from .model import LIMITS, TOP_FLOOR, TOP_PLACE
 from .tables import rows, said, text
 
@@ -67,6 +68,31 @@ def bounds(_place):
     same(longest, store.TWO.name, "the longest name")
 
 
+def replies(place):
+    """each message gets the reply that the table of docs/formats.md says, and those that it sends at once are sent while nothing is stored"""
+    told = {it[0]: it[1:] for it in rows(PAGE, "| message | reply |")}
+    names = {it: row for row in told for it in row.split(", ")}
+    kinds, found = {code: kind.name for code, kind in wire.FROM_CLIENT.items()}, {}
+    for frame, reply in TALK:
+        name = kinds[frame[4]].removesuffix(", not to wait")
+        if reply and (got := wire.reply_of(reply[4:])[0]) != "refused":
+            found.setdefault(names[name], set()).add(got)
+    same({row: {re.match(r"\w+", told[row][0])[0]} for row in found}, found, "replies")
+    holds(len(found) >= 6, f"only {len(found)} rows")
+    before = "c1 attach 7\nc1 1 create cells 2 empty\nc1 2 readfe 1 0\n"
+    tries = {
+        "attach": "c2 attach 8", "create, find, remove, access": "c1 3 readxx 1 0", "the same again, once its answer is stored": "c1 1 create cells 2 empty",
+        "cancel": "c1 cancel 2", "settle": "c1 settle 1", "bye": "c1 bye", "report": "c1 report", "any message that is refused": "c1 settle 0",
+    }
+    for row, line in tries.items():
+        plain = place.run("run", given=f"{before}{line}\n".encode())[1]
+        held = place.run("run", given=f"{before}hold\n{line}\n".encode())[1]
+        holds(plain.count(b"\n") > 2, f"{line}: no reply")
+        same(told[row][1].startswith("at once"), plain == held, row)
+    same(set(told) - set(tries), {"the same again, before that"}, "messages that were not tried")
+    return f"{len(tries)} messages"
+
+
 # A schedule before a message that is refused, for each refusal that a schedule can bring about, and the messages that are tried. A session
 # that is being ended is ended within a hold.
 SIXTY_FOUR = "".join(f"c{it} attach {it}\n" for it in range(1, 65))
@@ -84,4 +110,4 @@ TRIES = {
 }
 
 
-CHECKS = (images, areas, bounds)
+CHECKS = (images, areas, bounds, replies)
