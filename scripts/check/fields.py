@@ -110,4 +110,19 @@ TRIES = {
 }
 
 
-CHECKS = (images, areas, bounds, replies)
+def refusals(place):
+    """the messages that get a refusal are those that the table of docs/formats.md says, for each that a schedule brings about"""
+    table = {row[1]: row for row in rows(PAGE, "| refusal | name |")}
+    for name, (before, messages) in TRIES.items():
+        conn = "c99" if name == "session-limit" else "c1"
+        refused = []
+        for kind, line in messages.items():
+            status, output, errors = place.run("run", given=f"{before}{conn} {line}\n".encode())
+            same((status, errors), (0, b""), f"{name}: {line}")
+            refused += [kind] if re.search(rf"^{conn} refused \d+ {name}$", output.decode(), re.M) else []
+        same(sorted(refused), sorted(table[name][2].split(", ")), f"{name} is the refusal of")
+    same(set(table) - set(TRIES), {"spent", "no-memory"}, "refusals that were not tried")
+    return f"{len(TRIES)} refusals"
+
+
+CHECKS = (images, areas, bounds, replies, refusals)
