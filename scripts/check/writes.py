@@ -1,0 +1,51 @@
+"""docs/store.md: its orders of writes and syncs are those that records.py compares with a server's calls, and its costs those of the proofs."""
+
+import re
+
+from . import records, store
+from .harness import same
+from .model import State
+from .store import TWO, image_of
+from .tables import number
+from .texts import block
+
+PAGE = "docs/store.md"
+
+
+def in_order(calls):
+    """The reads, writes and syncs of some calls, and each byte that is written alone."""
+    kinds = {"pwrite": "write", "pread": "read", "fdatasync": "sync"}
+    return [(kinds[it[0]], it[2] if it[0] == "pwrite" and len(it[2]) == 1 else b"") for it in calls if it[0] in kinds]
+
+
+def on_page(first):
+    """The same of a block of the page. A line about both headers is two calls. `a closed gate` alone is a byte."""
+    found = []
+    for line in block(PAGE, first).splitlines():
+        if word := re.match(r"(write|read|sync)\b(.*)", line):
+            byte = re.search(r"0x([0-9a-f]{2})$", word[2])
+            byte = bytes.fromhex(byte[1]) if byte else b"\0" if re.search(r"journal area +a closed gate$", line) else b""
+            found += [(word[1], byte)] * (2 if "both header" in line else 1)
+    return found
+
+
+def orders(_place):
+    """the blocks of docs/store.md that append, finish, open and format have the writes, reads and syncs that a server's calls are compared with"""
+    image = image_of(State(), TWO)
+    journal = lambda: records.Journal(TWO, 1)
+    entry = ("attached", 7, 1)
+    found = {
+        "at offset o": journal().group(entry), "write   journal area": records.finishing(1, journal(), [entry]),
+        "sync\nread    both headers": records.opening(1, len(image)), "write   both header gates": records.formatting(),
+    }
+    for first, calls in found.items():
+        same(on_page(first), in_order(calls), first)
+    same(re.search(r"generation (\d), format (\d)\n", block(PAGE, "write   both header gates")).groups(), ("1", str(TWO.number)), "a new store")
+    same(re.search(r"slot 0, generation (\d)\n", block(PAGE, "format ")).groups(), ("1",), "a new store")
+    return f"{len(found)} blocks"
+
+
+COUNTED = re.compile(r"(\d) (read|write|sync)s?\b")
+
+
+CHECKS = (orders,)
