@@ -6,7 +6,7 @@ from . import records, store
 from .harness import same
 from .model import State
 from .store import TWO, image_of
-from .tables import number
+from .tables import number, text
 from .texts import block
 
 PAGE = "docs/store.md"
@@ -45,7 +45,13 @@ def orders(_place):
     return f"{len(found)} blocks"
 
 
+def layout(_place):
+    """the layout of docs/store.md has the areas of docs/formats.md, with their sizes"""
+    found = re.findall(r"^    ([\d,]+) {2,}[\d,]+ {2,}([\d,]+) {2,}(header|image|journal area)\b", text(PAGE), re.M)
+    same({name: (number(at), number(size)) for at, size, name in found}, store.AREAS)
+
+
 COUNTED = re.compile(r"(\d) (read|write|sync)s?\b")
 
 
-CHECKS = (orders,)
+CHECKS = (orders, layout)
