@@ -3,10 +3,11 @@
 import re
 
 from . import records, store
-from .harness import same
+from .harness import holds, same
 from .model import State
+from .sources import source_of
 from .store import TWO, image_of
-from .tables import number, text
+from .tables import number, rows, text
 from .texts import block
 
 PAGE = "docs/store.md"
@@ -54,4 +55,26 @@ def layout(_place):
 COUNTED = re.compile(r"(\d) (read|write|sync)s?\b")
 
 
-CHECKS = (orders, layout)
+def costs(_place):
+    """the device calls of docs/store.md's table of costs are the most that the contracts of fe_journal allow"""
+    source = source_of("fe_journal", "src") + source_of("fe_journal", "specs")
+    count = 0
+    for name, calls, _ in rows(PAGE, "| call | device calls |"):
+        said = {"read": 0, "write": 0, "sync": 0}
+        for many, kind in COUNTED.findall(calls):
+            said[kind] += int(many)
+        begin = re.search(rf"^    pub fn {name}\b.*?^    \{{", source, re.M | re.S)
+        holds(begin, f"fe_journal has no {name}")
+        if ends := re.search(r"ensures ends \{ CallEnds D\.failures D\.calls D\.honest (\d) (\d) (\d) ", begin[0]):
+            same(list(said.values()), [int(it) for it in ends.groups()], name)
+        else:
+            relation = re.search(r"ensures (?:ends|device) \{ (\w+) ", begin[0])[1]
+            text_of_it = re.search(rf"^pub (?:record )?{relation}\b.*?(?=^\S|\Z)", source, re.M | re.S)[0]
+            most = re.search(r"Makes\w* (\d) (\d) (\d)\b", text_of_it)
+            holds(most, f"{relation} bounds no calls: {text_of_it}")
+            same(list(said.values()), [int(it) for it in most.groups()], name)
+        count += 1
+    return f"{count} calls"
+
+
+CHECKS = (orders, layout, costs)
