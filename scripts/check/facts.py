@@ -6,7 +6,7 @@ import os
 import re
 import struct
 
-from . import calls, fields, store, tables, wire, writes
+from . import calls, fields, sessions, store, tables, wire, writes
 from .crowds import TALK
 from .harness import holds, preload, same
 from .model import LIMITS, TOP_FLOOR, TOP_PLACE
@@ -214,4 +214,4 @@ def unit(_place):
     holds("RequiresMountsFor=" in page and "`MALLOC_ARENA_MAX=1`" in page and lines["Environment"] == "MALLOC_ARENA_MAX=1", "the page names them")
 
 
-CHECKS = (exchange, kinds, examples, lengths, offsets, limits, definitions, settings, statuses, unit, *fields.CHECKS, *writes.CHECKS)
+CHECKS = (exchange, kinds, examples, lengths, offsets, limits, definitions, settings, statuses, unit, *fields.CHECKS, *writes.CHECKS, *sessions.CHECKS)
