@@ -89,4 +89,16 @@ def tables(_place):
     return f"{len(met)} records"
 
 
-CHECKS = (tables,)
+def examples(_place):
+    """the example of docs/session-file.md is, byte for byte, the one that the tests of both clients read and write"""
+    whole = b"".join(example())
+    same(len(whole), said(PAGE, "The file has N bytes"), "bytes of the example")
+    in_c = re.search(r"\bexample\[[^\]]*\] = \{(.*?)\n\};", text_of("clients/c/test_format.c"), re.S)[1]
+    same(bytes.fromhex("".join(re.findall(r'"([0-9a-f ]+)"', in_c))), whole, "clients/c/test_format.c")
+    tree = ast.parse(text_of("clients/python/tests/test_sessionformat.py"))
+    given = next(it.value for it in tree.body if isinstance(it, ast.Assign) and it.targets[0].id == "EXAMPLE")
+    same(eval(compile(ast.Expression(given), "EXAMPLE", "eval")), whole, "clients/python/tests/test_sessionformat.py")
+    return f"{len(whole)} bytes"
+
+
+CHECKS = (tables, examples)
