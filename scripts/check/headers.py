@@ -61,4 +61,25 @@ def tables_of(page):
             yield number, [cell.strip() for cell in line.strip("|").split("|")]
 
 
-CHECKS = (of_c,)
+def of_python(_place):
+    """each method in the tables of the Python client's page is there, with the arguments and defaults that the page gives"""
+    missing, count = [], 0
+    for number, cells in tables_of(text_of(PYTHON_PAGE)):
+        owner, named = femem.Client, cells[0]
+        if len(cells) == 2:
+            made, sizes = re.match(r"`(\w+)\((.*)\)`", cells[0]).groups()
+            owner, named = getattr(femem.patterns, made), cells[1]
+            constructors = [it.__init__ for it in owner.__mro__ if "__init__" in vars(it)]
+            own = next(it for it in constructors if "sizes" not in inspect.signature(it).parameters)
+            missing += [f"{PYTHON_PAGE}:{number}: {made} {it}" for it in takes(own, sizes)]
+        for name, arguments in re.findall(r"`(\w+)(\([^`]*\))?`", named):
+            count += 1
+            function = getattr(owner, name, None)
+            if name != "with" and function is None:
+                missing.append(f"{PYTHON_PAGE}:{number}: {owner.__name__} has no {name}")
+            elif arguments:
+                missing += [f"{PYTHON_PAGE}:{number}: {name} {it}" for it in takes(function, arguments[1:-1])]
+    return told(missing, count, 55, "methods")
+
+
+CHECKS = (of_c, of_python)
