@@ -1,9 +1,10 @@
 """The functions, laws and clauses that documents cite are in the crates that they cite."""
 
+import os
 import re
 
-from .sources import contracts_of, has, is_function, is_named
-from .texts import NAME, exists, rows_of, split, text_of, told
+from .sources import contracts_of, has, is_function, is_named, source_of
+from .texts import NAME, TOP, exists, rows_of, split, text_of, told
 
 # A name, followed by names in parentheses: a function with its clauses.
 CITED = re.compile(r"`([\w:]+)`(?: \(((?:`\w+`(?:, |; | and )?)+)\))?")
@@ -94,4 +95,35 @@ def cited(_place):
     return told(missing, count, 50, "functions and clauses")
 
 
-CHECKS = (clauses, cited)
+# The crates that the headline's table of clauses is about.
+PROMISING = ("fe_desk", "fe_server", "fe_keeper", "fe_hall")
+# A line that declares something: a function, a type, a definition, a law, a clause, or a field. It has the name.
+DECLARATION = re.compile(
+    r"^\s*(?:(?:abbrev|unfoldable|pub|pub\(crate\)|record|data|enum|struct|trait|fn|ghost|const|ensures\*?) )+(\w+)"
+    r"|^\s+(?:pub )?(\w+) ?(?: :|,|\(| \{|=)", re.M)
+
+
+def declared():
+    """The names that the crates' sources declare."""
+    crates = [name for name in os.listdir(os.path.join(TOP, "crates")) if name.startswith("fe_")]
+    return {it for crate in crates for folder in ("src", "specs") for found in DECLARATION.findall(source_of(crate, folder)) for it in found}
+
+
+def promised(_place):
+    """each clause in the headline's first table is one of its function, and each name in the tables of headline.md, images.md and stops.md is declared"""
+    there, missing, count = declared(), [], 0
+    for page in ("docs/headline.md", "docs/images.md", "docs/stops.md"):
+        for number, line in split(text_of(page))[0]:
+            cells = line.strip("|").split("|") if line.startswith("|") else []
+            for name in [it for cell in cells for word in NAME.findall(cell) for it in re.findall(r"[A-Za-z]\w+", word)]:
+                if re.fullmatch(rf".*`{name}`.*|.*`{name}: .*|.*::{name}`.*", line):
+                    count += 1
+                    missing += [] if name in there or name == "src" or exists("crates", name) else [f"{page}:{number}: no {name}"]
+            for function, listed in CITED.findall(line) if len(cells) == 3 and page == "docs/headline.md" else ():
+                known = [it for it in PROMISING if is_function(it, function)] if listed else []
+                lost = [it for it in NAME.findall(listed) if known and not exists("crates", it) and not any(has(crate, function, it) for crate in known)]
+                missing += [f"{page}:{number}: {function} has no clause {it}" for it in lost]
+    return told(missing, count, 150, "names")
+
+
+CHECKS = (clauses, cited, promised)
