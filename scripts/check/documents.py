@@ -6,7 +6,7 @@ import os
 import re
 import sys
 
-from . import blocks, clauses, headers, names, tried
+from . import blocks, clauses, headers, names, places, tried
 from .harness import holds
 from .tables import rows
 from .texts import NAME, PAGES, READMES, TOP, bases, exists, headings, is_path, slug, split, text_of, told
@@ -149,4 +149,4 @@ def links(_place):
     return told(missing, count, 100, "links")
 
 
-CHECKS = (*blocks.CHECKS, *names.CHECKS, *clauses.CHECKS, *tried.CHECKS, *headers.CHECKS, touched, crates, versions, speeds, pictures, links)
+CHECKS = (*blocks.CHECKS, *names.CHECKS, *clauses.CHECKS, *tried.CHECKS, *headers.CHECKS, *places.CHECKS, touched, crates, versions, speeds, pictures, links)
