@@ -7,7 +7,7 @@ import re
 from .harness import same
 from .manuals import pages  # noqa: F401  (this sets the path of release)
 from .sources import below
-from .texts import TOP, block, exists, told
+from .texts import READMES, PAGES, TOP, block, exists, split, text_of, told
 
 from release import package  # noqa: E402
 
@@ -28,4 +28,26 @@ def layers(_place):
 OPTION = re.compile(r"(?<!\S)\[?(--[a-z-]+)")
 
 
-CHECKS = (layers,)
+def programs(_place):
+    """each program of the repository in a block of commands is there and has the options, and each target of make and folder is there"""
+    missing, count = [], 0
+    targets = set(re.findall(r"^([a-z-]+):", text_of("Makefile") + text_of("clients/c/Makefile") + text_of("clients/cli/Makefile"), re.M))
+    for page in (*PAGES, *READMES, HALL):
+        lines = [line.split("#")[0].strip() for it in split(text_of(page))[1] for line in it.splitlines()]
+        for line in lines:
+            word = line.split(" ")[0]
+            if re.fullmatch(r"(?:bench|clients|scripts)/[\w/.]+", word) and not word.endswith((":", "=")):
+                count += 1
+                source = text_of(word) if exists(word) else ""
+                missing += [] if source else [f"{page}: no {word}"]
+                missing += [f"{page}: {word} has no {it}" for it in OPTION.findall(line) if source and it not in source and it[2:] not in source]
+            if found := re.fullmatch(r"make ([a-z][a-z-]+)\b[^=]*(?: \w+=.*)?", line):
+                count += 1
+                missing += [] if found[1] in targets else [f"{page}: make {found[1]}"]
+            if found := re.fullmatch(r"cd (crates/\S+)", line):
+                count += 1
+                missing += [] if exists(found[1]) else [f"{page}: no {found[1]}"]
+    return told(missing, count, 14, "commands")
+
+
+CHECKS = (layers, programs)
