@@ -7,7 +7,8 @@ import re
 from .harness import same
 from .manuals import pages  # noqa: F401  (this sets the path of release)
 from .sources import below
-from .texts import READMES, PAGES, TOP, block, exists, split, text_of, told
+from .tables import rows, text
+from .texts import NAME, READMES, PAGES, TOP, block, exists, split, text_of, told
 
 from release import package  # noqa: E402
 
@@ -50,4 +51,24 @@ def programs(_place):
     return told(missing, count, 14, "commands")
 
 
-CHECKS = (layers, programs)
+def packages(_place):
+    """the tables of packaging/README.md name each package and each file that the server's package is made from, and where they are installed"""
+    page = text("packaging/README.md")
+    folders = sorted(it for it in os.listdir(os.path.join(TOP, "packaging/debian")) if exists("packaging/debian", it, "control*"))
+    named = [row[0] for row in rows("packaging/README.md", "| package | what it has |")]
+    same((sorted(named), WORDS[re.search(r"makes (\w+) Debian packages", page)[1]]), (folders, len(folders)), "packages")
+    tools = {*package.TOOLS, "make-store"}
+    missing, sources = [], text_of("scripts/release/package.py")
+    for file, _ in rows("packaging/README.md", "| file | what it is |"):
+        name = re.sub(r"\[.*\]\(\.\./(.*)\)", r"../\1", file)
+        missing += [] if exists("packaging", name) else [f"packaging/README.md: no {file}"]
+    found = re.findall(r"/usr/lib/femem/([\w-]+)", page) + re.findall(r"`(femem-[\w-]+)`(?:,| and)", page[page.index("| `tools/`") :].split("\n")[0])
+    missing += [f"packaging/README.md: nothing installs {it}" for it in found if it not in tools]
+    for path in NAME.findall("".join(f"`{row[0]}`" for row in rows("docs/commands.md", "| path | what it is |"))):
+        path = path.split(" ")[0]
+        made = [sources, text_of("packaging/femem.toml"), text_of("packaging/femem-tmpfiles.conf"), text_of("examples/femem.service")]
+        missing += [] if any(re.search(rf"{path[1:]}\b(?!-)", it) for it in made) else [f"docs/commands.md: nothing installs {path}"]
+    return told(missing, len(found), 5, "files")
+
+
+CHECKS = (layers, programs, packages)
