@@ -4,7 +4,7 @@ figures that two pages have."""
 import os
 import re
 
-from .harness import same
+from .harness import holds, same
 from .manuals import pages  # noqa: F401  (this sets the path of release)
 from .sources import below
 from .tables import rows, text
@@ -71,4 +71,20 @@ def packages(_place):
     return told(missing, len(found), 5, "files")
 
 
-CHECKS = (layers, programs, packages)
+def figures(_place):
+    """the README's figures beside SQLite and flock are those of docs/performance.md, whose instructions are those of bench/hall/README.md"""
+    table = {row[0]: " ".join(row[1:]) for row in rows("docs/performance.md", "| | femem | in its place |")}
+    numbers = lambda it: re.findall(r"(?<![\w.])\d[\d,.]*\d|(?<![\w.])\d(?![\w.])", it)
+    one, eight, lock = (numbers(table[it]) for it in ("a client adds to a counter", "8 clients add to one counter", "a lock around true"))
+    said = re.search(r"On another machine, from Python: .*? in (\d+) µs, .*? in (\d+)\. Eight clients add ([\d,]+) times a second, and ([\d,]+) times"
+                     r" to a row\. A lock around a command takes ([\d.]+) ms, and `flock` ([\d.]+)\.", text("README.md"))
+    holds(said, "the README has the sentence")
+    same(list(said.groups()), [one[1], one[3], eight[0], eight[2], *lock], "README.md")
+    events = {row[0]: int(row[1]) for row in rows("docs/performance.md", "| event | instructions | ns |")}
+    hall = re.search(r"a call (\d+) instructions, an entry posted (\d+), a mail taken (\d+), an entry appended (\d+)\.", text_of(HALL))
+    names = ("a call", "an entry posted", "a mail taken", "an entry appended, without the device")
+    same([events[it] for it in names], [int(it) for it in hall.groups()], "docs/performance.md")
+    return f"{len(names) + 6} figures"
+
+
+CHECKS = (layers, programs, packages, figures)
