@@ -125,4 +125,25 @@ def refusals(place):
     return f"{len(TRIES)} refusals"
 
 
-CHECKS = (images, areas, bounds, replies, refusals)
+def elsewhere(_place):
+    """numbers and names that the tables of docs/operating.md, model.md, proved.md and images.md repeat are those of docs/formats.md and the README"""
+    most, usual = LIMITS["connections"]
+    sessions, window, mails = (LIMITS[it][0] for it in ("sessions kept", "request numbers of a session in use", "replies queued for one connection"))
+    waiting = LIMITS["requests that wait"][0]
+    for page, form, wanted in (
+        ("operating", "| N bytes in each image for a word |", image_tables()[1][-1][0]), ("operating", "| N bytes for an entry until", store.TWO.record),
+        ("operating", "| `connections`, N by default and up to N |", [usual, most]), ("operating", "| N sessions | `session-limit`.", sessions),
+        ("operating", "or a counter of calls or mails came near N |", 2**63), ("operating", "| the answers kept, up to N each |", window),
+        ("operating", "| N sessions with N numbers each can't pass it |", [sessions, window]), ("model", "there are fewer than N | a missing", sessions),
+        ("model", "at most N higher, and at most N - N |", [window, 2**63, 2**63 - TOP_FLOOR]), ("proved", "| at most N entries, in order", 2 * waiting + 1),
+        ("proved", "`steps_are_few` (N entries)", said(PAGE, "fewer than N places left")), ("proved", "`boxes_stay_short` (N mails)", mails),
+        ("images", "at most the image's place + N, in format 2 + N |", said(PAGE, "the place in the image + N in format 1, + N in format 2", 2)),
+    ):
+        same(said(f"docs/{page}.md", form, 1 if isinstance(wanted, int) else len(wanted)), wanted, f"docs/{page}.md: {form}")
+    known = {*wire.ANSWERS, *wire.REFUSALS.values(), "connections", "bye"}
+    named = re.findall(r"`([a-z-]+)`", re.search(r"^\| limit \| what happens there .*?\n\n", text("docs/operating.md"), re.M | re.S)[0])
+    same(sorted(set(named) - known), [], "names in the table of limits")
+    return f"{len(named)} names"
+
+
+CHECKS = (images, areas, bounds, replies, refusals, elsewhere)
