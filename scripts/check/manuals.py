@@ -7,7 +7,7 @@ import shutil
 import subprocess
 import sys
 
-from . import tables
+from . import tables, texts
 from .harness import Skipped, holds, same
 
 sys.path.insert(0, os.path.normpath(os.path.join(os.path.dirname(os.path.realpath(__file__)), "..")))
@@ -101,4 +101,15 @@ def told(place):
     return f"{len(texts)} texts of faults"
 
 
-CHECKS = (warnings, told)
+def synopsis(place):
+    """the synopsis of docs/commands.md is what the program's help says of each command, and of no other"""
+    said = texts.block("docs/commands.md", "femem serve ").splitlines()
+    shown = [place.run("help", name)[1].decode() for name in ("serve", "call", "look", "run", "help")]
+    usages = [re.search(r"^Usage: \S+ (.*?)(?:\.\.\.)?$", it, re.M)[1].replace("<", "").replace(">", "") for it in shown]
+    same(said, [f"femem {it}" for it in usages])
+    commands = place.run("help")[1].decode().split("Commands:\n")[1].split("\n\n")[0]
+    same(sorted(line.split()[1] for line in said), sorted(line.split()[0] for line in commands.splitlines()), "commands")
+    return f"{len(said)} commands"
+
+
+CHECKS = (warnings, told, synopsis)
