@@ -15,6 +15,7 @@ from .faults import Client, answered, fills_and_others, is_change, near_a_checkp
 from .harness import Server, holds, preload, same, until, within
 from .model import State
 from .records import calls_of
+from .tables import said
 
 
 COVERED = 108  # every point is taken once in COVERED / N commits
@@ -155,30 +156,11 @@ def covered(_place):
 WORK = [("create", b"counter", 2, 1)] + [adding(1, 0, 1)] * 3
 
 
-@within(300)
-def making(place):
-    """a server is killed while it makes its store: the next start opens it, with every answer"""
-    return Trial(place, None, WORK, True).kills()
-
-
-@within(300)
-def formatting(place):
-    """the same while it formats a file of zeros; no copy of it is left"""
-    return Trial(place, bytes(store.SIZE), WORK, True).kills()
-
-
-@within(300)
-def keeping(place):
-    """the same while it formats a former store; a whole copy of that is left"""
+def kept_before():
+    """The bytes of a former store whose first slot does not count."""
     device = bytearray(near_a_checkpoint()[0])
     device[store.SLOT] += 1
-    return Trial(place, bytes(device), WORK, True, [("store.before-format", bytes(device))]).kills()
-
-
-@within(300)
-def checkpointing(place):
-    """the same while it makes a checkpoint between groups"""
-    return Trial(place, near_a_checkpoint()[0], [adding(1, 19999, 1)] * 9, False).kills()
+    return bytes(device)
 
 
 def of_format_1(entries):
@@ -189,16 +171,61 @@ def of_format_1(entries):
     return bytes(store.device_of(store.ONE, state, [[("attached", 9, 1)] * entries] * 2, 2, 1))
 
 
+# The trial of each check below.
+TRIALS = {
+    "making": lambda place: Trial(place, None, WORK, True),
+    "formatting": lambda place: Trial(place, bytes(store.SIZE), WORK, True),
+    "keeping": lambda place: Trial(place, kept_before(), WORK, True, [("store.before-format", kept_before())]),
+    "checkpointing": lambda place: Trial(place, near_a_checkpoint()[0], [adding(1, 19999, 1)] * 9, False),
+    "migrating": lambda place: Trial(place, of_format_1(4095), [adding(1, 19999, 1)] * 9, False),
+    "by a name": lambda place: Trial(place, of_format_1(10), [adding(1, 0, 1), ("find", b"seventeen_letters"), adding(1, 0, 1)], False),
+}
+
+
+def all_points(place):
+    """docs/proved.md has the number of points at which these checks kill the server"""
+    found = 0
+    for made in TRIALS.values():
+        trial = made(place)
+        found += len(trial.points(trial.calls()[0]))
+    same(found, said("docs/proved.md", "a ninth of N points"))
+    return f"{found} points"
+
+
+@within(300)
+def making(place):
+    """a server is killed while it makes its store: the next start opens it, with every answer"""
+    return TRIALS["making"](place).kills()
+
+
+@within(300)
+def formatting(place):
+    """the same while it formats a file of zeros; no copy of it is left"""
+    return TRIALS["formatting"](place).kills()
+
+
+@within(300)
+def keeping(place):
+    """the same while it formats a former store; a whole copy of that is left"""
+    return TRIALS["keeping"](place).kills()
+
+
+@within(300)
+def checkpointing(place):
+    """the same while it makes a checkpoint between groups"""
+    return TRIALS["checkpointing"](place).kills()
+
+
 @within(300)
 def migrating(place):
     """the same while a checkpoint between groups moves the store from format 1 to format 2"""
-    return Trial(place, of_format_1(4095), [adding(1, 19999, 1)] * 9, False).kills()
+    return TRIALS["migrating"](place).kills()
 
 
 @within(300)
 def migrating_by_a_name(place):
     """the same while it is moved because of a name that has no record in format 1"""
-    return Trial(place, of_format_1(10), [adding(1, 0, 1), ("find", b"seventeen_letters"), adding(1, 0, 1)], False).kills()
+    return TRIALS["by a name"](place).kills()
 
 
-CHECKS = (covered, making, formatting, keeping, checkpointing, migrating, migrating_by_a_name)
+CHECKS = (covered, all_points, making, formatting, keeping, checkpointing, migrating, migrating_by_a_name)
