@@ -13,6 +13,7 @@ from .crowds import served as served_one
 from .harness import Server, Wrong, holds, preload, same, until, within
 from .model import State
 from .records import calls_of
+from .tables import said
 
 
 CHANGES = ("write", "pwrite", "fdatasync", "fsync", "ftruncate", "fchmod", "fadvise", "link", "rename", "unlink")
@@ -256,9 +257,12 @@ def syncs_that_lose(place):
     """a sync fails, and the system counts pages as written that are not on the device: the restarted server loses nothing that it answers"""
     work = [adding(1, 0, 1)] * 4
     # an opening; five groups
-    same(lost_syncs(place, at_an_end_of_a_page(), work), 1 + 5 * 2)
+    found = [lost_syncs(place, at_an_end_of_a_page(), work)]
+    same(found, [1 + 5 * 2])
     # an opening; ten groups; the end of a checkpoint
-    same(lost_syncs(place, near_a_checkpoint()[0], [adding(1, 19999, 1)] * 9), 1 + 10 * 2 + 2)
+    found.append(lost_syncs(place, near_a_checkpoint()[0], [adding(1, 19999, 1)] * 9))
+    same(found[1], 1 + 10 * 2 + 2)
+    same(found, list(said("docs/proved.md", "| N and N syncs |", 2)), "docs/proved.md")
 
 
 @within(120)
