@@ -33,6 +33,8 @@ def programs(_place):
     """each program of the repository in a block of commands is there and has the options, and each target of make and folder is there"""
     missing, count = [], 0
     targets = set(re.findall(r"^([a-z-]+):", text_of("Makefile") + text_of("clients/c/Makefile") + text_of("clients/cli/Makefile"), re.M))
+    named = re.search(r"`([a-z ]+)`: under a minute", text("CONTRIBUTING.md"))[1].split()
+    missing += [f"CONTRIBUTING.md: no part {it}" for it in named if not exists("scripts/check", f"{it}.py")]
     for page in (*PAGES, *READMES, HALL):
         lines = [line.split("#")[0].strip() for it in split(text_of(page))[1] for line in it.splitlines()]
         for line in lines:
@@ -68,7 +70,9 @@ def packages(_place):
         path = path.split(" ")[0]
         made = [sources, text_of("packaging/femem.toml"), text_of("packaging/femem-tmpfiles.conf"), text_of("examples/femem.service")]
         missing += [] if any(re.search(rf"{path[1:]}\b(?!-)", it) for it in made) else [f"docs/commands.md: nothing installs {path}"]
-    return told(missing, len(found), 5, "files")
+    manuals = re.findall(r"\b(lib\w+|femem[\w-]*)\((\d)\)", page)
+    missing += [f"packaging/README.md: no {name}({section})" for name, section in manuals if not exists("clients", "*", f"{name}.{section}")]
+    return told(missing, len(found) + len(manuals), 6, "files")
 
 
 def figures(_place):
