@@ -7,7 +7,8 @@ from . import store, wire
 from .crowds import TALK
 from .harness import holds, same
 from .model import LIMITS, TOP_FLOOR, TOP_PLACE
-from .tables import rows, said, text
+from .sources import source_of
+from .tables import codes_in_record, operations, rows, said, text
 
 PAGE = "docs/formats.md"
 HEADS = ("| 8 | place, at", "| 8 | id, at", "| 8 | session, above", "| 8 | place of the entry")
@@ -146,4 +147,18 @@ def elsewhere(_place):
     return f"{len(named)} names"
 
 
-CHECKS = (images, areas, bounds, replies, refusals, elsewhere)
+def told_again(_place):
+    """the slot, the files beside a store, the kinds of entries and the number of operations are on other pages as docs/formats.md and the README have them"""
+    same(said("docs/operating.md", "for at in 0 N; do"), store.SLOT, "docs/operating.md: slot 1")
+    beside = set(re.findall(r"`STORE(\.[\w-]+)`", text("docs/operating.md")))
+    sources = source_of("fe_store", "src") + text("packaging/tools/femem-restore")
+    same(sorted(it for it in beside if not re.search(rf"\{it}(?![\w-])", sources)), [], "files beside a store")
+    holds(len(beside) >= 2, "docs/operating.md names the files beside a store")
+    entries = re.findall(r"^\| \*(\w+)\* \|", text("docs/model.md"), re.M)
+    same(sorted(entries), sorted(codes_in_record("kind")), "entries of docs/model.md")
+    counted = {"seven": 7, "eight": 8, "nine": 9}
+    same(counted[re.search(r"\| the (\w+) rows \|", text("docs/headline.md"))[1]], len(operations()), "rows in docs/headline.md")
+    return f"{len(entries)} entries"
+
+
+CHECKS = (images, areas, bounds, replies, refusals, elsewhere, told_again)
