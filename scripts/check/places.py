@@ -75,6 +75,21 @@ def packages(_place):
     return told(missing, len(found) + len(manuals), 6, "files")
 
 
+# What the recipe of two hosts sets: options of programs, fields of an image's description, and settings.
+SET = re.compile(r"--[a-z]+(?:=none)?(?![\w-])|(?:file\.)?(?:driver|read-pattern)=\w+|\b\w+ = true")
+
+
+def recipe(_place):
+    """the commands and the table of docs/replication.md set what scripts/check/hosts.py sets: each option, and how many sides have to confirm"""
+    page, hosts = text("docs/replication.md"), text("scripts/check/hosts.py")
+    wanted = SET.findall(block("docs/replication.md", "# on both"))
+    usual = re.search(r"\bconfirmed=(\d)", hosts)[1]
+    same(set(re.findall(r"vote-threshold=(\d)[,`]", page.split("## What the checks assert")[0])), {usual}, "sides that have to confirm")
+    missing = [f"hosts.py does not set {it}" for it in wanted if it not in hosts and it.split("driver=")[-1] not in ("nbd", "raw")]
+    programs = [it for it in ("nbd-server", "qemu-nbd", "nbdfuse", "mount") if it in page]
+    return told(missing + [f"hosts.py does not run {it}" for it in programs if it not in hosts], len(wanted), 7, "options")
+
+
 def figures(_place):
     """the README's figures beside SQLite and flock are those of docs/performance.md, whose instructions are those of bench/hall/README.md"""
     table = {row[0]: " ".join(row[1:]) for row in rows("docs/performance.md", "| | femem | in its place |")}
@@ -91,4 +106,4 @@ def figures(_place):
     return f"{len(names) + 6} figures"
 
 
-CHECKS = (layers, programs, packages, figures)
+CHECKS = (layers, programs, packages, recipe, figures)
