@@ -126,6 +126,25 @@ def refusals(place):
     return f"{len(TRIES)} refusals"
 
 
+# Messages to which two refusals apply.
+ENDING = BEGIN + "hold\nc1 bye\n"
+BOTH = (
+    (ENDING, "1 find cells", {"closing", "below-floor"}), (ENDING, "34 find cells", {"closing", "beyond-window"}),
+    (ENDING, "2 find cells", {"closing", "number-used"}), (ENDING, "settle 3", {"closing", "still-waiting"}),
+    (ENDING, "cancel 3", {"closing", "not-waiting"}), (BEGIN, "settle 40", {"beyond-window", "still-waiting"}),
+)
+
+
+def first_refusal(place):
+    """of two refusals that apply to a message, the reply names the one that comes first in the table of docs/formats.md"""
+    order = [row[1] for row in rows(PAGE, "| refusal | name |")]
+    for before, line, names in BOTH:
+        output = place.run("run", given=f"{before}c1 {line}\n".encode())[1].decode()
+        found = re.findall(r"^c1 refused \d+ (.*)$", output, re.M)
+        same(found, [it for it in order if it in names][:1], line)
+    return f"{len(BOTH)} messages"
+
+
 def elsewhere(_place):
     """numbers and names that the tables of docs/operating.md, model.md, proved.md and images.md repeat are those of docs/formats.md and the README"""
     most, usual = LIMITS["connections"]
@@ -161,4 +180,4 @@ def told_again(_place):
     return f"{len(entries)} entries"
 
 
-CHECKS = (images, areas, bounds, replies, refusals, elsewhere, told_again)
+CHECKS = (images, areas, bounds, replies, refusals, first_refusal, elsewhere, told_again)
