@@ -183,6 +183,24 @@ class Format(WithFolder):
             SessionFile(self.file).abandon()
             self.assertEqual(len(self.read()), max(end for end in ends if end <= cut))
 
+    def test_a_key_that_has_a_block_in_it_is_no_damage(self):
+        """A block's sum covers its session's number, so what a caller made up is no block, also where a write was torn."""
+        other = SessionFile(self.path + ".other")
+        other.close()
+        with open(other.path, "rb") as file:
+            key = file.read()[len(header()) :] + b"and more"
+        mine = SessionFile(self.file)
+        mine.begin(33)
+        mine.asked(33, Asked(ADD, key, False))
+        mine.commit()
+        mine.abandon()
+        whole, first = self.read(), len(header() + block())
+        self.assertIn(key, whole[first:])
+        for cut in range(first, len(whole)):
+            self.write(whole[:cut])
+            SessionFile(self.file).abandon()
+            self.assertEqual(self.read(), whole[:first])
+
     def test_what_no_client_writes_is_refused_and_not_touched(self):
         for name, blocks in REFUSED.items():
             content = blocks[0] if blocks[0][:4] in (b"FEME", b"feme") else header() + block() + b"".join(blocks)
