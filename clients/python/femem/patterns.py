@@ -13,8 +13,10 @@ A `timeout` is in seconds. `None` is no limit, and 0 or less means that nothing 
 from __future__ import annotations
 
 import functools
+import weakref
+from threading import get_ident
 from types import TracebackType
-from typing import Any, Callable, Optional, Type, TypeVar
+from typing import Any, Callable, Dict, Optional, Type, TypeVar, overload
 
 from . import locks, operations, queues, semaphore, words, work
 from .client import Client
@@ -23,6 +25,10 @@ from .jobs import Job
 from .requests import Array, number_of_bits
 
 C = TypeVar("C", bound="Held")
+
+Kind = Optional[Type[BaseException]]
+Error = Optional[BaseException]
+Trace = Optional[TracebackType]
 
 
 class Blocking(operations.Blocking):
@@ -71,8 +77,62 @@ class Opened(Blocking):
         client._run_job(Job(self._find()))
 
 
+class Block:
+    """A `with` block: the job that releases what it holds, and a look at its `__exit__`, which only Python holds.
+
+    Python looks for signals as a function begins, before its first statement. If one comes there, `__exit__` has done
+    nothing, and Python drops it: then the job is begun all the same.
+    """
+
+    def __init__(self, client: Client) -> None:
+        self._client = client
+        self._release: Optional[Job[None]] = None
+        self._watch: Optional[weakref.ref[Any]] = None
+
+    def holds(self, leave: Callable[..., None], release: Job[None]) -> None:
+        self._release = release
+        self._watch = weakref.ref(leave, self._is_dropped)
+
+    def leaves(self) -> None:
+        """Its `__exit__` has begun, or it does not hold anything after all."""
+        self._watch = None
+
+    def left(self) -> Optional[Job[None]]:
+        """The job, if it is still to be begun."""
+        return None if self._release is None or self._release.taken else self._release
+
+    def _is_dropped(self, leave: object) -> None:
+        job = self.left()
+        if job is not None:
+            self._client._abandon(job)
+
+
+class Exit:
+    """Gives each `with` block an `__exit__` of its own."""
+
+    @overload
+    def __get__(self, held: None, kind: Any = None) -> Callable[..., None]: ...
+
+    @overload
+    def __get__(self, held: Held, kind: Any = None) -> Callable[[Kind, Error, Trace], None]: ...
+
+    def __get__(self, held: Optional[Held], kind: Any = None) -> Callable[..., None]:
+        if held is None:
+            return kind._leave  # type: ignore[no-any-return]
+        leave = functools.partial(held._leave, block=Block(held._client))
+        held._entering[get_ident()] = weakref.ref(leave)  # for `__enter__`, which Python calls next
+        return leave
+
+
 class Held(Blocking):
     """What a `with` holds."""
+
+    __exit__ = Exit()
+
+    def __init__(self, client: Client, name: str, *sizes: Any, **more: Any) -> None:
+        # The `__exit__` of the block that each thread is about to enter.
+        self._entering: Dict[int, weakref.ref[functools.partial[None]]] = {}
+        super().__init__(client, name, *sizes, **more)
 
     def _begin_with(self) -> Any:
         raise NotImplementedError
@@ -83,30 +143,43 @@ class Held(Blocking):
     def __enter__(self: C) -> C:
         begin = self._begin_with()
         job = Job(begin.steps(self), getattr(self, begin.undo))
+        entering = self._entering.pop(get_ident(), None)
+        leave = None if entering is None else entering()
         try:
             self._client._run_job(job)
+            if leave is not None:
+                leave.keywords["block"].holds(leave, self._release_job())
             return self
         except FememError:
             raise
         except BaseException:
+            if leave is not None:
+                leave.keywords["block"].leaves()
             self._client._abandon(job)
             raise
 
-    def __exit__(
+    def _leave(
         self,
-        kind: Optional[Type[BaseException]],
-        error: Optional[BaseException],
-        trace: Optional[TracebackType],
+        kind: Kind,
+        error: Error,
+        trace: Trace,
+        block: Optional[Block] = None,
         job: Optional[Job[None]] = None,  # no caller gives it
     ) -> None:
         try:
-            job = self._release_job()
+            job = self._job_of(block)
+            if block is not None:
+                block.leaves()
             self._client._run_job(job)
         except FememError:
             raise
         except BaseException:
-            self._client._abandon(job or self._release_job())  # it is released in any case
+            self._client._abandon(job or self._job_of(block))  # it is released in any case
             raise
+
+    def _job_of(self, block: Optional[Block]) -> Job[None]:
+        """What releases the block. One that was left before, or is none, releases what this client has."""
+        return (None if block is None else block.left()) or self._release_job()
 
     def _release_job(self) -> Job[None]:
         return Job(self._end_with().steps(self), None, True)
@@ -182,9 +255,7 @@ class WorkJob(Blocking, work.WorkJob):
     def __enter__(self) -> WorkJob:
         return self
 
-    def __exit__(
-        self, kind: Optional[Type[BaseException]], error: Optional[BaseException], trace: Optional[TracebackType]
-    ) -> None:
+    def __exit__(self, kind: Kind, error: Error, trace: Trace) -> None:
         self._leave(kind is None)
 
 

@@ -1,6 +1,8 @@
 """What is held or waits is right after an interruption, whoever fills the words at which clients show themselves."""
 
 import asyncio
+import contextlib
+import ctypes
 import inspect
 import itertools
 import random
@@ -48,6 +50,50 @@ class Interrupted(WithFolder):
                             break
                     self.assertGreater(at, 100)
                     self.assertIsNone(client.failure)
+
+    def test_a_signal_between_a_block_and_its_end(self):
+        """Python sees it as `__exit__` begins, before the first statement there."""
+
+        def stop(*_):
+            raise Stop
+
+        class Raising:
+            __getitem__ = getattr(ctypes.CDLL(None), "raise")  # an index is no call, after which Python looks for signals
+
+        self.server()
+        before = signal.signal(signal.SIGALRM, stop)
+        self.addCleanup(signal.signal, signal.SIGALRM, before)
+        with Client(self.path, 7) as client, Client(self.path, 8) as other:
+            for kind, sizes in ((Lock, ()), (Semaphore, (1,))):
+                mine, theirs = (kind(each, kind.__name__.lower(), *sizes) for each in (client, other))
+                for _ in range(3):
+                    with self.assertRaises(Stop):
+                        with mine:
+                            Raising()[signal.SIGALRM]
+                    self.assertTrue(theirs.acquire(timeout=LONG))
+                    theirs.release()
+                    with mine:
+                        self.assertFalse(theirs.acquire(timeout=0))
+
+    def test_a_block_that_is_entered_and_left_by_hand(self):
+        self.server()
+        with Client(self.path, 7) as client, Client(self.path, 8) as other:
+            for kind, sizes in ((Lock, ()), (Semaphore, (1,))):
+                mine, theirs = (kind(each, kind.__name__.lower(), *sizes) for each in (client, other))
+                leave = mine.__exit__
+                for _ in range(3):
+                    self.assertIs(mine.__enter__(), mine)
+                    self.assertFalse(theirs.try_acquire())
+                    leave(None, None, None)
+                with self.assertRaises(femem.NotOwner):
+                    mine.__exit__(None, None, None)
+                mine.__enter__()
+                self.assertFalse(theirs.try_acquire())
+                mine.__exit__(None, None, None)
+                with contextlib.ExitStack() as stack:
+                    stack.enter_context(mine)
+                    self.assertFalse(theirs.try_acquire())
+                self.assertTrue(theirs.try_acquire())
 
     def waits(self, client, word):
         return [w for w in client.report().waiters if w.array == word.id]
