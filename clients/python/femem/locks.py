@@ -6,11 +6,12 @@ import time
 from typing import Any, Dict, List, Optional, Set, Tuple
 
 from . import frames, requests
-from .arguments import seconds_of
+from .arguments import Key, seconds_of
 from .errors import NoArray, NotNow, NotOwner, TimedOut
 from .jobs import Look, Pause, Steps, Wait
-from .operations import Array, Key, Pattern, Tries, batch, end_of, is_full, is_there, left, marked_array
+from .operations import Pattern, Tries, batch, end_of, is_full, is_there, left, marked_array
 from .operations import operation, operation_with, shared_array, size_of
+from .requests import Array
 
 # How many acquisitions the generation has room for, in each array of a lock.
 GENERATIONS = 2**40

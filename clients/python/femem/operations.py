@@ -144,7 +144,7 @@ def shared_array(name: str, length: int, full: bool) -> Steps[Array]:
     while True:
         made, found = yield from batch(asked, NameTaken, NoArray)
         array = found if isinstance(made, NameTaken) else made
-        if isinstance(array, NoArray):
+        if not isinstance(array, Array):
             continue  # it was removed in between
         if array.length != length:
             raise OtherPattern(f"{name} has {array.length} words, not {length}: another pattern, or of another size")

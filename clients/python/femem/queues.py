@@ -5,8 +5,10 @@ from __future__ import annotations
 from typing import Any, Optional, Tuple
 
 from . import frames, requests
-from .operations import Array, Key, Pattern, Steps, Tries, end_of, marked_array, once, operation_with, size_of
-from .requests import Request, number_of_bits
+from .arguments import Key
+from .jobs import Steps
+from .operations import Pattern, Tries, end_of, marked_array, once, operation_with, size_of
+from .requests import Array, Request, number_of_bits
 from .ring import SLOTS, Ring
 
 Call = Tuple[Request[Any], Optional[float]]

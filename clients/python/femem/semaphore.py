@@ -6,10 +6,12 @@ import time
 from typing import Any, List, Optional
 
 from . import frames, requests
+from .arguments import Key
 from .errors import NoArray, NotNow, NotOwner, TimedOut
 from .jobs import Steps
-from .operations import FIRST_LOOK, LAST_LOOK, Array, Key, Pattern, Tries, batch, end_of, is_full, left
+from .operations import FIRST_LOOK, LAST_LOOK, Pattern, Tries, batch, end_of, is_full, left
 from .operations import marked_array, operation, operation_with, size_of
+from .requests import Array
 from .ring import SLOTS, TRUST, Ring
 
 
@@ -170,7 +172,7 @@ class Semaphore(Pattern):
         found, ticket = yield from batch(
             [requests.readff(array, word, nowait=True), requests.int_fetch_add(array, 2, 1, nowait=True)], NotNow, NoArray
         )
-        is_held = found == holder
+        is_held: bool = found == holder
         if is_held:
             (given,) = yield from batch([requests.readfe(array, word, nowait=True)], NotNow, NoArray)
             is_held = is_full(given)

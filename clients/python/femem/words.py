@@ -6,10 +6,12 @@ import operator
 from typing import Any, Optional, Tuple
 
 from . import requests
+from .arguments import Key
 from .errors import BrokenBarrier, NameTaken, NoArray, NotNow, TimedOut
 from .jobs import Steps, Wait
-from .operations import Array, Key, Pattern, batch, end_of, is_full, left, once
+from .operations import Pattern, batch, end_of, is_full, left, once
 from .operations import operation, operation_with, shared_array, size_of
+from .requests import Array
 
 
 class Counter(Pattern):
@@ -113,7 +115,7 @@ class Barrier(Pattern):
         """The array of the newest round."""
         if self._array is None:
             found = yield from batch([requests.find(name) for name in self._names], NoArray)
-            rounds = sorted((each for each in found if is_full(each)), key=lambda each: each.id)
+            rounds = sorted((each for each in found if is_full(each)), key=lambda each: int(each.id))
             if rounds:
                 self._array = rounds[-1]
             else:

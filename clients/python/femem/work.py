@@ -6,9 +6,10 @@ import time
 from typing import Any, Callable, Dict, List, Optional, Sequence, Tuple
 
 from . import frames, requests
+from .arguments import Key
 from .errors import BadName, NoArray, NotNow, NotOwner, TimedOut
 from .jobs import Look, Steps, Wait
-from .operations import FIRST_LOOK, LAST_LOOK, Key, Pattern, Tries, batch, end_of, is_full, left
+from .operations import FIRST_LOOK, LAST_LOOK, Pattern, Tries, batch, end_of, is_full, left
 from .operations import operation, operation_with, size_of
 from .reports import Report
 from .requests import Request, number_of_bits
