@@ -54,7 +54,7 @@ def bounds(_place):
     for form, wanted in (
         ("| 8 | place, at most N - 1 |", TOP_PLACE + 1), ("next array id, 1 to place + N |", 1),
         ("length of the name, 1 to N in format 1 and to N in format 2;", [store.ONE.name, store.TWO.name]),
-        ("| 4 | length, 1 to N, and with the arrays before at most N words |", [words, words]),
+        ("| 4 | length, 1 to N, with the arrays before at most N words |", [words, words]),
         ("| 9 each | the words: tag (1), N or N, and value (8) |", [0, 1]), ("how many answers are kept, 0 to N |", window),
         ("| 8 | floor, 1 to N - N |", [2**63, 2**63 - TOP_FLOOR]), ("number (finished) or floor (attached, settled), below N |", 2**63),
         ("flag: N for an access that must not wait, else 0", 1), ("| attach | N sessions are kept, and", sessions),
@@ -157,7 +157,7 @@ def elsewhere(_place):
         ("operating", "| N sessions with N numbers each can't pass it |", [sessions, window]), ("model", "there are fewer than N | a missing", sessions),
         ("model", "at most N higher, and at most N - N |", [window, 2**63, 2**63 - TOP_FLOOR]), ("proved", "| at most N entries, in order", 2 * waiting + 1),
         ("proved", "`steps_are_few` (N entries)", said(PAGE, "fewer than N places left")), ("proved", "`boxes_stay_short` (N mails)", mails),
-        ("images", "at most the image's place + N, in format 2 + N |", said(PAGE, "the place in the image + N in format 1, + N in format 2", 2)),
+        ("images", "at most the image's place + N, in format 2 + N |", said(PAGE, "from 1 to its image's place + N in format 1, + N in format 2", 2)),
     ):
         same(said(f"docs/{page}.md", form, 1 if isinstance(wanted, int) else len(wanted)), wanted, f"docs/{page}.md: {form}")
     known = {*wire.ANSWERS, *wire.REFUSALS.values(), "connections", "bye"}

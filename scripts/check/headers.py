@@ -66,7 +66,7 @@ def of_python(_place):
     missing, count = [], 0
     for number, cells in tables_of(text_of(PYTHON_PAGE)):
         owner, named = femem.Client, cells[0]
-        if len(cells) == 2:
+        if re.match(r"`[A-Z]", cells[0]):
             made, sizes = re.match(r"`(\w+)\((.*)\)`", cells[0]).groups()
             owner, named = getattr(femem.patterns, made), cells[1]
             constructors = [it.__init__ for it in owner.__mro__ if "__init__" in vars(it)]

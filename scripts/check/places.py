@@ -91,19 +91,15 @@ def recipe(_place):
 
 
 def figures(_place):
-    """the README's figures beside SQLite and flock are those of docs/performance.md, whose instructions are those of bench/hall/README.md"""
+    """the README's figures beside SQLite and flock are those of docs/performance.md"""
     table = {row[0]: " ".join(row[1:]) for row in rows("docs/performance.md", "| | femem | in its place |")}
     numbers = lambda it: re.findall(r"(?<![\w.])\d[\d,.]*\d|(?<![\w.])\d(?![\w.])", it)
     one, eight, lock = (numbers(table[it]) for it in ("a client adds to a counter", "8 clients add to one counter", "a lock around true"))
-    said = re.search(r"On another machine, from Python: .*? in (\d+) µs, .*? in (\d+)\. Eight clients add ([\d,]+) times a second, and ([\d,]+) times"
+    said = re.search(r"\[On another machine, from Python\]\(.*?\): .*? in (\d+) µs, .*? in (\d+)\. Eight clients add ([\d,]+) times a second, and ([\d,]+) times"
                      r" to a row\. A lock around a command takes ([\d.]+) ms, and `flock` ([\d.]+)\.", text("README.md"))
     holds(said, "the README has the sentence")
     same(list(said.groups()), [one[1], one[3], eight[0], eight[2], *lock], "README.md")
-    events = {row[0]: int(row[1]) for row in rows("docs/performance.md", "| event | instructions | ns |")}
-    hall = re.search(r"a call (\d+) instructions, an entry posted (\d+), a mail taken (\d+), an entry appended (\d+)\.", text_of(HALL))
-    names = ("a call", "an entry posted", "a mail taken", "an entry appended, without the device")
-    same([events[it] for it in names], [int(it) for it in hall.groups()], "docs/performance.md")
-    return f"{len(names) + 6} figures"
+    return "6 figures"
 
 
 CHECKS = (layers, programs, packages, recipe, figures)

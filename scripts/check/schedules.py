@@ -139,7 +139,7 @@ def in_patterns(place):
         elif left and not line.startswith("|"):
             same(left[at:], [], f"docs/patterns.md: what the table of {name}.txt leaves out")
             left = []
-    holds(count >= 30, f"only {count} lines")
+    holds(count >= 15, f"only {count} lines")
     return f"{count} lines"
 
 
@@ -166,7 +166,7 @@ def in_the_syntax(place):
     for word, value in VALUES.items():
         lines = [re.sub(rf"\b{word}\b", value, it) for it in lines]
     same(place.run("run", given="".join(f"{line}\n" for line in lines).encode())[::2], (0, b""), "\n".join(lines))
-    most = number(re.search(r"connections `c1` to `c(\d+)` \|", text_of("docs/schedules.md"))[1])
+    most = number(re.search(r"`cN` is one of `c1` to `c(\d+)`\.", text_of("docs/schedules.md"))[1])
     ends = [place.run("run", given=f"c{it} attach 7\n".encode())[0] for it in (most, most + 1)]
     same(ends, [0, 2], "the greatest connection")
     return f"{len(lines)} lines"

@@ -14,6 +14,7 @@ from .texts import NAME, TOP, exists, rows_of, text_of, told
 
 PAGE = "docs/proved.md"
 PATHS = ("first_path", "broadcast", "removal")
+WORDS = "none one two three four five six seven eight nine ten".split()
 
 
 def script():
@@ -80,13 +81,12 @@ def parts(_place):
 
 
 def wrong_disks(_place):
-    """docs/proved.md names each wrong body of scripts/try_disks, with how many checks have to notice it"""
+    """docs/proved.md says how many wrong bodies scripts/try_disks has, and how many checks have to notice each"""
     wrong = runpy.run_path(os.path.join(TOP, "scripts", "try_disks"))["WRONG"]
-    said_of = {}
-    for names, count in re.findall(r"^\| (`\w+`[^|]*) \| (\d+)(?: each| checks each)? \|$", text_of(PAGE), re.M):
-        said_of.update({name: int(count) for name in NAME.findall(names)})
-    same(said_of, {name: len(checks) for name, checks in wrong.items()})
-    same(said(PAGE, "All N are noticed"), len(wrong))
+    same(said(PAGE, "builds one program with N wrong bodies"), len(wrong))
+    few, most = re.search(r"All are noticed, by (\w+) to (\w+) checks each\.", text_of(PAGE)).groups()
+    counts = [len(checks) for checks in wrong.values()]
+    same([WORDS.index(few), WORDS.index(most)], [min(counts), max(counts)], "checks that notice a wrong body")
     return f"{len(wrong)} wrong bodies"
 
 
