@@ -87,6 +87,7 @@ struct femem {
   unsigned opening_tries;
   uint64_t attaches, settles, cancels, probes;  /* sent and without a reply */
   int64_t quiet_since;      /* microseconds: when bytes last came, or waiting began */
+  int64_t attach_at;        /* when it attaches again if no welcome has come */
   uint64_t floor_told, floor_asked, low, next;  /* low: the least number that is not taken; next: the next to use */
   uint64_t resumed_end;     /* the end of a resumed window, or 0 */
   uint64_t last, returns;
@@ -195,6 +196,8 @@ femem_error fe_step(femem *client, int64_t end);
 femem_error fe_reach(femem *client, int64_t end, bool again);
 /* Handles a lost connection: reconnects if the settings say so. */
 femem_error fe_mend(femem *client, femem_error error, int64_t end);
+/* Reconnects, or goes on with that, if the client is not connected. */
+femem_error fe_come_back(femem *client, int64_t end);
 /* FEMEM_OK if requests may be sent, or why not. The second has its own end. */
 femem_error fe_usable(femem *client);
 femem_error fe_usable_until(femem *client, int64_t end);

@@ -154,14 +154,13 @@ static bool is_wrong_path(const femem *client) {
 }
 
 static void put_attach(femem *client) {
+  client->attach_at = fe_moment(FEMEM_QUIET);
   if (!fe_has_room(client, SETTLE_FRAME)) return;
   client->attaches++;
   fe_put_short(client, ATTACH, client->session);
 }
 
-/* Connects and attaches, until the session is served. The attach is repeated if no welcome comes: the server may have
-   read an earlier life's attach later than this one, and then the welcome went there. */
-static femem_error attach(femem *client, int64_t end) {
+static femem_error begin_attach(femem *client) {
   femem_error error = dial(client);
   if (error) return error;
   client->phase = client->opened ? RETURNING : OPENING;
@@ -169,18 +168,25 @@ static femem_error attach(femem *client, int64_t end) {
   client->welcomed = false;
   if (!client->opened) client->floor_told = client->settles = client->opening_tries = 0;
   put_attach(client);
-  int64_t again = fe_moment(FEMEM_QUIET);
+  return FEMEM_OK;
+}
+
+/* Connects and attaches, until the session is served. The attach is repeated if no welcome comes: the server may have
+   read an earlier life's attach later than this one, and then the welcome went there. If its time is over, a client
+   that returns keeps the connection, and goes on there the next time: the server may read what was sent over a closed
+   connection last, and would then take the session from the client's next one. */
+static femem_error attach(femem *client, int64_t end) {
+  femem_error error = client->phase == RETURNING ? FEMEM_OK : begin_attach(client);
   while (error == FEMEM_OK && client->phase != SERVED) {
-    bool repeats = !client->welcomed && (end < 0 || again < end);
-    error = fe_step(client, repeats ? again : end);
+    bool repeats = !client->welcomed && (end < 0 || client->attach_at < end);
+    error = fe_step(client, repeats ? client->attach_at : end);
     if (error == FEMEM_TIMEOUT && repeats) {
       error = FEMEM_OK;
-      again = fe_moment(FEMEM_QUIET);
       put_attach(client);
     }
     if (error == FEMEM_OK && client->phase != SERVED && fe_is_past(end)) error = FEMEM_TIMEOUT;
   }
-  if (error == FEMEM_TIMEOUT) fe_close_line(client, FEMEM_TIMEOUT);
+  if (error == FEMEM_TIMEOUT && client->phase == OPENING) fe_close_line(client, FEMEM_TIMEOUT);
   return error;
 }
 
@@ -203,9 +209,18 @@ femem_error fe_mend(femem *client, femem_error error, int64_t end) {
   int64_t last = fe_moment(client->settings.reconnect);
   bool earlier = end >= 0 && (last < 0 || end < last);
   error = fe_reach(client, earlier ? end : last, true);
-  if (!earlier || (error != FEMEM_UNREACHABLE && error != FEMEM_TIMEOUT)) return error;
-  fe_close_line(client, FEMEM_DISCONNECTED);
+  if (error != FEMEM_UNREACHABLE && error != FEMEM_TIMEOUT) return error;
+  if (!earlier) {
+    fe_close_line(client, error);
+    return error;
+  }
+  if (client->phase != RETURNING) fe_close_line(client, FEMEM_DISCONNECTED);
   return FEMEM_TIMEOUT;
+}
+
+femem_error fe_come_back(femem *client, int64_t end) {
+  if (client->phase == RETURNING) return fe_mend(client, FEMEM_DISCONNECTED, end);
+  return client->phase == CLOSED ? fe_mend(client, client->broken, end) : FEMEM_OK;
 }
 
 femem_error fe_usable(femem *client) { return fe_usable_until(client, fe_moment(client->settings.wait)); }
@@ -213,5 +228,5 @@ femem_error fe_usable(femem *client) { return fe_usable_until(client, fe_moment(
 femem_error fe_usable_until(femem *client, int64_t end) {
   if (fe_is_copy(client)) return FEMEM_FORKED;
   if (client->ended || client->bye) return FEMEM_ENDED;
-  return client->phase == CLOSED ? fe_mend(client, client->broken, end) : FEMEM_OK;
+  return fe_come_back(client, end);
 }

@@ -141,6 +141,6 @@ void femem_close(femem *client) {
 femem_error femem_reconnect(femem *client, int64_t within) {
   if (fe_is_copy(client)) return FEMEM_FORKED;
   if (client->ended) return FEMEM_ENDED;
-  fe_close_line(client, FEMEM_DISCONNECTED);
+  if (client->phase != RETURNING) fe_close_line(client, FEMEM_DISCONNECTED);
   return fe_reach(client, fe_moment(within), true);
 }

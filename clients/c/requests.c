@@ -97,11 +97,8 @@ femem_error femem_send(femem *client, const femem_request *request, uint64_t *nu
 
 femem_error femem_flush(femem *client) {
   if (fe_is_copy(client)) return FEMEM_FORKED;
-  if (client->phase == CLOSED) {
-    femem_error error = fe_mend(client, client->broken, fe_moment(client->settings.wait));
-    if (error) return error;
-  }
-  return fe_write_all(client, fe_moment(client->settings.wait));
+  femem_error error = fe_come_back(client, fe_moment(client->settings.wait));
+  return error ? error : fe_write_all(client, fe_moment(client->settings.wait));
 }
 
 femem_error femem_next(femem *client, femem_answer *answer, int64_t within) {

@@ -314,13 +314,50 @@ static void quiet_descriptor(void) {
   femem_close(client);
 }
 
+/* ---- coming back ---- */
+
+static void slow_server(int listener) {
+  int line = take_line(listener);
+  welcome(line);
+  heard(line, read_of, 1);
+  close(line);
+  line = take_line(listener);
+  hear(line, ATTACH_7);
+  rest(300000);
+  say(line, WELCOME_7);
+  heard(line, read_of, 1);
+  said(line, value_of, 1);
+  hear_end(line);
+}
+
+/* A client that waits for short times comes back over one connection. If it had closed that with its attach unread, the
+   server might read this last, and take the session from the client's next connection. */
+static void short_waits(void) {
+  test = "short waits while a server comes back";
+  for (int64_t within = 0; within <= 20; within += 20) {
+    pid_t server = begin_at(0, slow_server);
+    femem *client = opened(&(femem_settings){.wait = 20000, .reconnect = 20000, .resume = true});
+    uint64_t number = 0;
+    femem_answer answer = {0};
+    ERROR(femem_send_readfe(client, 1, 0, &number), FEMEM_OK);
+    ERROR(femem_flush(client), FEMEM_OK);
+    femem_error error = FEMEM_TIMEOUT;
+    for (int tries = 0; tries < 20000 && error == FEMEM_TIMEOUT; tries++, rest(1000))
+      error = femem_wait(client, number, &answer, within);
+    ERROR(error, FEMEM_OK);
+    CHECK(answer.value == 1 && femem_reconnects(client) == 1);
+    femem_close(client);
+    END(server);
+  }
+}
+
 int main(void) {
   setvbuf(stdout, NULL, _IOLBF, 0);
   alarm(200);
   if (!mkdtemp(folder)) return 1;
   snprintf(path, sizeof path, "%s/socket", folder);
   void (*const tests[])(void) = {out_of_time, late_withdrawals, moves_on, several_move, stopped_move, resumed_stays,
-                               quiet_descriptor};
+                               quiet_descriptor, short_waits};
   for (size_t i = 0; i < sizeof tests / sizeof *tests; i++) tests[i]();
   unlink(path);
   rmdir(folder);

@@ -42,7 +42,8 @@ femem_error fe_wait_for(femem *client, condition holds, uint64_t number, int64_t
   client->quiet_since = fe_now();
   for (bool first = true;; first = false) {
     if (!first && fe_is_past(end)) return FEMEM_TIMEOUT;
-    femem_error error = fe_mend(client, fe_step(client, end), end);
+    bool returns = client->phase == RETURNING;
+    femem_error error = returns ? fe_come_back(client, end) : fe_mend(client, fe_step(client, end), end);
     if (holds(client, number)) return FEMEM_OK;
     if (error) return error;
   }
