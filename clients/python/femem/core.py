@@ -116,11 +116,13 @@ class Core(JobRunner, Attachment):
     # Numbers that callers use themselves.
 
     def lends(self) -> Tuple[int, int]:
-        """The numbers that may be lent: from the first to before the second. None while something is asked."""
+        """The numbers that may be lent: from the first to before the second. None while the server owes an answer."""
         window = self._outbox.window
-        if window is None or self.file is not None or self.phase is not _READY or not self.is_idle or self._leaving is not None:
+        if window is None or self.file is not None or self.phase is not _READY or self._leaving is not None:
             return 0, 0
-        return window.next_number(), window.next_number() + window.room()
+        if not self.is_idle and (self._reports or not self._outbox.only_waits()):
+            return 0, 0
+        return window.next_number(), window.next_number() + window.to_lend()
 
     def takes_back(self, tickets: Sequence[Optional[Ticket[Any]]], now: float) -> None:
         """Notes that lent numbers were used for these. The last one may have no answer yet; then it is asked here."""

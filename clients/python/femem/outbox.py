@@ -119,6 +119,17 @@ class Outbox:
                     return True
         return False
 
+    def only_waits(self) -> bool:
+        """Whether all that is under way waits: it did before it was moved, or a later number was answered."""
+        window = self.window
+        if self._queue or window is None:
+            return False
+        answered = max(window.answers, default=0)
+        for number, ticket in window.unanswered.items():
+            if ticket.must_end() or number > answered and not ticket.has_moved:
+                return False
+        return True
+
     def owed(self) -> List[float]:
         """The times since when the server owes replies."""
         if self.window is None:

@@ -29,6 +29,9 @@ _HELD_BACK = 12
 _RECENT = 8
 _MOST_HOLDING = _WINDOW // 2
 
+# How many numbers are not lent while requests wait: for a call that finds none lent, and for what moves with it.
+_NOT_LENT = 4
+
 _SETTLED_OTHERWISE = "no answer is due"
 
 # Of numbers that a former process used: an answer may come once more, and it is not known which.
@@ -71,6 +74,10 @@ class Window(Generic[T]):
     def room(self) -> int:
         """How many more requests it has numbers for."""
         return self.asked + _WINDOW - self._next
+
+    def to_lend(self) -> int:
+        """How many numbers callers may use themselves, if any."""
+        return self.room() - (_NOT_LENT if self.unanswered else 0)
 
     def give(self, items: Sequence[T]) -> int:
         """The next numbers, for these requests. Returns the first one. There must be room."""

@@ -50,6 +50,12 @@ _TIMEVAL = struct.Struct("@ll")
 # is a lock, the cheapest way to wake a thread, and a caller that just got an answer often calls again soon.
 _LINGER = 0.01
 
+# The same while requests wait. Their answers may be seen only then, so it lingers only beside a caller that calls all the
+# time: several times in a row something was asked so soon after what came before.
+_LINGER_BESIDE_WAITS = 0.001
+_SOON = 0.0001
+_IN_A_ROW = 4
+
 # How long after an event the thread checks what is due by the clock, in seconds: sooner than anything that the event can
 # make due, except what the core calls urgent.
 _LOOK_AFTER = 0.02
@@ -78,6 +84,8 @@ class Worker(Lender):
         # Where the thread sleeps, so that a caller knows how to wake it.
         self._is_asleep = False
         self._is_at_bell = False
+        # How many times in a row something was asked soon.
+        self._in_a_row = 0
         self.is_over = False
         # The locks at which callers wait for their answers, for a child to open them, and whether this is the child.
         self._gates: Set[threading.Lock] = set()
@@ -149,7 +157,9 @@ class Worker(Lender):
 
     def _do_what_is_asked(self) -> None:
         asked = self.asked
+        before = self._now
         self._something_happens()
+        self._in_a_row = self._in_a_row + 1 if self._now - before < _SOON else 0
         while asked:
             try:
                 what = asked.popleft()
@@ -361,21 +371,21 @@ class Worker(Lender):
     def _linger(self) -> None:
         """With nothing left to do: completes the ended tickets, and sleeps at the bell for a moment.
 
-        It completes them just before it sleeps, since their caller wants the interpreter's lock at once. No caller
-        waits for what comes over the connection meanwhile.
+        It completes them just before it sleeps, since their caller wants the interpreter's lock at once. What comes over
+        the connection meanwhile is for callers that use lent numbers, or for requests that wait.
         """
         core = self.core
-        seconds = min(_LINGER, self._look_at - self._now)
+        seconds = min(_LINGER if core.is_idle else _LINGER_BESIDE_WAITS, self._look_at - self._now)
         self._is_at_bell = True
         while core.ended and not core.to_send:
             self._finish(core.take_ended())
         if seconds > 0.0 and not (self.asked or core.ended or core.to_send or core.is_urgent):
             lease = self._lend()
-            if lease is None:
-                self._bell.acquire(timeout=seconds)
-            else:
+            if lease is not None:
                 self._await_bell(lease, seconds)
                 self._take_back(lease)
+            elif core.is_idle:
+                self._bell.acquire(timeout=seconds)
         self._is_at_bell = False
 
     def _read(self, connection: socket.socket) -> bool:
@@ -392,7 +402,7 @@ class Worker(Lender):
         core = self.core
         core.received(piece, self._now)
         self._flush()
-        if core.ended and core.is_idle and not core.to_send:
+        if core.ended and not core.to_send and (core.is_idle or self._in_a_row >= _IN_A_ROW):
             self._linger()
         if core.ended:
             self._move()

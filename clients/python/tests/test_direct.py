@@ -7,6 +7,7 @@ import random
 import signal
 import socket
 import struct
+import sys
 import threading
 import time
 from unittest import mock
@@ -19,7 +20,7 @@ from test_malice import FIRST, attached
 from test_unspoilt import Stop, interrupted
 
 import femem
-from femem import Client, lease, requests
+from femem import Client, lease, requests, worker
 from femem.patterns import BoundedQueue, Lock, shared_array
 
 LONG = 60
@@ -404,6 +405,40 @@ class Direct(WithFolder):
             for _ in range(100):
                 client.readxx(word, 0)
                 self.assertIsNone(client._worker.lease)
+
+
+class Waiting(Client):
+    """A client that has a request that waits all the time. Its last step is to fill that word."""
+
+    def __init__(self, *arguments, **more):
+        super().__init__(*arguments, **more)
+        self.array, self.at, self.got = shared_array(self, "waiting", 64, full=False), self.session % 64, []
+        self.thread = threading.Thread(target=self.take)
+        self.thread.start()
+
+    def take(self):
+        try:
+            self.got.append(self.readfe(self.array, self.at))
+        except femem.FememError:
+            pass
+
+    def __exit__(self, *failure):
+        if failure[0] is None and self.failure is None:
+            self.writeef(self.array, self.at, 5, timeout=LONG)
+            self.thread.join(LONG)
+            assert self.got == [5], self.got
+        super().__exit__(*failure)
+
+
+class BesideOneThatWaits(Direct):
+    """The same hazards, while another thread waits."""
+
+    def setUp(self):
+        super().setUp()
+        for module, name, value in ((sys.modules[__name__], "Client", Waiting), (worker, "_IN_A_ROW", 0)):
+            patched = mock.patch.object(module, name, value)
+            patched.start()
+            self.addCleanup(patched.stop)
 
 
 class Replies(WithFolder):
