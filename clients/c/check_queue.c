@@ -138,57 +138,80 @@ static void calls(void) {
 
 /* What processes that are killed have told: how far each putter is, and how often each job was begun and done. */
 static struct told {
-  volatile uint32_t put[PUTTERS], begun[JOBS], done[JOBS], late[JOBS];
+  volatile uint32_t put[PUTTERS], begun[JOBS], done[JOBS], late[JOBS], robbed;
   volatile int stop;
 } *told;
+
+/* Ends a worker that got an error, and says which. */
+static void end_by(const char *worker, femem_error error) {
+  printf("check_queue: %s got '%s'\n", worker, femem_error_text(error));
+  _exit(1);
+}
 
 /* Puts its jobs under keys, so that each is put once, whatever stops in between. */
 static void put_all(int putter) {
   char session[100], key[32];
   snprintf(session, sizeof session, "%s/putter%d", folder, putter);
   femem *client;
-  if (femem_open_file(&client, path, session, &any_time)) _exit(1);
+  femem_error error = femem_open_file(&client, path, session, &any_time);
+  if (error) end_by("a putter that began", error);
   femem_queue *queue;
-  if (femem_queue_open(&queue, client, "kills", CAPACITY, ATTEMPTS, 500)) _exit(2);
+  error = femem_queue_open(&queue, client, "kills", CAPACITY, ATTEMPTS, 500);
+  if (error) end_by("a putter that began", error);
   while (told->put[putter] < EACH) {
     uint32_t next = told->put[putter];
     snprintf(key, sizeof key, "job %u", next);
-    if (femem_queue_put(queue, (uint64_t)putter * EACH + next, key, 60000)) _exit(3);
+    error = femem_queue_put(queue, (uint64_t)putter * EACH + next, key, 60000);
+    if (error) end_by("a putter", error);
     told->put[putter] = next + 1;
     if (next > 0) snprintf(key, sizeof key, "job %u", next - 1);
-    if (next > 0 && femem_forget(client, key) == FEMEM_MEMORY) _exit(4);
+    if (next > 0 && femem_forget(client, key) == FEMEM_MEMORY) end_by("a putter", FEMEM_MEMORY);
   }
   femem_queue_close(queue);
   femem_close(client);
   _exit(0);
 }
 
-static void take_all(int taker) {
-  femem *client;
-  char session[100];
-  snprintf(session, sizeof session, "%s/taker%d", folder, taker);
-  femem_error opening = taker % 2 ? femem_open_file(&client, path, session, &any_time)
-                                  : femem_open(&client, path, 100 + (uint64_t)taker, &any_time);
-  if (opening) _exit(1);
-  femem_queue *queue;
-  if (femem_queue_open(&queue, client, "kills", CAPACITY, ATTEMPTS, 500)) _exit(2);
+/* Takes jobs until all are done. */
+static femem_error take_jobs(femem_queue *queue) {
   while (!told->stop) {
     femem_job job;
     femem_error error = femem_queue_take(queue, &job, 300);
     if (error == FEMEM_WITHDRAWN) continue;
-    if (error || job.value >= JOBS) _exit(3);
+    if (error) return error;
+    if (job.value >= JOBS) end_by("a taker, with a value that nobody put,", error);
     if (job.number % 7 == job.attempt - 1) {
-      if (femem_queue_fail(queue, &job) != FEMEM_OK) _exit(4);
+      error = femem_queue_fail(queue, &job);
+      if (error) return error;
       continue;
     }
     __atomic_add_fetch(&told->begun[job.value], 1, __ATOMIC_SEQ_CST);
     error = femem_queue_done(queue, &job);
     if (error == FEMEM_OK) __atomic_add_fetch(&told->done[job.value], 1, __ATOMIC_SEQ_CST);
     else if (error == FEMEM_NOT_OWNER) __atomic_add_fetch(&told->late[job.value], 1, __ATOMIC_SEQ_CST);
-    else _exit(5);
+    else return error;
   }
-  femem_queue_close(queue);
-  femem_close(client);
+  return FEMEM_OK;
+}
+
+/* A taker without a session file begins again if the attach of a killed one, which the server read late, took its
+   session. It knows as little of its last job as one that was killed. */
+static void take_all(int taker) {
+  char session[100];
+  snprintf(session, sizeof session, "%s/taker%d", folder, taker);
+  while (!told->stop) {
+    femem *client;
+    femem_queue *queue = NULL;
+    femem_error error = taker % 2 ? femem_open_file(&client, path, session, &any_time)
+                                  : femem_open(&client, path, 100 + (uint64_t)taker, &any_time);
+    if (error == FEMEM_OK) error = femem_queue_open(&queue, client, "kills", CAPACITY, ATTEMPTS, 500);
+    if (error == FEMEM_OK) error = take_jobs(queue);
+    bool robbed = error == FEMEM_REFUSED_NOT_ATTACHED && taker % 2 == 0;
+    if (error && !robbed) end_by("a taker", error);
+    if (robbed) __atomic_add_fetch(&told->robbed, 1, __ATOMIC_SEQ_CST);
+    femem_queue_close(queue);
+    femem_close(client);
+  }
   _exit(0);
 }
 
@@ -206,11 +229,11 @@ static pid_t begin_worker(int worker) {
 static bool ended_well(pid_t worker) {
   int status = 0;
   waitpid(worker, &status, 0);
-  if (WIFEXITED(status) && WEXITSTATUS(status)) printf("check_queue: a worker ended with %d\n", WEXITSTATUS(status));
   return WIFSIGNALED(status) ? WTERMSIG(status) == SIGKILL : WEXITSTATUS(status) == 0;
 }
 
-/* How many jobs were told as done once, not done though nobody was killed in its done, and done more than once. */
+/* How many jobs were told as done once, not done though nobody was killed in its done, and done more than once. `kills`
+   counts takers that began again too. */
 static void check_jobs(unsigned kills) {
   unsigned once = 0, untold = 0, lost = 0, twice = 0, late = 0;
   for (int job = 0; job < JOBS; job++) {
@@ -221,8 +244,8 @@ static void check_jobs(unsigned kills) {
     late += told->late[job];
   }
   CHECK(twice == 0 && lost == 0 && once + untold == JOBS && untold <= kills);
-  printf("%d jobs, %u kills of clients: %u told as done, %u done and untold, %u twice, %u lost, %u late\n", JOBS, kills,
-         once, untold, twice, lost, late);
+  printf("%d jobs, %u kills of clients, %u late attaches: %u told as done, %u done and untold, %u twice, %u lost, "
+         "%u late\n", JOBS, kills - told->robbed, told->robbed, once, untold, twice, lost, late);
 }
 
 static void kills(void) {
@@ -256,7 +279,7 @@ static void kills(void) {
   size_t aside = 1;
   ERROR(femem_queue_aside(queue, NULL, 0, &aside), FEMEM_OK);
   CHECK(aside == 0 && told->put[0] == EACH && told->put[1] == EACH);
-  check_jobs(count);
+  check_jobs(count + told->robbed);
   femem_queue_close(queue);
   femem_close(client);
   char name[100];
