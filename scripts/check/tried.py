@@ -69,7 +69,7 @@ def parts(_place):
             missing += [] if known or exists(name) else [f"{PAGE}:{number}: no {name}"]
     found = how_many()
     same(found["histories"], f"{histories.KILLS} kills")
-    same(found["looks"].split(";")[0], f"{looks.LOOKS:,} looks")
+    same(found["looks"], f"{looks.LOOKS:,} looks, over at least {looks.LEAST_CHECKPOINTS} checkpoints")
     changes = [it for where, it in rows_in_order() if where == "files"]
     found_of = [changes[0].split(" changes")[0], changes[1].split(" ways")[0]]
     same(found_of, [str(len(files.CHANGES)), str(len(files.OVERWRITES))], "changes of files")
