@@ -28,6 +28,7 @@ enum {
   LONGEST_REPORT = 262144,
   INPUT = 8192,
   OUTPUT = 8192,
+  MOST_WORDS = 65536,       /* in all arrays of a server */
   RESERVE = 4096            /* of the output: more than a whole window, its cancels and other messages */
 };
 

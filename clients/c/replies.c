@@ -11,7 +11,7 @@ bool fe_fits(const femem_request *request, const reply *told) {
     return told->code >= FEMEM_NAME_TAKEN && told->code <= FEMEM_BAD_LENGTH;
   }
   if (operation == FEMEM_FIND) {
-    if (told->code == ANSWER_ARRAY) return told->value > 0 && told->length > 0;
+    if (told->code == ANSWER_ARRAY) return told->value > 0 && told->length > 0 && told->length <= MOST_WORDS;
     return told->code == FEMEM_NO_ARRAY || told->code == FEMEM_BAD_NAME;
   }
   if (told->code == FEMEM_NO_ARRAY) return true;

@@ -360,6 +360,13 @@ static void add_asked(bytes *to, uint64_t wire, uint64_t number, const char *key
   add_access(to, 5, 23, 1);
 }
 
+static void add_find(bytes *to, uint64_t wire) {
+  static const uint8_t zeros[16];
+  add(to, 1, 1), add(to, wire, 8), add(to, wire, 8), add(to, 0, 1);
+  add_key_of(to, "");
+  add(to, 26, 4), add(to, 3, 1), add(to, 0, 8), add(to, 5, 1), add_text(to, "cells", 5), add_text(to, zeros, 11);
+}
+
 static void add_number(bytes *to, unsigned kind, uint64_t wire) {
   add(to, kind, 1);
   add(to, wire, 8);
@@ -625,6 +632,11 @@ static void refused_requests(void) {
     add_asked(&p, 1, 1, "a"), add_number(&p, 3, 1);
     add_answer(&p, answers[i].code, answers[i].value, answers[i].length);
     ONE(1, 2, 5, answers[i].right ? FEMEM_OK : FEMEM_FILE_DAMAGED);
+  }
+  /* Answers to a find: an array has at most 65,536 words. */
+  for (uint32_t words = 0; words <= 65537; words += words == 1 ? 65535 : 1) {
+    add_find(&p, 1), add_number(&p, 3, 1), add_answer(&p, 3, 1, words);
+    ONE(1, 2, 5, words >= 1 && words <= 65536 ? FEMEM_OK : FEMEM_FILE_DAMAGED);
   }
 }
 

@@ -90,6 +90,11 @@ def create(name=b"word", length=1, tag=0, kind=2, size=None):
     return struct.pack(">IB", 1 + len(body), kind) + body
 
 
+def find(name=b"word"):
+    body = struct.pack(">QB16s", 0, len(name), name)
+    return struct.pack(">IB", 1 + len(body), 3) + body
+
+
 REFUSED = {
     "a short header": [header()[:-1]],
     "another magic": [b"femempy3" + header()[8:]],
@@ -131,6 +136,7 @@ REFUSED = {
     "an error with a value": [block(asked(33) + numbered(3, 33) + answer(4, 1), 33, 33, 34)],
     "a value with a length": [block(asked(33) + numbered(3, 33) + answer(1, 1, 1), 33, 33, 34)],
     "an array 0": [block(asked(33, create()) + numbered(3, 33) + answer(3, 0, 1), 33, 33, 34)],
+    "an array of more words than there are": [block(asked(33, find()) + numbered(3, 33) + answer(3, 1, 65537), 33, 33, 34)],
     "an array of another length": [block(asked(33, create()) + numbered(3, 33) + answer(3, 1, 2), 33, 33, 34)],
     "a floor of 0": [block(b"", 0, 33, 33)],
     "a floor above the asked one": [block(b"", 34, 33, 35)],
