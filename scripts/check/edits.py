@@ -2,6 +2,7 @@
 
 `rt ci` passes an edit that it can't apply, so nothing else would notice one that rots."""
 
+import collections
 import glob
 import os
 import re
@@ -26,6 +27,11 @@ FEARED = (
     "side_ends_at_once", "stops_after_one_wake", "stops_by_itself", "takes_cancel_for_bye", "takes_groups_back",
     "tells_another_connection",
 )
+# How many each crate has. One that is added or removed is counted here too.
+EACH = {
+    "fe_desk": 6, "fe_disk": 11, "fe_front": 6, "fe_hall": 18, "fe_journal": 14, "fe_keeper": 8, "fe_look": 2, "fe_mail": 6, "fe_pool": 5,
+    "fe_server": 7, "fe_service": 1, "fe_shared": 10, "fe_state": 7, "fe_streams": 4, "fe_waits": 6, "fe_wire": 6, "fe_words": 6,
+}
 FUNCTION = re.compile(r"\s*(?:pub(?:\([a-z]+\))? )?(?:const )?(?:unsafe )?fn (\w+)")
 CLAUSE = re.compile(r"\s*(ensures|requires)(?: (\w+))? \{(.*)")
 # `FUNCTION NAME`, `FUNCTION (TEXT)` for a clause without a name, or `invariant of TYPE (FIELD)`.
@@ -139,4 +145,10 @@ def feared(_place):
     return f"{len(FEARED)} wrong bodies"
 
 
-CHECKS = (fit, feared)
+def counted(_place):
+    """each crate has as many must-fail edits as are counted here, so none goes unseen"""
+    same(dict(collections.Counter(it.crate for it in edits())), EACH)
+    return f"{sum(EACH.values())} edits of {len(EACH)} crates"
+
+
+CHECKS = (fit, feared, counted)
