@@ -1,6 +1,8 @@
 """The operator's tools: a backup while the server writes, a restore, a rescue of a damaged store, and a probe that is stored."""
 
 import os
+import re
+import shutil
 import signal
 import subprocess
 import sys
@@ -8,7 +10,7 @@ import time
 
 from . import store, tables, wire
 from .crowds import adding
-from .harness import Held, Server, holds, same, until, within
+from .harness import Held, Server, Skipped, holds, same, until, within
 from .looks import Load
 from .model import State
 
@@ -155,6 +157,42 @@ def rescued(place):
     return f"{len(gates)} groups, places {older.place}, {some.place}, {state.place}"
 
 
+# A line of `strace -y`: a sync, a read or a write of a file, or a name that a file gets.
+TRACED = re.compile(r'(?:f(?:data)?(sync)|p(read)64|(write))\(\d+<([^>]*)>.* = \d+|(?:link|linkat|rename|renameat2?)\(.*"([^"]*)"(?:, \w+)?\) = 0')
+
+
+def traced(place, tool, *words):
+    """What a tool does with files, by its system calls: pairs of a word and a file's name, each once where several follow each other."""
+    trace = place.path("trace")
+    watched = "trace=fsync,fdatasync,pread64,write,link,linkat,rename,renameat,renameat2"
+    command = ["strace", "-y", "-s", "0", "-o", trace, "-e", watched, sys.executable, os.path.join(TOOLS, tool), *words]
+    env = {**os.environ, "FEMEM": place.program, "PYTHONDONTWRITEBYTECODE": "1"}
+    ended = subprocess.run(command, stdin=subprocess.DEVNULL, capture_output=True, text=True, timeout=60, env=env, check=False)
+    same(ended.returncode, 0, ended.stderr)
+    found = []
+    for it in TRACED.finditer(place.read("trace").decode()):
+        done = (it[1] or it[2] or it[3] or "name", os.path.basename(it[4] or it[5]))
+        if os.path.dirname(it[4] or it[5]) == place.folder or done == ("sync", os.path.basename(place.folder)):
+            found += [done] if done not in found[-1:] else []
+    return found
+
+
+@within(120)
+def synced(place):
+    """by their system calls: a backup syncs the store before it reads it and after; each tool syncs a file before it names it, and then the folder"""
+    if shutil.which("strace") is None:
+        raise Skipped("there is no strace")
+    server, content = filled(place, rounds=3)
+    store_name, folder = os.path.basename(server.store), ("sync", os.path.basename(place.folder))
+    made = lambda name: [("write", name), ("sync", name)]
+    around = [("sync", store_name), ("read", store_name), ("sync", store_name)]
+    same(traced(place, "femem-backup", server.store, place.path("copy")), [*around, *made("copy.new"), ("name", "copy"), folder])
+    names = [("name", f"{store_name}.before-restore"), ("name", store_name)]
+    same(traced(place, "femem-restore", place.path("copy"), server.store), [*made(f"{store_name}.restored"), *names, folder])
+    place.write("hurt", changed(content, store.slots_of(content)[0].at + store.JOURNAL + 5, 9))
+    same(traced(place, "femem-rescue", place.path("hurt"), place.path("saved")), [*made("saved.new") * 2, ("name", "saved"), folder])
+
+
 def changed(content, at, byte):
     return content[:at] + bytes([byte]) + content[at + 1 :]
 
@@ -205,4 +243,4 @@ def slow_sync(place):
     server.stop()
 
 
-CHECKS = (layout, restored, rescued, probed, slow_sync, while_served)
+CHECKS = (layout, restored, rescued, synced, probed, slow_sync, while_served)
