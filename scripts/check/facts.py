@@ -148,13 +148,16 @@ def definitions(_place):
 
 
 def settings(place):
-    """the defaults and bounds of docs/settings.md are those of `serve`: just inside they are taken, just outside refused"""
+    """the defaults and bounds of docs/settings.md are those of `serve`: just inside they are taken, just outside refused; the package has those that it names"""
     table = tables.settings()
     source = text("crates/fe_options/src/reading.rt")
     usual = re.search(r"^const USUAL_TURNS: u64 = ([\d_]+);", source, re.M)[1]
     same(number(table["turns"][1]), int(usual.replace("_", "")), "the default of turns")
     same([number(table["connections"][1])], LIMITS["connections"][1:], "the default of connections")
     same((table["accepts"][1], table["format"][1]), ("0", "false"))
+    shipped = {key: int(value) for key, value in re.findall(r"^(\w+) = ([\d_]+)$", text("packaging/femem.toml"), re.M)}
+    turns = said("docs/settings.md", "and N, as in `/etc/femem.toml`")
+    same(shipped, {"connections": number(table["connections"][1]), "turns": turns}, "packaging/femem.toml")
     for key in ("connections", "accepts", "turns"):
         least, most = (number(it) for it in re.match(r"([\d,^]+) to ([\d,^]+):", table[key][0]).groups())
         for value, line in ((least, "store device"), (most, "store device"), (least - 1, f"settings: {key}"), (most + 1, f"settings: {key}")):
