@@ -17,7 +17,7 @@ from .harness import HERE, Held, Server, Skipped, compiler, holds, preload, same
 from .texts import TOP, text_of
 
 # The numbers of the calls on x86-64, the program's only target.
-CALLS = {"pwrite": 18, "send": 44, "receive": 45, "sync": 75, "size": 8, "name": 89, "futex": 202, "accept": 288}
+CALLS = {"pwrite": 18, "send": 44, "receive": 45, "sync": 75, "size": 8, "name": 89, "futex": 202, "accept": 288, "sleep": 230, "nap": 35}
 OTHERS = ()  # those that are not counted
 
 
@@ -85,7 +85,7 @@ def lone(conn, first, count):
 
 
 def lone_calls(place):
-    """each of a thousand lone calls takes a receive, a send, two writes, two syncs and two looks at the file after each; and at most 20 calls in all, 9 of them futex"""
+    """each of a thousand lone calls takes a receive, a send, two writes, two syncs and two looks at the file after each; and at most 20 calls in all, 9 of them futex; none sleeps"""
     counted = Counted(place)
     server = Server(place).start()
     made(server, (b"counter", 1, 1))
@@ -97,6 +97,8 @@ def lone_calls(place):
             found, entries = counted.since(before), first + 49 + (first + 49) // 16
             name = f"{entries} entries took {found}"
             same([found[kind] for kind in ("send", "pwrite", "sync", "size", "name")], [entries, *[2 * entries] * 4], name)
+            # (`clock_nanosleep` and `nanosleep`)
+            same((found["sleep"], found["nap"]), (0, 0), name)
             # (the next receive may have begun)
             holds(found["receive"] in (entries - 1, entries), name)
             holds(found["futex"] <= MOST_FUTEX * entries and found["all"] <= MOST_CALLS * entries, name)
