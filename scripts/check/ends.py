@@ -11,7 +11,7 @@ import termios
 import time
 
 from . import wire
-from .crowds import adding, made, memory_of, served, threads_of
+from .crowds import adding, comes_to_rest, made, memory_of, served, threads_of
 from .harness import Held, Server, Skipped, holds, preload, same, until, within
 from .records import calls_of
 
@@ -98,6 +98,25 @@ def half_closed_long(place):
                 same(str(why), "the stream ended")
             same(sum(reply[0] == "answer" for reply in replies), 32)
             same(sum(reply[0] == "report" for reply in replies), calls)
+    server.stop()
+
+
+def half_closed_in_a_sync(place):
+    """a client that shuts its sending side while another's call is being stored gets the end of the stream once that is stored"""
+    held = Held(place, "fdatasync")
+    server = Server(place).start(held.env)
+    made(server, (b"counter", 1, 1))
+    with server.attached(7) as other, server.connect() as conn:
+        held.next()
+        other.send(wire.call(1, adding(1, 0, 1)))
+        held.wait()
+        same(conn.ask(wire.report()), ("report", "waiting 0\n"))
+        conn.finish()
+        # (its read side waits for what was made before the report, and gets no mail of it)
+        comes_to_rest(server)
+        held.let_go()
+        holds(conn.has_ended(), "the connection did not end")
+        same(other.reply(), ("answer", 1, ("value", 0)))
     server.stop()
 
 
@@ -268,6 +287,19 @@ def long_paths(place):
     server.attached(7).close()
     server.stop()
     same(place.read(os.path.basename(server.socket) + ".new"), b"another's")
+
+
+def beside_another(place):
+    """a server whose socket has the name PATH.new goes on while another starts at PATH, and keeps its socket"""
+    servers = [Server(place, name) for name in ("s", "other")]
+    servers[1].socket = f"{servers[0].socket}.new"
+    servers[1].start()
+    before = os.stat(servers[1].socket)
+    servers[0].start()
+    holds(os.path.samestat(os.stat(servers[1].socket), before), "the other's socket was replaced")
+    for session, server in enumerate(servers):
+        server.attached(session).close()
+        server.stop()
 
 
 # A loaded machine adds to each time, so the least of some turns is compared with a bound, and the bound is the same whatever the patience.
@@ -523,6 +555,7 @@ def unread_reports(place):
 CHECKS = (
     half_closed_replies,
     half_closed_long,
+    half_closed_in_a_sync,
     closed_at_once,
     last_turn,
     at_the_limit,
@@ -530,6 +563,7 @@ CHECKS = (
     two_at_one_socket,
     few_descriptors,
     long_paths,
+    beside_another,
     door_behind_half_closed,
     accepts_while_one_waits,
     late_client_is_the_last,
