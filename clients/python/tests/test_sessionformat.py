@@ -301,8 +301,9 @@ class Format(WithFolder):
 
     @unittest.skipUnless(shutil.which("strace"), "strace is not installed")
     def test_nothing_is_sent_before_the_sync_of_its_note(self):
-        """By the recorded system calls of a process: each request's note is written and synced before it is sent, and a new file is
-        synced before it replaces the old one."""
+        """By the recorded system calls of two processes, the second of which finds the first one's file: a file that is opened is
+        synced before anything is sent, and each request's note is written and synced before it is sent. A new file is synced before
+        it replaces the old one, and its folder before anything more is sent."""
         self.server()
         with Client(self.path, 8) as other:
             word = other.create("word", 1, full=True)
@@ -315,28 +316,36 @@ class Format(WithFolder):
         trace = self.path + ".trace"
         watched = "trace=write,fsync,fdatasync,sendto,openat,rename"
         words = ["strace", "-f", "-y", "-xx", "-s", "4096", "-e", watched, "-o", trace, sys.executable, "-c", program]
-        done = subprocess.run(words, capture_output=True, text=True, timeout=LONG)
-        if done.returncode != 0 and "ptrace" in done.stderr:
-            self.skipTest("this machine allows no tracing")
-        self.assertEqual(done.returncode, 0, done.stderr)
         sent = replaced = 0
         unsynced, synced = b"", b""
-        name = "".join(f"\\x{byte:02x}" for byte in b".session")
-        with open(trace) as lines:
-            for line in lines:
-                strings = re.findall('"((?:\\\\x[0-9a-f]{2})*)"', line)
-                content = bytes.fromhex(strings[0].replace("\\x", "")) if strings else b""
-                if " write(" in line and name in line:
-                    unsynced += content
-                elif "sync(" in line and name in line:
-                    synced, unsynced = synced + unsynced, b""
-                elif "sendto(" in line:
-                    for note in self.notes(content):
-                        self.assertIn(note, synced)
-                        sent += 1
-                elif "rename(" in line:
-                    self.assertEqual(unsynced, b"")
-                    replaced += 1
+        spelled = lambda text: "".join(f"\\x{byte:02x}" for byte in os.fsencode(text))
+        name, folder = spelled(".session"), f"<{spelled(os.path.dirname(os.path.abspath(self.file)))}>"
+        for _ in range(2):
+            done = subprocess.run(words, capture_output=True, text=True, timeout=LONG)
+            if done.returncode != 0 and "ptrace" in done.stderr:
+                self.skipTest("this machine allows no tracing")
+            self.assertEqual(done.returncode, 0, done.stderr)
+            due = {"file"}  # what has to be synced before anything is sent
+            with open(trace) as lines:
+                for line in lines:
+                    strings = re.findall('"((?:\\\\x[0-9a-f]{2})*)"', line)
+                    content = bytes.fromhex(strings[0].replace("\\x", "")) if strings else b""
+                    if " write(" in line and name in line:
+                        unsynced += content
+                    elif "sync(" in line and name in line:
+                        synced, unsynced = synced + unsynced, b""
+                        due.discard("file")
+                    elif "sync(" in line and folder in line:
+                        due.discard("folder")
+                    elif "sendto(" in line:
+                        self.assertEqual(due, set())
+                        for note in self.notes(content):
+                            self.assertIn(note, synced)
+                            sent += 1
+                    elif "rename(" in line:
+                        self.assertEqual(unsynced, b"")
+                        due.add("folder")
+                        replaced += 1
         self.assertEqual(sent, 40)
         self.assertGreater(replaced, 3)
 
