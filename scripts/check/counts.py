@@ -141,7 +141,7 @@ def processor_time(server):
     return (int(fields[11]) + int(fields[12])) / os.sysconf("SC_CLK_TCK")
 
 
-MOST_SECONDS = 1.5
+MOST_SECONDS, MOST_FOR_REPORTS = 1.5, 0.5
 
 
 def lone_time(place):
@@ -154,6 +154,22 @@ def lone_time(place):
             lone(conn, first, 50)
             took = processor_time(server) - before
             holds(took <= MOST_SECONDS, f"{first + 49} calls took {took:.2f} s")
+    server.stop()
+    return f"{took:.2f} s"
+
+
+def report_time(place):
+    """a thousand lone reports, while 32 requests wait, take at most half a second of processor time"""
+    server = Server(place).start()
+    made(server, (b"empty", 1, 0))
+    with server.attached(7) as conn, server.connect() as other:
+        conn.send(b"".join(wire.call(number, ("access", 16, 1, 0, 0, False)) for number in range(1, 33)))
+        until(lambda: other.ask(wire.report())[1].startswith("waiting 32\n"), 20, "all wait")
+        before = processor_time(server)
+        for count in range(1, LONE + 1):
+            same(other.ask(wire.report())[0], "report")
+            took = processor_time(server) - before
+            holds(took <= MOST_FOR_REPORTS, f"{count} reports took {took:.2f} s")
     server.stop()
     return f"{took:.2f} s"
 
@@ -272,4 +288,4 @@ def instructions(place):
     return ", ".join(f"{name.split('::')[-1]} {found[name]}" for name in FUNCTIONS)
 
 
-CHECKS = (a_window, lone_calls, within(120)(windows), lone_time, idle, no_files_left, baton, instructions)
+CHECKS = (a_window, lone_calls, within(120)(windows), lone_time, report_time, idle, no_files_left, baton, instructions)
