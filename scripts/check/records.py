@@ -50,11 +50,13 @@ def wrote(at, data):
     return [("pwrite", at, data)]
 
 
-# After each sync the server checks the file's size and its path, which says whether it has a name, and what it synced before (`compared`).
-# The first sync also drops the cached pages.
+# A sync is one call. The first one also drops the cached pages.
+SYNC = [("fdatasync",)]
+FIRST_SYNC = SYNC + [("fadvise", 0, 0, os.POSIX_FADV_DONTNEED)]
+
+# Behind the sync of a short write, such as a gate, the server checks the file's size, its path, which says whether it has a name, and
+# what it synced before (`compared`).
 WATCH = [("lseek",), ("readlink",)]
-SYNC = [("fdatasync",)] + WATCH
-FIRST_SYNC = [("fdatasync",), ("fadvise", 0, 0, os.POSIX_FADV_DONTNEED)] + WATCH
 
 
 # How many bytes of a long write are kept, and how short one is that is no group's.
@@ -62,12 +64,12 @@ FIRST, SHORT = 31, 16
 
 
 def compared(calls):
-    """The same calls, with the read behind each sync of a short write of what was synced before: the first bytes of the last long write, with
-    the byte in front of them if that was written alone. What was written over since is not read."""
+    """The same calls, with what follows each sync of a short write: the file is looked at, and what was synced before is read, the first bytes
+    of the last long write, with the byte in front of them if that was written alone. What was written over since is not read."""
     written = synced = (0, 0)
     is_short = False
     found = []
-    for call in calls:
+    for call, following in zip(calls, [*calls[1:], ()]):
         found.append(call)
         if call[0] == "pwrite":
             at, size = call[1], len(call[2])
@@ -80,8 +82,8 @@ def compared(calls):
                 written = (at, written[1] + 1)
             elif not apart[0]:
                 written = (0, 0)
-        elif call == WATCH[-1] and is_short:
-            found += [("pread", *synced)] if synced[1] else []
+        elif call[0] in ("fdatasync", "fadvise") and following != FIRST_SYNC[1] and is_short:
+            found += WATCH + ([("pread", *synced)] if synced[1] else [])
             synced = written
     return found
 
@@ -433,8 +435,8 @@ def looked(place):
     area = SLOT + JOURNAL
     first, second = area + 5 + 80, area + 5 + 80 + 5 + 160
     found = [("pread", area, 1), ("pread", area + 1, 4), ("pread", first, 1), ("pread", first + 1, 4), ("pread", second, 1)]
-    wanted = FIRST_SYNC[:2] + header(0) + header(SLOT) + [("pread", SLOT + IMAGE, AREA)] + found + [("pread", area, AREA)]
-    wanted += header(SLOT) + SYNC[:1]
+    wanted = FIRST_SYNC + header(0) + header(SLOT) + [("pread", SLOT + IMAGE, AREA)] + found + [("pread", area, AREA)]
+    wanted += header(SLOT) + SYNC
     lines = ["stat s.store", f"open s.store {os.O_RDONLY} 0", "fstat s.store", *in_lines("s.store", wanted)]
     as_said([repr(call) for call in calls_of(place.path("record"))], lines)
 

@@ -31,9 +31,10 @@ const MODE: u32 = 0o600;
 /// that are not on the device, and would give their bytes to every reader until it needs the memory.
 ///
 /// A disk that writes holds an advisory lock on its file for as long as it lives, so no other disk writes the file
-/// meanwhile. A sync succeeds only if the file afterwards still has its size and the path by which it was opened:
-/// what is written into a file that was cut, renamed, replaced or removed is lost. The file must also still have what
-/// was synced before, as far as `Samples` knows it: a program that overwrote the file in place has overwritten that too.
+/// meanwhile. A sync behind a short write, such as a gate, succeeds only if the file afterwards still has its size and the
+/// path by which it was opened: what is written into a file that was cut, renamed, replaced or removed is lost. The file must
+/// also still have what was synced before, as far as `Samples` knows it: a program that overwrote the file in place has
+/// overwritten that too.
 ///
 /// Nothing is claimed about what a file gives or keeps, so it is not honest.
 #[derive(Drop)]
@@ -167,7 +168,8 @@ impl FileDisk {
         count(&mut self.failures, outcome)
     }
 
-    // Syncs the file, and asks whether it is still the one that was opened, with what was synced before.
+    // Syncs the file. Behind a short write, such as a gate, asks whether it is still the one that was opened, with what was
+    // synced before: what a long write brought counts only once the gate behind it is synced.
     fn settle(&mut self) -> Result<(), DeviceFault>
         requires count { self.old.failures < 2 ^ 64 - 1 }
         requires calls { self.old.calls.syncs < 2 ^ 64 - 1 }
@@ -178,7 +180,8 @@ impl FileDisk {
     {
         self.calls.syncs += 1;
         let outcome = settled(&self.file, self.is_settled);
-        if outcome.is_err() || !self.is_there() || !self.samples.confirm(&self.file) {
+        let is_lost = self.samples.is_short && !self.is_there();
+        if outcome.is_err() || is_lost || !self.samples.confirm(&self.file) {
             return Err(fault(&mut self.failures));
         }
         self.is_settled = true;

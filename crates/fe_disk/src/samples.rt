@@ -14,7 +14,7 @@ pub(crate) struct Samples {
     /// The same at the last sync behind a short write. Nothing was written there since.
     synced: Sample,
     /// The last write was short. So a group is compared once, behind its gate.
-    is_short: bool,
+    pub(crate) is_short: bool,
 }
 
 impl Samples {
