@@ -2,6 +2,7 @@
 
 import os
 import re
+import subprocess
 
 from . import schedules
 from .harness import holds, preload, same, within
@@ -239,6 +240,28 @@ def longest_lines(place):
     same(place.run("run", given=long), (2, b"c1 welcome 7 1\n", b"femem: line 2\n"))
 
 
+def peak_of(place, given):
+    """The peak memory in kB of a run of these lines."""
+    path = place.write("given", given)
+    with open(path, "rb") as source, open(os.devnull, "wb") as output:
+        process = subprocess.Popen([place.program, "run"], stdin=source, stdout=output)
+        _, status, used = os.wait4(process.pid, 0)
+    process.returncode = os.waitstatus_to_exitcode(status)
+    same(process.returncode, 0)
+    return used.ru_maxrss
+
+
+def printed_is_let_go(place):
+    """what was printed is let go: a hundred times as many reports, of 1,000 requests that wait, take no more memory"""
+    waiting = b"".join(
+        b"c%d attach %d\n" % (conn, conn) + b"".join(b"c%d %d readfe 1 0\n" % (conn, number) for number in range(2, 33)) for conn in range(1, 33)
+    )
+    begin = b"c1 attach 1\nc1 1 create cells 1 empty\n" + waiting
+    few, many = (peak_of(place, begin + b"c1 report\n" * count) for count in (10, 1000))
+    holds(many < few + 1000, f"{many} kB, and {few} with a hundredth of the reports")
+    return f"{many} kB, {few} with a hundredth"
+
+
 def cut_anywhere(place):
     """an input cut at each byte: the cut line runs if it is a line of the syntax, or its number is printed"""
     given = b"c1 attach 7\nc1 1 create cells 2 empty\nc1 2 writeef 1 0 42\nc1 cancel 2\nhold\nc1 gone\nflush\n"
@@ -399,6 +422,7 @@ CHECKS = (
     stray_lines,
     names_are_bytes,
     longest_lines,
+    printed_is_let_go,
     cut_anywhere,
     short_streams,
     streams_fail,

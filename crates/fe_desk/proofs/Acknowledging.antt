@@ -1,5 +1,5 @@
 -- At every point of a run, the mails in boxes and those that were written are on the groups that were stored.
-use Rattle.std.proofs.Common.{◌≡◌, inl, inr, ℕ, ◌+◌, ◌<◌, ◌≤◌, Bool, true, false, true≢false, List, [], ◌∷◌, ◌++◌, append-nil, append_assoc, length, Option, Some, None, refl, sym, ap, subst, ◌∙◌, arith}
+use Rattle.std.proofs.Common.{◌≡◌, inl, inr, ℕ, ◌+◌, ◌≤◌, Bool, true, false, true≢false, List, [], ◌∷◌, ◌++◌, append-nil, append_assoc, length, Option, Some, None, refl, sym, ap, subst, ◌∙◌, arith}
 use Rattle.std.proofs.lemmas.List.Elements.{Contains-append_left}
 use Rattle.std.specs.Prelude.{Contains, nat_eq, is_some, if◌then◌else◌, ◌||◌, MatchBool, IfSome}
 use Rattle.std.specs.List.{AllByRecursion}
@@ -8,12 +8,11 @@ use Rattle.std.specs.Ordering.{nat_cmp}
 use Rattle.std.specs.FinMap.{FinMap, get, get-empty}
 use Rattle.std.proofs.lemmas.List.{flat_map_more, length-append}
 use Rattle.std.proofs.lemmas.List.Concat.{flat_map-append}
-use Rattle.fe_state.specs.Sessions.{Session, kept_in}
-use Rattle.fe_state.specs.State.{ServerState, IsWithinLimits, after_all}
+use Rattle.fe_state.specs.Sessions.{kept_in}
+use Rattle.fe_state.specs.State.{ServerState, after_all}
 use Rattle.fe_state.specs.declared.batch.Batch.{Batch}
 use Rattle.fe_state.specs.declared.entry.Entry.{Entry}
 use Rattle.fe_state.specs.declared.entry.Entry.TheVariants.{Attached, Closed, Settled}
-use Rattle.fe_state.specs.declared.kept.Kept.{Kept}
 use Rattle.fe_state.proofs.Histories.{after-append}
 use Rattle.fe_mail.specs.Connections.{mails_on}
 use Rattle.fe_mail.specs.declared.connection.Connection.{Connection}
@@ -31,7 +30,7 @@ use Rattle.fe_front.proofs.Coming.{posted-stays, dropped-stays}
 use Rattle.fe_messages.specs.Answers.{IsFinishedAt, AreAnswered}
 use Rattle.fe_messages.specs.Asking.{HasOnly}
 use Rattle.fe_messages.specs.Mails.{reply_of}
-use Rattle.fe_messages.proofs.Answers.{KeepsBelow, answered-append, answered-split, finished_more, keeps_below, kept_stands}
+use Rattle.fe_messages.proofs.Answers.{KeepsBelow, answered-append, answered-split, finished_more, kept_stands}
 use Rattle.fe_messages.proofs.Boxes.{AllIn, all_append, all_weaker, boxes-connected, boxes-dropped, boxes-posted_all}
 use Rattle.fe_messages.proofs.Seated.{has_lost, connected_loses, dropped_loses, posted_loses, posted_entry_loses, message_has, first_has, none_some, some_same}
 use Rattle.fe_desk.specs.declared.handed.Handed.{Handed}

@@ -1,7 +1,6 @@
 -- What a step does before the boxes are emptied, from the call that it makes.
-use Rattle.std.proofs.Common.{◌≡◌, ◌⊎◌, inl, inr, ℕ, Vec, Global, Bool, true, false, List, [], Result, Ok, Err, refl, sym, ap, subst, ◌∙◌}
+use Rattle.std.proofs.Common.{◌≡◌, ℕ, Vec, Global, Bool, true, false, List, [], Result, Ok, Err, refl, sym, ap, subst, ◌∙◌}
 use Rattle.std.specs.Prelude.{None, OnOk, MatchBool, MatchResult, if◌then◌else◌}
-use Rattle.std.specs.declared.alloc.AllocError.{AllocError}
 use Rattle.fe_disk.specs.declared.disk.Disk.{Ghosts}
 use Rattle.fe_front.specs.Front.{is_connected}
 use Rattle.fe_keeper.specs.Ends as keeper
@@ -14,9 +13,8 @@ use Rattle.fe_desk.specs.declared.step.Step.{Step}
 use Rattle.fe_desk.specs.declared.step.Step.TheVariants as step
 use Rattle.fe_desk.specs.Standing.{Standing}
 use Rattle.fe_desk.specs.Storing.{stored, is_making}
-use Rattle.fe_desk.specs.Steps.{find, gone, unmade, Acts, Connects, IsAgain, TakesBytes}
-use Rattle.fe_desk.specs.Stopping.{StopsShort}
-use Rattle.fe_desk.specs.Messages.{outputs, told_as, TellsFed}
+use Rattle.fe_desk.specs.Steps.{find, unmade, Acts, Connects, IsAgain, TakesBytes}
+use Rattle.fe_desk.specs.Messages.{outputs, told_as}
 use Rattle.fe_desk.specs.Crash.{DeskState, Advances, IsFine}
 use Rattle.fe_desk.specs.Checks.{Checks}
 use Rattle.fe_desk.specs.Ends.{Lacks, Tears, Breaks, BreaksOff}

@@ -1,15 +1,12 @@
 -- Entries that are answered as the operation table says.
-use Rattle.std.proofs.Common.{◌≡◌, ◌⊎◌, inl, inr, ℕ, ◌+◌, ◌<◌, Bool, true, List, [], ◌∷◌, ◌++◌, length, Some, refl, sym, ap, subst, ◌∙◌, arith, append_assoc}
+use Rattle.std.proofs.Common.{◌≡◌, inr, ℕ, ◌+◌, Bool, true, List, [], ◌∷◌, ◌++◌, length, refl, sym, subst, ◌∙◌, arith, append_assoc}
 use Rattle.std.specs.List.{flat_map}
 use Rattle.std.specs.Prelude.{Contains}
 use Rattle.std.proofs.lemmas.List.{length-append}
 use Rattle.std.proofs.lemmas.List.Elements.{Contains-append_right}
-use Rattle.fe_state.specs.State.{ServerState, IsAnswered, directory_of, after, after_all}
-use Rattle.fe_state.specs.declared.answer.Answer.{Answer}
+use Rattle.fe_state.specs.State.{ServerState, IsAnswered, directory_of, after}
 use Rattle.fe_state.specs.declared.entry.Entry.{Entry}
 use Rattle.fe_state.specs.declared.entry.Entry.TheVariants.{Attached, Closed, Settled, Finished}
-use Rattle.fe_state.specs.declared.kept.Kept.{Kept}
-use Rattle.fe_state.specs.declared.request.Request.{Request}
 use Rattle.fe_service.specs.Service.{Waiters, AreTurns, without_turn}
 use Rattle.fe_mail.specs.Mail.{session_of, mail_of}
 use Rattle.fe_messages.specs.Answers.{AreAnswered}

@@ -1,11 +1,9 @@
 -- What a fault of a keeper's call leaves of the desk.
-use Rattle.std.proofs.Common.{◌≡◌, ℕ, true, false, refl, sym, ap, subst, ◌∙◌}
-use Rattle.std.specs.Prelude.{Result, Ok, Err, IfErr, IsErrAnd, IsErrOf}
+use Rattle.std.proofs.Common.{◌≡◌, ℕ, false, refl, subst}
 use Rattle.fe_keeper.specs.Ends.{Breaks, Refuses, Fails}
 use Rattle.fe_keeper.specs.Keeper.{KeeperState}
 use Rattle.fe_keeper.specs.declared.fault.Fault.{Fault}
 use Rattle.fe_keeper.specs.declared.fault.Fault.TheVariants.{Device, Failed, NoMemory, Mismatch, Damaged, Unformatted}
-use Rattle.fe_desk.specs.Crash.{DeskState, TellsCall}
 
 module _ {D : Type 0} (failures : D → ℕ) (Cause : Fault → Type 0) (fault : Fault) (old new : KeeperState D) where
   -- no memory

@@ -1,6 +1,6 @@
 -- What each connection number has read of its stream.
-use Rattle.std.proofs.Common.{◌≡◌, ◌≢◌, ℕ, Vec, Global, Bool, true, false, List, [], ◌∷◌, map, Option, Some, refl, sym, ap, ◌∙◌, subst, if◌then◌else◌, arith}
-use Rattle.std.specs.Prelude.{nat_eq, MatchBool}
+use Rattle.std.proofs.Common.{◌≡◌, ◌≢◌, ℕ, Bool, true, false, List, [], ◌∷◌, map, Option, Some, refl, sym, ap, ◌∙◌, if◌then◌else◌, arith}
+use Rattle.std.specs.Prelude.{nat_eq}
 use Rattle.std.specs.Option.{option_map}
 use Rattle.std.proofs.lemmas.Bool.Decides.{nat_tests}
 use Rattle.fe_wire.specs.Stream.{Decoding}
@@ -10,7 +10,7 @@ use Rattle.fe_desk.specs.declared.step.Step.TheVariants as step
 use Rattle.fe_desk.specs.Mails.{emptied_box}
 use Rattle.fe_desk.specs.Standing.{Client, Standing, emptied, discharged, all_told}
 use Rattle.fe_desk.specs.Steps.{find, on_client}
-use Rattle.fe_desk.specs.Messages.{read_by, ReadsNone, ReadsPiece, TellsFed}
+use Rattle.fe_desk.specs.Messages.{read_by, ReadsNone, TellsFed}
 use Rattle.fe_desk.proofs.Reading.{each-on_client}
 
 abbrev pub read_among : ℕ → List Client → Option Decoding

@@ -18,7 +18,7 @@ use Rattle.fe_desk.specs.declared.handed.Handed.TheVariants.{Nothing, Cut, Store
 use Rattle.fe_desk.specs.Storing.{posted, posted_from}
 use Rattle.fe_desk.specs.within.Keeping.{HasStore}
 use Rattle.fe_desk.specs.within.Desk.{IsDesk}
-use Rattle.fe_desk.specs.within.Goes.{Stores, Loses, Faults, Goes, GoesPiece, PieceFaults, IsUnstored, IsShort, Is}
+use Rattle.fe_desk.specs.within.Goes.{Stores, Faults, Goes, GoesPiece, PieceFaults, IsUnstored, IsShort, Is}
 use Rattle.fe_desk.specs.Messages.{told_as}
 use Rattle.fe_desk.proofs.Advancing.{advances_as, advances_both, advances_then, advances_after, fine_both, fine_as}
 use Rattle.fe_desk.proofs.Growing.{stores_none, stores_both}

@@ -1,5 +1,5 @@
 -- A batch that is handed to the store, as a group of the history.
-use Rattle.std.proofs.Common.{◌≡◌, ◌⊎◌, inl, inr, ⊎_elim, ℕ, ◌+◌, ◌-◌, ◌<◌, ◌≤◌, Bool, true, false, List, [], ◌∷◌, ◌++◌, length, take, refl, sym, ap, subst, ◌∙◌, arith}
+use Rattle.std.proofs.Common.{◌≡◌, ◌⊎◌, ⊎_elim, ℕ, ◌+◌, ◌-◌, ◌<◌, ◌≤◌, Bool, true, false, List, [], ◌∷◌, ◌++◌, length, take, refl, sym, ap, subst, ◌∙◌, arith}
 use Rattle.std.specs.Prelude.{◌↔◌, Option, Some, None, IfSome, is_some, OnOk, IsErr, Result, Ok, Err, is_ok, is_err, if◌then◌else◌, map}
 use Rattle.std.specs.Option.{option_map_or}
 use Rattle.std.proofs.lemmas.List.{append-nil, length-append, map-append, take-append-le, take_all}
@@ -18,8 +18,6 @@ use Rattle.fe_front.specs.Posting.{IsOut, posted}
 use Rattle.fe_front.proofs.Keeping.{posted_all-keeps}
 use Rattle.fe_front.specs.declared.out.Out.{Out}
 use Rattle.fe_keeper.specs.Keeper.{StoreState, Progress, fits, must_begin, made_room, renewed, finished_by}
-use Rattle.fe_keeper.specs.declared.fault.Fault.{Fault}
-use Rattle.fe_keeper.specs.declared.fault.Fault.TheVariants.{Device, Failed, NoMemory, Mismatch}
 use Rattle.fe_keeper.specs.Stands.{StandsFor, StandsForEither, EachStandsFor}
 use Rattle.fe_keeper.specs.Prefix.{LeavesPrefix}
 use Rattle.fe_desk.specs.declared.handed.Handed.{Handed}

@@ -1,6 +1,6 @@
 -- Room is made, and a checkpoint goes on: what that leaves of a desk.
 use Rattle.std.proofs.Common.{◌≡◌, ◌⊎◌, inl, inr, ℕ, ◌≤◌, Bool, true, false, List, [], length, Some, None, is_some, refl, sym, ap, subst, ◌∙◌, arith, if◌then◌else◌}
-use Rattle.std.specs.Prelude.{◌↔◌, ◌||◌, nat_eq, nat_le, Result, Ok, Err, OnOk}
+use Rattle.std.specs.Prelude.{◌↔◌, ◌||◌, nat_eq, nat_le}
 use Rattle.std.proofs.lemmas.Bool.Decides.{nat_tests}
 use Rattle.fe_disk.specs.Disk.{LeavesOnly}
 use Rattle.fe_state.specs.State.{ServerState}

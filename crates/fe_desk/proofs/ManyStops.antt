@@ -1,10 +1,10 @@
 -- What stands after any number of stops: one history, on which all answers that were written stand.
 use Rattle.std.proofs.Common.{◌≡◌, ◌⊎◌, inl, inr, ℕ, zero, suc, ◌+◌, ◌≤◌, List, [], ◌∷◌, ◌++◌, append_assoc, length, take, drop, refl, sym, ap, subst, ◌∙◌, arith}
 use Rattle.std.proofs.lemmas.List.Elements.{Contains-append_right}
-use Rattle.std.specs.Prelude.{Contains, map, Option, None, Some, IfSome, Bool, true}
+use Rattle.std.specs.Prelude.{Contains, map, Option, None, Some, IfSome, Bool}
 use Rattle.std.specs.List.{AllByRecursion}
 use Rattle.std.proofs.lemmas.List.{length-append, length-take-le, take-append-drop}
-use Rattle.fe_state.specs.State.{ServerState, reply, after, after_all}
+use Rattle.fe_state.specs.State.{ServerState, reply, after_all}
 use Rattle.fe_state.specs.History.{AreLegal, IsHistory, after_groups}
 use Rattle.fe_state.specs.declared.answer.Answer.{Answer}
 use Rattle.fe_state.specs.declared.entry.Entry.{Entry}

@@ -1,17 +1,15 @@
 -- What a message of a connection leaves of a front, whether its entries are legal or not: they are answered, lead to the state
 -- now, and are pending after the others; and its mails are on the groups that were stored.
-use Rattle.std.proofs.Common.{◌≡◌, ◌⊎◌, inl, inr, ℕ, ◌<◌, Bool, true, false, List, [], ◌∷◌, ◌++◌, append-nil, Option, Some, None, refl, sym, ap, subst, ◌∙◌}
+use Rattle.std.proofs.Common.{◌≡◌, inl, inr, ℕ, ◌<◌, Bool, true, false, List, [], ◌∷◌, ◌++◌, append-nil, Option, Some, None, refl, sym, ap, subst, ◌∙◌}
 use Rattle.std.specs.Prelude.{nat_lt, if◌then◌else◌}
 use Rattle.std.specs.Option.{option_map_or}
 use Rattle.std.specs.FinMap.{get}
-use Rattle.std.proofs.lemmas.Bool.{ltb-true}
 use Rattle.fe_state.specs.State.{ServerState, after, after_all}
 use Rattle.fe_state.specs.declared.entry.Entry.{Entry}
 use Rattle.fe_state.specs.declared.entry.Entry.TheVariants.{Attached}
 use Rattle.fe_state.specs.declared.kept.Kept.{Kept}
 use Rattle.fe_state.specs.declared.request.Request.{Request}
 use Rattle.fe_service.specs.Events.{floor_of}
-use Rattle.fe_mail.specs.Books.{call_repeated}
 use Rattle.fe_mail.specs.declared.mail.Mail.{Mail}
 use Rattle.fe_mail.specs.declared.mail.Mail.TheVariants as mail
 use Rattle.fe_wire.specs.declared.client_message.ClientMessage.{ClientMessage}
@@ -19,7 +17,7 @@ use Rattle.fe_wire.specs.declared.client_message.ClientMessage.TheVariants as me
 use Rattle.fe_front.specs.Front.{FrontState}
 use Rattle.fe_front.specs.Event as event
 use Rattle.fe_front.specs.Step.{FrontStep}
-use Rattle.fe_front.specs.Steps.{released, freed, mailed, attached_to, settled_to, closed_by, cancelled_from, cancelled_by}
+use Rattle.fe_front.specs.Steps.{released, freed, mailed, cancelled_from, cancelled_by}
 use Rattle.fe_front.specs.Call.{Called, call_refused_by, kept_at, repeated}
 use Rattle.fe_front.specs.declared.outcome.Outcome.{Outcome}
 use Rattle.fe_front.specs.declared.outcome.Outcome.TheVariants as outcome

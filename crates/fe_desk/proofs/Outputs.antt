@@ -1,5 +1,5 @@
 -- What was written to connections goes on with more.
-use Rattle.std.proofs.Common.{◌≡◌, ℕ, Bool, true, false, List, [], ◌∷◌, ◌++◌, map, Option, Some, None, refl, sym, ap, subst, ◌∙◌, append_assoc, append-nil, nat_eq, if◌then◌else◌}
+use Rattle.std.proofs.Common.{◌≡◌, ℕ, Bool, true, false, List, [], ◌∷◌, ◌++◌, map, Option, Some, None, refl, sym, ap, subst, ◌∙◌, append_assoc, append-nil, if◌then◌else◌}
 use Rattle.std.specs.Prelude.{MatchBool, is_some}
 use Rattle.fe_wire.specs.Stream.{Decoding}
 use Rattle.fe_wire.specs.declared.client_message.ClientMessage.{ClientMessage}
@@ -13,7 +13,6 @@ use Rattle.fe_desk.specs.Messages.{outputs}
 use Rattle.fe_desk.specs.Output.{output_of, Extends}
 use Rattle.fe_desk.specs.Standing.{Client, Standing, unwritten, all_told}
 use Rattle.fe_desk.specs.Storing.{stored, stored_from, posted, posted_from, is_making}
-use Rattle.fe_desk.specs.Taking.{TakesAll}
 use Rattle.fe_desk.specs.Steps.{find, on_client, with_left, with_decoder, new_client, clients_with, unmade, Connects, gone, TakesPiece, TakesFrom, TakesBytes, after_frame, Acts}
 use Rattle.fe_desk.proofs.Reading.{each-on_client, takes_all-keeps}
 

@@ -10,7 +10,7 @@ use Rattle.fe_desk.specs.declared.step.Step.{Step}
 use Rattle.fe_desk.specs.Crash.{DeskState, IsFine}
 use Rattle.fe_desk.specs.Ends.{discharged_desk}
 use Rattle.fe_desk.specs.Messages.{outputs}
-use Rattle.fe_desk.specs.Standing.{Standing, emptied, discharged}
+use Rattle.fe_desk.specs.Standing.{Standing, discharged}
 use Rattle.fe_desk.specs.Steps.{Acts, DeskStep}
 use Rattle.fe_desk.specs.Taken.{Ends, IsSound, IsStep}
 use Rattle.fe_desk.specs.within.Desk.{IsDesk}

@@ -1,14 +1,10 @@
 -- What the answers that go out are on, whatever the steps of a desk answer.
-use Rattle.std.specs.Prelude.{◌≡◌, ◌⊎◌, ℕ, ◌+◌, ◌<◌, Bool, true, false, List, [], ◌∷◌, ◌++◌, length, take, is_some, Some, IfSome, Contains, Result}
+use Rattle.std.specs.Prelude.{◌≡◌, ℕ, ◌+◌, Bool, true, false, List, [], ◌∷◌, ◌++◌, length, take, is_some, Some, IfSome, Contains, Result}
 use Rattle.std.specs.List.{flat_map, AllByRecursion}
-use Rattle.std.specs.FinMap.{get}
-use Rattle.fe_state.specs.Sessions.{kept_in}
-use Rattle.fe_state.specs.State.{ServerState, IsWithinLimits, IsAnswered, directory_of, reply, after, after_all}
-use Rattle.fe_state.specs.declared.answer.Answer.{Answer}
+use Rattle.fe_state.specs.State.{ServerState, IsWithinLimits, after_all}
 use Rattle.fe_state.specs.declared.batch.Batch.{Batch}
 use Rattle.fe_state.specs.declared.entry.Entry.{Entry}
-use Rattle.fe_state.specs.declared.entry.Entry.TheVariants.{Attached, Closed, Settled, Finished}
-use Rattle.fe_state.specs.declared.request.Request.{Request}
+use Rattle.fe_state.specs.declared.entry.Entry.TheVariants.{Attached, Closed, Settled}
 use Rattle.fe_mail.specs.Connections.{mails_on, session_on}
 use Rattle.fe_mail.specs.declared.mail.Mail.{Mail}
 use Rattle.fe_mail.specs.declared.mail.Mail.TheVariants as mail

@@ -11,6 +11,7 @@ pub mod Messages
 pub mod Stopping
 pub mod Traces
 pub mod Crash
+pub mod Anew
 pub mod Checks
 pub mod Ends
 pub mod Taken

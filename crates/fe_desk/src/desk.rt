@@ -8,6 +8,7 @@ ghost use Rattle.fe_desk.specs.Output.{Extends};
 ghost use Rattle.fe_desk.specs.Standing.{IsFirstStanding};
 ghost use Rattle.fe_desk.specs.Messages.{outputs};
 ghost use Rattle.fe_desk.specs.Crash.{DeskState, Advances, IsFrom, disk_of};
+ghost use Rattle.fe_desk.specs.Anew.{desk_anew};
 ghost use Rattle.fe_desk.specs.Taken.{IsStep};
 ghost use Rattle.fe_desk.specs.Acknowledged.{IsAcknowledged, StepAsksFor};
 ghost use Rattle.fe_desk.specs.Traces.{IsTraceOf};
@@ -115,7 +116,16 @@ impl<D: Disk> Desk<D> {
         outcome
     }
 
-    /// What the desk did since it was opened.
+    /// The trace begins anew, so that a long run does not keep all that it did. All groups have to be stored.
+    pub fn clear_trace(&mut self)
+        requires { D.honest (disk_of self.old)
+            → EachStandsFor D.may_leave (disk_of self.old) self.old.keeper.state }
+        ensures { self.new ≡ desk_anew self.old }
+    {
+        self.parts.trace.clear();
+    }
+
+    /// What the desk did since it was opened, or since its trace was cleared.
     pub fn trace(&self) -> &Trace
         ensures { IsTraceOf result.now self.now.standing self.now.synced }
     {

@@ -1,4 +1,6 @@
-ghost use Rattle.std.specs.Prelude.{◌≡◌, []};
+ghost use Rattle.std.specs.Prelude.{◌≡◌, [], map};
+ghost use Rattle.fe_desk.specs.Anew.{unwritten_to};
+ghost use Rattle.fe_desk.specs.within.Desk.{client_of};
 
 use crate::port::Port;
 use fe_state::Entry;
@@ -38,5 +40,25 @@ impl Trace {
             synced: 0,
             ports: Vec::new(alloc),
         }
+    }
+
+    /// The trace begins anew. Its ports stay, with nothing written.
+    pub(crate) fn clear(&mut self)
+        ensures groups { self.new.groups.items ≡ [] }
+        ensures synced { self.new.synced ≡ 0 }
+        ensures ports { map client_of self.new.ports.items ≡ map unwritten_to (map client_of self.old.ports.items) }
+    {
+        self.groups.clear();
+        self.synced = 0;
+        clear_all(self.ports.as_mut_slice());
+    }
+}
+
+/// Nothing is written to any of these ports.
+fn clear_all(ports: &mut [Port])
+    ensures { map client_of ports.new ≡ map unwritten_to (map client_of ports.old) }
+{
+    for port in ports.iter_mut() {
+        port.written.clear();
     }
 }

@@ -41,6 +41,13 @@ impl Written {
         reply.put(&mut self.bytes)
     }
 
+    /// Nothing is written any more.
+    pub(crate) fn clear(&mut self)
+        ensures { self.new ≡ [] }
+    {
+        self.bytes.clear();
+    }
+
     /// The bytes.
     pub fn as_slice(&self) -> &[u8]
         ensures bytes { result.now ≡ self.now }

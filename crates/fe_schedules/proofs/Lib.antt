@@ -1,6 +1,4 @@
 pub mod FrameLemmas
-pub mod Growth
-pub mod Behind
 pub mod Outputs
 pub mod Moving
 pub mod Readiness

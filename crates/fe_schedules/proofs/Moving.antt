@@ -1,18 +1,15 @@
 -- Steps of a desk, one after the other.
-use Rattle.std.proofs.Common.{◌≡◌, ℕ, List, [], ◌∷◌, ◌++◌, Option, refl, sym, ap, ◌∙◌, subst}
+use Rattle.std.proofs.Common.{◌≡◌, List, [], ◌∷◌, ◌++◌, Option, refl, sym, ap, ◌∙◌, subst}
 use Rattle.fe_disk.specs.Memory.{MemoryState}
 use Rattle.fe_desk.specs.Crash.{DeskState, disk_of}
 use Rattle.fe_desk.specs.Standing.{Standing}
 use Rattle.fe_desk.specs.Steps.{DeskRun}
 use Rattle.fe_desk.specs.declared.step.Step.{Step}
-use Rattle.fe_schedules.specs.Ready.{IsReady, Moves, ChecksEach}
-use Rattle.fe_schedules.specs.Runs.{ArePrinted, ActsOn, IsMachine, last_of, last_disk}
-use Rattle.fe_schedules.specs.Schedule.{writings}
+use Rattle.fe_schedules.specs.Ready.{Moves, ChecksEach}
+use Rattle.fe_schedules.specs.Runs.{ActsOn, IsMachine, last_of, last_disk}
 use Rattle.fe_text.specs.declared.line.Line.{Line}
 use Rattle.fe_text.specs.declared.line.Line.TheVariants as line
 use Rattle.fe_schedules.specs.declared.machine.Machine.{Machine}
-use Rattle.fe_schedules.proofs.Growth.{ran}
-use Rattle.fe_schedules.proofs.Outputs.{printed_later}
 
 pub runs_both : (xs ys : List Step) (s u t : Standing) → DeskRun s xs u → DeskRun u ys t → DeskRun s (xs ++ ys) t
 runs_both [] ys s u t e f = subst (λ (w : Standing). DeskRun w ys t) e f
@@ -28,11 +25,6 @@ moves_none d = record { runs = refl; from = λ begun from. from; checks = refl }
 pub moves_both : (d m e : DeskState MemoryState) (xs ys : List Step) → Moves d xs m → Moves m ys e → Moves d (xs ++ ys) e
 moves_both d m e xs ys p q = record { runs = runs_both xs ys d.standing m.standing e.standing p.runs q.runs; from = λ begun from. q.from begun (p.from begun from); checks = checks_both xs ys d m e p.checks q.checks }
 
--- what is printed stays a front of what is written
-pub printed_over : (ns : List ℕ) (d e : DeskState MemoryState) (steps : List Step) → IsReady d → Moves d steps e → ArePrinted ns (writings d.standing) → ArePrinted ns (writings e.standing)
-printed_over ns d e steps ready moved printed =
-    printed_later ns d.standing.clients e.standing.clients (ran steps d.standing e.standing ready.owes ready.written moved.runs).extends printed
-
 -- no call of the disk failed
 pub calm_disk : (m : Machine) → IsMachine m → (last_disk m).failures ≡ 0
 calm_disk m is = ap (λ (lost : Option MemoryState). (last_of lost (disk_of m.desk)).failures) is.lost ∙ is.ready.calm
@@ -40,7 +32,7 @@ calm_disk m is = ap (λ (lost : Option MemoryState). (last_of lost (disk_of m.de
 -- ---- lines with no steps
 
 pub held : (m : Machine) (l : Line) → l ≡ line.Hold → ActsOn m l m
-held m l e = subst (λ (k : Line). ActsOn m k m) (sym e) (record { mid = m.desk; begins = refl; steps = []; are = refl; moves = moves_none m.desk; printed = refl })
+held m l e = subst (λ (k : Line). ActsOn m k m) (sym e) (record { mid = m.desk; begins = refl; steps = []; are = refl; moves = moves_none m.desk })
 
 pub flushed : (m : Machine) (l : Line) → l ≡ line.Flush → ActsOn m l m
-flushed m l e = subst (λ (k : Line). ActsOn m k m) (sym e) (record { mid = m.desk; begins = refl; steps = []; are = refl; moves = moves_none m.desk; printed = refl })
+flushed m l e = subst (λ (k : Line). ActsOn m k m) (sym e) (record { mid = m.desk; begins = refl; steps = []; are = refl; moves = moves_none m.desk })

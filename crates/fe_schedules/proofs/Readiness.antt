@@ -12,7 +12,10 @@ use Rattle.fe_desk.specs.Crash.{DeskState, Advances, IsFrom, IsFine, disk_of}
 use Rattle.fe_desk.specs.Standing.{Standing, IsFirstStanding}
 use Rattle.fe_desk.specs.Steps.{DeskStep}
 use Rattle.fe_desk.specs.declared.step.Step.{Step}
+use Rattle.fe_desk.specs.Anew.{desk_anew}
+use Rattle.fe_desk.proofs.Anew.{written_still}
 use Rattle.fe_desk.proofs.Openings.{first_from}
+use Rattle.fe_desk.proofs.Quiets.{none_waits}
 use Rattle.fe_desk.specs.declared.fault.DeskFault.{DeskFault}
 use Rattle.fe_desk.specs.declared.fault.DeskFault.TheVariants as desk
 use Rattle.std.proofs.lemmas.Option.{none-some}
@@ -24,10 +27,9 @@ use Rattle.fe_schedules.specs.declared.fault.MachineFault.{MachineFault}
 use Rattle.fe_schedules.specs.declared.fault.MachineFault.TheVariants as machine
 use Rattle.fe_desk.specs.Quiet.{AreWritten}
 use Rattle.fe_schedules.specs.Ready.{IsReady}
-use Rattle.fe_schedules.specs.Schedule.{Stage, LeavesStored, stored}
+use Rattle.fe_schedules.specs.Schedule.{Stage, LeavesStored}
 use Rattle.fe_schedules.specs.Runs.{IsRun, IsAt, last_of, last_disk}
 use Rattle.fe_schedules.specs.declared.run.Run.{Run}
-use Rattle.fe_schedules.proofs.Growth.{extended, stepped}
 
 -- what a step of the desk promises of the store
 abbrev pub Stands : DeskState MemoryState → Type 0
@@ -49,7 +51,6 @@ pub ready_after : (old new : DeskState MemoryState) (x : Step) → IsReady old �
     → Advances IsHonest (λ (disk : MemoryState). length disk.events) LeavesSince old new → Stands new
     → (new.keeper.store.has_failed ≡ false → new.synced ≡ length new.standing.groups) → IsFine (λ (disk : MemoryState). disk.failures) old new → IsReady new
 ready_after old new x ready step more stands synced fine =
-    let grown = stepped old.standing x new.standing ready.owes ready.written step in
     let honest : IsHonest (disk_of new) = more.honesty.1 ready.honest in
     let from : IsFrom ready.begun new = more.from ready.begun ready.from in
     record {
@@ -60,8 +61,8 @@ ready_after old new x ready step more stands synced fine =
       from = from;
       stands = λ image may. each_stands new ready.begun from (synced fine.works) image (stands honest ready.begun from image may);
       synced = synced fine.works;
-      owes = grown.owes;
-      written = extended old.standing.clients new.standing.clients grown.extends;
+      owes = ap (λ (s : Standing). s.owes) step.after;
+      written = subst (λ (s : Standing). AreWritten s.clients) (sym step.after) (none_waits step.last.front step.last.clients);
     }
 
 pub ready_first : (d : DeskState MemoryState) (s : ServerState) → IsHonest (disk_of d) → d.keeper.store.has_failed ≡ false → (disk_of d).failures ≡ 0 → IsFirstStanding s d.standing → d.keeper.state ≡ s → d.synced ≡ 0 → EachStandsFor LeavesNow (disk_of d) s → IsReady d
@@ -77,16 +78,32 @@ ready_first d s honest works calm first is synced stands = record {
   written = subst AreWritten (sym first.clients) tt;
 }
 
+-- so is one whose trace begins anew
+pub ready_anew : (d : DeskState MemoryState) → IsReady d → IsReady (desk_anew d)
+ready_anew d ready = record {
+  works = ready.works;
+  calm = ready.calm;
+  honest = ready.honest;
+  begun = d.keeper.state;
+  from = first_from d.keeper.state (desk_anew d) refl refl refl;
+  stands = ready.stands;
+  synced = refl;
+  owes = ready.owes;
+  written = written_still d.standing.clients ready.written;
+}
+
+-- all that was stored of a desk whose groups begin with a state
+pub all_stored : (d : DeskState MemoryState) (begun : ServerState) → IsReady d → IsFrom begun d → d.keeper.state ≡ after_groups begun d.standing.groups
+all_stored d begun ready from =
+    let synced = ready.synced in
+    from.replica ∙ ap (λ (gs : List (List Entry)). after_groups begun gs) (take_all d.synced d.standing.groups (omega (arith, synced)))
+
 -- a stop leaves what a run has stored
 pub leaves_at : (r : Run) (here : Stage) → IsRun r → IsAt r here → LeavesStored (last_disk r.machine) here
 leaves_at r here run at =
     let d = r.machine.desk in
-    let ready = run.machine.ready in
-    let groups : List (List Entry) = d.standing.groups in
     let disk : last_disk r.machine ≡ disk_of d = ap (λ (o : Option MemoryState). last_of o (disk_of d)) run.machine.lost in
-    let whole : take d.synced groups ≡ groups = take_all d.synced groups (omega (arith, ready.synced)) in
-    let state : d.keeper.state ≡ stored here = at.from.replica ∙ ap (λ (gs : List (List Entry)). after_groups here.begun gs) (whole ∙ ap (λ (s : Standing). s.groups) (sym at.standing)) in
-    λ image may. subst (λ (s : ServerState). StandsFor image s) state (ready.stands image (subst (λ (m : MemoryState). LeavesNow m image) disk may))
+    λ image may. subst (λ (s : ServerState). StandsFor image s) (sym at.stored) (run.machine.ready.stands image (subst (λ (m : MemoryState). LeavesNow m image) disk may))
 
 -- ---- a stop
 

@@ -1,80 +1,55 @@
 -- What a line does to a run, as lines of a schedule say it.
-use Rattle.std.proofs.Common.{◌≡◌, ◌≢◌, ℕ, Bool, false, List, [], ◌∷◌, ◌++◌, Some, map, length, take, take_all, refl, sym, ap, subst, ◌∙◌, arith, ◌+◌, append-nil, string_bytes}
+use Rattle.std.proofs.Common.{◌≡◌, ◌≢◌, ℕ, Bool, false, List, [], ◌∷◌, ◌++◌, Some, length, refl, sym, ap, subst, ◌∙◌, ◌+◌, append-nil, string_bytes}
 use Rattle.fe_disk.specs.Memory.{MemoryState}
 use Rattle.fe_state.specs.History.{after_groups}
 use Rattle.fe_state.specs.declared.entry.Entry.{Entry}
+use Rattle.fe_desk.specs.Anew.{anew}
 use Rattle.fe_desk.specs.Crash.{DeskState, IsFrom}
-use Rattle.fe_desk.specs.Messages.{outputs}
-use Rattle.fe_desk.specs.Standing.{Client, Standing}
+use Rattle.fe_desk.specs.Standing.{Standing}
 use Rattle.fe_desk.specs.Steps.{DeskRun}
+use Rattle.fe_desk.proofs.Openings.{first_from}
 use Rattle.fe_text.specs.Line.{parsed}
-use Rattle.fe_desk.specs.Quiet.{AreWritten}
-use Rattle.fe_schedules.specs.Runs.{IsAt, BeginsAt, RanLine, IsRun, RanBytes, SaysLine, printed_after, lengths, fronts}
-use Rattle.fe_schedules.specs.Schedule.{Stage, Begins, RunsLine, RunsBytes, writings, endings, holds_after}
-use Rattle.fe_schedules.specs.Told.{PrintsSince}
+use Rattle.fe_schedules.specs.Runs.{IsAt, BeginsAt, RanLine, IsRun, RanBytes, SaysLine}
+use Rattle.fe_schedules.specs.Schedule.{Stage, Begins, RunsLine, RunsBytes, endings, holds_after}
 use Rattle.fe_text.specs.declared.line.Line.{Line}
 use Rattle.fe_text.specs.declared.line.Line.TheVariants as line
 use Rattle.fe_schedules.specs.declared.run.Run.{Run}
-use Rattle.fe_schedules.proofs.Growth.{ran}
-use Rattle.fe_schedules.proofs.Outputs.{fronts_later}
+use Rattle.fe_schedules.proofs.Readiness.{all_stored}
 
 -- where the steps of a line begin
-record Beginning (r : Run) (l : Line) (at : Stage) (d : DeskState MemoryState) : Type 0 where
+record Beginning (l : Line) (at : Stage) (d : DeskState MemoryState) : Type 0 where
   mid : Stage
   begins : Begins l at mid
   standing : mid.standing ≡ d.standing
-  from : IsFrom mid.begun d
-  owes : d.standing.owes ≡ false
-  written : AreWritten d.standing.clients
-  printed : printed_after l r.machine.printed.items ≡ lengths d.standing
+  from : IsFrom mid.stored d
 
--- all that was stored
-all_stored : (r : Run) (at : Stage) → IsRun r → IsAt r at → r.machine.desk.keeper.state ≡ after_groups at.begun at.standing.groups
-all_stored r at run is =
-    let groups : List (List Entry) = r.machine.desk.standing.groups in
-    let synced = run.machine.ready.synced in
-    let all : take r.machine.desk.synced groups ≡ groups = take_all r.machine.desk.synced groups (omega (arith, synced)) in
-    is.from.replica ∙ ap (λ (gs : List (List Entry)). after_groups at.begun gs) (all ∙ ap (λ (s : Standing). s.groups) (sym is.standing))
+again : (r : Run) (at : Stage) (d : DeskState MemoryState) → IsAt r at → BeginsAt line.Stop r.machine.desk d → Beginning line.Stop at d
+again r at d is b = record {
+  mid = record { stored = r.machine.desk.keeper.state; standing = d.standing; is_holding = false };
+  begins = (sym is.stored, b.0);
+  standing = refl;
+  from = b.1;
+}
 
-again : (r : Run) (at : Stage) (d : DeskState MemoryState) → IsRun r → IsAt r at → BeginsAt line.Stop r.machine.desk d → Beginning r line.Stop at d
-again r at d run is b =
-    let first = b.0 in
-    record {
-      mid = record { begun = r.machine.desk.keeper.state; standing = d.standing; is_holding = false };
-      begins = (all_stored r at run is, first);
-      standing = refl;
-      from = b.1;
-      owes = first.owes;
-      written = subst AreWritten (sym first.clients) tt;
-      printed = ap (λ (cs : List Client). map {B = ℕ} (λ (w : List ℕ). length w) (map {B = List ℕ} (λ (c : Client). c.written) cs)) (sym first.clients);
-    }
-
--- the parts that are the same for each line but a stop
-record Same (r : Run) (at : Stage) (d : DeskState MemoryState) : Type 0 where
-  standing : at.standing ≡ d.standing
-  from : IsFrom at.begun d
-  owes : d.standing.owes ≡ false
-  written : AreWritten d.standing.clients
-  printed : r.machine.printed.items ≡ lengths d.standing
-
-same : (r : Run) (at : Stage) (d : DeskState MemoryState) → IsRun r → IsAt r at → d ≡ r.machine.desk → Same r at d
+-- each line but a stop begins where the run is
+same : (r : Run) (at : Stage) (d : DeskState MemoryState) → IsRun r → IsAt r at → d ≡ r.machine.desk → (at.standing ≡ d.standing) × IsFrom at.stored d
 same r at d run is e =
-    let here : Same r at r.machine.desk =
-    record { standing = is.standing; from = is.from; owes = run.machine.ready.owes; written = run.machine.ready.written; printed = run.printed } in
-    subst (λ (x : DeskState MemoryState). Same r at x) (sym e) here
+    let here = r.machine.desk in
+    let synced : here.synced ≡ 0 = run.machine.ready.synced ∙ ap (λ (gs : List (List Entry)). length gs) run.none in
+    subst (λ (x : DeskState MemoryState). (at.standing ≡ x.standing) × IsFrom at.stored x) (sym e) (is.standing, first_from at.stored here (sym is.stored) run.none synced)
 
-beginning : (l : Line) (r : Run) (at : Stage) (d : DeskState MemoryState) → IsRun r → IsAt r at → BeginsAt l r.machine.desk d → Beginning r l at d
+beginning : (l : Line) (r : Run) (at : Stage) (d : DeskState MemoryState) → IsRun r → IsAt r at → BeginsAt l r.machine.desk d → Beginning l at d
 beginning (line.Message conn message) r at d run is b = let s = same r at d run is b in
-    record { mid = at; begins = (refl, refl); standing = s.standing; from = s.from; owes = s.owes; written = s.written; printed = s.printed }
+    record { mid = at; begins = (refl, refl); standing = s.0; from = s.1 }
 beginning (line.Gone conn) r at d run is b = let s = same r at d run is b in
-    record { mid = at; begins = (refl, refl); standing = s.standing; from = s.from; owes = s.owes; written = s.written; printed = s.printed }
+    record { mid = at; begins = (refl, refl); standing = s.0; from = s.1 }
 beginning line.Hold r at d run is b = let s = same r at d run is b in
-    record { mid = at; begins = (refl, refl); standing = s.standing; from = s.from; owes = s.owes; written = s.written; printed = s.printed }
+    record { mid = at; begins = (refl, refl); standing = s.0; from = s.1 }
 beginning line.Flush r at d run is b = let s = same r at d run is b in
-    record { mid = at; begins = (refl, refl); standing = s.standing; from = s.from; owes = s.owes; written = s.written; printed = s.printed }
-beginning line.Stop r at d run is b = again r at d run is b
+    record { mid = at; begins = (refl, refl); standing = s.0; from = s.1 }
+beginning line.Stop r at d run is b = again r at d is b
 beginning line.Check r at d run is b = let s = same r at d run is b in
-    record { mid = at; begins = (refl, refl); standing = s.standing; from = s.from; owes = s.owes; written = s.written; printed = s.printed }
+    record { mid = at; begins = (refl, refl); standing = s.0; from = s.1 }
 
 -- The run is at a stage after the line.
 pub record Ran (at : Stage) (l : Line) (s : Run) (more : List ℕ) : Type 0 where
@@ -85,23 +60,27 @@ pub record Ran (at : Stage) (l : Line) (s : Run) (more : List ℕ) : Type 0 wher
 pub line_ran : (l : Line) (r s : Run) → IsRun r → (p : RanLine r l s) → (at : Stage) → IsAt r at → Ran at l s p.prints.more
 line_ran l r s run p at is =
     let b = beginning l r at p.mid run is p.begins in
-    let e = s.machine.desk.standing in
-    let grown = ran (p.steps ++ endings s.is_holding) p.mid.standing e b.owes b.written p.moves.runs in
-    let counts : fronts (printed_after l r.machine.printed.items) (writings e) ≡ writings b.mid.standing =
-    ap (λ (ns : List ℕ). fronts ns (writings e)) b.printed ∙ fronts_later p.mid.standing.clients e.clients grown.extends ∙ ap writings (sym b.standing) in
-    let next : Stage = record { begun = b.mid.begun; standing = e; is_holding = s.is_holding } in
+    let e = p.last.standing in
+    let next : Stage = record { stored = after_groups b.mid.stored e.groups; standing = anew e; is_holding = s.is_holding } in
+    let stored : next.stored ≡ p.last.keeper.state = sym (all_stored p.last b.mid.stored p.ready (p.moves.from b.mid.stored b.from)) in
     record {
       next = next;
-      is = record { standing = refl; from = p.moves.from b.mid.begun b.from; holding = refl };
+      is = record {
+        stored = stored ∙ sym (ap (λ (d : DeskState MemoryState). d.keeper.state) p.anew);
+        standing = sym (ap (λ (d : DeskState MemoryState). d.standing) p.anew);
+        holding = refl;
+      };
       runs = record {
         mid = b.mid;
         begins = b.begins;
         steps = p.steps;
         are = p.are;
+        last = e;
         runs = subst (λ (u : Standing). DeskRun u (p.steps ++ endings s.is_holding) e) (sym b.standing) p.moves.runs;
-        begun = refl;
         holding = p.holding ∙ ap (λ (was : Bool). holds_after l was) (sym is.holding);
-        prints = subst (λ (ws : List (List ℕ)). PrintsSince ws (outputs e) p.prints.more) counts p.prints.prints;
+        prints = p.prints.prints;
+        stored = refl;
+        standing = refl;
       };
     }
 
@@ -117,8 +96,8 @@ nothing_says bytes at e = subst (λ (bs : List ℕ). RunsBytes at bs at []) (sym
 -- a run whose count alone is another stands where it stood
 counted : (r w : Run) (n : ℕ) (at : Stage) → w ≡ record r { begun = w.begun } → IsAt r at → IsAt (record w { lines = n }) at
 counted r w n at same is = record {
+  stored = is.stored ∙ ap (λ (x : Run). x.machine.desk.keeper.state) (sym same);
   standing = is.standing ∙ ap (λ (x : Run). x.machine.desk.standing) (sym same);
-  from = subst (λ (x : Run). IsFrom at.begun x.machine.desk) (sym same) is.from;
   holding = is.holding ∙ ap (λ (x : Run). x.is_holding) (sym same);
 }
 

@@ -1,5 +1,5 @@
 -- A schedule before its first line, and how it ends where a stream or memory fails.
-use Rattle.std.proofs.Common.{◌≡◌, ℕ, List, [], ◌++◌, Option, Some, None, false, ◌⊎◌, inl, inr, refl, sym, ap, subst, ◌∙◌, string_bytes}
+use Rattle.std.proofs.Common.{◌≡◌, ℕ, List, [], ◌++◌, Option, Some, None, false, inl, inr, refl, sym, ap, subst, ◌∙◌, string_bytes}
 use Rattle.std.specs.FinMap.{empty, get-empty}
 use Rattle.std.specs.Prelude.{IfSome}
 use Rattle.std.specs.Option.{option_map}
@@ -13,7 +13,6 @@ use Rattle.fe_front.specs.Front.{FrontState}
 use Rattle.fe_desk.specs.Standing.{Standing, IsFirstStanding}
 use Rattle.fe_desk.specs.declared.handed.Handed.TheVariants.{Nothing}
 use Rattle.fe_text.specs.declared.fault.StreamFault.{StreamFault}
-use Rattle.fe_text.specs.declared.fault.StreamFault.TheVariants as stream
 use Rattle.fe_schedules.specs.Fault.{of_machine, of_stream}
 use Rattle.fe_schedules.specs.declared.fault.MachineFault.{MachineFault}
 use Rattle.fe_schedules.specs.declared.fault.MachineFault.TheVariants as machine
@@ -21,7 +20,6 @@ use Rattle.fe_text.specs.Lines.{lines_of, HasNoFeed}
 use Rattle.fe_schedules.specs.Schedule.{Stage, IsStart, Prints, RunsAll, RunsUntil, IsOfStore}
 use Rattle.fe_schedules.specs.Runs.{IsAt, SoFar, Whole, Ended}
 use Rattle.fe_schedules.specs.declared.fault.ScheduleFault.{ScheduleFault}
-use Rattle.fe_schedules.specs.declared.fault.ScheduleFault.TheVariants as fault
 use Rattle.fe_schedules.specs.declared.run.Run.{Run}
 use Rattle.fe_schedules.proofs.Taking.{until, unread_left, all_ran, known, known_all}
 
@@ -32,7 +30,7 @@ abbrev first_standing : Standing
 first_standing = record { front = first_front; clients = []; handed = Nothing; making = None; groups = []; owes = false }
 
 abbrev first_stage : Stage
-first_stage = record { begun = first_state; standing = first_standing; is_holding = false }
+first_stage = record { stored = first_state; standing = first_standing; is_holding = false }
 
 none_mapped : {A B : Type 0} (f : A → B) {o : Option A} → o ≡ None → option_map f o ≡ None
 none_mapped f e = ap (option_map f) e
@@ -48,7 +46,7 @@ is_first = record {
 }
 
 starts : IsStart first_stage
-starts = record { begun = refl; standing = is_first; is_holding = refl }
+starts = record { stored = refl; standing = is_first; is_holding = refl }
 
 -- no line ran, and nothing is printed
 none_ran : Prints [] []

@@ -1,5 +1,5 @@
 -- The lines that ran, and what they print, one after the other.
-use Rattle.std.proofs.Common.{◌≡◌, ◌≢◌, ℕ, ◌+◌, ◌<◌, List, [], ◌∷◌, ◌++◌, Option, Some, None, IfSome, ◌⊎◌, inl, inr, length, take, drop, refl, sym, ap, subst, ◌∙◌, arith, append_assoc, append-nil, string_bytes}
+use Rattle.std.proofs.Common.{◌≡◌, ◌≢◌, ℕ, ◌+◌, ◌<◌, List, [], ◌∷◌, ◌++◌, Option, Some, None, IfSome, inl, inr, length, take, drop, refl, sym, ap, subst, ◌∙◌, arith, append_assoc, append-nil, string_bytes}
 use Rattle.std.proofs.lemmas.Bool.{lt-ltb}
 use Rattle.std.proofs.lemmas.List.{length-append, take-append-drop}
 use Rattle.std.proofs.KnownBytes.{Appends-trans}
@@ -8,7 +8,6 @@ use Rattle.fe_disk.specs.Memory.{MemoryState}
 use Rattle.fe_text.specs.Line.{parsed}
 use Rattle.fe_text.specs.Lines.{lines_of, HasNoFeed}
 use Rattle.fe_text.specs.declared.fault.StreamFault.{StreamFault}
-use Rattle.fe_text.specs.declared.fault.StreamFault.TheVariants as stream
 use Rattle.fe_text.specs.declared.line.Line.{Line}
 use Rattle.fe_schedules.specs.Fault.{of_stream, of_machine}
 use Rattle.fe_schedules.specs.declared.fault.MachineFault.{MachineFault}
@@ -162,7 +161,7 @@ took_front read before now r s bytes so none same begun =
       start = so.start;
       starts = so.starts;
       here = so.here;
-      is = subst (λ (x : Run). IsAt x so.here) (sym same) (record { standing = so.is.standing; from = so.is.from; holding = so.is.holding });
+      is = subst (λ (x : Run). IsAt x so.here) (sym same) (record { stored = so.is.stored; standing = so.is.standing; holding = so.is.holding });
       text = so.text;
       runs = subst (λ (x : List ℕ). RunsLines so.start so.lines so.here (so.text ++ x)) text so.runs;
       written = so.written;
@@ -180,7 +179,7 @@ wrote read before now after r s so appends same empty = record {
   start = so.start;
   starts = so.starts;
   here = so.here;
-  is = subst (λ (x : Run). IsAt x so.here) (sym same) (record { standing = so.is.standing; from = so.is.from; holding = so.is.holding });
+  is = subst (λ (x : Run). IsAt x so.here) (sym same) (record { stored = so.is.stored; standing = so.is.standing; holding = so.is.holding });
   text = so.text ++ string_bytes r.text;
   runs = subst (λ (x : List ℕ). RunsLines so.start so.lines so.here x) (sym (append-nil (so.text ++ string_bytes r.text)) ∙ ap (λ (x : List ℕ). (so.text ++ string_bytes r.text) ++ x) (sym empty)) so.runs;
   written = Appends-trans before now after so.text (string_bytes r.text) so.written appends;

@@ -1,9 +1,9 @@
 -- What is always true of a run, and what its parts do.
-use Rattle.std.specs.Prelude.{◌≡◌, ◌≢◌, ℕ, ◌+◌, ◌-◌, ◌^◌, ◌<◌, ◌≤◌, List, [], ◌∷◌, ◌++◌, length, map, take, Option, None, Some, string_bytes, vec_capacity}
+use Rattle.std.specs.Prelude.{◌≡◌, ◌≢◌, ℕ, ◌+◌, ◌-◌, ◌^◌, ◌<◌, ◌≤◌, List, [], ◌++◌, length, map, Option, None, Some, string_bytes, vec_capacity}
 use Rattle.std.specs.Io.KnownBytes.{Appends}
 use Rattle.fe_disk.specs.Memory.{MemoryState}
 use Rattle.fe_desk.specs.Crash.{DeskState, IsFrom, disk_of}
-use Rattle.fe_desk.specs.Frames.{AreReplies}
+use Rattle.fe_desk.specs.Anew.{desk_anew}
 use Rattle.fe_desk.specs.Messages.{outputs}
 use Rattle.fe_desk.specs.Standing.{Standing, IsFirstStanding}
 use Rattle.fe_desk.specs.declared.step.Step.{Step}
@@ -11,8 +11,8 @@ use Rattle.fe_wire.specs.declared.server_message.ServerMessage.{ServerMessage}
 use Rattle.fe_schedules.specs.Ready.{IsReady, Moves}
 use Rattle.fe_text.specs.Line.{parsed}
 use Rattle.fe_text.specs.Lines.{lines_of, HasNoFeed}
-use Rattle.fe_schedules.specs.Schedule.{Stage, AreStepsOf, holds_after, endings, writings, RunsBytes, Prints, RunsLines, IsStart, EndsWithin, LeavesStored}
-use Rattle.fe_schedules.specs.Told.{PrintsSince, IsTold, told_to}
+use Rattle.fe_schedules.specs.Schedule.{Stage, AreStepsOf, holds_after, endings, RunsBytes, Prints, RunsLines, IsStart, EndsWithin, LeavesStored}
+use Rattle.fe_schedules.specs.Told.{IsPrinted, IsTold, told_to}
 use Rattle.fe_text.specs.declared.fault.StreamFault.{StreamFault}
 use Rattle.fe_schedules.specs.declared.fault.ScheduleFault.{ScheduleFault}
 use Rattle.fe_schedules.specs.declared.fault.ScheduleFault.TheVariants as fault
@@ -25,31 +25,16 @@ use Rattle.fe_schedules.specs.declared.told.Told.{Told}
 
 -- ---- what is printed of what is written
 
--- these counts are of whole replies at the front of what is written
-abbrev pub ArePrinted : List ℕ → List (List ℕ) → Type 0
-ArePrinted [] ws = Unit {0}
-ArePrinted (n ∷ ns) [] = ⊥
-ArePrinted (n ∷ ns) (w ∷ ws) = (n ≤ length w) × AreReplies (take n w) × ArePrinted ns ws
-
--- as many bytes of each
-abbrev pub fronts : List ℕ → List (List ℕ) → List (List ℕ)
-fronts [] ws = []
-fronts (n ∷ ns) [] = []
-fronts (n ∷ ns) (w ∷ ws) = take n w ∷ fronts ns ws
-
-abbrev pub lengths : Standing → List ℕ
-lengths s = map (λ w. length w) (writings s)
-
--- what was told after a front of what is written to a connection number
-pub record ToldMore (front : List ℕ) (conn : ℕ) (written : List ℕ) (before after : List Told) : Type 0 where
+-- what was written to a connection number, as replies
+pub record ToldMore (conn : ℕ) (written : List ℕ) (before after : List Told) : Type 0 where
   pub replies : List ServerMessage
-  pub are : IsTold front written replies
+  pub are : IsTold written replies
   pub is : after ≡ before ++ map (told_to conn) replies
 
--- the text grows by what was told since so much was printed
-pub record PrintsMore (counts : List ℕ) (s : Standing) (before after : List ℕ) : Type 0 where
+-- the text grows by what the desk told
+pub record PrintsMore (s : Standing) (before after : List ℕ) : Type 0 where
   pub more : List ℕ
-  pub prints : PrintsSince (fronts counts (writings s)) (outputs s) more
+  pub prints : IsPrinted (outputs s) more
   pub is : after ≡ before ++ more
 
 -- ---- a machine
@@ -62,20 +47,15 @@ last_of (Some lost) disk = lost
 abbrev pub last_disk : Machine → MemoryState
 last_disk m = last_of m.lost (disk_of m.desk)
 
--- the desk is between two steps, and what is printed is a front of what it wrote
+-- the desk is between two steps
 pub record IsMachine (m : Machine) : Type 0 where
   pub ready : IsReady m.desk
   pub lost : m.lost ≡ None
-  pub printed : ArePrinted m.printed.items (writings m.desk.standing)
 
 -- where the steps of a line begin
 abbrev pub BeginsAt : Line → DeskState MemoryState → DeskState MemoryState → Type 0
 BeginsAt line.Stop d e = IsFirstStanding d.keeper.state e.standing × IsFrom d.keeper.state e
 BeginsAt other d e = e ≡ d
-
-abbrev pub printed_after : Line → List ℕ → List ℕ
-printed_after line.Stop counts = []
-printed_after other counts = counts
 
 -- the machine took the steps of a line
 pub record ActsOn (m : Machine) (l : Line) (n : Machine) : Type 0 where
@@ -84,32 +64,34 @@ pub record ActsOn (m : Machine) (l : Line) (n : Machine) : Type 0 where
   pub steps : List Step
   pub are : AreStepsOf l steps
   pub moves : Moves mid steps n.desk
-  pub printed : n.printed.items ≡ printed_after l m.printed.items
 
 -- ---- a run
 
--- All that was written is printed. The line that has begun may still be one of the syntax, and there is room for all of it.
+-- The trace is empty. The line that has begun may still be one of the syntax, and there is room for all of it.
 pub record IsRun (r : Run) : Type 0 where
   pub machine : IsMachine r.machine
-  pub printed : r.machine.printed.items ≡ lengths r.machine.desk.standing
+  pub none : r.machine.desk.standing.groups ≡ []
   pub few : length r.begun.items ≤ longest_line
   pub room : longest_line ≤ vec_capacity r.begun
   pub count : r.lines < 2 ^ 64 - 1
 
--- a line does what it says, and then what is pending is stored and posted; what is told is printed
+-- a line does what it says, and then what is pending is stored and posted; what is told is printed, and the trace begins anew
 pub record RanLine (r : Run) (l : Line) (s : Run) : Type 0 where
   pub mid : DeskState MemoryState
   pub begins : BeginsAt l r.machine.desk mid
   pub steps : List Step
   pub are : AreStepsOf l steps
-  pub moves : Moves mid (steps ++ endings s.is_holding) s.machine.desk
+  pub last : DeskState MemoryState
+  pub moves : Moves mid (steps ++ endings s.is_holding) last
+  pub ready : IsReady last
+  pub anew : s.machine.desk ≡ desk_anew last
   pub holding : s.is_holding ≡ holds_after l r.is_holding
-  pub prints : PrintsMore (printed_after l r.machine.printed.items) s.machine.desk.standing (string_bytes r.text) (string_bytes s.text)
+  pub prints : PrintsMore last.standing (string_bytes r.text) (string_bytes s.text)
 
 -- the run is there
 pub record IsAt (r : Run) (s : Stage) : Type 0 where
+  pub stored : s.stored ≡ r.machine.desk.keeper.state
   pub standing : s.standing ≡ r.machine.desk.standing
-  pub from : IsFrom s.begun r.machine.desk
   pub holding : s.is_holding ≡ r.is_holding
 
 -- ---- lines

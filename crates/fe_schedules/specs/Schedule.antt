@@ -1,5 +1,5 @@
 -- What a schedule does, line for line, and what it prints.
-use Rattle.std.specs.Prelude.{◌≡◌, ◌≢◌, ◌⊎◌, ℕ, ◌+◌, ◌-◌, ◌^◌, Bool, true, false, List, [], ◌∷◌, ◌++◌, length, map, Option, Some, None, IfSome}
+use Rattle.std.specs.Prelude.{◌≡◌, ◌≢◌, ◌⊎◌, ℕ, ◌+◌, ◌-◌, ◌^◌, Bool, true, false, List, [], ◌∷◌, ◌++◌, length, Option, Some, None, IfSome}
 use Rattle.std.specs.Io.KnownBytes.{Appends}
 use Rattle.fe_disk.specs.Memory.{MemoryState, LeavesNow}
 use Rattle.fe_state.specs.State.{ServerState, first_state}
@@ -7,6 +7,7 @@ use Rattle.fe_state.specs.History.{after_groups}
 use Rattle.fe_wire.specs.Spelling.{spelling}
 use Rattle.fe_wire.specs.declared.client_message.ClientMessage.{ClientMessage}
 use Rattle.fe_keeper.specs.Stands.{EachStandsFor}
+use Rattle.fe_desk.specs.Anew.{anew}
 use Rattle.fe_desk.specs.Messages.{outputs}
 use Rattle.fe_desk.specs.Standing.{Standing, IsFirstStanding}
 use Rattle.fe_desk.specs.Steps.{DeskRun}
@@ -17,29 +18,25 @@ use Rattle.fe_text.specs.Lines.{lines_of}
 use Rattle.fe_text.specs.declared.fault.StreamFault.{StreamFault}
 use Rattle.fe_text.specs.declared.fault.StreamFault.TheVariants as stream
 use Rattle.fe_schedules.specs.Fault.{IsOfStream}
-use Rattle.fe_schedules.specs.Told.{PrintsSince}
+use Rattle.fe_schedules.specs.Told.{IsPrinted}
 use Rattle.fe_schedules.specs.declared.fault.ScheduleFault.{ScheduleFault}
 use Rattle.fe_schedules.specs.declared.fault.ScheduleFault.TheVariants as fault
 use Rattle.fe_text.specs.declared.line.Line.{Line}
 use Rattle.fe_text.specs.declared.line.Line.TheVariants as line
 
--- Where a schedule stands: the state that the store was opened with last, the desk since then, and whether it is on hold.
+-- Where a schedule stands between two lines: all that is stored, the desk with an empty trace, and whether it is on hold.
 pub record Stage : Type 0 where
-  pub begun : ServerState
+  pub stored : ServerState
   pub standing : Standing
   pub is_holding : Bool
 
--- the state that its groups lead to: all that is stored
-abbrev pub stored : Stage → ServerState
-stored s = after_groups s.begun s.standing.groups
-
 -- each image that a stop may leave of the disk stands for that state
 abbrev pub LeavesStored : MemoryState → Stage → Type 0
-LeavesStored disk s = EachStandsFor LeavesNow disk (stored s)
+LeavesStored disk s = EachStandsFor LeavesNow disk s.stored
 
 -- a desk over a new store, and no hold
 pub record IsStart (s : Stage) : Type 0 where
-  pub begun : s.begun ≡ first_state
+  pub stored : s.stored ≡ first_state
   pub standing : IsFirstStanding first_state s.standing
   pub is_holding : s.is_holding ≡ false
 
@@ -62,8 +59,8 @@ AreStepsOf line.Check steps = steps ≡ step.CheckBegin ∷ step.CheckFinish ∷
 
 -- where its steps begin: at a stop with a desk over all that was stored, else where the schedule stands
 abbrev pub Begins : Line → Stage → Stage → Type 0
-Begins line.Stop s t = (t.begun ≡ stored s) × IsFirstStanding t.begun t.standing
-Begins other s t = (t.begun ≡ s.begun) × (t.standing ≡ s.standing)
+Begins line.Stop s t = (t.stored ≡ s.stored) × IsFirstStanding t.stored t.standing
+Begins other s t = (t.stored ≡ s.stored) × (t.standing ≡ s.standing)
 
 -- whether it is on hold after a line
 abbrev pub holds_after : Line → Bool → Bool
@@ -77,20 +74,18 @@ abbrev pub endings : Bool → List Step
 endings true = []
 endings false = step.Cut ∷ step.Append ∷ step.Post ∷ []
 
--- what is written to each connection number
-abbrev pub writings : Standing → List (List ℕ)
-writings s = map (λ c. c.written) s.clients
-
--- The steps of the line run, and the text is what they tell.
+-- The steps of the line run, and the text is what they tell. The groups are stored, and the trace begins anew.
 pub record RunsLine (s : Stage) (l : Line) (t : Stage) (text : List ℕ) : Type 0 where
   pub mid : Stage
   pub begins : Begins l s mid
   pub steps : List Step
   pub are : AreStepsOf l steps
-  pub runs : DeskRun mid.standing (steps ++ endings t.is_holding) t.standing
-  pub begun : t.begun ≡ mid.begun
+  pub last : Standing
+  pub runs : DeskRun mid.standing (steps ++ endings t.is_holding) last
   pub holding : t.is_holding ≡ holds_after l s.is_holding
-  pub prints : PrintsSince (writings mid.standing) (outputs t.standing) text
+  pub prints : IsPrinted (outputs last) text
+  pub stored : t.stored ≡ after_groups mid.stored last.groups
+  pub standing : t.standing ≡ anew last
 
 -- ---- lines of bytes
 

@@ -1,5 +1,5 @@
 -- What the server tells connections, and in which order it is printed.
-use Rattle.std.specs.Prelude.{◌≡◌, ℕ, List, [], ◌∷◌, ◌++◌, map, drop, Some}
+use Rattle.std.specs.Prelude.{◌≡◌, ℕ, List, [], ◌∷◌, ◌++◌, map, Some}
 use Rattle.std.specs.List.{flat_map, AllByRecursion}
 use Rattle.std.specs.List.Sorted.{IsPermutation, IsSortedByKey, IsStableByKey}
 use Rattle.std.specs.Ordering.{nat_cmp, ordering_then}
@@ -37,34 +37,29 @@ pub record IsSorting (told order : List Told) : Type 0 where
 
 -- ---- what is told
 
--- The frames of these replies were written after what was written before.
-pub record IsTold (before after : List ℕ) (replies : List ServerMessage) : Type 0 where
+-- The frames of these replies were written.
+pub record IsTold (written : List ℕ) (replies : List ServerMessage) : Type 0 where
   pub fits : AllByRecursion ReplyFits replies
-  pub spelled : after ≡ before ++ flat_map reply_spelling replies
+  pub spelled : written ≡ flat_map reply_spelling replies
 
 abbrev pub told_to : ℕ → ServerMessage → Told
 told_to conn reply = record { conn = conn; reply = reply }
 
--- the first of these outputs; nothing where there is none
-abbrev pub first_output : List (List ℕ) → List ℕ
-first_output [] = []
-first_output (bytes ∷ others) = bytes
-
--- What was written to connection numbers before and after tells them these, one number after the other. New numbers come last.
-abbrev pub AreTold : List (List ℕ) → List (ℕ × List ℕ) → List Told → Type 0
-AreTold before [] told = told ≡ []
-AreTold before (o ∷ os) told =
-    (replies : List ServerMessage) × (others : List Told) × IsTold (first_output before) o.1 replies × AreTold (drop 1 before) os others × (told ≡ map (told_to o.0) replies ++ others)
+-- What was written to connection numbers tells them these, one number after the other.
+abbrev pub AreTold : List (ℕ × List ℕ) → List Told → Type 0
+AreTold [] told = told ≡ []
+AreTold (o ∷ os) told =
+    (replies : List ServerMessage) × (others : List Told) × IsTold o.1 replies × AreTold os others × (told ≡ map (told_to o.0) replies ++ others)
 
 -- ---- what is printed
 
 abbrev pub told_text : Told → List ℕ
 told_text t = printed (Some t.conn) t.reply
 
--- The text is what was told since, in its order.
-pub record PrintsSince (before : List (List ℕ)) (after : List (ℕ × List ℕ)) (text : List ℕ) : Type 0 where
+-- The text is what was told, in its order.
+pub record IsPrinted (outputs : List (ℕ × List ℕ)) (text : List ℕ) : Type 0 where
   pub told : List Told
   pub order : List Told
-  pub tells : AreTold before after told
+  pub tells : AreTold outputs told
   pub sorts : IsSorting told order
   pub is : text ≡ flat_map told_text order

@@ -1,20 +1,20 @@
-//! What a schedule runs on: a desk over a store in memory, and what of its output is printed.
+//! What a schedule runs on: a desk over a store in memory. It keeps what a line does only until that is printed.
 
-ghost use Rattle.std.specs.Prelude.{◌≡◌, [], ◌∷◌, Some, length, string_bytes, OnOk, IfOk, IfErr};
+ghost use Rattle.std.specs.Prelude.{◌≡◌, [], ◌∷◌, length, string_bytes, OnOk, IfOk, IfErr};
 ghost use Rattle.fe_disk.specs.Memory.{IsHonest};
 ghost use Rattle.fe_journal.specs.Layout.{device_bytes};
 ghost use Rattle.fe_wire.specs.Spelling.{Fits};
 ghost use Rattle.fe_desk.specs.Standing.{IsFirstStanding};
-ghost use Rattle.fe_desk.specs.Crash.{IsFrom};
+ghost use Rattle.fe_desk.specs.Anew.{desk_anew};
 ghost use Rattle.fe_state.specs.State.{first_state};
 ghost use Rattle.fe_text.specs.Line.{LineFits};
 ghost use Rattle.fe_schedules.specs.Fault.{TellsDisk};
 ghost use Rattle.fe_schedules.specs.Ready.{Moves};
 ghost use Rattle.fe_schedules.specs.Schedule.{endings};
-ghost use Rattle.fe_schedules.specs.Runs.{IsMachine, ActsOn, PrintsMore, last_disk, lengths};
+ghost use Rattle.fe_schedules.specs.Runs.{IsMachine, ActsOn, PrintsMore, last_disk};
 
 use crate::fault::MachineFault;
-use crate::reading::{mark_all, read_all};
+use crate::reading::read_all;
 use crate::serving::{new_desk, stopped, take};
 use crate::told::{Told, print_told, sort};
 use fe_desk::{Desk, Step};
@@ -31,8 +31,6 @@ pub(crate) struct Machine {
     desk: Desk<MemoryDisk>,
     /// The disk of a store that could not be opened.
     lost: Option<MemoryDisk>,
-    /// How many of the bytes written to each connection number are printed. Numbers beyond these are new.
-    printed: Vec<usize>,
     /// The frame of the message at hand.
     frame: Vec<u8>,
     alloc: Global,
@@ -46,15 +44,13 @@ impl Machine {
         requires calm { disk.failures ≡ 0 }
         ensures machine { IfOk result IsMachine }
         ensures first { IfOk result (λ machine. IsFirstStanding first_state machine.desk.standing) }
-        ensures from { IfOk result (λ machine. IsFrom first_state machine.desk) }
-        ensures printed { IfOk result (λ machine. machine.printed.items ≡ []) }
+        ensures state { IfOk result (λ machine. machine.desk.keeper.state ≡ first_state) }
         ensures fault { IfErr result (λ e. TellsDisk e.1 e.0) }
     {
         let desk = new_desk(alloc, disk)?;
         Ok(Machine {
             desk,
             lost: None,
-            printed: Vec::new(alloc),
             frame: Vec::new(alloc),
             alloc,
         })
@@ -127,7 +123,6 @@ impl Machine {
         ensures machine { OnOk result (IsMachine self.new) }
         ensures moved { OnOk result (Moves self.old.desk (endings is_holding) self.new.desk) }
         ensures fault { IfErr result (TellsDisk (last_disk self.new)) }
-        ensures printed { self.new.printed.items ≡ self.old.printed.items }
     {
         if is_holding {
             return Ok(());
@@ -164,7 +159,6 @@ impl Machine {
             Err((fault, disk)) => return Err(self.lose(fault, disk)),
         };
         let desk = mem::replace(&mut self.desk, between);
-        self.printed.clear();
         let opened = match stopped(self.alloc, desk) {
             Ok(desk) => desk,
             Err((fault, disk)) => return Err(self.lose(fault, disk)),
@@ -182,21 +176,20 @@ impl Machine {
         fault
     }
 
-    /// Prints what each connection was told since the last time.
+    /// Prints what each connection was told, and lets go of it and of the groups.
     pub fn print(&mut self, text: &mut String, told: &mut Vec<Told>) -> Result<(), AllocError>
         requires { IsMachine self.old }
         ensures machine { OnOk result (IsMachine self.new) }
-        ensures desk { self.new.desk ≡ self.old.desk }
-        ensures lost { self.new.lost ≡ self.old.lost }
-        ensures printed { OnOk result (self.new.printed.items ≡ lengths self.old.desk.standing) }
+        ensures desk { OnOk result (self.new.desk ≡ desk_anew self.old.desk) }
+        ensures disk { last_disk self.new ≡ last_disk self.old }
         ensures text { OnOk result
-            (PrintsMore self.old.printed.items self.old.desk.standing (string_bytes text.old) (string_bytes text.new)) }
+            (PrintsMore self.old.desk.standing (string_bytes text.old) (string_bytes text.new)) }
     {
-        let ports = self.desk.trace().ports.as_slice();
-        read_all(self.alloc, ports, self.printed.as_slice(), told)?;
+        read_all(self.alloc, self.desk.trace().ports.as_slice(), told)?;
         sort(told)?;
         print_told(text, told.as_slice())?;
-        mark_all(ports, &mut self.printed)
+        self.desk.clear_trace();
+        Ok(())
     }
 
     /// Takes a step.
@@ -205,7 +198,6 @@ impl Machine {
         ensures machine { OnOk result (IsMachine self.new) }
         ensures moved { OnOk result (Moves self.old.desk (step.now ∷ []) self.new.desk) }
         ensures fault { IfErr result (TellsDisk (last_disk self.new)) }
-        ensures printed { self.new.printed.items ≡ self.old.printed.items }
     {
         take(&mut self.desk, step)
     }

@@ -1,13 +1,13 @@
 //! The replies whose frames are written.
 
-ghost use Rattle.std.specs.Prelude.{◌≡◌, ◌<◌, ◌≤◌, ◌++◌, List, length, map, take, slice_index, IfOk, IfSome, OnOk};
+ghost use Rattle.std.specs.Prelude.{◌≡◌, ◌<◌, ◌++◌, List, length, map, IfOk, IfSome, OnOk};
 ghost use Rattle.std.specs.Option.{option_map};
 ghost use Rattle.std.specs.List.{flat_map, AllByRecursion};
 ghost use Rattle.fe_wire.specs.Spelling.{reply_spelling, ReplyFits};
 ghost use Rattle.fe_wire.specs.declared.server_message.ServerMessage.{ServerMessage as Reply};
 ghost use Rattle.fe_desk.specs.Frames.{AreReplies};
 ghost use Rattle.fe_schedules.specs.within.Frames.{frame_at};
-ghost use Rattle.fe_schedules.specs.Runs.{ArePrinted, ToldMore, fronts};
+ghost use Rattle.fe_schedules.specs.Runs.{ToldMore};
 ghost use Rattle.fe_schedules.specs.Told.{AreTold, told_to};
 
 use crate::told::Told;
@@ -69,55 +69,24 @@ fn read_told(
     Ok(())
 }
 
-/// Reads a port's replies after those that are printed.
-fn read_port(
-    alloc: Global,
-    port: &Port,
-    printed: usize,
-    told: &mut Vec<Told>,
-) -> Result<(), AllocError>
-    requires front { printed ≤ length port.now.written }
-    requires replies { AreReplies (take printed port.now.written) }
-    ensures { OnOk result
-        (ToldMore (take printed port.now.written) port.now.conn port.now.written told.old.items told.new.items) }
+/// Reads what a port was written as replies.
+fn read_port(alloc: Global, port: &Port, told: &mut Vec<Told>) -> Result<(), AllocError>
+    ensures { OnOk result (ToldMore port.now.conn port.now.written told.old.items told.new.items) }
 {
-    let written = port.written.as_slice();
-    read_told(alloc, port.conn, &written[printed..], told)
+    read_told(alloc, port.conn, port.written.as_slice(), told)
 }
 
-/// How much is printed of the port at this place.
-fn printed_at(printed: &[usize], at: usize) -> usize
-    ensures { result ≡ slice_index printed.now at }
-{
-    printed.get(at).copied().unwrap_or(0)
-}
-
-/// Reads all ports' replies after those that are printed.
+/// Reads what all ports were written.
 pub(crate) fn read_all(
     alloc: Global,
     ports: &[Port],
-    printed: &[usize],
     told: &mut Vec<Told>,
 ) -> Result<(), AllocError>
-    requires { ArePrinted printed.now (map (λ p. p.written) ports.now) }
-    ensures { OnOk result
-        (AreTold (fronts printed.now (map (λ p. p.written) ports.now)) (map
-        (λ p. (p.conn, p.written)) ports.now) told.new.items) }
+    ensures { OnOk result (AreTold (map (λ p. (p.conn, p.written)) ports.now) told.new.items) }
 {
     told.clear();
-    for at in 0..ports.len() {
-        read_port(alloc, &ports[at], printed_at(printed, at), told)?;
-    }
-    Ok(())
-}
-
-/// All of each port is printed.
-pub(crate) fn mark_all(ports: &[Port], printed: &mut Vec<usize>) -> Result<(), AllocError>
-    ensures { OnOk result (printed.new.items ≡ map (λ w. length w) (map (λ p. p.written) ports.now)) }
-{
-    printed.clear();
     for port in ports {
-        printed.push(port.written.as_slice().len())?;
+        read_port(alloc, port, told)?;
     }
     Ok(())
 }

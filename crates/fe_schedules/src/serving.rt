@@ -25,7 +25,7 @@ pub(crate) fn new_desk(
     requires calm { disk.failures ≡ 0 }
     ensures ready { IfOk result IsReady }
     ensures first { IfOk result (λ desk. IsFirstStanding first_state desk.standing) }
-    ensures from { IfOk result (IsFrom first_state) }
+    ensures state { IfOk result (λ desk. desk.keeper.state ≡ first_state) }
     ensures fault { IfErr result (λ e. TellsDisk e.1 e.0) }
 {
     match Desk::format(alloc, disk) {

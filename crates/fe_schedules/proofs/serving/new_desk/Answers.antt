@@ -1,6 +1,5 @@
 use Rattle.std.proofs.Common.{◌∙◌}
 use Rattle.fe_state.specs.State.{first_state}
-use Rattle.fe_desk.proofs.Openings.{first_from}
 use Rattle.fe_schedules.proofs.Readiness.{ready_first, format_tells}
 use Rattle.fe_schedules.proofs.serving.new_desk.Goals as goal
 
@@ -9,11 +8,6 @@ returns-in-Ok-clause-ready c =
     let d = c.in-Ok.ensures in
     let honest = c.requires.honest in
     ready_first c.in-Ok.desk first_state (d.honesty.1 honest) d.works (d.still ∙ c.requires.calm) d.first.0 d.first.1 d.first.2 (d.formatted honest)
-
-pub returns-in-Ok-clause-from : goal.returns-in-Ok-clause-from
-returns-in-Ok-clause-from c =
-    let d = c.in-Ok.ensures in
-    first_from first_state c.in-Ok.desk d.first.1 d.first.0.groups d.first.2
 
 pub returns-in-Err-clause-fault : goal.returns-in-Err-clause-fault
 returns-in-Err-clause-fault c = let e = c.in-Err.ensures in format_tells c.args.disk c.in-Err.disk c.in-Err.fault c.of_desk.result c.requires.calm c.of_desk.ensures e.faults e.device e.calm

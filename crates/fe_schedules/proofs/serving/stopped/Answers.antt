@@ -1,4 +1,4 @@
-use Rattle.std.proofs.Common.{◌≡◌, List, ℕ, refl, ap, ◌∙◌, subst}
+use Rattle.std.proofs.Common.{refl, ◌∙◌, subst}
 use Rattle.fe_disk.specs.Memory.{MemoryState, LeavesNow}
 use Rattle.fe_state.specs.State.{ServerState}
 use Rattle.fe_desk.specs.Crash.{IsFrom, disk_of}

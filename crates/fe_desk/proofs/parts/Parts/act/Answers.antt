@@ -1,4 +1,4 @@
-use Rattle.std.proofs.Common.{◌≡◌, IsTrue, true, is_some, refl, sym, ap, map, ◌∙◌}
+use Rattle.std.proofs.Common.{IsTrue, true, is_some, refl, sym, ap, map, ◌∙◌}
 use Rattle.fe_keeper.specs.Ends.{ForDevice, ForDeviceAndMemory}
 use Rattle.fe_keeper.specs.Keeper.{can_begin, has_slices}
 use Rattle.fe_desk.specs.declared.step.Step.TheVariants as step

@@ -3,9 +3,9 @@ use Rattle.std.specs.Prelude.{map}
 use Rattle.std.proofs.lemmas.List.{length-map}
 use Rattle.fe_state.specs.State.{after_all}
 use Rattle.fe_state.specs.declared.batch.Batch.{Batch}
-use Rattle.fe_keeper.specs.Keeper.{KeeperState, StoreState}
+use Rattle.fe_keeper.specs.Keeper.{StoreState}
 use Rattle.fe_keeper.specs.declared.fault.Fault.{Fault}
-use Rattle.fe_keeper.specs.declared.fault.Fault.TheVariants.{Device, NoMemory}
+use Rattle.fe_keeper.specs.declared.fault.Fault.TheVariants.{Device}
 use Rattle.fe_desk.specs.declared.handed.Handed.TheVariants.{Cut, Stored}
 use Rattle.fe_desk.specs.Storing.{handing}
 use Rattle.fe_desk.specs.Crash.{with_handed}

@@ -1,4 +1,4 @@
-use Rattle.std.proofs.Common.{take, refl, arith, rules}
+use Rattle.std.proofs.Common.{refl, arith, rules}
 use Rattle.fe_text.proofs.Written.{written_more}
 use Rattle.fe_schedules.proofs.counted_writer.CountedWriter.write_text.Goals as goal
 

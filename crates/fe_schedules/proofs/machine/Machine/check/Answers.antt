@@ -1,4 +1,4 @@
-use Rattle.std.proofs.Common.{[], ◌∷◌, refl, rules}
+use Rattle.std.proofs.Common.{[], ◌∷◌, refl}
 use Rattle.fe_desk.specs.declared.step.Step.TheVariants as step
 use Rattle.fe_text.proofs.Results.{then_ok}
 use Rattle.fe_schedules.proofs.Moving.{moves_both}
@@ -13,6 +13,5 @@ returns-clause-acts c =
       steps = step.CheckBegin ∷ step.CheckFinish ∷ [];
       are = refl;
       moves = moves_both c.args.self.now.desk c.step.new.self.desk c.step-2.new.self.desk (step.CheckBegin ∷ []) (step.CheckFinish ∷ []) c.in_ok-step.ensures.moved m;
-      printed = search rules;
     })
     c.step-2.ensures.moved

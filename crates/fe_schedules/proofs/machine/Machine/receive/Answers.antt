@@ -1,4 +1,4 @@
-use Rattle.std.proofs.Common.{List, ℕ, [], ◌∷◌, ◌++◌, refl, ap, ◌∙◌, rules}
+use Rattle.std.proofs.Common.{List, ℕ, [], ◌∷◌, ◌++◌, refl, ap, ◌∙◌}
 use Rattle.fe_wire.specs.Spelling.{spelling}
 use Rattle.fe_desk.specs.declared.step.Step.{Step}
 use Rattle.fe_desk.specs.declared.step.Step.TheVariants as step
@@ -18,7 +18,6 @@ returns-in-Bytes-clause-acts c =
       steps = first ∷ frame ∷ [];
       are = (frame, (refl, c.in_ok-put_message.ensures.ok ∙ ap (λ (t : List ℕ). t ++ spelling c.args.message.now) c.clear.ensures.items), refl);
       moves = moves_both c.args.self.now.desk c.step.new.self.desk c.step-outcome.new.self.desk (first ∷ []) (frame ∷ []) c.in_ok-step.ensures.moved m;
-      printed = search rules;
     })
     c.step-outcome.ensures.moved
 

@@ -1,9 +1,7 @@
-use Rattle.std.proofs.Common.{List, ℕ, [], refl, sym, subst, rules}
+use Rattle.std.proofs.Common.{[], refl, sym, subst, rules}
 use Rattle.fe_desk.specs.Crash.{IsFrom}
 use Rattle.fe_desk.specs.Standing.{IsFirstStanding}
 use Rattle.fe_schedules.specs.Ready.{IsReady}
-use Rattle.fe_schedules.specs.Runs.{ArePrinted}
-use Rattle.fe_schedules.specs.Schedule.{writings}
 use Rattle.fe_schedules.specs.declared.fault.MachineFault.TheVariants as machine
 use Rattle.fe_text.proofs.Results.{failed}
 use Rattle.fe_schedules.proofs.Moving.{moves_none, calm_disk}
@@ -11,9 +9,7 @@ use Rattle.fe_schedules.proofs.machine.Machine.stop.Goals as goal
 
 pub returns-clause-machine : goal.returns-clause-machine
 returns-clause-machine c =
-    let is = sym c.replace.ensures.after in
-    let printed : ArePrinted [] (writings c.replace.new.dest.standing) = tt in
-    record { ready = subst IsReady is c.in-Ok-stopped.ensures.ready; lost = c.requires.lost; printed = subst (λ (ns : List ℕ). ArePrinted ns (writings c.replace.new.dest.standing)) (sym c.clear.ensures.items) printed }
+    record { ready = subst IsReady (sym c.replace.ensures.after) c.in-Ok-stopped.ensures.ready; lost = c.requires.lost }
 
 pub returns-clause-acts : goal.returns-clause-acts
 returns-clause-acts c =
@@ -28,7 +24,6 @@ returns-clause-acts c =
       steps = [];
       are = refl;
       moves = moves_none e;
-      printed = c.clear.ensures.items;
     }
 
 pub returns-in_err-disk-clause-fault : goal.returns-in_err-disk-clause-fault

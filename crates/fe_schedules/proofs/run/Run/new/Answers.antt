@@ -1,8 +1,8 @@
-use Rattle.std.proofs.Common.{false, refl}
+use Rattle.std.proofs.Common.{false, refl, sym}
 use Rattle.fe_state.specs.State.{first_state}
 use Rattle.fe_schedules.proofs.run.Run.new.Goals as goal
 
 pub returns-clause-start : goal.returns-clause-start
 returns-clause-start c =
     let m = c.in_ok-machine.machine in
-    (record { begun = first_state; standing = m.desk.standing; is_holding = false }, record { begun = refl; standing = c.in_ok-machine.ensures.first; is_holding = refl }, record { standing = refl; from = c.in_ok-machine.ensures.from; holding = refl })
+    (record { stored = first_state; standing = m.desk.standing; is_holding = false }, record { stored = refl; standing = c.in_ok-machine.ensures.first; is_holding = refl }, record { stored = sym c.in_ok-machine.ensures.state; standing = refl; holding = refl })
