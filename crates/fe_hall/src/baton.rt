@@ -2,7 +2,7 @@
 //!
 //! Each event is a hold of the hall's lock. If many sides made several each, all of them would meet the committing thread at that
 //! lock. So a side that has several to make takes the baton first, and the others wait for that. The baton always comes before the
-//! lock. A side that has the baton waits for nothing but the lock: `Hold::wait` gives it up, and so does a side that waits elsewhere.
+//! lock. A side that has the baton waits for nothing but the lock: `Lock::wait` gives it up, and so does a side that waits elsewhere.
 
 use std::sync::{Mutex, MutexGuard, Wait};
 

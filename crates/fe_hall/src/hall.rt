@@ -17,7 +17,7 @@ use fe_state::Batch;
 use fe_wire::ClientMessage;
 use std::alloc::{AllocError, Global};
 use std::sync::ledger::Blank;
-use std::sync::{Condvar, Wait};
+use std::sync::{Condvar, MutexGuard, Wait};
 use std::time::{Clock, Duration};
 
 /// How many milliseconds a read side waits at most for a write side that takes no mail.
@@ -65,9 +65,9 @@ impl<C: Tally, M: Tally> Hall<C, M> {
             Ok(bells) => {
                 let (chronicle, begun) = history.named::<M>();
                 let (seen, stored) = (begun.again(), begun.again());
-                let (shared, right) = Shared::new(alloc, front, calls, mails, seen);
+                let (shared, right, holds) = Shared::new(alloc, front, calls, mails, seen);
                 let hall = Hall {
-                    lock: Lock::new(shared),
+                    lock: Lock::new(shared, holds),
                     baton: Baton::new(),
                     chronicle,
                     begun,
@@ -120,17 +120,17 @@ impl<C: Tally, M: Tally> Hall<C, M> {
     {
         let mut hold = self.lock.enter(rt);
         for _ in rt.forever() {
-            let mails = hold.shared().mails_made();
+            let mails = hold.mails_made();
             if let Some(standing) = hold.handle(alloc, &self.chronicle, message, seat) {
-                let told = hold.shared().mails_made() != mails;
-                hold.end();
+                let told = hold.mails_made() != mails;
+                MutexGuard::unlock(hold);
                 self.work.notify_one();
                 if told {
                     self.ring(seat.conn());
                 }
                 return standing;
             }
-            hold = hold.wait(rt, &self.room, grip);
+            hold = self.lock.wait(rt, hold, &self.room, grip);
         }
         unreachable!()
     }
@@ -147,11 +147,11 @@ impl<C: Tally, M: Tally> Hall<C, M> {
         self.ring(conn);
         let mut grip = Grip::none();
         for _ in rt.forever() {
-            if hold.shared().is_over(conn) || !hold.shared().is_watched(conn) {
+            if hold.is_over(conn) || !hold.is_watched(conn) {
                 let _ = hold.unwatch(conn);
                 return;
             }
-            hold = hold.wait(rt, &self.bells[(conn % BELLS) as usize], &mut grip);
+            hold = self.lock.wait(rt, hold, self.bell(conn), &mut grip);
         }
         unreachable!()
     }
@@ -166,19 +166,19 @@ impl<C: Tally, M: Tally> Hall<C, M> {
         made: &Made,
         grip: &mut Grip<'_>,
     ) -> Made {
-        let bell = &self.bells[(conn % BELLS) as usize];
+        let bell = self.bell(conn);
         let limit = Duration::from_millis(STILL_MILLIS);
         let mut hold = self.lock.enter(rt);
         for _ in rt.forever() {
             if hold.may_go_on(conn, made) {
-                return hold.shared().made();
+                return hold.made();
             }
             grip.give_up();
-            let (next, in_vain) = hold.wait_at_most(rt, bell, limit, conn, made);
+            let (next, in_vain) = self.lock.wait_at_most(rt, hold, bell, limit, conn, made);
             hold = next;
-            if in_vain && hold.shared().is_durable(made) {
+            if in_vain && hold.is_durable(made) {
                 let _ = hold.unwatch(conn);
-                return hold.shared().made();
+                return hold.made();
             }
         }
         unreachable!()
@@ -186,7 +186,7 @@ impl<C: Tally, M: Tally> Hall<C, M> {
 
     /// The place after all entries made so far.
     pub(crate) fn made<R: Wait>(&self, rt: &R) -> Made {
-        self.lock.enter(rt).shared().made()
+        self.lock.enter(rt).made()
     }
 
     /// Waits until the write side has taken what comes of the connection's messages, except what waits, and makes the connection gone.
@@ -201,11 +201,11 @@ impl<C: Tally, M: Tally> Hall<C, M> {
         for _ in rt.forever() {
             if let Some(rest) = hold.rest(seat) {
                 hold.depart(seat, rest);
-                hold.end();
+                MutexGuard::unlock(hold);
                 self.ring(conn);
                 return;
             }
-            hold = hold.wait(rt, &self.bells[(conn % BELLS) as usize], &mut grip);
+            hold = self.lock.wait(rt, hold, self.bell(conn), &mut grip);
         }
         unreachable!()
     }
@@ -242,9 +242,9 @@ impl<C: Tally, M: Tally> Hall<C, M> {
         let mut hold = self.lock.enter(rt);
         for _ in rt.forever() {
             if let Some(taking) = hold.take_mail(seat) {
-                let is_awaited = !seat.more() && hold.shared().is_watched(conn);
+                let is_awaited = !seat.more() && hold.is_watched(conn);
                 hold.teach(history);
-                hold.end();
+                MutexGuard::unlock(hold);
                 if is_awaited {
                     self.ring(conn);
                 }
@@ -254,7 +254,7 @@ impl<C: Tally, M: Tally> Hall<C, M> {
             if hold.unwatch(conn) {
                 self.ring(conn);
             }
-            hold = hold.wait(rt, &self.bells[(conn % BELLS) as usize], grip);
+            hold = self.lock.wait(rt, hold, self.bell(conn), grip);
         }
         unreachable!()
     }
@@ -280,11 +280,11 @@ impl<C: Tally, M: Tally> Hall<C, M> {
         let mut hold = self.lock.enter(rt);
         for _ in rt.forever() {
             if let Some(cutting) = hold.cut(&self.chronicle, cuts) {
-                hold.end();
+                MutexGuard::unlock(hold);
                 self.room.notify_all();
                 return cutting;
             }
-            hold = hold.wait(rt, &self.work, &mut grip);
+            hold = self.lock.wait(rt, hold, &self.work, &mut grip);
         }
         unreachable!()
     }
@@ -302,8 +302,8 @@ impl<C: Tally, M: Tally> Hall<C, M> {
         let mut wakes = [false; BELLS as usize];
         let mut hold = self.lock.enter(rt);
         let outcome = hold.post(batch, seat, &mut wakes);
-        hold.shared().mark_watched(&mut wakes);
-        hold.end();
+        hold.mark_watched(&mut wakes);
+        MutexGuard::unlock(hold);
         for at in 0..self.bells.len() {
             if wakes[at] {
                 self.bells[at].notify_all();
@@ -330,9 +330,14 @@ impl<C: Tally, M: Tally> Hall<C, M> {
         Gathered::none(alloc, self.begun.again())
     }
 
+    /// The bell of the sides of a connection, and of those of others.
+    fn bell(&self, conn: u64) -> &Condvar {
+        &self.bells[(conn % BELLS) as usize]
+    }
+
     /// Rings for the sides of a connection that wait for its box.
     fn ring(&self, conn: u64) {
-        self.bells[(conn % BELLS) as usize].notify_all();
+        self.bell(conn).notify_all();
     }
 
     /// What is under the lock, and the word of the history, once no thread uses the hall.

@@ -8,6 +8,7 @@ use Rattle.fe_state.specs.declared.batch.Batch.{Batch}
 use Rattle.fe_front.specs.Posting.{IsOut}
 use Rattle.fe_history.specs.Acts.{WasCut}
 use Rattle.fe_history.specs.declared.act.Act.{Act}
+use Rattle.fe_shared.specs.Marks.{SharedState}
 use Rattle.fe_shared.specs.Seats.{most_connections, most_counted, posts_more}
 use Rattle.fe_shared.specs.declared.shared.batches.Cutting.{Cutting}
 use Rattle.fe_shared.specs.declared.shared.batches.Cutting.TheVariants as cutting
@@ -17,6 +18,14 @@ use Rattle.fe_shared.specs.declared.taking.Taking.{Taking}
 use Rattle.fe_shared.specs.declared.taking.Taking.TheVariants as taking
 use Rattle.fe_shared.specs.declared.unconnected.Unconnected.{Unconnected}
 use Rattle.fe_shared.specs.declared.unconnected.Unconnected.TheVariants as unconnected
+
+-- The event of this hold was made. It does not stop the hall, nor start it again.
+abbrev pub MakesEvent : SharedState → SharedState → Type 0
+MakesEvent s t = (t.used ≡ true) × (t.stopped ≡ s.stopped)
+
+-- No event was made in this hold, and the hall neither stopped nor started again.
+abbrev pub MakesNoEvent : SharedState → SharedState → Type 0
+MakesNoEvent s t = (t.used ≡ s.used) × (t.stopped ≡ s.stopped)
 
 -- whether a mail is in a connection's box
 abbrev pub has_mail : FrontState → ℕ → Bool

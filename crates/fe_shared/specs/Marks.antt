@@ -80,6 +80,8 @@ pub record SharedState : Type 0 where
   pub history : List Act
   pub made : ℕ
   pub stopped : Bool
+  -- whether the event of this hold was made
+  pub used : Bool
   -- the read sides that wait for their boxes
   pub watched : List Watcher
 

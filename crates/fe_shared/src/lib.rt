@@ -25,8 +25,8 @@ pub use message_log::MessageLog;
 pub use new_seats::NewSeats;
 pub use seats::Seats;
 pub use shared::{
-    AllDurable, AllMade, ConnectRight, CutBatch, Cutting, FullBook, HasStopped, InUse, Made,
-    NotOut, Posted, Rest, SeatMissing, Shared, Uncut, Unposted,
+    AllDurable, AllMade, ConnectRight, CutBatch, Cutting, FullBook, HasStopped, HoldRight, InUse,
+    Made, NotOut, Posted, Rest, SeatMissing, Shared, Uncut, Unposted,
 };
 pub use short::{Short, feed, put, reserve_one, zeros};
 pub use standing::Standing;

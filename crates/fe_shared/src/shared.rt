@@ -11,7 +11,7 @@ ghost use mathlib.Core.List.{IsPrefix};
 ghost use Rattle.fe_history.specs.Acts.{IsLegal};
 ghost use Rattle.fe_history.specs.Rules.{Hears};
 ghost use Rattle.fe_shared.specs.Marks.{IsBegun, MayBeTold};
-ghost use Rattle.fe_shared.specs.Holds.{Ends, IsDrained, IsOver, IsUnconnected, TakesMail};
+ghost use Rattle.fe_shared.specs.Holds.{Ends, IsDrained, IsOver, IsUnconnected, Leaves, MakesEvent, MakesNoEvent, TakesMail};
 ghost use Rattle.fe_front.specs.Ringing.{IsRung};
 ghost use Rattle.fe_shared.specs.Watching.{waits};
 ghost use Rattle.fe_shared.specs.Seats.{HasRested, IsOpen, TookNoMessage, message_taken, message_answered, taking_answered, takes_more, most_connections};
@@ -59,6 +59,8 @@ pub struct Shared<C: Tally, M: Tally> {
     watchers: Watchers,
     paces: Paces,
     stopped: bool,
+    /// The event of this hold was made.
+    used: bool,
     ghost open: { IsOpen front.books },
     ghost calls_agree: { calls.total ≡ front.books.calls },
     ghost mails_agree: { mails.total ≡ front.books.taken },
@@ -83,6 +85,7 @@ impl<C: Tally, M: Tally> Drop for Shared<C, M> {
             watchers,
             paces,
             stopped: _,
+            used: _,
         } = self;
         drop(front);
         drop(calls);
@@ -110,6 +113,7 @@ impl<C: Tally, M: Tally> Model for Shared<C, M> {
       history = s.history;
       made = s.made;
       stopped = s.stopped;
+      used = s.used;
       watched = s.watchers.items.items;
     } };
 
@@ -119,6 +123,10 @@ impl<C: Tally, M: Tally> Model for Shared<C, M> {
 /// The right to make connections in a hall. There is one, which the hall gives to whoever begins it.
 #[derive(Drop)]
 pub struct ConnectRight(());
+
+/// The right to begin holds of a hall's lock. There is one, which the lock keeps.
+#[derive(Drop)]
+pub struct HoldRight(());
 
 /// Shows that a connection of some number was there. Only `Shared::connect` makes one.
 #[derive(Clone, Copy, PartialEq, Eq)]
@@ -180,14 +188,15 @@ impl SeatMissing {
 }
 
 impl<C: Tally, M: Tally> Shared<C, M> {
-    /// A front that is as it began, with no connection made, and the right to make some.
+    /// A front that is as it began, with no connection made, and the rights to make some and to begin holds. Until a hold begins there is
+    /// no event.
     pub fn new(
         alloc: Global,
         front: Front,
         calls: Blank,
         mails: Blank,
         history: History<M>,
-    ) -> (Shared<C, M>, ConnectRight)
+    ) -> (Shared<C, M>, ConnectRight, HoldRight)
         requires begun { IsBegun front history }
         requires legal { IsLegal history }
         requires calls { (calls.name ≡ C.name) × (calls.parts ≡ C.parts) × (C.all ≡ C.parts)
@@ -210,8 +219,16 @@ impl<C: Tally, M: Tally> Shared<C, M> {
             watchers: Watchers::new(alloc),
             paces: Paces::new(alloc),
             stopped: false,
+            used: true,
         };
-        (shared, ConnectRight(()))
+        (shared, ConnectRight(()), HoldRight(()))
+    }
+
+    /// A hold begins, in which one event may be made.
+    pub fn begin_hold(&mut self, _right: &HoldRight)
+        ensures { self.new ≡ record self.old { used = false } }
+    {
+        self.used = false;
     }
 
     /// Makes a connection with an empty box, and its seats.
@@ -220,15 +237,17 @@ impl<C: Tally, M: Tally> Shared<C, M> {
         _right: &ConnectRight,
         conn: u64,
     ) -> Result<NewSeats<C, M>, Unconnected>
+        requires fresh { self.old.used ≡ false }
         ensures step { OnOk result (FrontStep self.old.front (event.Connect conn) [] self.new.front) }
         ensures err { OnErr result (self.new.front ≡ self.old.front) }
         ensures in_use { is_connected self.old.front conn ≡ true → IsErr result }
         ensures why { IfErr result (IsUnconnected self.old.front self.old.made conn) }
         ensures made { OnOk result (self.new.made ≡ self.old.made + 1) }
         ensures unmade { OnErr result (self.new.made ≡ self.old.made) }
-        ensures still { self.new.stopped ≡ self.old.stopped }
+        ensures event { MakesEvent self.old self.new }
         ensures seats { IfOk result (λ seats. seats ≡ conn) }
     {
+        self.used = true;
         if self.front.connected(conn) {
             return Err(Unconnected::InUse(InUse(())));
         }
@@ -267,7 +286,7 @@ impl<C: Tally, M: Tally> Shared<C, M> {
         ensures taken { (es : List Entry) × Takes self.old.front seat.old.conn message es self.new.front }
         ensures seat { seat.new ≡ message_taken seat.old message self.new.front.service.state.place }
         ensures heard { Hears self.old.history seat.old.conn message self.new.history }
-        ensures still { self.new.stopped ≡ self.old.stopped }
+        ensures still { MakesNoEvent self.old self.new }
     {
         // It names what is always true of the front (`docs/DECISIONS.md`, "Toolchain").
         let _ = self.front.state();
@@ -287,6 +306,7 @@ impl<C: Tally, M: Tally> Shared<C, M> {
         message: &ClientMessage,
         seat: &mut CallSeat<C>,
     ) -> Option<Standing>
+        requires fresh { self.old.used ≡ false }
         ensures taken { result ≡ Some Standing.Served
             → (es : List Entry) × Takes self.old.front seat.old.conn message.now es self.new.front }
         ensures other { result ≢ Some Standing.Served → self.new.front ≡ self.old.front }
@@ -300,8 +320,9 @@ impl<C: Tally, M: Tally> Shared<C, M> {
         ensures gone { result ≡ Some Standing.Gone → is_connected self.old.front seat.old.conn ≡ false }
         ensures spent { result ≡ Some Standing.Spent → takes_more self.old.front.books ≡ false }
         ensures full { result ≡ None → has_room self.old.front ≡ false }
-        ensures still { self.new.stopped ≡ self.old.stopped }
+        ensures event { MakesEvent self.old self.new }
     {
+        self.used = true;
         if self.stopped {
             seat.tell(&self.calls, Standing::Stopped);
             return Some(Standing::Stopped);
@@ -333,7 +354,7 @@ impl<C: Tally, M: Tally> Shared<C, M> {
     pub fn watch(&mut self, conn: u64) -> Result<(), Short>
         ensures watched { OnOk result (IsTrue (waits self.new.watched conn)) }
         ensures front { self.new.front ≡ self.old.front }
-        ensures still { self.new.stopped ≡ self.old.stopped }
+        ensures still { MakesNoEvent self.old self.new }
     {
         self.watchers.add(conn)
     }
@@ -342,7 +363,7 @@ impl<C: Tally, M: Tally> Shared<C, M> {
     pub fn unwatch(&mut self, conn: u64) -> bool
         ensures watched { result ≡ waits self.old.watched conn }
         ensures front { self.new.front ≡ self.old.front }
-        ensures still { self.new.stopped ≡ self.old.stopped }
+        ensures still { MakesNoEvent self.old self.new }
     {
         self.watchers.remove(conn)
     }
@@ -354,11 +375,14 @@ impl<C: Tally, M: Tally> Shared<C, M> {
         self.watchers.has(conn)
     }
 
-    /// The hall is stopped.
+    /// The hall is stopped. This is no event of the front, and the hold makes none after it.
     pub fn stop(&mut self) -> HasStopped
+        requires fresh { self.old.used ≡ false }
         ensures stopped { self.new.stopped ≡ true }
+        ensures used { self.new.used ≡ true }
         ensures front { self.new.front ≡ self.old.front }
     {
+        self.used = true;
         self.stopped = true;
         HasStopped(())
     }
@@ -393,7 +417,7 @@ impl<C: Tally, M: Tally> Shared<C, M> {
         ensures drained { IfSome result (λ rest. rest.short ≡ false
             → IsDrained self.old.front self.old.stopped seat.now.conn seat.now.place) }
         ensures front { self.new.front ≡ self.old.front }
-        ensures still { self.new.stopped ≡ self.old.stopped }
+        ensures still { MakesNoEvent self.old self.new }
     {
         let conn = seat.conn();
         if self.is_drained(conn, seat.place()) {
@@ -413,7 +437,7 @@ impl<C: Tally, M: Tally> Shared<C, M> {
         ensures waits { result ≡ false → ¬ IsDrained self.old.front self.old.stopped conn made.now }
         ensures watched { result ≡ false → IsTrue (waits self.new.watched conn) }
         ensures front { self.new.front ≡ self.old.front }
-        ensures still { self.new.stopped ≡ self.old.stopped }
+        ensures still { MakesNoEvent self.old self.new }
     {
         if self.paces.is_close(conn) || self.is_drained(conn, made.place) {
             let _ = self.watchers.remove(conn);
@@ -446,11 +470,13 @@ impl<C: Tally, M: Tally> Shared<C, M> {
 
     /// Takes the first mail out of a connection's box, or records in its seat why none comes. `None`: one may come.
     pub fn take_mail(&mut self, seat: &mut MailSeat<M>) -> Option<Taking>
+        requires fresh { self.old.used ≡ false }
         ensures takes { TakesMail self.old.front self.old.stopped seat.old.conn result self.new.front }
         ensures seat { MatchOption result (seat.new ≡ seat.old) (λ taking. seat.new ≡ taking_answered seat.old taking) }
         ensures stored { IfSome result (λ taking. MayBeTold seat.old.conn taking self.new.history) }
-        ensures still { self.new.stopped ≡ self.old.stopped }
+        ensures event { MakesEvent self.old self.new }
     {
+        self.used = true;
         let _ = self.front.state();
         let conn = seat.conn();
         match self.front.take_mail(conn) {
@@ -495,8 +521,8 @@ impl<C: Tally, M: Tally> Shared<C, M> {
 
     /// A connection is gone, with its box and what waits of its session.
     fn drop_connection(&mut self, conn: u64)
-        ensures step { (count : ℕ) × FrontStep self.old.front (event.Gone conn count) [] self.new.front }
-        ensures still { self.new.stopped ≡ self.old.stopped }
+        ensures step { Leaves self.old.front conn self.new.front }
+        ensures still { MakesNoEvent self.old self.new }
     {
         let _ = self.front.state();
         let _ = self.front.gone(conn);
@@ -504,20 +530,24 @@ impl<C: Tally, M: Tally> Shared<C, M> {
 
     /// A read side makes its connection gone.
     pub fn leave_by_reader(&mut self, seat: &mut CallSeat<C>)
-        ensures step { (count : ℕ) × FrontStep self.old.front (event.Gone seat.old.conn count) [] self.new.front }
+        requires fresh { self.old.used ≡ false }
+        ensures step { Leaves self.old.front seat.old.conn self.new.front }
         ensures seat { seat.new ≡ record seat.old { departed = true } }
-        ensures still { self.new.stopped ≡ self.old.stopped }
+        ensures event { MakesEvent self.old self.new }
     {
+        self.used = true;
         self.drop_connection(seat.conn());
         seat.depart(&self.calls);
     }
 
     /// A write side makes its connection gone.
     pub fn leave_by_writer(&mut self, seat: &mut MailSeat<M>)
-        ensures step { (count : ℕ) × FrontStep self.old.front (event.Gone seat.old.conn count) [] self.new.front }
+        requires fresh { self.old.used ≡ false }
+        ensures step { Leaves self.old.front seat.old.conn self.new.front }
         ensures seat { seat.new ≡ record seat.old { departed = true } }
-        ensures still { self.new.stopped ≡ self.old.stopped }
+        ensures event { MakesEvent self.old self.new }
     {
+        self.used = true;
         self.drop_connection(seat.conn());
         seat.depart(&self.mails);
     }
@@ -525,14 +555,15 @@ impl<C: Tally, M: Tally> Shared<C, M> {
     /// A read side that need not wait makes its connection gone, unless the hall is stopped: then the hall says so, and the write side
     /// goes on.
     pub fn depart(&mut self, seat: &mut CallSeat<C>, rest: Rest)
+        requires fresh { self.old.used ≡ false }
         requires own { rest.conn ≡ seat.old.conn }
         ensures rested { HasRested seat.new }
         ensures untaken { TookNoMessage seat.old seat.new }
-        ensures step { self.old.stopped ≡ false
-            → (count : ℕ) × FrontStep self.old.front (event.Gone seat.old.conn count) [] self.new.front }
+        ensures step { self.old.stopped ≡ false → Leaves self.old.front seat.old.conn self.new.front }
         ensures stopped { self.old.stopped ≡ true → self.new.front ≡ self.old.front }
-        ensures still { self.new.stopped ≡ self.old.stopped }
+        ensures event { MakesEvent self.old self.new }
     {
+        self.used = true;
         if self.stopped {
             seat.tell(&self.calls, Standing::Stopped);
             return;
@@ -577,6 +608,7 @@ impl<C: Tally, M: Tally> Shared<C, M> {
             watchers,
             paces,
             stopped: _,
+            used: _,
         } = self;
         drop(watchers);
         drop(paces);

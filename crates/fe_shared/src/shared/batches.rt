@@ -6,7 +6,7 @@ ghost use Rattle.fe_front.specs.Ringing.{Rings};
 ghost use Rattle.fe_front.specs.Step.{FrontStep};
 ghost use Rattle.fe_front.specs.Steps.{has_no_cut};
 ghost use Rattle.fe_history.specs.Acts.{WasStoredLast};
-ghost use Rattle.fe_shared.specs.Holds.{Cuts, IsCutIn, IsUnposted};
+ghost use Rattle.fe_shared.specs.Holds.{Cuts, IsCutIn, IsUnposted, MakesEvent, MakesNoEvent};
 ghost use Rattle.fe_shared.specs.Seats.{posts_more};
 
 use super::{MOST, Shared};
@@ -89,10 +89,12 @@ pub enum Unposted {
 impl<C: Tally, M: Tally> Shared<C, M> {
     /// Hands all pending entries out, if there are some and no batch is out. `None`: there may be some later. The history has the cut then.
     pub fn cut(&mut self, chronicle: &Chronicle<M>, cuts: &mut History<M>) -> Option<Cutting>
+        requires fresh { self.old.used ≡ false }
         ensures cuts { Cuts self.old.front self.old.stopped result self.new.front }
         ensures noted { IfSome result (λ cutting. IsCutIn cutting cuts.new) }
-        ensures still { self.new.stopped ≡ self.old.stopped }
+        ensures event { MakesEvent self.old self.new }
     {
+        self.used = true;
         if self.front.has_cut() {
             return Some(self.cut_batch(chronicle, cuts));
         }
@@ -107,7 +109,7 @@ impl<C: Tally, M: Tally> Shared<C, M> {
         requires some { has_no_cut self.old.front ≡ false }
         ensures cuts { Cuts self.old.front self.old.stopped (Some result) self.new.front }
         ensures noted { IsCutIn result cuts.new }
-        ensures still { self.new.stopped ≡ self.old.stopped }
+        ensures still { MakesNoEvent self.old self.new }
     {
         let _ = self.front.state();
         let count = self.posted;
@@ -139,14 +141,16 @@ impl<C: Tally, M: Tally> Shared<C, M> {
         seat: &StoreSeat<M>,
         wakes: &mut [bool; BELLS as usize],
     ) -> Result<Posted, Unposted>
+        requires fresh { self.old.used ≡ false }
         requires stored { WasStoredLast seat.now batch }
         ensures refused { IfErr result (IsUnposted self.old.front batch) }
         ensures step { OnOk result (FrontStep self.old.front (event.Post batch) [] self.new.front) }
         ensures durable { IfOk result (λ posted. posted ≡ batch.first + length batch.entries) }
         ensures rings { Rings self.old.front self.new.front wakes.old wakes.new }
         ensures err { OnErr result (self.new.front ≡ self.old.front) }
-        ensures still { self.new.stopped ≡ self.old.stopped }
+        ensures event { MakesEvent self.old self.new }
     {
+        self.used = true;
         if !self.posts_more(&batch) {
             drop(batch);
             return Err(Unposted::Full(FullBook(())));

@@ -14,16 +14,16 @@ overflow_add-self g c =
     let limit = c.state.ensures.limits.place in
     omega (arith, few, tied, limit)
 
-pub invariant_of-self-inside : goal.invariant_of-self-inside
-invariant_of-self-inside g c =
+pub invariant_of-self-inside-in-Ok : goal.invariant_of-self-inside-in-Ok
+invariant_of-self-inside-in-Ok g c =
     let s = c.self.inside in
     let e = c.post_ringing.ensures in
     let more : IsTrue (posts_more s.front.books c.args.batch) = search rules in
     let goes = posted_goes s.front c.post_ringing.new.self c.args.batch c.post_ringing.result c.state.ensures.front s.open more e.refused e.posted e.err in
     (goes.books, (omega (arith, s.calls_agree, goes.calls), (omega (arith, s.mails_agree, goes.taken), (s.few, (s.call_parts, (s.mail_parts, tt))))))
 
-pub invariant_of-self : goal.invariant_of-self
-invariant_of-self g c =
+pub invariant_of-self-in-Ok : goal.invariant_of-self-in-Ok
+invariant_of-self-in-Ok g c =
     let s = c.self.inside in
     let e = c.post_ringing.ensures in
     let steps = posted_steps s.front c.post_ringing.new.self c.args.batch c.post_ringing.result e.refused e.posted in
