@@ -76,11 +76,11 @@ def files_in(folder):
     return found
 
 
-def with_records(device, groups, entry, gate=b"\0"):
-    """A device with that many groups of one entry, after the records of the next group are written, with this gate."""
+def with_group(device, groups, entry):
+    """A device with that many groups of one entry, after the next group is written."""
     found = bytearray(device)
     _, at, data = Journal(TWO, 0, groups * (5 + TWO.record)).group(entry)[0]
-    found[at - 1 : at + len(data)] = gate + data
+    found[at - 1 : at + len(data)] = b"\1" + data
     return bytes(found)
 
 
@@ -101,8 +101,8 @@ def changed_meanwhile(place):
         same(len(client.answers), 3, f"{name}: answers")
         same(server.ended(), (3, "", "femem: store device\n"), name)
         if kept:
-            # one more group, with a closed gate (before it are an attached and three answers)
-            left[kept] = with_records(left[kept], 4, ("attached", 7, 1))
+            # one more group, which nobody was answered (before it are an attached and three answers)
+            left[kept] = with_group(left[kept], 4, ("attached", 7, 1))
         if "cut" not in name and "longer" not in name:
             same(files_in(there) == left, True, f"{name}: what the files have")
         if name == "renamed":
@@ -186,8 +186,8 @@ def overwritten(place):
 
 
 def renamed_in_a_group(place):
-    """a served file is renamed during a sync of a group: the group is not answered, and its gate is open only after the second sync"""
-    for syncs, gate in ((1, b"\0"), (2, b"\1")):
+    """a served file is renamed during a sync of a group, the first or the second: the file has the whole group, which is not answered"""
+    for syncs in (1, 2):
         name = f"sync {syncs}"
         held = Held(place, "fdatasync")
         server = Server(place, f"s{syncs}").start(held.env)
@@ -208,7 +208,7 @@ def renamed_in_a_group(place):
             holds(conn.has_ended(), f"{name}: a reply came")
         same(server.ended(), (3, "", "femem: store device\n"), name)
         # (attached twice, then three answers)
-        left = with_records(before, 5, ("finished", 7, 4, WORK[3], wanted[3]), gate)
+        left = with_group(before, 5, ("finished", 7, 4, WORK[3], wanted[3]))
         same(place.read(f"s{syncs}.store.other") == left, True, f"{name}: the file that was renamed")
         os.rename(f"{server.store}.other", server.store)
         goes_on(place, server, client, wanted, name)
