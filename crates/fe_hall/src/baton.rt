@@ -14,7 +14,7 @@ pub(crate) struct Baton {
 
 /// What a side has of the baton: all of it, or nothing.
 #[derive(Drop)]
-pub(crate) struct Grip<'a> {
+pub(crate) struct BatonGuard<'a> {
     guard: Option<MutexGuard<'a, bool>>,
 }
 
@@ -26,10 +26,10 @@ impl Baton {
     }
 }
 
-impl<'a> Grip<'a> {
+impl<'a> BatonGuard<'a> {
     /// The side does not have the baton.
-    pub(crate) fn none() -> Grip<'a> {
-        Grip { guard: None }
+    pub(crate) fn none() -> BatonGuard<'a> {
+        BatonGuard { guard: None }
     }
 
     /// Waits for the baton, unless the side has it. Not for a side that holds the hall's lock.

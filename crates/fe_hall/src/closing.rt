@@ -103,10 +103,10 @@ pub fn account_of<C: Tally, M: Tally>(
 ) -> Account
     ensures { IsAccountOf seat receipts.items history result }
 {
-    let (shared, chronicle) = hall.into_shared();
+    let (shared, history_words) = hall.into_shared();
     drop(shared);
-    let account = Account::of(&chronicle, seat, receipts.into_items(), history);
-    drop(chronicle);
+    let account = Account::of(&history_words, seat, receipts.into_items(), history);
+    drop(history_words);
     account
 }
 
@@ -139,10 +139,10 @@ pub fn settle<C: Tally, M: Tally>(
     ensures refused { IfErr result (λ e. ¬ IsMissing e.0)
         → IsErr result ↔ Any (IsStrange state.now (map (λ v. v.items) sent.items)) receipts.items }
 {
-    let (shared, chronicle) = hall.into_shared();
+    let (shared, history_words) = hall.into_shared();
     let whole = receipts.is_whole();
-    let account = Account::of(&chronicle, seat, receipts.into_items(), history);
-    drop(chronicle);
+    let account = Account::of(&history_words, seat, receipts.into_items(), history);
+    drop(history_words);
     let books = match shared.audit(calls, mails) {
         Ok(books) => books,
         Err(missing) => {

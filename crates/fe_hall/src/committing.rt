@@ -84,7 +84,7 @@ fn commit<C: Tally, M: Tally, D: Disk, R: Wait>(
     let (batch, count) = cut.into_batch(keeper);
     match keeper.append(batch) {
         Ok(batch) => {
-            if let Err(why) = seat.note(hall.chronicle(), &batch, count, cuts, keeper) {
+            if let Err(why) = seat.note(hall.history_words(), &batch, count, cuts, keeper) {
                 drop(batch);
                 return Err(Break::of_note(why));
             }

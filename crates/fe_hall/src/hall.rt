@@ -5,10 +5,10 @@ ghost use Rattle.fe_history.specs.Acts.{WasStoredLast};
 ghost use Rattle.fe_shared.specs.Holds.{IsCutIn};
 ghost use Rattle.fe_shared.specs.Marks.{IsBegun, MayBeTold, TakingTold};
 
-use crate::baton::{Baton, Grip};
+use crate::baton::{Baton, BatonGuard};
 use crate::hold::Lock;
 use fe_front::{BELLS, Front};
-use fe_history::{Chronicle, Gathered, History, NewHistory, Receipt, StoreSeat, Tally};
+use fe_history::{GatheredReceipts, History, HistoryWords, NewHistory, Receipt, StoreSeat, Tally};
 use fe_shared::{
     CallSeat, ConnectRight, Cutting, HasStopped, Made, MailSeat, NewSeats, Posted, Shared,
     Standing, Taking, Unconnected, Unposted,
@@ -31,7 +31,7 @@ pub struct Hall<C: Tally, M: Tally> {
     lock: Lock<C, M>,
     baton: Baton,
     /// The words of its history, and that history as it began.
-    chronicle: Chronicle<M>,
+    history_words: HistoryWords<M>,
     begun: History<M>,
     /// Rung when entries are pending, and when the hall is stopped.
     work: Condvar,
@@ -63,13 +63,13 @@ impl<C: Tally, M: Tally> Hall<C, M> {
     {
         match bells(alloc) {
             Ok(bells) => {
-                let (chronicle, begun) = history.named::<M>();
+                let (history_words, begun) = history.named::<M>();
                 let (seen, stored) = (begun.again(), begun.again());
                 let (shared, right, holds) = Shared::new(alloc, front, calls, mails, seen);
                 let hall = Hall {
                     lock: Lock::new(shared, holds),
                     baton: Baton::new(),
-                    chronicle,
+                    history_words,
                     begun,
                     work: Condvar::new(),
                     room: Condvar::new(),
@@ -114,14 +114,14 @@ impl<C: Tally, M: Tally> Hall<C, M> {
         alloc: Global,
         message: &ClientMessage,
         seat: &mut CallSeat<C>,
-        grip: &mut Grip<'_>,
+        baton_guard: &mut BatonGuard<'_>,
     ) -> Standing
         ensures { (place : ℕ) × (seat.new ≡ message_answered seat.old message.now place result) }
     {
         let mut hold = self.lock.enter(rt);
         for _ in rt.forever() {
             let mails = hold.mails_made();
-            if let Some(standing) = hold.handle(alloc, &self.chronicle, message, seat) {
+            if let Some(standing) = hold.handle(alloc, &self.history_words, message, seat) {
                 let told = hold.mails_made() != mails;
                 MutexGuard::unlock(hold);
                 self.work.notify_one();
@@ -130,7 +130,7 @@ impl<C: Tally, M: Tally> Hall<C, M> {
                 }
                 return standing;
             }
-            hold = self.lock.wait(rt, hold, &self.room, grip);
+            hold = self.lock.wait(rt, hold, &self.room, baton_guard);
         }
         unreachable!()
     }
@@ -145,13 +145,13 @@ impl<C: Tally, M: Tally> Hall<C, M> {
         }
         // A write side that rests already says so too.
         self.ring(conn);
-        let mut grip = Grip::none();
+        let mut baton_guard = BatonGuard::none();
         for _ in rt.forever() {
             if hold.is_over(conn) || !hold.is_watched(conn) {
                 let _ = hold.unwatch(conn);
                 return;
             }
-            hold = self.lock.wait(rt, hold, self.bell(conn), &mut grip);
+            hold = self.lock.wait(rt, hold, self.bell(conn), &mut baton_guard);
         }
         unreachable!()
     }
@@ -164,7 +164,7 @@ impl<C: Tally, M: Tally> Hall<C, M> {
         rt: &R,
         conn: u64,
         made: &Made,
-        grip: &mut Grip<'_>,
+        baton_guard: &mut BatonGuard<'_>,
     ) -> Made {
         let bell = self.bell(conn);
         let limit = Duration::from_millis(STILL_MILLIS);
@@ -173,7 +173,7 @@ impl<C: Tally, M: Tally> Hall<C, M> {
             if hold.may_go_on(conn, made) {
                 return hold.made();
             }
-            grip.give_up();
+            baton_guard.give_up();
             let (next, in_vain) = self.lock.wait_at_most(rt, hold, bell, limit, conn, made);
             hold = next;
             if in_vain && hold.is_durable(made) {
@@ -196,7 +196,7 @@ impl<C: Tally, M: Tally> Hall<C, M> {
         ensures rested { HasRested seat.new }
     {
         let conn = seat.conn();
-        let mut grip = Grip::none();
+        let mut baton_guard = BatonGuard::none();
         let mut hold = self.lock.enter(rt);
         for _ in rt.forever() {
             if let Some(rest) = hold.rest(seat) {
@@ -205,7 +205,7 @@ impl<C: Tally, M: Tally> Hall<C, M> {
                 self.ring(conn);
                 return;
             }
-            hold = self.lock.wait(rt, hold, self.bell(conn), &mut grip);
+            hold = self.lock.wait(rt, hold, self.bell(conn), &mut baton_guard);
         }
         unreachable!()
     }
@@ -232,7 +232,7 @@ impl<C: Tally, M: Tally> Hall<C, M> {
         rt: &R,
         seat: &mut MailSeat<M>,
         history: &mut History<M>,
-        grip: &mut Grip<'_>,
+        baton_guard: &mut BatonGuard<'_>,
     ) -> Taking
         ensures seat { seat.new ≡ taking_answered seat.old result }
         ensures this { IsPrefix history.old history.new }
@@ -248,13 +248,13 @@ impl<C: Tally, M: Tally> Hall<C, M> {
                 if is_awaited {
                     self.ring(conn);
                 }
-                tell(&self.chronicle, history, conn, &taking);
+                tell(&self.history_words, history, conn, &taking);
                 return taking;
             }
             if hold.unwatch(conn) {
                 self.ring(conn);
             }
-            hold = self.lock.wait(rt, hold, self.bell(conn), grip);
+            hold = self.lock.wait(rt, hold, self.bell(conn), baton_guard);
         }
         unreachable!()
     }
@@ -263,11 +263,11 @@ impl<C: Tally, M: Tally> Hall<C, M> {
     pub(crate) fn take_baton<'a, R: Wait>(
         &'a self,
         rt: &R,
-        grip: &mut Grip<'a>,
+        baton_guard: &mut BatonGuard<'a>,
         has_several: bool,
     ) {
         if has_several {
-            grip.take(rt, &self.baton);
+            baton_guard.take(rt, &self.baton);
         }
     }
 
@@ -276,15 +276,15 @@ impl<C: Tally, M: Tally> Hall<C, M> {
     pub(crate) fn next_batch<R: Wait>(&self, rt: &R, cuts: &mut History<M>) -> Cutting
         ensures { IsCutIn result cuts.new }
     {
-        let mut grip = Grip::none();
+        let mut baton_guard = BatonGuard::none();
         let mut hold = self.lock.enter(rt);
         for _ in rt.forever() {
-            if let Some(cutting) = hold.cut(&self.chronicle, cuts) {
+            if let Some(cutting) = hold.cut(&self.history_words, cuts) {
                 MutexGuard::unlock(hold);
                 self.room.notify_all();
                 return cutting;
             }
-            hold = self.lock.wait(rt, hold, &self.work, &mut grip);
+            hold = self.lock.wait(rt, hold, &self.work, &mut baton_guard);
         }
         unreachable!()
     }
@@ -313,8 +313,8 @@ impl<C: Tally, M: Tally> Hall<C, M> {
     }
 
     /// The words of its history.
-    pub(crate) fn chronicle(&self) -> &Chronicle<M> {
-        &self.chronicle
+    pub(crate) fn history_words(&self) -> &HistoryWords<M> {
+        &self.history_words
     }
 
     /// Its history as it began.
@@ -323,11 +323,11 @@ impl<C: Tally, M: Tally> Hall<C, M> {
     }
 
     /// The receipts of the write sides of this hall, none yet.
-    pub fn no_receipts(&self, alloc: Global) -> Gathered<M>
+    pub fn no_receipts(&self, alloc: Global) -> GatheredReceipts<M>
         ensures items { result.items ≡ [] }
         ensures whole { result.whole ≡ true }
     {
-        Gathered::none(alloc, self.begun.again())
+        GatheredReceipts::none(alloc, self.begun.again())
     }
 
     /// The bell of the sides of a connection, and of those of others.
@@ -341,20 +341,25 @@ impl<C: Tally, M: Tally> Hall<C, M> {
     }
 
     /// What is under the lock, and the word of the history, once no thread uses the hall.
-    pub(crate) fn into_shared(self) -> (Shared<C, M>, Chronicle<M>) {
+    pub(crate) fn into_shared(self) -> (Shared<C, M>, HistoryWords<M>) {
         let Hall {
             lock,
-            chronicle,
+            history_words,
             begun,
             ..
         } = self;
         drop(begun);
-        (lock.into_shared(), chronicle)
+        (lock.into_shared(), history_words)
     }
 }
 
 /// Adds what was taken out of the box of a connection to the history, if it is an answer.
-fn tell<M: Tally>(chronicle: &Chronicle<M>, history: &mut History<M>, conn: u64, taking: &Taking)
+fn tell<M: Tally>(
+    history_words: &HistoryWords<M>,
+    history: &mut History<M>,
+    conn: u64,
+    taking: &Taking,
+)
     requires { MayBeTold conn taking.now history.old }
     ensures this { IsPrefix history.old history.new }
     ensures told { TakingTold conn taking.now history.new }
@@ -363,7 +368,7 @@ fn tell<M: Tally>(chronicle: &Chronicle<M>, history: &mut History<M>, conn: u64,
         return;
     };
     if let Some(receipt) = Receipt::of(conn, mail) {
-        history.tell(chronicle, receipt);
+        history.tell(history_words, receipt);
     }
 }
 

@@ -3,7 +3,7 @@
 ghost use Rattle.std.specs.Sync.Mutex.{mutex_guard_value as under};
 ghost use Rattle.std.specs.Prelude.{◌≡◌, false};
 
-use crate::baton::Grip;
+use crate::baton::BatonGuard;
 use fe_history::Tally;
 use fe_shared::{HoldRight, Made, Shared};
 use std::sync::{Condvar, CondvarTimeouts, Mutex, MutexGuard, Wait};
@@ -55,11 +55,11 @@ impl<C: Tally, M: Tally> Lock<C, M> {
         rt: &R,
         hold: Hold<'a, C, M>,
         bell: &Condvar,
-        grip: &mut Grip<'_>,
+        baton_guard: &mut BatonGuard<'_>,
     ) -> Hold<'a, C, M>
         ensures { (under result).used ≡ false }
     {
-        grip.give_up();
+        baton_guard.give_up();
         let mut hold = bell.wait(rt, hold);
         hold.begin_hold(&self.right);
         hold

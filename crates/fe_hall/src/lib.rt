@@ -25,7 +25,8 @@ pub use committing::commit_side;
 pub use ended::Ended;
 pub use ends::ReadEnd;
 pub use fe_history::{
-    Account, Act, Gathered, History, NewHistory, Receipt, ReceiptList, Receipts, StoreSeat, Tally,
+    Account, Act, GatheredReceipts, History, NewHistory, Receipt, ReceiptList, Receipts, StoreSeat,
+    Tally,
 };
 pub use fe_shared::{
     CallSeat, ConnectRight, HasStopped, MailLog, MailSeat, MessageLog, NewSeats, SeatMissing,

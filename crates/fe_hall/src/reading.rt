@@ -5,7 +5,7 @@ ghost use Rattle.fe_wire.specs.declared.client_message.ClientMessage.{ClientMess
 ghost use Rattle.fe_shared.specs.Seats.{HasDeparted, HasRested, ReadSeat, TookNoMessage, message_taken};
 ghost use Rattle.fe_hall.specs.Reads.{IsQuietEnd, is_sent, listed_with, AreHandled, AreLeft, EndsEarly, EndsAmong, HandlesStream, IsAt, IsOfMessages, IsTold};
 
-use crate::baton::Grip;
+use crate::baton::BatonGuard;
 use crate::ends::ReadEnd;
 use crate::hall::Hall;
 use crate::halves::{Gate, ReadHalf};
@@ -202,11 +202,11 @@ impl<C: Tally> Reading<C> {
         ensures told { IfSome result (λ end. IsTold end self.new.seat.standing) }
         ensures decoder { self.new.decoder ≡ self.old.decoder }
     {
-        let mut grip = Grip::none();
+        let mut baton_guard = BatonGuard::none();
         for message in messages {
             // A message that had to wait gave it up.
-            hall.take_baton(rt, &mut grip, messages.len() > 1);
-            if let Some(end) = self.take(rt, hall, gate, message, &mut grip) {
+            hall.take_baton(rt, &mut baton_guard, messages.len() > 1);
+            if let Some(end) = self.take(rt, hall, gate, message, &mut baton_guard) {
                 return Some(end);
             }
         }
@@ -220,7 +220,7 @@ impl<C: Tally> Reading<C> {
         hall: &Hall<C, M>,
         gate: &G,
         message: &ClientMessage,
-        grip: &mut Grip<'_>,
+        baton_guard: &mut BatonGuard<'_>,
     ) -> Option<ReadEnd>
         ensures own { self.new.seat.conn ≡ self.old.seat.conn }
         ensures seat { IfNone result ((place : ℕ) × (self.new.seat ≡ message_taken self.old.seat message.now place)) }
@@ -238,16 +238,16 @@ impl<C: Tally> Reading<C> {
             }
         }
         if !gate.passes_at_once(self.seat.conn()) {
-            grip.give_up();
+            baton_guard.give_up();
             gate.pass(rt, self.seat.conn());
         }
-        self.keep_pace(rt, hall, grip);
+        self.keep_pace(rt, hall, baton_guard);
         // A report may be long, and a client may ask for many and read none.
         if matches!(message, ClientMessage::Report) {
-            grip.give_up();
+            baton_guard.give_up();
             hall.await_rest(rt, &self.seat);
         }
-        let standing = hall.handle(rt, self.alloc, message, &mut self.seat, grip);
+        let standing = hall.handle(rt, self.alloc, message, &mut self.seat, baton_guard);
         if let Some(end) = end_of(standing) {
             return Some(end);
         }
@@ -263,7 +263,7 @@ impl<C: Tally> Reading<C> {
         &mut self,
         rt: &R,
         hall: &Hall<C, M>,
-        grip: &mut Grip<'_>,
+        baton_guard: &mut BatonGuard<'_>,
     )
         ensures seat { self.new.seat ≡ self.old.seat }
         ensures listed { self.new.listed ≡ self.old.listed }
@@ -274,7 +274,7 @@ impl<C: Tally> Reading<C> {
             return;
         }
         let made = match &self.made {
-            Some(made) => hall.await_room(rt, self.seat.conn(), made, grip),
+            Some(made) => hall.await_room(rt, self.seat.conn(), made, baton_guard),
             None => hall.made(rt),
         };
         self.run = 1;

@@ -9,7 +9,7 @@ ghost use Rattle.fe_history.specs.Acts.{AreTold, IsLegal};
 ghost use Rattle.fe_shared.specs.Seats.{TookNoMail};
 ghost use Rattle.fe_shared.specs.declared.taking.Taking.TheVariants as Taken;
 
-use crate::baton::Grip;
+use crate::baton::BatonGuard;
 use crate::hall::Hall;
 use crate::halves::{HalfFault, WriteHalf};
 use crate::write_end::WriteEnd;
@@ -147,14 +147,14 @@ impl<M: Tally> Writing<M> {
         ensures this { IsPrefix self.old.history self.new.history }
         ensures told { IfErr result (λ end. IsTold end self.new.seat.standing) }
     {
-        let mut grip = Grip::none();
+        let mut baton_guard = BatonGuard::none();
         let mut more = true;
         for _ in rt.forever() {
             if !more || self.frames.len() >= BATCH_BYTES {
                 return Ok(());
             }
-            more = self.take_mail(rt, hall, &mut grip)?;
-            hall.take_baton(rt, &mut grip, more);
+            more = self.take_mail(rt, hall, &mut baton_guard)?;
+            hall.take_baton(rt, &mut baton_guard, more);
         }
         unreachable!()
     }
@@ -164,7 +164,7 @@ impl<M: Tally> Writing<M> {
         &mut self,
         rt: &R,
         hall: &Hall<C, M>,
-        grip: &mut Grip<'_>,
+        baton_guard: &mut BatonGuard<'_>,
     ) -> Result<bool, WriteEnd>
         // It may wait, so nothing that was taken is left to write, or more mails are in the box.
         requires { (self.old.frames.items ≡ []) ⊎ (self.old.seat.more ≡ true) }
@@ -179,7 +179,12 @@ impl<M: Tally> Writing<M> {
         if let Err(short) = self.make_room() {
             return Err(WriteEnd::NoMemory(short));
         }
-        let (mail, more) = mail_in(hall.take_mail(rt, &mut self.seat, &mut self.history, grip))?;
+        let (mail, more) = mail_in(hall.take_mail(
+            rt,
+            &mut self.seat,
+            &mut self.history,
+            baton_guard,
+        ))?;
         self.keep_receipt(&mail);
         match put(&Reply::of(mail), &mut self.frames) {
             Ok(()) => Ok(more),

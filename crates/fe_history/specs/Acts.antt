@@ -123,7 +123,7 @@ pub record ReceiptList : Type 0 where
   pub whole : Bool
 
 -- such receipts, and a history in which their answers were told
-pub record Gathered : Type 0 where
+pub record GatheredReceipts : Type 0 where
   pub items : List Receipt
   pub whole : Bool
   pub history : List Act

@@ -2,7 +2,7 @@ ghost use Rattle.std.specs.Prelude.{◌≡◌, true};
 ghost use Rattle.fe_history.specs.Acts.{IsAccountOf, IsLegal};
 
 use crate::act::Act;
-use crate::history::{Chronicle, History, Law};
+use crate::history::{History, HistoryWords, Law};
 use crate::receipt::Receipt;
 use crate::store_seat::StoreSeat;
 use crate::tally::Tally;
@@ -58,14 +58,14 @@ impl Account {
 
     /// The account of a hall whose committing side had this seat. `history` is what its write sides saw.
     pub fn of<M: Tally>(
-        chronicle: &Chronicle<M>,
+        history_words: &HistoryWords<M>,
         seat: StoreSeat<M>,
         receipts: Vec<Receipt>,
         history: History<M>,
     ) -> Account
         ensures { IsAccountOf seat receipts.items history result }
     {
-        let (history, own) = seat.whole(chronicle, history);
+        let (history, own) = seat.whole(history_words, history);
         Account {
             receipts,
             history: history.into_seen(),

@@ -215,13 +215,13 @@ impl NewHistory {
     }
 
     /// Its words, and what was seen of it.
-    pub fn named<M: Tally>(self) -> (Chronicle<M>, History<M>)
+    pub fn named<M: Tally>(self) -> (HistoryWords<M>, History<M>)
         requires { self.book ≡ M.book }
         ensures { result.1 ≡ self.acts }
     {
         let NewHistory { stores, cuts, seen } = self;
         (
-            Chronicle {
+            HistoryWords {
                 stores,
                 cuts,
                 of: PhantomData,
@@ -235,7 +235,7 @@ impl NewHistory {
 }
 
 /// The words of a hall's history, which all threads share.
-pub struct Chronicle<M: Tally> {
+pub struct HistoryWords<M: Tally> {
     stores: Word<Act, u64, Law>,
     cuts: Word<Act, u64, Law>,
     of: PhantomData<M>,
@@ -243,9 +243,9 @@ pub struct Chronicle<M: Tally> {
     ghost cuts_are: { cuts ≡ cuts_of M.book },
 }
 
-impl<M: Tally> Drop for Chronicle<M> {
+impl<M: Tally> Drop for HistoryWords<M> {
     fn drop(self) {
-        let Chronicle {
+        let HistoryWords {
             stores,
             cuts,
             of: _,
@@ -315,21 +315,21 @@ impl<M: Tally> History<M> {
     }
 
     /// Adds an answer, which is that of an entry that was stored before, to a connection that asked for its session before.
-    pub fn tell(&mut self, chronicle: &Chronicle<M>, receipt: Receipt)
+    pub fn tell(&mut self, history_words: &HistoryWords<M>, receipt: Receipt)
         requires { MayCome self.old (act.Told receipt) }
         ensures { ComesAfter self.old (act.Told receipt) self.new }
     {
         let mut offer: Offer<Act, u64, Law, Nothing> = self
             .seen
             .plain::<Nothing, Receipt, Telling>(&receipt);
-        let _ = chronicle
+        let _ = history_words
             .stores
             .load::<Telling, Nothing>(&mut self.seen, &mut offer);
     }
 
     /// Adds that a connection asks for a session, if this message of it does, which was handed to a front. Only what is under the lock
     /// of the hall has the book.
-    pub fn hear(&mut self, chronicle: &Chronicle<M>, _mails: &Book<M>, took: Took)
+    pub fn hear(&mut self, history_words: &HistoryWords<M>, _mails: &Book<M>, took: Took)
         ensures heard { Hears self.old took.conn took.message self.new }
         ensures legal { IsLegal self.new }
     {
@@ -337,12 +337,12 @@ impl<M: Tally> History<M> {
         let _ = &self.seen;
         let (conn, message) = took.into_parts();
         if let ClientMessage::Attach { session } = message {
-            self.ask(chronicle, conn, session);
+            self.ask(history_words, conn, session);
         }
     }
 
     /// Adds that a connection asks for a session.
-    fn ask(&mut self, chronicle: &Chronicle<M>, conn: u64, session: u64)
+    fn ask(&mut self, history_words: &HistoryWords<M>, conn: u64, session: u64)
         ensures asked { ComesAfter self.old (act.Asked conn session) self.new }
         ensures legal { IsLegal self.new }
     {
@@ -350,13 +350,13 @@ impl<M: Tally> History<M> {
         let mut offer: Offer<Act, u64, Law, Nothing> = self
             .seen
             .plain::<Nothing, Wish, Asking>(&wish);
-        let _ = chronicle
+        let _ = history_words
             .stores
             .load::<Asking, Nothing>(&mut self.seen, &mut offer);
     }
 
     /// Adds a cut of all that is pending in a front, if the history has this many cuts so far. Whether it did.
-    pub fn cut(&mut self, chronicle: &Chronicle<M>, count: u64, front: &Front) -> bool
+    pub fn cut(&mut self, history_words: &HistoryWords<M>, count: u64, front: &Front) -> bool
         requires few { count < 2 ^ 63 }
         requires next { CutsAfter self.old count (pending_batch front.now) }
         ensures this { IsPrefix self.old self.new }
@@ -369,7 +369,7 @@ impl<M: Tally> History<M> {
             .seen
             .plain::<Nothing, Front, Cutting>(front);
         let mut pen = self.seen.no_pen();
-        let found = chronicle
+        let found = history_words
             .cuts
             .compare_exchange::<Cutting, Nothing>(
                 count,
@@ -384,7 +384,7 @@ impl<M: Tally> History<M> {
     /// Adds a batch that was cut, and that a keeper has just stored, if the history has this many stores so far. Whether it did.
     pub(crate) fn store<D: Disk>(
         &mut self,
-        chronicle: &Chronicle<M>,
+        history_words: &HistoryWords<M>,
         stored: u64,
         batch: &Batch,
         keeper: &Keeper<D>,
@@ -403,7 +403,7 @@ impl<M: Tally> History<M> {
             .seen
             .plain::<Nothing, Appended<'_, D>, Storing>(&appended);
         let mut pen = self.seen.no_pen();
-        let found = chronicle
+        let found = history_words
             .stores
             .compare_exchange::<Storing, Nothing>(
                 stored,
@@ -416,7 +416,7 @@ impl<M: Tally> History<M> {
     }
 
     /// How many batches were stored in all.
-    pub(crate) fn count(&mut self, chronicle: &Chronicle<M>) -> u64
+    pub(crate) fn count(&mut self, history_words: &HistoryWords<M>) -> u64
         ensures count { result ≡ length (stores_in self.new) }
         ensures this { IsPrefix self.old self.new }
         ensures legal { IsLegal self.new }
@@ -431,7 +431,7 @@ impl<M: Tally> History<M> {
         let mut offer: Offer<Act, u64, Law, Nothing> = self
             .seen
             .plain::<Nothing, Receipt, Telling>(&none);
-        chronicle
+        history_words
             .stores
             .load::<Counting, Nothing>(&mut self.seen, &mut offer)
     }

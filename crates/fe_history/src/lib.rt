@@ -7,7 +7,7 @@
 
 mod account;
 mod act;
-mod gathered;
+mod gathered_receipts;
 mod history;
 mod receipt;
 mod receipt_list;
@@ -18,8 +18,8 @@ mod tally;
 
 pub use account::Account;
 pub use act::Act;
-pub use gathered::Gathered;
-pub use history::{Chronicle, History, NewHistory};
+pub use gathered_receipts::GatheredReceipts;
+pub use history::{History, HistoryWords, NewHistory};
 pub use receipt::Receipt;
 pub use receipt_list::ReceiptList;
 pub use receipts::Receipts;

@@ -2,7 +2,7 @@ ghost use Rattle.std.specs.Prelude.{◌≡◌, ◌∷◌, ◌++◌, [], MatchBoo
 ghost use mathlib.Core.List.{IsPrefix};
 ghost use Rattle.fe_history.specs.Acts.{HasMore, IsLegal, IsStored, WasCut, stores_in};
 
-use crate::history::{Chronicle, History};
+use crate::history::{History, HistoryWords};
 use crate::tally::Tally;
 use fe_disk::Disk;
 use fe_keeper::Keeper;
@@ -53,7 +53,7 @@ impl<M: Tally> StoreSeat<M> {
     /// this one 2^62, nothing changes.
     pub fn note<D: Disk>(
         &mut self,
-        chronicle: &Chronicle<M>,
+        history_words: &HistoryWords<M>,
         batch: &Batch,
         count: u64,
         cuts: &History<M>,
@@ -71,7 +71,7 @@ impl<M: Tally> StoreSeat<M> {
         }
         let mut history = self.history.again();
         history.learn(cuts);
-        if !history.store(chronicle, self.stored, batch, keeper) {
+        if !history.store(history_words, self.stored, batch, keeper) {
             return Err(Unnoted(()));
         }
         self.stored += 1;
@@ -86,7 +86,11 @@ impl<M: Tally> StoreSeat<M> {
     }
 
     /// All that this side and the other history saw, and whether this side noted every batch in it.
-    pub(crate) fn whole(self, chronicle: &Chronicle<M>, seen: History<M>) -> (History<M>, bool)
+    pub(crate) fn whole(
+        self,
+        history_words: &HistoryWords<M>,
+        seen: History<M>,
+    ) -> (History<M>, bool)
         ensures this { IsPrefix self result.0 }
         ensures seen { IsPrefix seen result.0 }
         ensures legal { IsLegal result.0 }
@@ -97,7 +101,7 @@ impl<M: Tally> StoreSeat<M> {
         let mut all = history;
         all.learn(&seen);
         drop(seen);
-        if all.count(chronicle) != stored {
+        if all.count(history_words) != stored {
             return (all, false);
         }
         (all, true)

@@ -11,7 +11,7 @@ use Rattle.fe_hall.specs.declared.commit_end.CommitEnd.TheVariants.{Stopped, Sto
 use Rattle.fe_server.specs.declared.served.Served.{Served}
 use Rattle.fe_server.specs.declared.stop_fault.StopFault.{StopFault}
 use Rattle.fe_server.specs.declared.stop_fault.StopFault.TheVariants as fault
-use Rattle.fe_server.specs.Departed.{lacks}
+use Rattle.fe_server.specs.FinishedConnections.{lacks}
 use Rattle.fe_server.specs.Serving.{HasNoted, IsAnswerAt, fault_of_end}
 
 module _ {D : Type 0} (honest : D → Type 0) (may_leave : D → List ℕ → Type 0) (moment : D → ℕ) (left_since : D → ℕ → List ℕ → Type 0) (failures : D → ℕ) where

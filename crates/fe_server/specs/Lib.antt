@@ -1,7 +1,7 @@
 pub mod Acknowledged
 pub mod Arrivals
 pub mod BooksText
-pub mod Departed
+pub mod FinishedConnections
 pub mod Opened
 pub mod Serving
 pub mod Sides

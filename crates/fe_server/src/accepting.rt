@@ -3,12 +3,12 @@
 ghost use Rattle.std.specs.Prelude.{◌≡◌};
 ghost use Rattle.fe_server.specs.Arrivals.{HasEnded};
 
+use crate::arrival::{Arrival, Ended};
 use crate::connection::{Accepted, Connection, STACK};
-use crate::entrance::Entrance;
-use crate::house::House;
-use crate::newcomer::{Ended, Newcomer};
+use crate::listener::Listener;
 use crate::reads::{Reads, Unstarted};
 use crate::register::{NoMore, Waiting};
+use crate::running_server::RunningServer;
 use core::thread::{Anything, Stack};
 use fe_hall::{ConnectRight, Gate, HasStopped, Tally};
 use fe_options::Settings;
@@ -25,7 +25,7 @@ const PAUSE: u64 = 10;
 /// How many milliseconds a client waits at most for a place that is about to be free.
 const ROOM_WAIT: u64 = 1000;
 
-/// Shows that no connection comes any more, and that those that came have ended. Only `serve_clients` makes it, and a house does not
+/// Shows that no connection comes any more, and that those that came have ended. Only `serve_clients` makes it, and a server does not
 /// stop its hall without it unless something is short or full. It is not `Drop`, since the hall has to be stopped.
 pub(crate) struct AllServed {
     no_more: NoMore,
@@ -48,8 +48,8 @@ pub(crate) fn serve_clients<
 >(
     rt: &R,
     alloc: Global,
-    house: &House<C, M>,
-    entrance: Entrance,
+    server: &RunningServer<C, M>,
+    listener: Listener,
     right: ConnectRight,
     settings: &Settings,
     gate: &G,
@@ -68,16 +68,16 @@ pub(crate) fn serve_clients<
             requires { (C.all ≡ C.parts) × (M.all ≡ M.parts) }
             ensures { HasEnded accepts result }
         {
-            let porter = Porter {
+            let acceptor = Acceptor {
                 rt,
                 alloc,
-                house,
+                server,
                 right: lent,
                 gate,
             };
-            let no_more = porter.accept_all(scope, &entrance, accepts);
-            house.close_door(rt);
-            drop(entrance);
+            let no_more = acceptor.accept_all(scope, &listener, accepts);
+            server.close_door(rt);
+            drop(listener);
             no_more
         },
     );
@@ -87,10 +87,10 @@ pub(crate) fn serve_clients<
 
 /// Accepts connections, and begins to serve them.
 #[derive(Clone, Copy)]
-struct Porter<'s, C: Tally, M: Tally, G: Gate, R: Clock> {
+struct Acceptor<'s, C: Tally, M: Tally, G: Gate, R: Clock> {
     rt: &'s R,
     alloc: Global,
-    house: &'s House<C, M>,
+    server: &'s RunningServer<C, M>,
     right: &'s ConnectRight,
     gate: &'s G,
 }
@@ -101,17 +101,17 @@ impl<
     M: Tally + Send + Sync,
     G: Gate + Sync,
     R: Clock + Threads + Wait + Sync,
-> Porter<'s, C, M, G, R> {
+> Acceptor<'s, C, M, G, R> {
     /// Accepts connections until the server ends or this many came; without end if it is 0.
-    fn accept_all<E>(&self, scope: &Scope<'s, E>, entrance: &Entrance, accepts: u64) -> NoMore
+    fn accept_all<E>(&self, scope: &Scope<'s, E>, listener: &Listener, accepts: u64) -> NoMore
         requires calls { C.all ≡ C.parts }
         requires mails { M.all ≡ M.parts }
         ensures { HasEnded accepts result }
     {
         for _ in self.rt.forever() {
-            match self.house.running(self.rt, accepts) {
+            match self.server.running(self.rt, accepts) {
                 Err(no_more) => return no_more,
-                Ok(running) => match entrance.accept(self.alloc, running) {
+                Ok(running) => match listener.accept(self.alloc, running) {
                     Err(error) => pause(self.rt, error),
                     Ok(accepted) => self.welcome(scope, accepted),
                 },
@@ -126,15 +126,15 @@ impl<
         requires calls { C.all ≡ C.parts }
         requires mails { M.all ≡ M.parts }
     {
-        let (rt, house) = (self.rt, self.house);
-        match house.enter(rt) {
+        let (rt, server) = (self.rt, self.server);
+        match server.enter(rt) {
             Ok(admission) => {
-                match house.connect(rt, self.right, Connection::of(accepted, admission)) {
-                    Ok(newcomer) => self.start(scope, newcomer),
-                    Err(unserved) => house.refuse(rt, unserved),
+                match server.connect(rt, self.right, Connection::of(accepted, admission)) {
+                    Ok(arrival) => self.start(scope, arrival),
+                    Err(unserved) => server.refuse(rt, unserved),
                 }
             }
-            Err(full) => match house.put_late(rt, accepted, full) {
+            Err(full) => match server.put_late(rt, accepted, full) {
                 Ok(waiting) => self.start_late(scope, waiting),
                 Err((accepted, full)) => accepted.close(full),
             },
@@ -146,49 +146,53 @@ impl<
         requires calls { C.all ≡ C.parts }
         requires mails { M.all ≡ M.parts }
     {
-        let (rt, alloc, house, right, gate) = (
-            self.rt, self.alloc, self.house, self.right, self.gate,
+        let (rt, alloc, server, right, gate) = (
+            self.rt,
+            self.alloc,
+            self.server,
+            self.right,
+            self.gate,
         );
         let started = Stack::new().stack_size(STACK).spawn_scoped_with(
             scope,
             Anything,
             move || -> Ended
                 requires { (C.all ≡ C.parts) × (M.all ≡ M.parts) }
-            { serve_late(rt, alloc, house, right, gate, Reads::All, ROOM_WAIT) },
+            { serve_late(rt, alloc, server, right, gate, Reads::All, ROOM_WAIT) },
         );
         match started {
             Ok(thread) => waiting.begins(thread.forget_promise()),
             Err(refused) => {
                 let reads = Reads::None(Unstarted::refused(&refused));
-                drop(waiting.ends(serve_late(rt, alloc, house, right, gate, reads, 0)));
+                drop(waiting.ends(serve_late(rt, alloc, server, right, gate, reads, 0)));
             }
         }
     }
 
     /// Starts the thread of a connection. If that can't be done, nothing is read from the connection, and it ends at once.
-    fn start<E>(&self, scope: &Scope<'s, E>, newcomer: Newcomer<C, M>)
+    fn start<E>(&self, scope: &Scope<'s, E>, arrival: Arrival<C, M>)
         requires calls { C.all ≡ C.parts }
         requires mails { M.all ≡ M.parts }
     {
-        let (rt, alloc, house, gate) = (self.rt, self.alloc, self.house, self.gate);
-        match house.put(rt, newcomer) {
+        let (rt, alloc, server, gate) = (self.rt, self.alloc, self.server, self.gate);
+        match server.put(rt, arrival) {
             Ok(waiting) => {
                 let started = Stack::new().stack_size(STACK).spawn_scoped_with(
                     scope,
                     Anything,
                     move || -> Ended
                         requires { (C.all ≡ C.parts) × (M.all ≡ M.parts) }
-                    { serve_next(rt, alloc, house, gate, Reads::All) },
+                    { serve_next(rt, alloc, server, gate, Reads::All) },
                 );
                 match started {
                     Ok(thread) => waiting.begins(thread.forget_promise()),
                     Err(refused) => {
                         let reads = Reads::None(Unstarted::refused(&refused));
-                        drop(waiting.ends(serve_next(rt, alloc, house, gate, reads)));
+                        drop(waiting.ends(serve_next(rt, alloc, server, gate, reads)));
                     }
                 }
             }
-            Err(newcomer) => drop(newcomer.serve(rt, alloc, house, gate)),
+            Err(arrival) => drop(arrival.serve(rt, alloc, server, gate)),
         }
     }
 }
@@ -199,12 +203,12 @@ fn serve_next<
     M: Tally + Send + Sync,
     G: Gate + Sync,
     R: Clock + Threads + Wait + Sync,
->(rt: &R, alloc: Global, house: &House<C, M>, gate: &G, reads: Reads) -> Ended
+>(rt: &R, alloc: Global, server: &RunningServer<C, M>, gate: &G, reads: Reads) -> Ended
     requires calls { C.all ≡ C.parts }
     requires mails { M.all ≡ M.parts }
 {
-    match house.take(rt) {
-        Ok(newcomer) => newcomer.serve(rt, alloc, house, gate, reads),
+    match server.take(rt) {
+        Ok(arrival) => arrival.serve(rt, alloc, server, gate, reads),
         Err(none) => Ended::of(none),
     }
 }
@@ -218,7 +222,7 @@ fn serve_late<
 >(
     rt: &R,
     alloc: Global,
-    house: &House<C, M>,
+    server: &RunningServer<C, M>,
     right: &ConnectRight,
     gate: &G,
     reads: Reads,
@@ -227,21 +231,21 @@ fn serve_late<
     requires calls { C.all ≡ C.parts }
     requires mails { M.all ≡ M.parts }
 {
-    let (accepted, expected) = match house.take_late(rt) {
+    let (accepted, expected) = match server.take_late(rt) {
         Ok(late) => late,
         Err(none) => return Ended::of(none),
     };
-    let admission = match house.enter_late(rt, expected, millis) {
+    let admission = match server.enter_late(rt, expected, millis) {
         Ok(admission) => admission,
         Err(full) => return Ended::away(accepted, full),
     };
-    let newcomer = match house.connect(rt, right, Connection::of(accepted, admission)) {
-        Ok(newcomer) => newcomer,
-        Err(unserved) => return Ended::unserved(rt, house, unserved),
+    let arrival = match server.connect(rt, right, Connection::of(accepted, admission)) {
+        Ok(arrival) => arrival,
+        Err(unserved) => return Ended::unserved(rt, server, unserved),
     };
-    match house.put(rt, newcomer) {
-        Ok(waiting) => waiting.ends(serve_next(rt, alloc, house, gate, reads)),
-        Err(newcomer) => newcomer.serve(rt, alloc, house, gate),
+    match server.put(rt, arrival) {
+        Ok(waiting) => waiting.ends(serve_next(rt, alloc, server, gate, reads)),
+        Err(arrival) => arrival.serve(rt, alloc, server, gate),
     }
 }
 

@@ -1,4 +1,4 @@
-//! A connection: its socket and its number. No other file reads or writes the socket of a client: `Entrance::accept` hands it over, and
+//! A connection: its socket and its number. No other file reads or writes the socket of a client: `Listener::accept` hands it over, and
 //! a `SocketHandle` only ends its stream.
 //!
 //! What serves a connection takes any reader and any writer, whose bytes its clauses name. One expression, in `Connection::serve`, knows
@@ -10,14 +10,14 @@ ghost use Rattle.fe_mail.specs.declared.mail.Mail.{Mail as Told};
 ghost use Rattle.fe_streams.specs.Incoming.{bytes_read};
 ghost use Rattle.fe_hall.specs.Reads.{HandlesStream};
 ghost use Rattle.fe_hall.specs.Writes.{AreTaken, IsWritten};
-ghost use Rattle.fe_server.specs.Departed.{joined_to};
+ghost use Rattle.fe_server.specs.FinishedConnections.{joined_to};
 ghost use Rattle.fe_server.specs.Sides.{HasHandled, HasWritten, ends_stream, most_reads};
 ghost use Rattle.fe_server.specs.Streams.{known_bytes};
 
-use crate::departed::Departed;
-use crate::house::House;
+use crate::finished_connections::FinishedConnections;
 use crate::reads::{Reads, Unstarted};
 use crate::register::{Admission, Full};
+use crate::running_server::RunningServer;
 use crate::socket_handle::SocketHandle;
 use crate::stream::{StreamRead, StreamWrite};
 use core::thread::Stack;
@@ -172,7 +172,7 @@ impl Connection {
         &self,
         rt: &R,
         alloc: Global,
-        house: &House<C, M>,
+        server: &RunningServer<C, M>,
         gate: &G,
         calls: CallSeat<C>,
         mails: MailSeat<M>,
@@ -184,7 +184,7 @@ impl Connection {
     {
         let stream: &UnixStream = &self.socket.stream;
         let (_, _, outcome) = serve_streams(
-            rt, alloc, house, gate, calls, mails, stream, stream, stream, reads,
+            rt, alloc, server, gate, calls, mails, stream, stream, stream, reads,
         );
         outcome
     }
@@ -250,7 +250,7 @@ impl<C: Tally, M: Tally> Outcome<C, M> {
     }
 
     /// Adds it to what the connections did that have ended. The list and the receipts are added only if `keeps`.
-    pub(crate) fn add_to(self, departed: &mut Departed<C, M>, keeps: bool)
+    pub(crate) fn add_to(self, departed: &mut FinishedConnections<C, M>, keeps: bool)
         requires calls { C.all ≡ C.parts }
         requires mails { M.all ≡ M.parts }
         ensures calls { departed.new.calls ≡ joined_to departed.old.calls self.calls.calls }
@@ -303,7 +303,7 @@ fn serve_streams<
 >(
     rt: &R,
     alloc: Global,
-    house: &House<C, M>,
+    server: &RunningServer<C, M>,
     gate: &G,
     calls: CallSeat<C>,
     mails: MailSeat<M>,
@@ -323,10 +323,10 @@ fn serve_streams<
         × AreTold mails.conn all result.2.receipts.history }
     ensures departed { result.2.write ≢ WriteEnd.Stopped → result.2.mails.departed ≡ true }
     // It ends for the number of its reads only after all of them.
-    ensures turns { result.2.read ≡ ReadEnd.Turns → result.0.reads ≡ most_reads result.2.reads house.now.turns }
+    ensures turns { result.2.read ≡ ReadEnd.Turns → result.0.reads ≡ most_reads result.2.reads server.now.turns }
 {
     let (from, to) = (StreamRead::new(reader), StreamWrite::new(writer));
-    serve_over(rt, alloc, house, gate, calls, mails, from, to, ends, reads)
+    serve_over(rt, alloc, server, gate, calls, mails, from, to, ends, reads)
 }
 
 /// Serves a connection over the two directions of its stream, in two threads, until both its sides have ended.
@@ -341,7 +341,7 @@ fn serve_over<
 >(
     rt: &R,
     alloc: Global,
-    house: &House<C, M>,
+    server: &RunningServer<C, M>,
     gate: &G,
     calls: CallSeat<C>,
     mails: MailSeat<M>,
@@ -352,7 +352,7 @@ fn serve_over<
 ) -> (H, W, Outcome<C, M>)
     requires one { calls.conn ≡ mails.conn }
     // The front of the client's stream was handled.
-    ensures handled { HasHandled H.tells H.told H.reads (most_reads result.2.reads house.now.turns)
+    ensures handled { HasHandled H.tells H.told H.reads (most_reads result.2.reads server.now.turns)
         from result.0 calls result.2.calls result.2.sent.items result.2.read }
     // The client got the frames of the mails that were taken.
     ensures wrote { HasWritten W.tells W.got to result.1 mails result.2.mails result.2.receipts result.2.write }
@@ -362,12 +362,12 @@ fn serve_over<
         rt,
         move |scope| -> (H, W, Outcome<C, M>)
             requires { calls.conn ≡ mails.conn }
-            ensures { HasHandled H.tells H.told H.reads (most_reads result.2.reads house.entry.now.turns)
+            ensures { HasHandled H.tells H.told H.reads (most_reads result.2.reads server.entry.now.turns)
                 from result.0 calls result.2.calls result.2.sent.items result.2.read
                 × HasWritten W.tells W.got to result.1 mails result.2.mails result.2.receipts result.2.write }
         {
             serve_in(
-                rt, alloc, scope, house, gate, calls, mails, from, to, ends, reads,
+                rt, alloc, scope, server, gate, calls, mails, from, to, ends, reads,
             )
         },
     )
@@ -388,7 +388,7 @@ fn serve_in<
     rt: &'s R,
     alloc: Global,
     scope: &Scope<'s, Z>,
-    house: &'s House<C, M>,
+    server: &'s RunningServer<C, M>,
     gate: &G,
     calls: CallSeat<C>,
     mails: MailSeat<M>,
@@ -398,7 +398,7 @@ fn serve_in<
     reads: Reads,
 ) -> (H, W, Outcome<C, M>)
     requires one { calls.conn ≡ mails.conn }
-    ensures { HasHandled H.tells H.told H.reads (most_reads result.2.reads house.now.turns)
+    ensures { HasHandled H.tells H.told H.reads (most_reads result.2.reads server.now.turns)
         from result.0 calls result.2.calls result.2.sent.items result.2.read
         × HasWritten W.tells W.got to result.1 mails result.2.mails result.2.receipts result.2.write }
 {
@@ -413,12 +413,12 @@ fn serve_in<
         move || -> (MailSeat<M>, Receipts<M>, WriteEnd, W, Parted)
             ensures { HasWritten W.tells W.got to result.3 mails result.0 result.1 result.2
                 × (result.4.is_shut ≡ true) }
-        { run_write_side(rt, alloc, house, mails, to, StreamEnd::of(ends)) },
+        { run_write_side(rt, alloc, server, mails, to, StreamEnd::of(ends)) },
     );
     match writing {
         Ok(thread) => {
             let (from, calls, sent, read, reader) = run_read_side(
-                rt, alloc, house, gate, calls, from, own, &reads,
+                rt, alloc, server, gate, calls, from, own, &reads,
             );
             let (mails, receipts, write, to, writer) = thread.join(rt);
             (
@@ -433,7 +433,7 @@ fn serve_in<
             // Without a writing thread, nothing is read.
             let reads = Reads::None(Unstarted::refused(&refused));
             let (from, calls, sent, read, reader) = run_read_side(
-                rt, alloc, house, gate, calls, from, own, &reads,
+                rt, alloc, server, gate, calls, from, own, &reads,
             );
             let (mails, receipts, write, to, writer) = (refused.value)();
             (
@@ -452,22 +452,22 @@ fn serve_in<
 fn run_read_side<C: Tally, M: Tally, G: Gate, R: Clock + Wait, H: ReadHalf + Drop, E: HangUp>(
     rt: &R,
     alloc: Global,
-    house: &House<C, M>,
+    server: &RunningServer<C, M>,
     gate: &G,
     seat: CallSeat<C>,
     from: H,
     stream: StreamEnd<'_, E>,
     reads: &Reads,
 ) -> (H, CallSeat<C>, Vec<ClientMessage>, ReadEnd, Parted)
-    ensures handled { HasHandled H.tells H.told H.reads (most_reads reads.now house.now.turns)
+    ensures handled { HasHandled H.tells H.told H.reads (most_reads reads.now server.now.turns)
         from result.0 seat result.1 result.2.items result.3 }
     ensures parted { result.4.is_shut ≡ ends_stream result.3 }
 {
     let mut from = from;
-    let turns = Some(house.most_reads(reads));
-    let (seat, sent, end) = read_side(rt, alloc, house.hall(), seat, &mut from, gate, turns);
+    let turns = Some(server.most_reads(reads));
+    let (seat, sent, end) = read_side(rt, alloc, server.hall(), seat, &mut from, gate, turns);
     if end == ReadEnd::Spent {
-        house.spend_calls(rt, &seat);
+        server.spend_calls(rt, &seat);
     }
     let parted = match end {
         ReadEnd::Closed | ReadEnd::Turns => stream.leave(),
@@ -480,7 +480,7 @@ fn run_read_side<C: Tally, M: Tally, G: Gate, R: Clock + Wait, H: ReadHalf + Dro
 fn run_write_side<C: Tally, M: Tally, R: Wait, W: WriteHalf + Drop, E: HangUp>(
     rt: &R,
     alloc: Global,
-    house: &House<C, M>,
+    server: &RunningServer<C, M>,
     seat: MailSeat<M>,
     to: W,
     stream: StreamEnd<'_, E>,
@@ -489,9 +489,9 @@ fn run_write_side<C: Tally, M: Tally, R: Wait, W: WriteHalf + Drop, E: HangUp>(
         × (result.4.is_shut ≡ true) }
 {
     let mut to = to;
-    let (seat, receipts, end) = write_side(rt, alloc, house.hall(), seat, &mut to);
+    let (seat, receipts, end) = write_side(rt, alloc, server.hall(), seat, &mut to);
     if end == WriteEnd::Spent {
-        house.spend_mails(rt, &seat);
+        server.spend_mails(rt, &seat);
     }
     (seat, receipts, end, to, stream.hang_up())
 }

@@ -5,17 +5,17 @@
 #![tactic(auto)]
 
 mod accepting;
+mod arrival;
 mod binding;
 mod books;
 mod connection;
-mod departed;
-mod entrance;
 mod failed;
-mod house;
-mod newcomer;
+mod finished_connections;
+mod listener;
 mod opening;
 mod reads;
 mod register;
+mod running_server;
 mod serve_fault;
 mod served;
 mod server;

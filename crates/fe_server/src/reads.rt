@@ -3,7 +3,7 @@
 ghost use Rattle.std.specs.Prelude.{◌≡◌};
 ghost use Rattle.fe_server.specs.Sides.{most_reads};
 
-use crate::newcomer::Bar;
+use crate::arrival::Bar;
 use std::thread::SpawnError;
 
 /// Shows that a connection gets no thread, or none for its write side. Only the functions below make it.

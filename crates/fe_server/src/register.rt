@@ -1,16 +1,16 @@
 //! Which connections a server has.
 
 ghost use Rattle.std.specs.Prelude.{◌≡◌, ◌↔◌, ◌⊎◌, ◌+◌, ◌-◌, ◌^◌, ◌<◌, ◌≤◌, ◌∷◌, ◌++◌, [], true, false, IfOk, IfErr, OnErr, OnOk, IsTrue};
-ghost use Rattle.fe_server.specs.Departed.{IsAdded, joined_to, without};
+ghost use Rattle.fe_server.specs.FinishedConnections.{IsAdded, joined_to, without};
 ghost use Rattle.fe_server.specs.Arrivals.{HasEnded, awaited_after, kept_from};
 ghost use Rattle.fe_server.specs.Serving.{fault_of_end};
 
+use crate::arrival::{Arrival, Bar, Ended, Unkept, Unserved};
 use crate::connection::{Accepted, Outcome};
-use crate::departed::Departed;
-use crate::newcomer::{Bar, Ended, Newcomer, Unkept, Unserved};
+use crate::finished_connections::FinishedConnections;
 use crate::socket_handle::SocketHandle;
 use crate::stop_fault::StopFault;
-use fe_hall::{CommitEnd, ConnectRight, Gathered, Tally, reserve_one};
+use fe_hall::{CommitEnd, ConnectRight, GatheredReceipts, Tally, reserve_one};
 use std::alloc::Global;
 use std::net::Shutdown;
 use std::os::unix::net::UnixStream;
@@ -85,14 +85,14 @@ pub(crate) struct Ending {
     end: CommitEnd,
 }
 
-/// Shows that a server has ended, and how its committing side did. Only `Register::shut_all` makes it, and a house gives neither its
+/// Shows that a server has ended, and how its committing side did. Only `Register::shut_all` makes it, and a server gives neither its
 /// books nor its account without it.
 #[derive(Drop)]
-pub(crate) struct Over {
+pub(crate) struct ServerEnded {
     end: CommitEnd,
 }
 
-impl Over {
+impl ServerEnded {
     /// The fault of the committing side's end, if it ended with one.
     pub(crate) fn fault(&self) -> Option<StopFault>
         ensures { result ≡ fault_of_end self.now.end }
@@ -108,7 +108,7 @@ impl Over {
 /// What the second lock of a server guards.
 pub(crate) struct Register<C: Tally, M: Tally> {
     /// The connections whose threads have not begun.
-    newcomers: Vec<Newcomer<C, M>>,
+    newcomers: Vec<Arrival<C, M>>,
     /// How many connections were admitted, which is the number of the next.
     admitted: u64,
     /// How many of them have seats in the hall, or are about to get them.
@@ -125,7 +125,7 @@ pub(crate) struct Register<C: Tally, M: Tally> {
     door: Option<UnixStream>,
     /// Nothing is stored any more.
     over: bool,
-    pub(crate) departed: Departed<C, M>,
+    pub(crate) departed: FinishedConnections<C, M>,
     ghost few: { came ≤ admitted },
 }
 
@@ -135,7 +135,7 @@ impl<C: Tally, M: Tally> Register<C, M> {
         alloc: Global,
         right: &ConnectRight,
         door: UnixStream,
-        receipts: Gathered<M>,
+        receipts: GatheredReceipts<M>,
     ) -> Register<C, M> {
         Register {
             newcomers: Vec::new(alloc),
@@ -147,42 +147,42 @@ impl<C: Tally, M: Tally> Register<C, M> {
             handles: Vec::new(alloc),
             door: Some(door),
             over: false,
-            departed: Departed::new(alloc, right, receipts),
+            departed: FinishedConnections::new(alloc, right, receipts),
         }
     }
 
     /// Keeps a connection until its thread takes it, and its handle until it leaves. Gives it back if there is no memory for it.
-    pub(crate) fn put(&mut self, newcomer: Newcomer<C, M>) -> Result<Waiting, Unkept<C, M>>
-        ensures put { OnOk result (self.new.newcomers.items ≡ self.old.newcomers.items ++ newcomer ∷ []) }
-        ensures handle { OnOk result (IsAdded (λ handle. handle.conn ≡ newcomer.connection.admission.conn)
+    pub(crate) fn put(&mut self, arrival: Arrival<C, M>) -> Result<Waiting, Unkept<C, M>>
+        ensures put { OnOk result (self.new.newcomers.items ≡ self.old.newcomers.items ++ arrival ∷ []) }
+        ensures handle { OnOk result (IsAdded (λ handle. handle.conn ≡ arrival.connection.admission.conn)
             self.old.handles.items self.new.handles.items) }
-        ensures back { IfErr result (λ back. back.newcomer ≡ newcomer) }
+        ensures back { IfErr result (λ back. back.arrival ≡ arrival) }
         ensures departed { self.new.departed ≡ self.old.departed }
     {
         if let Err(short) = reserve_one(&mut self.newcomers) {
-            return Err(Unkept::of(newcomer, Bar::Memory(short)));
+            return Err(Unkept::of(arrival, Bar::Memory(short)));
         }
         if let Err(short) = reserve_one(&mut self.handles) {
-            return Err(Unkept::of(newcomer, Bar::Memory(short)));
+            return Err(Unkept::of(arrival, Bar::Memory(short)));
         }
-        match newcomer.connection.handle() {
+        match arrival.connection.handle() {
             Ok(handle) => {
                 self.handles.push_reserved(handle);
-                self.newcomers.push_reserved(newcomer);
+                self.newcomers.push_reserved(arrival);
                 Ok(Waiting(()))
             }
-            Err(unshared) => Err(Unkept::of(newcomer, Bar::Handle(unshared))),
+            Err(unshared) => Err(Unkept::of(arrival, Bar::Handle(unshared))),
         }
     }
 
     /// Takes a connection whose threads have not begun, the last that was put.
-    pub(crate) fn take(&mut self) -> Result<Newcomer<C, M>, NoNewcomer>
-        ensures taken { IfOk result (λ newcomer. self.old.newcomers.items ≡ self.new.newcomers.items ++ newcomer ∷ []) }
+    pub(crate) fn take(&mut self) -> Result<Arrival<C, M>, NoNewcomer>
+        ensures taken { IfOk result (λ arrival. self.old.newcomers.items ≡ self.new.newcomers.items ++ arrival ∷ []) }
         ensures none { OnErr result (self.old.newcomers.items ≡ []) }
         ensures departed { self.new.departed ≡ self.old.departed }
     {
         match self.newcomers.pop() {
-            Some(newcomer) => Ok(newcomer),
+            Some(arrival) => Ok(arrival),
             None => Err(NoNewcomer(())),
         }
     }
@@ -349,14 +349,14 @@ impl<C: Tally, M: Tally> Register<C, M> {
     }
 
     /// Ends the streams of all connections that are left.
-    pub(crate) fn shut_all(&self, ending: Ending) -> Over
+    pub(crate) fn shut_all(&self, ending: Ending) -> ServerEnded
         ensures { result.end ≡ ending.end }
     {
         for handle in &self.handles {
             handle.shut();
         }
         let Ending { end } = ending;
-        Over { end }
+        ServerEnded { end }
     }
 
     /// Whether connections may come: the server has not ended and, unless `accepts` is 0, fewer than that came.
@@ -379,7 +379,7 @@ impl<C: Tally, M: Tally> Register<C, M> {
     }
 
     /// What the connections did that have ended. Each client was taken right after it was put, so none is dismissed here.
-    pub(crate) fn into_departed(self) -> Departed<C, M>
+    pub(crate) fn into_departed(self) -> FinishedConnections<C, M>
         ensures { result ≡ self.departed }
     {
         let Register {
@@ -417,10 +417,10 @@ fn places_kept(awaited: &mut u64, expected: Option<Expected>) -> u64
 }
 
 /// Dismisses connections whose threads have not begun.
-fn dismiss<C: Tally, M: Tally>(newcomers: Vec<Newcomer<C, M>>) {
+fn dismiss<C: Tally, M: Tally>(newcomers: Vec<Arrival<C, M>>) {
     let mut newcomers = newcomers;
-    while let Some(newcomer) = newcomers.pop() {
-        let Newcomer { connection, seats } = newcomer;
+    while let Some(arrival) = newcomers.pop() {
+        let Arrival { connection, seats } = arrival;
         let Admission {
             conn: _,
             most: _,

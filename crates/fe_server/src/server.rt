@@ -2,7 +2,7 @@
 
 ghost use Rattle.std.specs.Prelude.{◌≡◌, ◌≢◌, ◌<◌, ◌∷◌, ℕ, [], false, IsTrue, All, IfOk, IsErrOf, nat_lt};
 ghost use Rattle.fe_mail.specs.Books.{AddUp};
-ghost use Rattle.fe_history.specs.Acts.{EachTold, Gathered as Kept, IsAccountOf};
+ghost use Rattle.fe_history.specs.Acts.{EachTold, GatheredReceipts as Kept, IsAccountOf};
 ghost use Rattle.fe_history.specs.Receipts.{IsBorneOut};
 ghost use Rattle.fe_history.specs.declared.act.Act.TheVariants as act;
 ghost use Rattle.fe_hall.specs.declared.commit_end.CommitEnd.{CommitEnd as Ended};
@@ -16,11 +16,11 @@ ghost use Rattle.fe_server.specs.declared.serve_fault.ServeFault.TheVariants as 
 ghost use Rattle.fe_server.specs.declared.stop_fault.StopFault.TheVariants as fault;
 
 use crate::accepting::serve_clients;
-use crate::entrance::Entrance;
 use crate::failed::Failed;
-use crate::house::{House, Opened};
+use crate::listener::Listener;
 use crate::opening::{Unopened, open};
-use crate::register::Over;
+use crate::register::ServerEnded;
+use crate::running_server::{Opened, RunningServer};
 use crate::served::Served;
 use crate::stop_fault::StopFault;
 use fe_disk::{Disk, FileDisk};
@@ -101,7 +101,7 @@ pub fn serve_store<D: Disk + Drop + Send, G: Gate + Sync, R: Clock + Threads + W
     serve_as::<Brand, Brand, D, G, R>(
         rt,
         alloc,
-        Entrance::new(listener),
+        Listener::new(listener),
         settings,
         keeper,
         gate,
@@ -120,7 +120,7 @@ fn serve_as<
 >(
     rt: &R,
     alloc: Global,
-    entrance: Entrance,
+    listener: Listener,
     settings: &Settings,
     keeper: Keeper<D>,
     gate: &G,
@@ -150,14 +150,14 @@ fn serve_as<
         calls,
         mails,
         history,
-        &entrance,
+        &listener,
         settings,
     ) else {
         return Err(unserved(keeper, nothing));
     };
     drop(nothing);
     let (keeper, over, seat) = run(
-        rt, alloc, &opened, entrance, right, settings, keeper, seat, gate,
+        rt, alloc, &opened, listener, right, settings, keeper, seat, gate,
     );
     closed(opened, over, seat, keeper)
 }
@@ -165,7 +165,7 @@ fn serve_as<
 /// Closes what was served. If the committing side ended with a fault, its account comes back.
 fn closed<C: Tally, M: Tally, D: Disk>(
     opened: Opened<C, M>,
-    over: Over,
+    over: ServerEnded,
     seat: StoreSeat<M>,
     keeper: Keeper<D>,
 ) -> Result<Served<D>, Failed<D>>
@@ -177,7 +177,7 @@ fn closed<C: Tally, M: Tally, D: Disk>(
     ensures unspent { IfOk result (λ served. served.audit.books.spent ≡ false) }
     ensures borne_out { IfOk result
         (λ served. All (IsBorneOut served.keeper.state served.audit.sent) served.audit.receipts) }
-    ensures whole { IfOk result (λ served. IsTrue opened.house.keeps → IsTrue served.audit.whole) }
+    ensures whole { IfOk result (λ served. IsTrue opened.server.keeps → IsTrue served.audit.whole) }
     ensures leaves { (kept : Kept) × IsAccountOf seat kept.items kept.history (account_in result) }
     ensures told { EachTold (account_in result).receipts (account_in result).history }
 {
@@ -221,7 +221,7 @@ struct Committed<D: Disk + Drop> {
     before: Snapshot<Keeper<D>>,
 }
 
-impl<D: Disk + Drop, M: Tally> Promise<(Keeper<D>, Over, StoreSeat<M>)> for Committed<D> {
+impl<D: Disk + Drop, M: Tally> Promise<(Keeper<D>, ServerEnded, StoreSeat<M>)> for Committed<D> {
     ghost use Rattle.fe_server.specs.Serving.{HasNoted};
 
     ghost kept_by = { λ p r.
@@ -239,33 +239,33 @@ fn run<
     rt: &R,
     alloc: Global,
     opened: &Opened<C, M>,
-    entrance: Entrance,
+    listener: Listener,
     right: ConnectRight,
     settings: &Settings,
     keeper: Keeper<D>,
     seat: StoreSeat<M>,
     gate: &G,
-) -> (Keeper<D>, Over, StoreSeat<M>)
+) -> (Keeper<D>, ServerEnded, StoreSeat<M>)
     requires calls { C.all ≡ C.parts }
     requires mails { M.all ≡ M.parts }
     requires begun { opened.now.begun.value ≡ keeper.state }
-    requires most { opened.now.house.most ≡ settings.now.connections }
-    requires turns { opened.now.house.turns ≡ settings.now.turns }
-    requires keeps { opened.now.house.keeps ≡ nat_lt 0 settings.now.accepts }
+    requires most { opened.now.server.most ≡ settings.now.connections }
+    requires turns { opened.now.server.turns ≡ settings.now.turns }
+    requires keeps { opened.now.server.keeps ≡ nat_lt 0 settings.now.accepts }
     requires seat { seat ≡ act.Began keeper.state ∷ [] }
     ensures { HasNoted D.honest D.moment D.left_since D.may_leave D.failures keeper result.0 result.1.end result.2 }
 {
-    let house = opened.house();
+    let server = opened.server();
     thread::scope(
         thread::scope_env(),
         rt,
-        move |scope| -> (Keeper<D>, Over, StoreSeat<M>)
+        move |scope| -> (Keeper<D>, ServerEnded, StoreSeat<M>)
             requires { (C.all ≡ C.parts) × (M.all ≡ M.parts) × (seat ≡ act.Began keeper.state ∷ []) }
             ensures { HasNoted D.honest D.moment D.left_since D.may_leave D.failures keeper
                 result.0 result.1.end result.2 }
         {
             run_in(
-                rt, alloc, scope, house, entrance, right, settings, keeper, seat, gate,
+                rt, alloc, scope, server, listener, right, settings, keeper, seat, gate,
             )
         },
     )
@@ -284,14 +284,14 @@ fn run_in<
     rt: &'s R,
     alloc: Global,
     scope: &Scope<'s, E>,
-    house: &'s House<C, M>,
-    entrance: Entrance,
+    server: &'s RunningServer<C, M>,
+    listener: Listener,
     right: ConnectRight,
     settings: &Settings,
     keeper: Keeper<D>,
     seat: StoreSeat<M>,
     gate: &G,
-) -> (Keeper<D>, Over, StoreSeat<M>)
+) -> (Keeper<D>, ServerEnded, StoreSeat<M>)
     requires calls { C.all ≡ C.parts }
     requires mails { M.all ≡ M.parts }
     requires seat { seat ≡ act.Began keeper.state ∷ [] }
@@ -302,21 +302,21 @@ fn run_in<
     };
     let committing = scope.spawn_with(
         promise,
-        move || -> (Keeper<D>, Over, StoreSeat<M>)
+        move || -> (Keeper<D>, ServerEnded, StoreSeat<M>)
             requires { seat ≡ act.Began keeper.state ∷ [] }
             ensures { HasNoted D.honest D.moment D.left_since D.may_leave D.failures keeper
                 result.0 result.1.end result.2 }
-        { house.commit(rt, keeper, seat) },
+        { server.commit(rt, keeper, seat) },
     );
     match committing {
         Ok(thread) => {
-            let served = serve_clients(rt, alloc, house, entrance, right, settings, gate);
-            house.stop(rt, served);
+            let served = serve_clients(rt, alloc, server, listener, right, settings, gate);
+            server.stop(rt, served);
             thread.join(rt)
         }
         Err(refused) => {
             drop(right);
-            house.fall_short(rt, &refused);
+            server.fall_short(rt, &refused);
             (refused.value)()
         }
     }

@@ -30,7 +30,7 @@ use crate::unconnected::Unconnected;
 use crate::watchers::Watchers;
 pub use batches::{AllDurable, CutBatch, Cutting, FullBook, NotOut, Posted, Uncut, Unposted};
 use fe_front::{BELLS, Books, Front};
-use fe_history::{Account, Chronicle, History, Tally};
+use fe_history::{Account, History, HistoryWords, Tally};
 use fe_messages::take_message;
 use fe_wire::ClientMessage;
 use std::alloc::Global;
@@ -277,7 +277,7 @@ impl<C: Tally, M: Tally> Shared<C, M> {
     fn take_message(
         &mut self,
         alloc: Global,
-        chronicle: &Chronicle<M>,
+        history_words: &HistoryWords<M>,
         message: ClientMessage,
         seat: &mut CallSeat<C>,
     )
@@ -293,7 +293,7 @@ impl<C: Tally, M: Tally> Shared<C, M> {
         let conn = seat.conn();
         let took = take_message(alloc, &mut self.front, conn, message);
         seat.take(&mut self.calls, &message, self.front.state().place());
-        self.history.hear(chronicle, &self.mails, took);
+        self.history.hear(history_words, &self.mails, took);
         self.paces.note_message(conn);
     }
 
@@ -302,7 +302,7 @@ impl<C: Tally, M: Tally> Shared<C, M> {
     pub fn handle(
         &mut self,
         alloc: Global,
-        chronicle: &Chronicle<M>,
+        history_words: &HistoryWords<M>,
         message: &ClientMessage,
         seat: &mut CallSeat<C>,
     ) -> Option<Standing>
@@ -338,7 +338,7 @@ impl<C: Tally, M: Tally> Shared<C, M> {
         if !self.front.room() {
             return None;
         }
-        self.take_message(alloc, chronicle, *message, seat);
+        self.take_message(alloc, history_words, *message, seat);
         Some(Standing::Served)
     }
 

@@ -2,7 +2,7 @@ ghost use Rattle.std.specs.Prelude.{◌≡◌};
 
 use fe_disk::Disk;
 use fe_hall::{
-    CallSeat, Closing, Gathered, Hall, MailSeat, Receipts, Seats, StoreSeat, Tally, close,
+    CallSeat, Closing, GatheredReceipts, Hall, MailSeat, Receipts, Seats, StoreSeat, Tally, close,
 };
 use fe_keeper::Keeper;
 use fe_wire::ClientMessage;
@@ -14,12 +14,12 @@ pub struct Register<C: Tally, M: Tally> {
     calls: Option<Seats<C>>,
     mails: Option<Seats<M>>,
     sent: Vec<Vec<ClientMessage>>,
-    receipts: Gathered<M>,
+    receipts: GatheredReceipts<M>,
 }
 
 impl<C: Tally, M: Tally> Register<C, M> {
     /// A register with no connections. `receipts` are none yet.
-    pub fn new(alloc: Global, receipts: Gathered<M>) -> Register<C, M> {
+    pub fn new(alloc: Global, receipts: GatheredReceipts<M>) -> Register<C, M> {
         Register {
             calls: None,
             mails: None,

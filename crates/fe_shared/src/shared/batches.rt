@@ -12,7 +12,7 @@ ghost use Rattle.fe_shared.specs.Seats.{posts_more};
 use super::{MOST, Shared};
 use fe_disk::Disk;
 use fe_front::BELLS;
-use fe_history::{Chronicle, History, StoreSeat, Tally};
+use fe_history::{History, HistoryWords, StoreSeat, Tally};
 use fe_keeper::Keeper;
 use fe_state::Batch;
 use std::marker::Model;
@@ -88,7 +88,7 @@ pub enum Unposted {
 
 impl<C: Tally, M: Tally> Shared<C, M> {
     /// Hands all pending entries out, if there are some and no batch is out. `None`: there may be some later. The history has the cut then.
-    pub fn cut(&mut self, chronicle: &Chronicle<M>, cuts: &mut History<M>) -> Option<Cutting>
+    pub fn cut(&mut self, history_words: &HistoryWords<M>, cuts: &mut History<M>) -> Option<Cutting>
         requires fresh { self.old.used ≡ false }
         ensures cuts { Cuts self.old.front self.old.stopped result self.new.front }
         ensures noted { IfSome result (λ cutting. IsCutIn cutting cuts.new) }
@@ -96,7 +96,7 @@ impl<C: Tally, M: Tally> Shared<C, M> {
     {
         self.used = true;
         if self.front.has_cut() {
-            return Some(self.cut_batch(chronicle, cuts));
+            return Some(self.cut_batch(history_words, cuts));
         }
         if self.stopped && self.front.durable() == self.front.state().place() {
             return Some(Cutting::Stopped(AllDurable(())));
@@ -105,7 +105,7 @@ impl<C: Tally, M: Tally> Shared<C, M> {
     }
 
     /// Hands all pending entries out, and notes the cut. Nothing changes if another side noted one.
-    fn cut_batch(&mut self, chronicle: &Chronicle<M>, cuts: &mut History<M>) -> Cutting
+    fn cut_batch(&mut self, history_words: &HistoryWords<M>, cuts: &mut History<M>) -> Cutting
         requires some { has_no_cut self.old.front ≡ false }
         ensures cuts { Cuts self.old.front self.old.stopped (Some result) self.new.front }
         ensures noted { IsCutIn result cuts.new }
@@ -114,7 +114,7 @@ impl<C: Tally, M: Tally> Shared<C, M> {
         let _ = self.front.state();
         let count = self.posted;
         let mut history = self.history.again();
-        if !history.cut(chronicle, count, &self.front) {
+        if !history.cut(history_words, count, &self.front) {
             return Cutting::Strange(Uncut(()));
         }
         let Some(batch) = self.front.cut() else {

@@ -1,4 +1,4 @@
 use Rattle.fe_server.proofs.register.dismiss.Given as goal
 
-abbrev pub decreases-loop-newcomer : goal.decreases-loop-newcomer
-decreases-loop-newcomer g l = goal.left-loop-newcomer g l
+abbrev pub decreases-loop-arrival : goal.decreases-loop-arrival
+decreases-loop-arrival g l = goal.left-loop-arrival g l

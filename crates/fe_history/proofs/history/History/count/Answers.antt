@@ -4,7 +4,7 @@ use Rattle.fe_history.proofs.history.History.count.Goals as goal
 
 pub load-requires : goal.load-requires
 load-requires g c =
-    let h = c.args.chronicle.now.stores_are in
+    let h = c.args.history_words.now.stores_are in
     let offer = c.plain-offer.ensures in (
       ap (λ w. w.tracked) h,
       c.self.invariant.0 ∙ sym (ap (λ w. w.book) h),

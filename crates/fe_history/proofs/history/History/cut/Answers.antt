@@ -5,7 +5,7 @@ use Rattle.fe_history.proofs.history.History.cut.Goals as goal
 
 pub compare_exchange-found-requires : goal.compare_exchange-found-requires
 compare_exchange-found-requires g c =
-    let h = c.args.chronicle.now.cuts_are in
+    let h = c.args.history_words.now.cuts_are in
     let offer = c.plain-offer.ensures in
     let pen = c.no_pen-pen.ensures in (
       ap (λ w. w.tracked) h,

@@ -7,14 +7,14 @@ ghost use Rattle.fe_hall.specs.Audits.{IsAudit, account_left};
 ghost use Rattle.fe_history.specs.Receipts.{IsBorneOut};
 ghost use Rattle.fe_shared.specs.Seats.{Seats as Totals};
 ghost use Rattle.fe_server.specs.declared.stop_fault.StopFault.TheVariants as fault;
-ghost use Rattle.fe_server.specs.Departed.{IsClean, joined_to, lacks};
+ghost use Rattle.fe_server.specs.FinishedConnections.{IsClean, joined_to, lacks};
 ghost use Rattle.fe_server.specs.Serving.{fault_of_end};
 
-use crate::register::Over;
+use crate::register::ServerEnded;
 use crate::stop_fault::StopFault;
 use fe_hall::{
-    Account, Audit, CallSeat, ConnectRight, Gathered, Hall, MailSeat, Receipts, Seats, StoreSeat,
-    Tally, account_of, settle,
+    Account, Audit, CallSeat, ConnectRight, GatheredReceipts, Hall, MailSeat, Receipts, Seats,
+    StoreSeat, Tally, account_of, settle,
 };
 use fe_state::State;
 use fe_wire::ClientMessage;
@@ -22,7 +22,7 @@ use std::alloc::Global;
 
 /// What the connections did that have ended.
 #[derive(Drop)]
-pub(crate) struct Departed<C: Tally, M: Tally> {
+pub(crate) struct FinishedConnections<C: Tally, M: Tally> {
     /// Memory was short for something that the closing needs.
     pub(crate) short: bool,
     /// A book of the hall is full.
@@ -32,17 +32,17 @@ pub(crate) struct Departed<C: Tally, M: Tally> {
     mails: Option<Seats<M>>,
     /// What each read side had sent, and the receipts of the write sides.
     sent: Vec<Vec<ClientMessage>>,
-    receipts: Gathered<M>,
+    receipts: GatheredReceipts<M>,
 }
 
-impl<C: Tally, M: Tally> Departed<C, M> {
+impl<C: Tally, M: Tally> FinishedConnections<C, M> {
     /// No connection has ended. Only who has the right to make connections can make it, so that none of them is added to another one.
     pub(crate) fn new(
         alloc: Global,
         _right: &ConnectRight,
-        receipts: Gathered<M>,
-    ) -> Departed<C, M> {
-        Departed {
+        receipts: GatheredReceipts<M>,
+    ) -> FinishedConnections<C, M> {
+        FinishedConnections {
             short: false,
             spent: false,
             calls: None,
@@ -102,7 +102,7 @@ impl<C: Tally, M: Tally> Departed<C, M> {
     }
 
     /// The account of a hall whose committing side ended with a fault.
-    pub(crate) fn account(self, hall: Hall<C, M>, seat: StoreSeat<M>, over: Over) -> Account
+    pub(crate) fn account(self, hall: Hall<C, M>, seat: StoreSeat<M>, over: ServerEnded) -> Account
         requires fault { IsSome (fault_of_end over.end) }
         ensures leaves { IsAccountOf seat self.receipts.items self.receipts.history result }
         ensures told { EachTold result.receipts result.history }
@@ -116,7 +116,7 @@ impl<C: Tally, M: Tally> Departed<C, M> {
         ensures leaves { IsAccountOf seat self.receipts.items self.receipts.history result }
         ensures told { EachTold result.receipts result.history }
     {
-        let Departed { receipts, .. } = self;
+        let FinishedConnections { receipts, .. } = self;
         let (receipts, history) = receipts.into_parts();
         account_of(hall, seat, receipts, history)
     }
@@ -158,7 +158,7 @@ impl<C: Tally, M: Tally> Departed<C, M> {
         if self.spent || self.calls.is_none() || self.mails.is_none() {
             return Err((StopFault::Strange, self.left(hall, seat)));
         }
-        let Departed {
+        let FinishedConnections {
             calls,
             mails,
             sent,

@@ -7,13 +7,13 @@ use std::os::unix::net::{UnixListener, UnixStream};
 
 /// The listener of a server. It gives a connection only to a caller who shows that the server has not ended.
 #[derive(Drop)]
-pub(crate) struct Entrance {
+pub(crate) struct Listener {
     listener: UnixListener,
 }
 
-impl Entrance {
-    pub(crate) fn new(listener: UnixListener) -> Entrance {
-        Entrance { listener }
+impl Listener {
+    pub(crate) fn new(listener: UnixListener) -> Listener {
+        Listener { listener }
     }
 
     /// Another handle of the listener. The system ends an `accept` whose listener is shut down, which the standard library does only for a stream.

@@ -2,25 +2,25 @@
 
 ghost use Rattle.std.specs.Prelude.{◌≡◌, ◌⊎◌, ◌∷◌, [], IsTrue, All, IfOk, IfErr, IsSome, nat_lt};
 ghost use Rattle.fe_front.specs.Front.{IsFirst};
-ghost use Rattle.fe_history.specs.Acts.{EachTold, Gathered as Kept, IsAccountOf};
+ghost use Rattle.fe_history.specs.Acts.{EachTold, GatheredReceipts as Kept, IsAccountOf};
 ghost use Rattle.fe_hall.specs.Audits.{account_left};
 ghost use Rattle.fe_history.specs.Receipts.{IsBorneOut};
 ghost use Rattle.fe_history.specs.declared.act.Act.TheVariants as act;
 ghost use Rattle.fe_shared.specs.declared.standing.Standing.TheVariants as Standing;
 ghost use Rattle.fe_server.specs.Arrivals.{HasEnded};
-ghost use Rattle.fe_server.specs.Departed.{IsClean};
+ghost use Rattle.fe_server.specs.FinishedConnections.{IsClean};
 ghost use Rattle.fe_server.specs.Sides.{most_reads};
 ghost use Rattle.fe_server.specs.Serving.{HasNoted, IsBlankOf, fault_of_end};
 ghost use Rattle.fe_server.specs.declared.stop_fault.StopFault.TheVariants as fault;
 
 use crate::accepting::AllServed;
+use crate::arrival::{Arrival, Unkept, Unserved};
 use crate::connection::{Accepted, Connection, Outcome};
-use crate::departed::Departed;
-use crate::entrance::Entrance;
-use crate::newcomer::{Newcomer, Unkept, Unserved};
+use crate::finished_connections::FinishedConnections;
+use crate::listener::Listener;
 use crate::reads::Reads;
 use crate::register::{
-    Admission, Expected, Full, NoMore, NoNewcomer, Over, Register, Running, Waiting,
+    Admission, Expected, Full, NoMore, NoNewcomer, Register, Running, ServerEnded, Waiting,
 };
 use crate::stop_fault::StopFault;
 use fe_disk::Disk;
@@ -43,7 +43,7 @@ use std::time::{Clock, Duration};
 const LAST_WAIT: u64 = 400;
 
 /// What the threads of a server share: the hall and the register.
-pub(crate) struct House<C: Tally, M: Tally> {
+pub(crate) struct RunningServer<C: Tally, M: Tally> {
     hall: Hall<C, M>,
     register: Mutex<Register<C, M>>,
     /// Rung when a connection has ended.
@@ -58,21 +58,21 @@ pub(crate) struct House<C: Tally, M: Tally> {
     keeps: bool,
 }
 
-/// A house, and the state that its hall's front began with. Threads share the house alone.
+/// A server, and the state that its hall's front began with. Threads share the server alone.
 pub(crate) struct Opened<C: Tally, M: Tally> {
-    house: House<C, M>,
+    server: RunningServer<C, M>,
     begun: Snapshot<State>,
 }
 
 impl<C: Tally, M: Tally> Opened<C, M> {
-    /// A house with no connection, whose front begins with a copy of a state; and the right to make connections.
+    /// A server with no connection, whose front begins with a copy of a state; and the right to make connections.
     pub(crate) fn new(
         alloc: Global,
         state: &State,
         calls: Blank,
         mails: Blank,
         history: NewHistory,
-        entrance: &Entrance,
+        listener: &Listener,
         settings: &Settings,
     ) -> Result<(Opened<C, M>, StoreSeat<M>, ConnectRight), AllocError>
         requires calls { IsBlankOf C.name C.parts C.all calls.name calls.parts }
@@ -80,13 +80,13 @@ impl<C: Tally, M: Tally> Opened<C, M> {
         requires history { history.book ≡ M.book }
         requires acts { history.acts ≡ act.Began state.now ∷ [] }
         ensures begun { IfOk result (λ opened. opened.0.begun.value ≡ state.now) }
-        ensures most { IfOk result (λ opened. opened.0.house.most ≡ settings.now.connections) }
-        ensures accepts { IfOk result (λ opened. opened.0.house.accepts ≡ settings.now.accepts) }
-        ensures turns { IfOk result (λ opened. opened.0.house.turns ≡ settings.now.turns) }
-        ensures keeps { IfOk result (λ opened. opened.0.house.keeps ≡ nat_lt 0 settings.now.accepts) }
+        ensures most { IfOk result (λ opened. opened.0.server.most ≡ settings.now.connections) }
+        ensures accepts { IfOk result (λ opened. opened.0.server.accepts ≡ settings.now.accepts) }
+        ensures turns { IfOk result (λ opened. opened.0.server.turns ≡ settings.now.turns) }
+        ensures keeps { IfOk result (λ opened. opened.0.server.keeps ≡ nat_lt 0 settings.now.accepts) }
         ensures seat { IfOk result (λ opened. opened.1 ≡ history.acts) }
     {
-        let Ok(door) = entrance.door() else {
+        let Ok(door) = listener.door() else {
             drop(history);
             return Err(AllocError);
         };
@@ -99,7 +99,7 @@ impl<C: Tally, M: Tally> Opened<C, M> {
         match Hall::new(alloc, front, calls, mails, history) {
             Ok((hall, seat, right)) => {
                 let receipts = hall.no_receipts(alloc);
-                let house = House {
+                let server = RunningServer {
                     hall,
                     register: Mutex::new(Register::new(alloc, &right, door, receipts)),
                     freed: Condvar::new(),
@@ -108,7 +108,7 @@ impl<C: Tally, M: Tally> Opened<C, M> {
                     turns: settings.turns,
                     keeps: settings.accepts > 0,
                 };
-                Ok((Opened { house, begun }, seat, right))
+                Ok((Opened { server, begun }, seat, right))
             }
             Err((short, front)) => {
                 drop(front);
@@ -117,18 +117,18 @@ impl<C: Tally, M: Tally> Opened<C, M> {
         }
     }
 
-    pub(crate) fn house(&self) -> &House<C, M>
-        ensures { result.now ≡ self.now.house }
+    pub(crate) fn server(&self) -> &RunningServer<C, M>
+        ensures { result.now ≡ self.now.server }
     {
-        &self.house
+        &self.server
     }
 
-    fn into_parts(self) -> (Hall<C, M>, Departed<C, M>, bool)
-        ensures keeps { result.2 ≡ self.house.keeps }
+    fn into_parts(self) -> (Hall<C, M>, FinishedConnections<C, M>, bool)
+        ensures keeps { result.2 ≡ self.server.keeps }
     {
-        let Opened { house, begun } = self;
+        let Opened { server, begun } = self;
         drop(begun);
-        let House {
+        let RunningServer {
             hall,
             register,
             freed,
@@ -136,7 +136,7 @@ impl<C: Tally, M: Tally> Opened<C, M> {
             accepts: _,
             turns: _,
             keeps,
-        } = house;
+        } = server;
         drop(freed);
         (hall, register.into_inner().into_departed(), keeps)
     }
@@ -144,7 +144,7 @@ impl<C: Tally, M: Tally> Opened<C, M> {
     /// The account of the hall, whose committing side ended with a fault.
     // (not inlined, as in `fe_keeper::keeper_over`)
     #[inline(never)]
-    pub(crate) fn account(self, over: Over, seat: StoreSeat<M>) -> Account
+    pub(crate) fn account(self, over: ServerEnded, seat: StoreSeat<M>) -> Account
         requires fault { IsSome (fault_of_end over.end) }
         ensures leaves { (kept : Kept) × IsAccountOf seat kept.items kept.history result }
         ensures told { EachTold result.receipts result.history }
@@ -158,7 +158,7 @@ impl<C: Tally, M: Tally> Opened<C, M> {
     #[inline(never)]
     pub(crate) fn close(
         self,
-        over: Over,
+        over: ServerEnded,
         seat: StoreSeat<M>,
         state: &State,
     ) -> Result<Audit, (StopFault, Account)>
@@ -167,7 +167,7 @@ impl<C: Tally, M: Tally> Opened<C, M> {
         ensures clean { IfOk result IsClean }
         ensures borne_out { IfOk result (λ audit. All (IsBorneOut state.now audit.sent) audit.receipts) }
         // If they are to be kept, no receipt is missing.
-        ensures whole { IfOk result (λ audit. IsTrue self.house.keeps → IsTrue audit.whole) }
+        ensures whole { IfOk result (λ audit. IsTrue self.server.keeps → IsTrue audit.whole) }
         ensures leaves { (kept : Kept) × IsAccountOf seat kept.items kept.history (account_left result) }
         ensures told { EachTold (account_left result).receipts (account_left result).history }
         ensures faults { IfErr result (λ e. (e.0 ≡ fault.Memory) ⊎ (e.0 ≡ fault.Strange)) }
@@ -178,7 +178,7 @@ impl<C: Tally, M: Tally> Opened<C, M> {
     }
 }
 
-impl<C: Tally, M: Tally> House<C, M> {
+impl<C: Tally, M: Tally> RunningServer<C, M> {
     /// Admits one more connection if there is room for it, beside the clients who wait.
     pub(crate) fn enter<R: Wait>(&self, rt: &R) -> Result<Admission, Full>
         ensures admission { IfOk result
@@ -235,13 +235,13 @@ impl<C: Tally, M: Tally> House<C, M> {
     pub(crate) fn put<R: Wait>(
         &self,
         rt: &R,
-        newcomer: Newcomer<C, M>,
+        arrival: Arrival<C, M>,
     ) -> Result<Waiting, Unkept<C, M>> {
-        self.register.lock(rt).put(newcomer)
+        self.register.lock(rt).put(arrival)
     }
 
     /// Takes a connection whose threads have not begun.
-    pub(crate) fn take<R: Wait>(&self, rt: &R) -> Result<Newcomer<C, M>, NoNewcomer> {
+    pub(crate) fn take<R: Wait>(&self, rt: &R) -> Result<Arrival<C, M>, NoNewcomer> {
         self.register.lock(rt).take()
     }
 
@@ -268,10 +268,10 @@ impl<C: Tally, M: Tally> House<C, M> {
         rt: &R,
         right: &ConnectRight,
         connection: Connection,
-    ) -> Result<Newcomer<C, M>, Unserved>
-        ensures connection { IfOk result (λ newcomer. newcomer.connection ≡ connection) }
+    ) -> Result<Arrival<C, M>, Unserved>
+        ensures connection { IfOk result (λ arrival. arrival.connection ≡ connection) }
     {
-        Newcomer::of(rt, &self.hall, right, connection)
+        Arrival::of(rt, &self.hall, right, connection)
     }
 
     pub(crate) fn hall(&self) -> &Hall<C, M> {
@@ -285,13 +285,13 @@ impl<C: Tally, M: Tally> House<C, M> {
         reads.most(self.turns)
     }
 
-    /// Runs the committing side. At its end the house ends too.
+    /// Runs the committing side. At its end the server ends too.
     pub(crate) fn commit<D: Disk, R: Clock + Wait>(
         &self,
         rt: &R,
         keeper: Keeper<D>,
         seat: StoreSeat<M>,
-    ) -> (Keeper<D>, Over, StoreSeat<M>)
+    ) -> (Keeper<D>, ServerEnded, StoreSeat<M>)
         requires { seat ≡ act.Began keeper.state ∷ [] }
         ensures { HasNoted D.honest D.moment D.left_since D.may_leave D.failures keeper result.0 result.1.end result.2 }
     {
@@ -304,7 +304,7 @@ impl<C: Tally, M: Tally> House<C, M> {
 
     /// The committing side has ended: no connection comes any more, and those that are there end. A write side ends its stream once it
     /// has written what was told. If its client does not take that in time, the stream is ended here.
-    fn end<R: Clock + Wait>(&self, rt: &R, end: CommitEnd) -> Over
+    fn end<R: Clock + Wait>(&self, rt: &R, end: CommitEnd) -> ServerEnded
         ensures { result.end ≡ end }
     {
         let mut register = self.register.lock(rt);

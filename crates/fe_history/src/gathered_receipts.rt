@@ -1,6 +1,6 @@
 ghost use Rattle.std.specs.Prelude.{◌≡◌, ◌++◌, [], true, false, OnOk, OnErr};
 ghost use mathlib.Core.List.{IsPrefix};
-ghost use Rattle.fe_history.specs.Acts.{EachTold, Gathered};
+ghost use Rattle.fe_history.specs.Acts.{EachTold, GatheredReceipts};
 
 use crate::history::History;
 use crate::receipt::Receipt;
@@ -12,17 +12,17 @@ use std::marker::Model;
 
 /// The receipts of the write sides of a hall that ended, and the history in which each of their answers was told.
 #[derive(Drop)]
-pub struct Gathered<M: Tally> {
+pub struct GatheredReceipts<M: Tally> {
     list: ReceiptList,
     history: History<M>,
 }
 
-impl<M: Tally> Model for Gathered<M> {
+impl<M: Tally> Model for GatheredReceipts<M> {
     ghost use Rattle.std.specs.Coded.{codes};
     ghost use Rattle.fe_history.specs.contracts.act.Act as acts;
-    ghost use Rattle.fe_history.specs.Acts.{EachTold, Gathered};
+    ghost use Rattle.fe_history.specs.Acts.{EachTold, GatheredReceipts};
 
-    ghost Value = { Gathered };
+    ghost Value = { GatheredReceipts };
 
     ghost coded = { Prim.hlevel (codes, acts.the_row.coded) };
 
@@ -31,12 +31,12 @@ impl<M: Tally> Model for Gathered<M> {
     ghost invariant = { λ g. EachTold g.list.items g.history };
 }
 
-impl<M: Tally> Gathered<M> {
+impl<M: Tally> GatheredReceipts<M> {
     /// No side has ended.
-    pub fn none(alloc: Global, history: History<M>) -> Gathered<M>
+    pub fn none(alloc: Global, history: History<M>) -> GatheredReceipts<M>
         ensures { result ≡ record { items = []; whole = true; history = history } }
     {
-        Gathered {
+        GatheredReceipts {
             list: ReceiptList::new(alloc),
             history,
         }
@@ -92,7 +92,7 @@ impl<M: Tally> Gathered<M> {
         ensures history { result.1 ≡ self.history }
         ensures told { EachTold result.0.items result.1 }
     {
-        let Gathered { list, history } = self;
+        let GatheredReceipts { list, history } = self;
         (list, history)
     }
 }

@@ -2,7 +2,7 @@ use Rattle.std.proofs.Common.{List, ap, sym, subst}
 use Rattle.fe_history.proofs.Acts.{each_later}
 use Rattle.fe_history.specs.Acts.{EachTold, ReceiptList}
 use Rattle.fe_history.specs.declared.receipt.Receipt.{Receipt}
-use Rattle.fe_history.proofs.gathered.Gathered.learn.Goals as goal
+use Rattle.fe_history.proofs.gathered_receipts.GatheredReceipts.learn.Goals as goal
 
 pub invariant_of-self : goal.invariant_of-self
 invariant_of-self g c =

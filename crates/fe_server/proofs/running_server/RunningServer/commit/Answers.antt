@@ -3,7 +3,7 @@ use Rattle.fe_hall.specs.Commits.{AreNoted}
 use Rattle.fe_history.specs.declared.act.Act.{Act}
 use Rattle.fe_hall.specs.declared.commit_end.CommitEnd.{CommitEnd}
 use Rattle.fe_server.specs.Serving.{HasNoted}
-use Rattle.fe_server.proofs.house.House.commit.Goals as goal
+use Rattle.fe_server.proofs.running_server.RunningServer.commit.Goals as goal
 
 pub returns : goal.returns
 returns g c =

@@ -1,5 +1,5 @@
 use Rattle.fe_history.proofs.Acts.{gathered_told}
-use Rattle.fe_history.proofs.gathered.Gathered.add.Goals as goal
+use Rattle.fe_history.proofs.gathered_receipts.GatheredReceipts.add.Goals as goal
 
 pub invariant_of-self : goal.invariant_of-self
 invariant_of-self g c =

@@ -1,5 +1,5 @@
 use Rattle.fe_server.proofs.Accounts.{account_told}
-use Rattle.fe_server.proofs.departed.Departed.left.Goals as goal
+use Rattle.fe_server.proofs.finished_connections.FinishedConnections.left.Goals as goal
 
 pub returns-clause-told : goal.returns-clause-told
 returns-clause-told g c =

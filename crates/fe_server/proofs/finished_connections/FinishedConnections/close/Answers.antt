@@ -1,9 +1,9 @@
 use Rattle.std.proofs.Common.{◌≡◌, true, false, ◌∙◌, rules}
 use Rattle.fe_history.specs.Acts.{Account}
-use Rattle.fe_server.specs.Departed.{lacks}
+use Rattle.fe_server.specs.FinishedConnections.{lacks}
 use Rattle.fe_server.proofs.Accounts.{account_told}
 use Rattle.fe_server.proofs.Ends.{kept_whole}
-use Rattle.fe_server.proofs.departed.Departed.close.Goals as goal
+use Rattle.fe_server.proofs.finished_connections.FinishedConnections.close.Goals as goal
 
 pub returns-in-Ok-clause-told : goal.returns-in-Ok-clause-told
 returns-in-Ok-clause-told g c =
