@@ -1,12 +1,13 @@
 """The tables of docs/formats.md that the checks' own reader and writer of frames and stores do not take: the fields of an image with
 their sizes and bounds, the bounds of frames, and which message gets which reply and refusal."""
 
+import os
 import re
 
 from . import store, wire
 from .crowds import TALK
-from .harness import holds, same
-from .model import LIMITS, TOP_FLOOR, TOP_PLACE
+from .harness import Server, Wrong, holds, preload, same
+from .model import LIMITS, TOP_FLOOR, TOP_PLACE, State
 from .sources import source_of
 from .tables import codes_in_record, operations, rows, said, text
 
@@ -112,7 +113,7 @@ TRIES = {
 
 
 def refusals(place):
-    """the messages that get a refusal are those that the table of docs/formats.md says, for each that a schedule brings about"""
+    """the messages that get each refusal are those that the table of docs/formats.md says"""
     table = {row[1]: row for row in rows(PAGE, "| refusal | name |")}
     for name, (before, messages) in TRIES.items():
         conn = "c99" if name == "session-limit" else "c1"
@@ -122,8 +123,41 @@ def refusals(place):
             same((status, errors), (0, b""), f"{name}: {line}")
             refused += [kind] if re.search(rf"^{conn} refused \d+ {name}$", output.decode(), re.M) else []
         same(sorted(refused), sorted(table[name][2].split(", ")), f"{name} is the refusal of")
+    for name, kinds in (("spent", spent(place)), ("no-memory", short_of_memory(place))):
+        same(sorted(kinds), sorted(table[name][2].split(", ")), f"{name} is the refusal of")
     same(set(table) - set(TRIES), {"spent", "no-memory"}, "refusals that were not tried")
-    return f"{len(TRIES)} refusals"
+    return f"{len(table)} refusals"
+
+
+def spent(place):
+    """The messages that are refused `spent` once fewer places are left than one message may need."""
+    state = State()
+    state.place = TOP_PLACE - said(PAGE, "fewer than N places left")
+    server = Server(place, store=place.write("s.store", bytes(store.device_of(store.TWO, state))), format=False).start()
+    lines = {"cancel": "cancel 5", "settle": "settle 1", "call": "5 find cells", "bye": "bye", "report": "report", "attach": "attach 7"}
+    given = "".join(f"{it}\n" for it in ("attach 7", *lines.values()))
+    output = place.run("call", "--socket", server.socket, given=given.encode())[1].decode()
+    server.stop()
+    replies = output.splitlines()
+    same(replies[0], "welcome 7 1", "the last place but those that are kept")
+    return [kind for kind, reply in zip(lines, replies[1:]) if reply.endswith(" spent")]
+
+
+def short_of_memory(place):
+    """The messages that are refused `no-memory` if one allocation of a run is refused, each in turn."""
+    library, mark = preload(place, "../refuse.c"), place.path("refused")
+    lines = {
+        "attach": "attach 7", "create": "1 create cells 2 empty", "find": "2 find cells", "access": "3 readxx 1 0", "cancel": "cancel 3",
+        "settle": "settle 2", "report": "report", "remove": "4 remove 1", "bye": "bye",
+    }
+    given, found = "".join(f"c1 {it}\n" for it in lines.values()).encode(), set()
+    for number in range(1, 10000):
+        output = place.run("run", given=given, env={"LD_PRELOAD": library, "REFUSE": str(number), "REFUSED": mark})[1].decode()
+        if not os.path.exists(mark):
+            return found
+        os.unlink(mark)
+        found |= {kind for kind, reply in zip(lines, output.splitlines()) if reply.endswith(" no-memory")}
+    raise Wrong("some allocation is always refused")
 
 
 # Messages to which two refusals apply.
