@@ -41,6 +41,40 @@ def images(_place):
     return f"{len(sizes)} fields"
 
 
+# How fe_wire/Spelling writes a field of a frame, and its size. What it names otherwise than docs/formats.md has the page's name here.
+SPELLED = re.compile(r"to_be_bytes w(32|64) (?:\((\w+) \w+\)|(\w+))|(name_field) name|(\w+)(?: \w+)? ∷")
+PAGE_NAMES = {
+    "answer_number": "value or id", "answer_length": "length", "operand_of": "operand", "op_code": "operation code", "tag_code": "tag",
+    "code": "refusal number",
+}
+
+
+def fields_of(spelling):
+    """The fields in the body of a frame's spelling, each with its size; none of a text, and a name's field has the size of its kind."""
+    found = []
+    for width, of, plain, name, byte in SPELLED.findall(spelling):
+        word = of or plain or byte
+        found += ["name length 1", "name"] if name else [f"{PAGE_NAMES.get(word, word.replace('_', ' '))} {int(width or 8) // 8}"]
+    return found
+
+
+def frames(_place):
+    """the tables of frames in docs/formats.md have the kinds, fields and sizes of the spellings that the proofs rest on, in their order"""
+    lines = re.sub(r" =\n +", " = ", text("crates/fe_wire/specs/Spelling.antt"))
+    kinds_of = {name: re.findall(r"\d+", both) for name, both in re.findall(r"^(\w+)_kind \w+ = if \w+ then (.*)$", lines, re.M)}
+    wanted = {}
+    for name, kind, body in re.findall(r"^(?:reply_)?spelling \(?(?:server\.|Call number \()?(\w+).*? = frame (\d+|\(.*?_kind .*?\)+|\w+_kind \w+) (.*)$", lines, re.M):
+        for code in kinds_of[name.lower()] if "_kind" in kind else [kind]:
+            wanted[code] = (name.lower(), fields_of(body))
+    found = {}
+    for head in ("| kind | from the client", "| kind | from the server"):
+        for code, name, body, _ in rows(PAGE, head):
+            body = found[body.split()[-1]][1] if body.startswith("as for kind") else body.split(", ") if re.match(r"[a-z ]+ \d", body) else []
+            found[code] = (name.split(",")[0], [re.sub(r"^name \d+$", "name", re.sub(r" \(.*\)", "", it)) for it in body])
+    same(found, wanted, "frames")
+    return f"{len(found)} frames"
+
+
 def areas(_place):
     """the areas of a slot follow one another in the table of docs/formats.md and fill the slot"""
     ends = [at + size for at, size in store.AREAS.values()]
@@ -214,4 +248,4 @@ def told_again(_place):
     return f"{len(entries)} entries"
 
 
-CHECKS = (images, areas, bounds, replies, refusals, first_refusal, elsewhere, told_again)
+CHECKS = (images, frames, areas, bounds, replies, refusals, first_refusal, elsewhere, told_again)
