@@ -114,6 +114,7 @@ def compare(program, command, folder, seconds):
                 if server.poll() is not None:
                     raise SystemExit("the server has ended")
                 time.sleep(0.01)
+            print(f"### Beside SQLite and flock\n\n{time.strftime('%Y-%m-%d')}, {os.cpu_count()} processors, in {folder}.\n")
             print("| | femem | in its place |\n|---|---|---|")
             for row in counters(room, socket, seconds):
                 print(row, flush=True)

@@ -65,13 +65,13 @@ def rounds_of(words):
     return {name: json.loads(rounds) for name, rounds in (line.split("\t") for line in said.splitlines())}
 
 
-def print_rows(rounds, ours, theirs):
+def print_rows(rounds, language):
     for name, text in LOADS.items():
         pairs = rounds[name]
         ratios = sorted(mine / other for mine, other in pairs)
         mine, other = (statistics.median(pair[k] for pair in pairs) for k in (0, 1))
         spread = f"{statistics.median(ratios):.2f} ({ratios[0]:.2f} to {ratios[-1]:.2f})"
-        print(f"| {text} | {ours} {mine:.1f} | {theirs} {other:.1f} | {spread} |", flush=True)
+        print(f"| {language}: {text} | {mine:.1f} | {other:.1f} | {spread} |", flush=True)
 
 
 def print_patterns(rounds):
@@ -111,10 +111,11 @@ def main():
             for process in servers:
                 process.kill()
                 process.wait()
-    print("| load | femem, µs | Redis, µs | ratio, the median of the rounds (least to most) |")
+    print(f"### The clients beside redis-py and hiredis\n\n{time.strftime('%Y-%m-%d')}, {os.cpu_count()} processors.\n")
+    print("| load | femem | Redis | ratio |")
     print("|---|---|---|---|")
-    print_rows(python, "Python", "redis-py")
-    print_rows(c, "C", "hiredis")
+    print_rows(python, "Python")
+    print_rows(c, "C")
     print()
     print_patterns(patterns)
 

@@ -1,6 +1,6 @@
 #!/usr/bin/env python3
 """Compares femem with Redis and the C stand-in, in turns on one file system, and with the disk's own limit. A Markdown
-table goes to standard output. Each round's ratio is of runs next to each other; the table has the median, the least
+table goes to standard output, as bench/results/serve.txt keeps it. Each round's ratio is of runs next to each other; the table has the median, the least
 and the greatest of the rounds' ratios. Above 1 femem is ahead. Status 1 if femem gave a wrong answer or none.
 """
 import argparse
@@ -25,6 +25,9 @@ MORE = [
     ("lock", 8, 1, "p50_us", None),
     ("items", 2, 32, "ops_per_s", None),
 ]
+
+
+NAMES = {"own": "own counters", "shared": "one counter", "hand-off": "hand-off", "lock": "a lock", "items": "items"}
 
 
 def limits(folder, slower_us):
@@ -63,7 +66,7 @@ def median(rounds, label, what):
 def shown(value, what):
     if value is None:
         return "-"
-    return f"{value:,.0f} µs" if what == "p50_us" else f"{value:,.0f}/s" if what == "ops_per_s" else f"{value:.1f}"
+    return f"{value:,.0f} µs" if what == "p50_us" else f"{value:,.0f}" if what == "ops_per_s" else f"{value:.1f}"
 
 
 def run(options, loads, slower_us):
@@ -100,18 +103,19 @@ def run(options, loads, slower_us):
 
 def table(options, results, found, notes, calm, slower_us):
     kind = f"{platform.machine()}, {os.cpu_count()} processors, {file_system(options.folder)}"
-    print(f"\n{time.strftime('%Y-%m-%d')}, {kind}; {', '.join(notes)}; {options.rounds} rounds of {options.seconds} s"
+    print(f"### Servers\n\n{time.strftime('%Y-%m-%d')}, {kind}; {', '.join(notes)}; {options.rounds} rounds of {options.seconds} s"
           f"{f', each sync {slower_us} µs slower' if slower_us else ''}; {calm.text()}.\n")
     labels = ("femem", "redis", "stand-in")
-    print("| load, clients x window | what | femem | Redis | stand-in | femem / Redis | femem / stand-in | aim | "
-          "processor µs an operation: femem, Redis, stand-in |")
-    print("|---|---|---|---|---|---|---|---|---|")
-    for (work, clients, window, what, aim), rounds in results.items():
+    print("| load, clients x window | | femem | Redis | stand-in | ratio to Redis | ratio to the stand-in | "
+          "processor µs per operation: femem, Redis, stand-in |")
+    print("|---|---|---|---|---|---|---|---|")
+    for (work, clients, window, what, _), rounds in results.items():
         values = " | ".join(shown(median(rounds, label, what), what) for label in labels)
         cost = ", ".join(shown(median(rounds, label, "server_us_per_op"), "") for label in labels)
-        beside = "" if aim is None else "see below" if (work, clients, window) == ("own", 1, 1) else f"{aim} of Redis"
-        print(f"| {work}, {clients} x {window} | {'p50' if what == 'p50_us' else 'calls a second'} | {values} | "
-              f"{ratios(rounds, what, 'redis')} | {ratios(rounds, what, 'stand-in')} | {beside} | {cost} |")
+        print(f"| {NAMES[work]}, {clients} x {window} | {'median' if what == 'p50_us' else 'calls/s'} | {values} | "
+              f"{ratios(rounds, what, 'redis')} | {ratios(rounds, what, 'stand-in')} | {cost} |")
+    aims = ", ".join(f"{aim} for {NAMES[work]}, {clients} x {window}" for work, clients, window, _, aim in results if aim and clients > 1)
+    print(f"\nAims of the ratio to Redis: {aims}.")
     first = next(rounds for (work, clients, window, *_), rounds in results.items() if (clients, window) == (1, 1))
     middle = {name: statistics.median(limit[name] for limit in found) for name in found[0]}
     over = [got["femem"]["p50_us"] / (limit["group"] + limit["relay"])

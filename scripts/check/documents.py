@@ -6,9 +6,7 @@ import os
 import re
 import sys
 
-from . import blocks, clauses, headers, names, places, tried
-from .harness import holds
-from .tables import rows
+from . import blocks, clauses, headers, measured, names, places, tried
 from .texts import NAME, PAGES, READMES, TOP, bases, exists, headings, is_path, slug, split, text_of, told
 from .wire import OPS
 
@@ -89,15 +87,6 @@ def versions(_place):
     return told(missing, count, 5, "versions")
 
 
-def speeds(_place):
-    """each figure of speed in the README is one of the same row of docs/performance.md, femem's and Redis'"""
-    measured = [row[2:4] for row in rows("docs/performance.md", "| load, clients x window |")]
-    shown = [row[1:3] for row in rows("README.md", "| | femem | Redis |")]
-    same_as = [[cell.removesuffix(" /s") for cell in row] for row in shown]
-    holds(len(same_as) == 4 and same_as == measured, f"the README has {same_as}, docs/performance.md {measured}")
-    return f"{len(shown)} rows"
-
-
 def pictures(_place):
     """each picture has the texts of its source, `docs/NAME.dot`"""
     missing = []
@@ -149,4 +138,4 @@ def links(_place):
     return told(missing, count, 100, "links")
 
 
-CHECKS = (*blocks.CHECKS, *names.CHECKS, *clauses.CHECKS, *tried.CHECKS, *headers.CHECKS, *places.CHECKS, touched, crates, versions, speeds, pictures, links)
+CHECKS = (*blocks.CHECKS, *names.CHECKS, *clauses.CHECKS, *tried.CHECKS, *headers.CHECKS, *places.CHECKS, *measured.CHECKS, touched, crates, versions, pictures, links)

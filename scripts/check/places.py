@@ -1,5 +1,5 @@
-"""What pages say of the repository itself: the layers of its crates, the programs in blocks of commands, what the packages install, and
-figures that two pages have."""
+"""What pages say of the repository itself: the layers of its crates, the programs in blocks of commands, and what the packages
+install."""
 
 import os
 import re
@@ -90,16 +90,4 @@ def recipe(_place):
     return told(missing + [f"hosts.py does not run {it}" for it in programs if it not in hosts], len(wanted), 7, "options")
 
 
-def figures(_place):
-    """the README's figures beside SQLite and flock are those of docs/performance.md"""
-    table = {row[0]: " ".join(row[1:]) for row in rows("docs/performance.md", "| | femem | in its place |")}
-    numbers = lambda it: re.findall(r"(?<![\w.])\d[\d,.]*\d|(?<![\w.])\d(?![\w.])", it)
-    one, eight, lock = (numbers(table[it]) for it in ("a client adds to a counter", "8 clients add to one counter", "a lock around true"))
-    said = re.search(r"\[On another machine, from Python\]\(.*?\): .*? in (\d+) µs, .*? in (\d+)\. Eight clients add ([\d,]+) times a second, and ([\d,]+) times"
-                     r" to a row\. A lock around a command takes ([\d.]+) ms, and `flock` ([\d.]+)\.", text("README.md"))
-    holds(said, "the README has the sentence")
-    same(list(said.groups()), [one[1], one[3], eight[0], eight[2], *lock], "README.md")
-    return "6 figures"
-
-
-CHECKS = (layers, programs, packages, recipe, figures)
+CHECKS = (layers, programs, packages, recipe)

@@ -2,8 +2,9 @@
 
 Usage: scripts/figures [--before NAME COSTS.. --after COSTS..]
 
-The gate leaves its last line, its log and its costs in out/gate, and scripts/plant what it found in out/plant. No figure of this page
-is written by hand, and no other page has one of them. With --before and --after it compares the costs of another text, which it calls
+The gate leaves its last line, its log and its costs in out/gate, and scripts/plant what it found in out/plant. Where they left nothing,
+as in a new clone, the page keeps what it has of them. A file of bench/results has what a bench of that name printed last, with when
+and where, and is written anew with each figure that changes. No figure of this page is written by hand. With --before and --after it compares the costs of another text, which it calls
 NAME, with those of this one. A file of COSTS is as scripts/measure writes it, and counts for a crate where no later one has it.
 """
 
@@ -18,6 +19,7 @@ from . import pages, planted, record
 TOP = pages.TOP
 PAGE = os.path.join(TOP, "docs", "figures.md")
 GATE = os.path.join(TOP, "out", "gate")
+BENCHES = ("serve", "beside", "clients", "histories", "hall")
 
 
 def lines_of(crate, folder):
@@ -106,10 +108,17 @@ def chain(found):
     return max(dearest.values())
 
 
+def section(heading):
+    """The lines of a section of the page as it is, without its heading and the empty lines around them."""
+    with open(PAGE, encoding="utf-8") as file:
+        found = re.search(rf"^## {heading}\n\n(.*?)\n*(?=^## |\Z)", file.read(), re.M | re.S)
+    return found[1].split("\n") if found else []
+
+
 def gate():
     """What the last gate took."""
     if not all(os.path.exists(os.path.join(GATE, it)) for it in ("last", "costs", "commit", "spent")):
-        yield "`make test` has not run to its end since this page was written."
+        yield from section("The last gate")
         return
     with open(os.path.join(GATE, "last"), encoding="utf-8") as file:
         last = file.read().strip().splitlines()
@@ -153,6 +162,8 @@ def summed(found):
 def compared(asked):
     """The costs of two texts."""
     if not asked.before:
+        kept = section("Before and after")
+        yield from ("## Before and after", "", *kept, "") if kept and not os.path.exists(GATE) else ()
         return
     name, *paths = asked.before
     before, after = sums(paths), sums(asked.after)
@@ -174,7 +185,7 @@ def wrong_bodies():
     """What scripts/plant found in each crate that it was run in."""
     found = planted.figures()
     if not found:
-        yield "`make plant` has not run on this machine."
+        yield from section("Wrong bodies")[2:]
         return
     yield row(("crate", "functions", "bodies tried", "refused", "proved, and explained", "without a clause, and explained", "text"))
     yield "|---|" + "---|" * 6
@@ -186,6 +197,13 @@ def wrong_bodies():
     if absent:
         yield ""
         yield f"Not tried: {', '.join(f'`{it}`' for it in absent)}."
+
+
+def speed():
+    """What each bench printed last."""
+    for name in BENCHES:
+        with open(os.path.join(TOP, "bench", "results", f"{name}.txt"), encoding="utf-8") as file:
+            yield from (*file.read().rstrip("\n").split("\n"), "")
 
 
 def words():
@@ -213,6 +231,7 @@ def page(asked):
         "## Wrong bodies", "",
         "What `rt plant` tried, without bodies that could not be judged. A body that is proved gives the same as the right one, or"
         " `scripts/planted.txt` has the reason why it does no harm.", "", *wrong_bodies(), "",
+        "## Speed", "", *speed(),
         "## Documents", "", *words(),
     ]
     return "\n".join(parts) + "\n"
@@ -225,6 +244,7 @@ def main():
     asked = parser.parse_args()
     if bool(asked.before) != bool(asked.after) or asked.before and len(asked.before) < 2:
         parser.error("--before and --after belong together")
+    text = page(asked)
     with open(PAGE, "w", encoding="utf-8") as file:
-        file.write(page(asked))
+        file.write(text)
     print(os.path.relpath(PAGE, TOP))
