@@ -75,6 +75,17 @@ def frames(_place):
     return f"{len(found)} frames"
 
 
+def codes(_place):
+    """the codes of requests, answers and refusals in docs/formats.md are those of the definitions that the proofs rest on"""
+    lines = text("crates/fe_codes/specs/Codes.antt") + text("crates/fe_mail/specs/Refusal.antt")
+    plain = lambda name: re.sub("[_-]", "", name).lower()
+    of = lambda function: {plain(name): int(code) for name, code in re.findall(rf"^{function} \(?(\w+).* = (\d+)$", lines, re.M)}
+    same({plain(name.decode()): code for name, code in wire.OPS.items()}, of("op_code"), "requests")
+    same({plain(name): code for name, code in wire.ANSWERS.items()}, of("answer_code"), "answers")
+    same({plain(name): code for code, name in wire.REFUSALS.items()}, of("code_of"), "refusals")
+    return f"{len(wire.OPS) + len(wire.ANSWERS) + len(wire.REFUSALS)} codes"
+
+
 def areas(_place):
     """the areas of a slot follow one another in the table of docs/formats.md and fill the slot"""
     ends = [at + size for at, size in store.AREAS.values()]
@@ -97,6 +108,7 @@ def bounds(_place):
          [window, window, 2**63, 2**63 - TOP_FLOOR]),
         ("operation code 1 (N to N)", [min(wire.OPS.values()), max(wire.OPS.values())]),
         ("refusal number 1 (N to N)", [min(wire.REFUSALS), max(wire.REFUSALS)]),
+        ("its number one of the N from the floor on", window), ("(the N numbers from the floor on)", window),
         ("UTF-8 text, 1 to N bytes | 2 to N |", [wire.MOST_TEXT, wire.MOST_TEXT + 1]),
     ):
         count = 1 if isinstance(wanted, int) else len(wanted)
@@ -248,4 +260,4 @@ def told_again(_place):
     return f"{len(entries)} entries"
 
 
-CHECKS = (images, frames, areas, bounds, replies, refusals, first_refusal, elsewhere, told_again)
+CHECKS = (images, frames, codes, areas, bounds, replies, refusals, first_refusal, elsewhere, told_again)
