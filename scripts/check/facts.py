@@ -20,10 +20,24 @@ def exchange(_place):
     """the frames of the exchange in docs/formats.md are those of the first path, byte by byte"""
     frames = [[bytes.fromhex(cell.replace(" ", "")) for cell in row[1:]] for row in rows("docs/formats.md", "| | client | server |")]
     same(frames, [list(pair) for pair in zip(calls.MESSAGES, calls.REPLIES)])
+    for what, asked, answered in rows("docs/formats.md", "| | client | server |"):
+        named = set(re.findall(r"\w+", what)) - set("with floor words word of to that it length empty array".split())
+        meant = wire.reply_of(bytes.fromhex(answered.replace(" ", ""))[4:])
+        known = set(re.findall(r"\w+", f"{meant} {request_in(asked)}"))
+        same(sorted(named - known), [], f"docs/formats.md: {what}: {known}")
     found = re.search(r"may ask not to wait: `([0-9a-f ]+)`, answered not-now, `([0-9a-f ]+)`", text("docs/formats.md"))
     asked, answered = (bytes.fromhex(it.replace(" ", "")) for it in found.groups())
     same(asked, wire.call(5, ("access", wire.OPS[b"readfe"], 1, 0, 0, True)))
     same(wire.reply_of(answered[4:]), ("answer", 5, ("not-now",)))
+
+
+def request_in(frame):
+    """A client's frame of the page in words: its kind, the values of its fields, and the operation."""
+    content = bytes.fromhex(frame.replace(" ", ""))
+    kind = wire.FROM_CLIENT[content[4]]
+    fields_of = kind.unpacked(content[5:])
+    name = fields_of.get("name", b"").rstrip(b"\0").decode()
+    return [kind.name, wire.OP_NAMES.get(fields_of.get("operation code")), name, *fields_of.values()]
 
 
 def kinds(_place):
