@@ -110,9 +110,9 @@ def wrong_in_link(page, text, target):
     """What is wrong in a link of a page: its text is the path of another file, or its target does not exist."""
     file, _, part = target.partition("#")
     named = text.strip("`")
-    if text != named and is_path(named) and os.path.basename(named) != os.path.basename(file):
-        yield f"{named} leads to {target}"
     path = os.path.normpath(os.path.join(os.path.dirname(page), file)) if file else page
+    if text != named and is_path(named) and not path.endswith(re.sub(r"^(\.\./)+|/$", "", named)):
+        yield f"{named} leads to {target}"
     if not exists(path) or part and part not in headings(path):
         yield target
 
