@@ -127,6 +127,7 @@ def promised(_place):
                 known = [it for it in PROMISING if is_function(it, function)] if listed else []
                 lost = [it for it in NAME.findall(listed) if known and not exists("crates", it) and not any(has(crate, function, it) for crate in known)]
                 missing += [f"{page}:{number}: {function} has no clause {it}" for it in lost]
+                missing += [f"{page}:{number}: no function {function}"] if listed and "::" in function and not known else []
     return told(missing, count, 220, "names")
 
 

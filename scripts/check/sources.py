@@ -30,9 +30,15 @@ def contracts_of(crate):
     return found
 
 
+def has_type(crate, name):
+    """Whether the type or module in a name such as `Type::function`, if there is one, is in the crate. A crate's own name may stand first."""
+    owners = [it for it in name.split("::")[:-1] if not exists("crates", it)]
+    return all(re.search(rf"\b(?:struct|enum|trait|mod|impl\b.*) ?{it}\b", source_of(crate, "src")) for it in owners)
+
+
 def has(crate, function, clause):
     """Whether a function of that name in the crate has a clause of that name. The function may be `Type::function`."""
-    return any(name == function.split("::")[-1] and clause in clauses for name, clauses in contracts_of(crate))
+    return has_type(crate, function) and any(name == function.split("::")[-1] and clause in clauses for name, clauses in contracts_of(crate))
 
 
 def has_item(path, name):
@@ -48,7 +54,7 @@ def is_named(crate, name):
 
 
 def is_function(crate, name):
-    return any(it == name.split("::")[-1] for it, _ in contracts_of(crate))
+    return has_type(crate, name) and any(it == name.split("::")[-1] for it, _ in contracts_of(crate))
 
 
 def below(crate):
