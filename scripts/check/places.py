@@ -70,9 +70,34 @@ def packages(_place):
         path = path.split(" ")[0]
         made = [sources, text_of("packaging/femem.toml"), text_of("packaging/femem-tmpfiles.conf"), text_of("examples/femem.service")]
         missing += [] if any(re.search(rf"{path[1:]}\b(?!-)", it) for it in made) else [f"docs/commands.md: nothing installs {path}"]
+    what = {row[0].split(" ")[0]: row[1] for row in rows("docs/commands.md", "| path | what it is |")}
+    set_to = dict(re.findall(r'^(\w+) = "(.*)"$', text_of("packaging/femem.toml"), re.M))
+    set_to["settings"] = re.search(r"^ExecStart=.* --settings (\S+)$", text_of("examples/femem.service"), re.M)[1]
+    missing += [f"docs/commands.md: {path} is not the {key}" for key, path in set_to.items() if not re.match(rf"(?:the|its) {key}\b", what.get(path, ""))]
     manuals = re.findall(r"\b(lib\w+|femem[\w-]*)\((\d)\)", page)
     missing += [f"packaging/README.md: no {name}({section})" for name, section in manuals if not exists("clients", "*", f"{name}.{section}")]
     return told(missing, len(found) + len(manuals), 6, "files")
+
+
+def targets(_place):
+    """what a table says of a target of make is what `make help` says of it: the same minutes, and no other target's help has more of its words"""
+    of = dict(re.findall(r"^([a-z-]+):.*?## (.*)$", text_of("Makefile"), re.M))
+    stems = lambda line: {it[:4] for it in re.findall(r"[a-z_]{4,}", line.lower())}
+    missing, count = [], 0
+    for page in (*PAGES, *READMES):
+        for line in [it for _, it in split(text_of(page))[0] if it.startswith("|")]:
+            cells = [it.strip() for it in line.strip("|").split("|")]
+            for at, cell in enumerate(cells):
+                named = re.match(r"`make ([a-z-]+)`(?: in a clone)?$|`scripts/(check_programs) ", cell)
+                name = named and (named[1] or "check-programs")
+                if name in of:
+                    count += 1
+                    said = " ".join(cells[:at] + cells[at + 1 :])
+                    shared = {it: len(stems(said) & stems(of[it])) for it in of}
+                    missing += [f"{page}: {cell}: {said}"] if named[1] and shared[name] < max(shared.values()) else []
+                    minutes = set(re.findall(r"(\d+)(?= (?:to|minute|if))", said))
+                    missing += [f"{page}: {cell}: {it} minutes" for it in minutes if it not in re.findall(r"\d+", of[name])]
+    return told(missing, count, 7, "targets")
 
 
 # What the recipe of two hosts sets: options of programs, fields of an image's description, and settings.
@@ -90,4 +115,4 @@ def recipe(_place):
     return told(missing + [f"hosts.py does not run {it}" for it in programs if it not in hosts], len(wanted), 7, "options")
 
 
-CHECKS = (layers, programs, packages, recipe)
+CHECKS = (layers, programs, targets, packages, recipe)
