@@ -1,4 +1,4 @@
-"""The blocks of commands in the documents: each is listed here, and run here unless another check does."""
+"""The blocks of the documents: each is listed here, with the check that runs or compares it, or why none does."""
 
 import glob
 import os
@@ -10,74 +10,85 @@ from .harness import Server, Skipped, compiler, holds, same, until, within
 from .store import JOURNAL
 from .texts import PAGES, TOP, block, split, text_of, told
 
-# Every block of commands in the documents, by its first line: who runs it, or why no check does. Those of docs/store.md and
-# docs/formats.md are tables of writes and bytes.
-HERE = "here"
+# Every block of the documents, by its first words: the checks that run it or compare it, or `not run:` and why none does.
+NOT_RUN = "not run: "
+README, STORE, FILE, PYTHON = "clients.tests_in_python", "docs/store.md", "docs/session-file.md", "clients/python/README.md"
 BLOCKS = {
-    "README.md": (
-        ("make run ", "unproved.py, first_lines"),
-    ),
+    "README.md": (("make run ", "unproved.first_lines"),),
     "CONTRIBUTING.md": (
-        ("cd crates/fe_wire", "not run: it proves a crate, which the gate does"),
-        ("# clause: Decoder::feed reads", HERE),
+        ("cd crates/fe_wire", NOT_RUN + "it proves a crate, which the gate does by other words; places.programs knows the folder"),
+        ("# clause: Decoder::feed reads", "blocks.planted_edit"),
     ),
-    "ARCHITECTURE.md": (("femem ", "a picture"),),
-    "docs/cli.md": (("make -C clients/cli", HERE), ("femem-cli counter hits", HERE), ("1\n42", HERE)),
+    "ARCHITECTURE.md": (("femem ", "places.layers"),),
+    "docs/cli.md": (("make -C clients/cli", "blocks.page_of_cli"), ("femem-cli counter hits", "blocks.page_of_cli"), ("1\n42", "blocks.page_of_cli")),
     "docs/commands.md": (
-        ("femem serve --settings FILE", "manuals.py compares the synopsis with the program"),
-        ("printf 'attach 7", HERE),
-        ("welcome 7 1", HERE),
+        ("femem serve --settings FILE", "manuals.synopsis"),
+        ("printf 'attach 7", "blocks.example_of_commands"),
+        ("welcome 7 1", "blocks.example_of_commands"),
     ),
+    "docs/formats.md": (("04 13 02 00", "facts.examples"), ("0000000000000003 ", "facts.examples")),
     "docs/operating.md": (
-        ("femem serve --settings /etc/femem.toml", "deb.py: the unit's line"),
-        ("apt install", "deb.py, in a system of its own; the last line here"),
-        ("folder=/srv/femem", "deb_clients.py, elsewhere"),
-        ("place 5", HERE),
-        ("systemctl is-active femem", HERE),
-        ("  /usr/lib/femem/femem-backup", HERE),
-        ("  systemctl stop femem", HERE),
-        ("systemctl stop femem\n/usr/lib/femem/femem-restore", HERE),
-        ("systemctl stop femem\n/usr/lib/femem/femem-rescue", HERE),
-        ("for at in", HERE),
-        ("  printf 'attach 7", HERE),
+        ("femem serve --settings /etc/femem.toml", "blocks.unit_line"),
+        ("apt install", "blocks.page_of_operating"),  # deb.py installs the packages, in a system of its own
+        ("folder=/srv/femem", "deb_clients.elsewhere"),
+        ("place 5", "blocks.page_of_operating"),
+        ("systemctl is-active femem", "blocks.page_of_operating"),
+        ("  /usr/lib/femem/femem-backup", "blocks.page_of_operating"),
+        ("  systemctl stop femem", "blocks.page_of_operating"),
+        ("systemctl stop femem\n/usr/lib/femem/femem-restore", "blocks.page_of_operating"),
+        ("systemctl stop femem\n/usr/lib/femem/femem-rescue", "blocks.page_of_operating"),
+        ("for at in", "blocks.page_of_operating"),
+        ("  printf 'attach 7", "blocks.page_of_operating"),
     ),
-    "docs/patterns.md": (("femem run < examples/queue_of_one.txt", "runs.py runs each schedule of examples/"),),
-    "docs/performance.md": (("make bench-serve", "not run: minutes of measuring, on a quiet machine"),),
-    "docs/replication.md": (("# on both", "hosts.py does the same; not run here: root and packages"),),
-    "clients/c/README.md": (
-        ("make ", HERE),
-        ("femem *client;", HERE),
-        ("femem_open_file(", HERE),
-        ("femem_queue_open(", HERE),
+    "docs/patterns.md": (("femem run < examples/queue_of_one.txt", "runs.worked_schedules"),),
+    "docs/performance.md": (("make bench-serve", NOT_RUN + "minutes, and a quiet machine; outside.py runs the benches on less work"),),
+    "docs/replication.md": (("# on both", "places.recipe"),),  # hosts.py does the same where there is root, with its packages
+    FILE: tuple((first, "sessions.tables") for first in ("46454d454d534632", "00000000 ", "000000ac", "00000050", "00000054", "00000053")),
+    STORE: (
+        ("slot 0 ", "writes.layout"), ("at offset o", "writes.orders"), ("write   journal area", "writes.orders"), ("sync\nread ", "writes.orders"),
+        ("format ", "writes.life"), ("write   both header gates", "writes.orders"), ("PATH.new ", "writes.life"), ("sync\n1 ", "writes.life"),
     ),
-    "clients/python/README.md": (
-        ("python3 -m venv", HERE),
-        ("from femem import", "the client's own test_readme.py"),
-        ("import threading", "test_readme.py"),
-        *[("from femem import", "test_readme.py")] * 3,
-        ("from collections import", "test_readme.py"),
-        ("import asyncio", "test_readme.py"),
-        ("from femem", "test_readme.py"),
-        ("python3 -m femem [", HERE),
-        ("python3 -m unittest", "clients.py, tests_in_python and python"),
+    "clients/c/README.md": tuple((first, "blocks.page_of_c") for first in ("make ", "femem *client;", "femem_open_file(", "femem_queue_open(")),
+    PYTHON: (
+        ("python3 -m venv", "blocks.page_of_python"),
+        *[(first, README) for first in ("from femem import", "import threading", *["from femem import"] * 3, "from collections", "import asyncio", "from femem")],
+        ("python3 -m femem [", "blocks.page_of_python"),
+        ("python3 -m unittest", "clients.python"),  # and clients.tests_in_python; the last line takes ten minutes, and is not in the gate
+    ),
+    "bench/hall/README.md": (
+        ("bench/hall/run ", NOT_RUN + "it proves a program, in minutes"),
+        ("bench/hall/quick ", "counts.instructions"),
+        ("bench/hall/threads ", "outside.competing_threads"),
     ),
 }
 
 
+def is_check(name):
+    """Whether a part has that check, or a part whose checks are another one's."""
+    part, _, function = name.partition(".")
+    path = os.path.join("scripts", "check", f"{part}.py")
+    return os.path.exists(os.path.join(TOP, path)) and re.search(rf"^def {function}\(_?place", text_of(path), re.M) is not None
+
+
 def blocks_known(_place):
-    """each block of commands in the documents is known: run here, run by another check, or why not"""
-    missing = []
-    count = 0
-    for name, known in BLOCKS.items():
-        found = split(text_of(name))[1]
+    """each block of each document is listed with the check that runs or compares it, which is there, or with the reason why none does"""
+    missing, count = [], 0
+    pages = subprocess.run(["git", "-C", TOP, "ls-files", "*.md"], capture_output=True, text=True, check=True).stdout.split()
+    for page in sorted({*pages, *BLOCKS}):
+        found, known = split(text_of(page))[1], BLOCKS.get(page, ())
         count += len(found)
         if len(found) != len(known):
-            missing.append(f"{name} has {len(found)} blocks, and {len(known)} are known")
+            missing.append(f"{page} has {len(found)} blocks, and {len(known)} are known")
         pairs = zip(found, known)
-        missing += [f"{name}: an unknown block: {got.splitlines()[0]}" for got, (first, _) in pairs if not got.startswith(first)]
-    known = {*BLOCKS, "docs/store.md", "docs/formats.md", "docs/session-file.md"}
-    missing += [f"{page}: its blocks are not known" for page in PAGES if page not in known and split(text_of(page))[1]]
-    return told(missing, count, 30, "blocks")
+        missing += [f"{page}: an unknown block: {got.splitlines()[0]}" for got, (first, _) in pairs if not got.startswith(first)]
+        missing += [f"{page}: {who} is no check" for _, who in known if not is_check(who) and len(who.removeprefix(NOT_RUN)) in (0, len(who))]
+    return told(missing, count, 50, "blocks")
+
+
+def unit_line(_place):
+    """the line of operating.md that a unit runs is that of examples/femem.service"""
+    line = block("docs/operating.md", "femem serve --settings").strip()
+    holds(f"\nExecStart=/usr/bin/{line}\n" in text_of("examples/femem.service"), f"the unit does not run: {line}")
 
 
 def targets(_place):
@@ -309,4 +320,4 @@ def page_of_python(place):
     same([it.split()[-1:] for it in said[2:]], [["42"]], "what the shell reads")
 
 
-CHECKS = (blocks_known, targets, example_of_commands, lines_of_python, page_of_operating, planted_edit, page_of_c, page_of_cli, page_of_python)
+CHECKS = (blocks_known, unit_line, targets, example_of_commands, lines_of_python, page_of_operating, planted_edit, page_of_c, page_of_cli, page_of_python)
