@@ -288,4 +288,70 @@ def instructions(place):
     return ", ".join(f"{name.split('::')[-1]} {found[name]}" for name in FUNCTIONS)
 
 
-CHECKS = (a_window, lone_calls, within(120)(windows), lone_time, report_time, idle, no_files_left, baton, instructions)
+def resident(server):
+    """The resident memory of a server, in bytes, once it has not grown for a tenth of a second."""
+    sizes = [0]
+
+    def is_at_rest():
+        time.sleep(0.1)
+        with open(f"/proc/{server.process.pid}/statm", encoding="ascii") as file:
+            sizes.append(int(file.read().split()[1]) * resource.getpagesize())
+        return sizes[-1] == sizes[-2]
+
+    until(is_at_rest, 20, "the server's memory comes to rest")
+    return sizes[-1]
+
+
+def answered(server, session):
+    """A connection that had 1,024 answers."""
+    conn = server.attached(session)
+    for first in range(1, 1025, 32):
+        conn.send(b"".join(wire.call(first + k, ("find", b"none")) for k in range(32)) + wire.settle(first + 32))
+        same([conn.reply()[0] for _ in range(33)], ["answer"] * 32 + ["settled"])
+    return conn
+
+
+def asking(server, _session):
+    """A connection that asks for reports and does not read them."""
+    conn = server.connect()
+    conn.send(wire.report() * 600)
+    return conn
+
+
+# The rows of the table of memory in docs/operating.md that are of connections: how many there are here, and what makes one.
+SILENT, ASKING = "a silent connection", "more for one that asks for reports and does not read them"
+CONNECTIONS = {
+    SILENT: (256, lambda server, _: server.connect()), "one that attached a session": (64, lambda server, session: server.attached(session)),
+    "one that had 1,024 answers, or more": (64, answered), ASKING: (64, asking),
+}
+START, ARRAY = "the server after its start", "an array of 65,536 words"
+UNITS = {"KB": 2**10, "MB": 2**20}
+
+
+@within(120)
+def memory(place):
+    """a server takes as much memory as the table of docs/operating.md says, within a quarter; after its start within a half, since an unproved one is larger"""
+    table = re.findall(r"^  \| (\D.*?) \| ([\d.]+) (KB|MB)\b.*\|$", text_of("docs/operating.md"), re.M)
+    said = {what: float(size) * UNITS[unit] for what, size, unit in table}
+    found = {}
+    for name in (ARRAY, *CONNECTIONS):
+        server = Server(place, f"m{len(found)}", connections=256).start({"MALLOC_ARENA_MAX": "1"})
+        before = resident(server)
+        found.setdefault(START, before)
+        count, made_by = CONNECTIONS.get(name, (1, None))
+        conns = [made_by(server, session) for session in range(count)] if made_by else []
+        if not made_by:
+            made(server, (b"big", 65536, 1))
+        found[name] = (resident(server) - before) / count
+        for conn in conns:
+            conn.close()
+        server.stop()
+    found[ASKING] -= found[SILENT]
+    same(sorted(said), sorted(found), "rows of the table")
+    for name, size in found.items():
+        part = 2 if name == START else 4
+        holds(abs(size - said[name]) <= said[name] / part, f"{name}: {size:.0f} bytes, not {said[name]:.0f}")
+    return ", ".join(f"{size / 1024:.0f}" for size in found.values()) + " KB"
+
+
+CHECKS = (a_window, lone_calls, within(120)(windows), lone_time, report_time, idle, memory, no_files_left, baton, instructions)
