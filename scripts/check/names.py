@@ -1,10 +1,12 @@
 """The files, functions and definitions that documents name exist."""
 
+import functools
 import os
 import re
+import subprocess
 
 from .sources import below, has_item, source_of
-from .texts import ANY, NAME, PAGES, bases, exists, is_path, split, text_of, told
+from .texts import ANY, NAME, PAGES, TOP, bases, exists, is_path, split, text_of, told
 
 
 # What comes before the name of a definition in specs.
@@ -97,4 +99,39 @@ def model(_place):
     return told(missing, count, 200, "definitions")
 
 
-CHECKS = (paths, items, definitions, model)
+# Words in backticks that are of other programs, of the toolchain, or of an example that is not in the repository.
+OF_OTHERS = set(
+    "BLPOP Builder INCR StateDirectory blocklist ceph chrt dac dmesg docker fua lemma logic mdadm mypy nobarrier osd stonith ulimit writexe".split()
+)
+LETTERS = re.compile("[A-Za-z]{3,}")
+
+
+@functools.cache
+def listed():
+    """The files of the repository."""
+    return subprocess.run(["git", "-C", TOP, "ls-files"], capture_output=True, text=True, check=True).stdout.split()
+
+
+@functools.cache
+def vocabulary():
+    """The words of the repository's files, but of documents, proofs and pictures, and of all paths."""
+    there = set(OF_OTHERS)
+    for name in listed():
+        there.update(LETTERS.findall(name))
+        if not name.endswith((".md", ".svg", ".edit", "clauses.txt")) and "/proofs/" not in name and exists(name):
+            there.update(LETTERS.findall(text_of(name)))
+    return there
+
+
+def words(_place):
+    """each word in backticks in any document is a word of the repository's own files, or one of the few of others"""
+    missing, count = [], 0
+    for page in (it for it in listed() if it.endswith(".md")):
+        for number, line in split(text_of(page))[0]:
+            found = LETTERS.findall(" ".join(NAME.findall(line)))
+            count += len(found)
+            missing += [f"{page}:{number}: no file has {it}" for it in found if it not in vocabulary()]
+    return told(missing, count, 5000, "words")
+
+
+CHECKS = (paths, items, definitions, model, words)
