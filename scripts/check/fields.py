@@ -246,6 +246,24 @@ def elsewhere(_place):
     return f"{len(named)} names"
 
 
+# Numbers of the code that pages have: the page's words, the file, how the number stands there, and what the page counts it in.
+IN_CODE = (
+    ("docs/operating.md", "two threads each, with N MB of address space", "fe_server/src/connection.rt", r"STACK: usize = 1 << (\d+)", lambda it: 2 * 2**it // 2**20),
+    ("docs/proved.md", "The list has the first N attaches and calls", "fe_hall/src/reading.rt", r"LISTED: usize = (\d+)", int),
+    ("docs/proved.md", "The receipts are the first N answers", "fe_hall/src/writing.rt", r"KEPT: usize = (\d+)", int),
+    ("docs/model.md", "a missing session opens, floor N |", "fe_state/specs/Sessions.antt", r"first_session = record \{ floor = (\d+)", int),
+    ("docs/model.md", "it does not exist, the floor is N and", "fe_state/specs/Sessions.antt", r"first_session = record \{ floor = (\d+)", int),
+    ("docs/performance.md", "1,000: up to 1.8 times the user time | N |", "fe_hall/src/hold.rt", r"LOOKS: u64 = (\d+)", int),
+)
+
+
+def in_code(_place):
+    """numbers of the code that tables of other pages have are those of the code"""
+    for page, form, file, pattern, counted in IN_CODE:
+        same(said(page, form), counted(int(re.search(pattern, text(f"crates/{file}"))[1])), f"{page}: {form}")
+    return f"{len(IN_CODE)} numbers"
+
+
 def told_again(_place):
     """the slot, the files beside a store, the kinds of entries and the number of operations are on other pages as docs/formats.md and the README have them"""
     same(said("docs/operating.md", "for at in 0 N; do"), store.SLOT, "docs/operating.md: slot 1")
@@ -260,4 +278,4 @@ def told_again(_place):
     return f"{len(entries)} entries"
 
 
-CHECKS = (images, frames, codes, areas, bounds, replies, refusals, first_refusal, elsewhere, told_again)
+CHECKS = (images, frames, codes, areas, bounds, replies, refusals, first_refusal, elsewhere, in_code, told_again)
