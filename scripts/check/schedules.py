@@ -192,4 +192,26 @@ def in_the_replies(_place):
     return f"{len(forms)} forms"
 
 
-CHECKS = (by_call, by_sockets, in_patterns, in_the_syntax, in_the_replies)
+# What each row of the last table of docs/schedules.md is about, by its first words: lines that have it.
+FAULTS = {
+    "CR before": ["c1 attach 7\r"], "a tab, two": ["c1\tattach 7", "c1  attach 7", " c1 attach 7", "c1 attach 7 "], "07, +7, 1_000": None,
+    "a number that": [f"c1 attach {2**64}", f"c1 1 create cells {2**32} full"], "a comment": ["# c1", "c1 attach 7 # c1"],
+    "a missing word": ["c1 attach", "c1 attach 7 8", "c1 1 find cells nowait"], "capitals, or": ["C1 attach 7", "c1 Attach 7", "\ufeffc1 attach 7"],
+}
+
+
+def wrong_lines(place):
+    """each row of docs/schedules.md on what is wrong with a line is of lines that end a run with status 2, and each of these is of a row"""
+    table = rows("docs/schedules.md", "| the line has | what helps |")
+    count = 0
+    for (what, _), (begin, lines) in zip(table, FAULTS.items(), strict=True):
+        holds(what.startswith(begin), f"docs/schedules.md: {what}, not {begin}")
+        for line in lines or [f"c1 attach {it}" for it in what.split(", ")]:
+            count += 1
+            same(place.run("run", given=f"{line}\n".encode()), (2, b"", b"femem: line 1\n"), line)
+    given = NAME.findall(text_of("docs/schedules.md").partition("after a name, as in ")[2])[0]
+    same(place.run("run", given=f"c1 attach 7\n{given}\r\n".encode())[1].splitlines()[1:], [b"c1 1 bad-name"], given)
+    return f"{count} lines"
+
+
+CHECKS = (by_call, by_sockets, in_patterns, in_the_syntax, in_the_replies, wrong_lines)
