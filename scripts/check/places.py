@@ -7,7 +7,7 @@ import re
 from .harness import holds, same
 from .manuals import pages  # noqa: F401  (this sets the path of release)
 from .sources import below
-from .tables import rows, text
+from .tables import rows, said, statuses, text
 from .texts import NAME, READMES, PAGES, TOP, block, exists, split, text_of, told
 
 from release import package  # noqa: E402
@@ -111,7 +111,13 @@ def recipe(_place):
     usual = re.search(r"\bconfirmed=(\d)", hosts)[1]
     same(set(re.findall(r"vote-threshold=(\d)[,`]", page.split("## What the checks assert")[0])), {usual}, "sides that have to confirm")
     missing = [f"hosts.py does not set {it}" for it in wanted if it not in hosts and it.split("driver=")[-1] not in ("nbd", "raw")]
-    programs = [it for it in ("nbd-server", "qemu-nbd", "nbdfuse", "mount") if it in page]
+    programs = [it for it in ("nbd-server", "qemu-nbd", "nbdfuse", "mount", *re.findall(r"\bext\d\b", page)) if it in page]
+    for name, fails, _ in rows("docs/replication.md", "| check | what fails |"):
+        body = re.search(rf"^def {name}\(.*?(?=^def |\Z)", hosts, re.M | re.S)
+        lost = [it for it in re.findall(r"vote-threshold=(\d)", fails) if body and f"confirmed={it}" not in body[0]]
+        missing += [f"hosts.py has no {name} {' '.join(lost)}"] if lost or not body else []
+    status = said("docs/replication.md", "`femem: store device`, status N")
+    missing += [] if statuses()[status].startswith("the store") else [f"status {status} is not of a store"]
     return told(missing + [f"hosts.py does not run {it}" for it in programs if it not in hosts], len(wanted), 7, "options")
 
 
