@@ -180,6 +180,9 @@ def settings(place):
             place.write("s.toml", f'socket = "{place.path("x")}"\nstore = "{place.path("none")}"\n{key} = {value}\n'.encode())
             ended = place.run("serve", "--settings", place.path("s.toml"))
             same(ended[2], f"femem: {line}\n".encode(), f"{key} = {value}")
+    rate, hours, power = said("docs/settings.md", "At N reads a second the default lasts N hours, and N,", 3)
+    same((round(number(table["turns"][1]) / rate / 3600), power), (hours, turns), "how long reads last")
+    holds(3 <= turns / rate / 3600 / 24 / 365 < 4 and "`/etc/femem.toml`, three years" in text("docs/settings.md"), "three years")
     for key in ("socket", "store"):
         same(table[key][1], "refused", key)
     _, shown, _ = place.run("serve", "--help")

@@ -102,6 +102,11 @@ def costs(_place):
             holds(most, f"{relation} bounds no calls: {text_of_it}")
             same(list(said.values()), [int(it) for it in most.groups()], name)
         count += 1
+    words = "none one two three four five six seven eight nine ten".split()
+    number_format, writes, syncs = re.search(r"an empty store of format (\d), by (\w+) writes and (\w+) syncs", text("docs/proved.md")).groups()
+    table = {name: COUNTED.findall(calls) for name, calls, _ in rows(PAGE, "| call | device calls |")}
+    same((int(number_format), words.index(writes), words.index(syncs)), (TWO.number, *(int(it[0]) for it in table["format"])), "docs/proved.md")
+    same(number(re.search(r"the buffer of ([\d,]+) bytes", text(PAGE))[1]), store.AREAS["image"][1], "the buffer")
     return f"{count} calls"
 
 
