@@ -79,10 +79,21 @@ def packages(_place):
     return told(missing, len(found) + len(manuals), 6, "files")
 
 
+def stems(text):
+    return {it[:4] for it in re.findall(r"[a-z_]{4,}", text.lower())}
+
+
+def described(_place):
+    """what the table of docs/patterns.md says of a program has no fewer words of that program's file than of another row's"""
+    table = [(re.search(r"\]\(\.\./(.*)\)", name)[1], stems(what)) for name, what in rows("docs/patterns.md", "| program | what it does |")]
+    shared = {name: {it: len(words & stems(text_of(it))) for it, _ in table} for name, words in table}
+    wrong = [f"docs/patterns.md: {name} has words of {max(found, key=found.get)}" for name, found in shared.items() if found[name] < max(found.values())]
+    return told(wrong, len(table), 5, "programs")
+
+
 def targets(_place):
     """what a table says of a target of make is what `make help` says of it: the same minutes, and no other target's help has more of its words"""
     of = dict(re.findall(r"^([a-z-]+):.*?## (.*)$", text_of("Makefile"), re.M))
-    stems = lambda line: {it[:4] for it in re.findall(r"[a-z_]{4,}", line.lower())}
     missing, count = [], 0
     for page in (*PAGES, *READMES):
         for line in [it for _, it in split(text_of(page))[0] if it.startswith("|")]:
@@ -121,4 +132,4 @@ def recipe(_place):
     return told(missing + [f"hosts.py does not run {it}" for it in programs if it not in hosts], len(wanted), 7, "options")
 
 
-CHECKS = (layers, programs, targets, packages, recipe)
+CHECKS = (layers, programs, described, targets, packages, recipe)
