@@ -47,8 +47,8 @@ def gate_adds_up(_place):
     same(list(found), figures.crates(), "crates")
     said = [int(it) for it in re.search(r"took (\d+) processor minutes: (\d+) for crates, (\d+) for tests, (\d+) for", page).groups()]
     spent = [sum(column) for column in zip(*found.values())]
-    near = lambda a, b, terms: abs(a - b) <= 0.5 + 0.05 * terms
-    holds(all(near(a, b, len(found)) for a, b in zip(said, [sum(spent), *spent])), f"{said} minutes, not {spent}")
+    near = lambda a, b: abs(a - b) <= 0.8  # (the minutes are rounded, and so is each term)
+    holds(all(near(a, b) for a, b in zip(said, [sum(spent), *spent])), f"{said} minutes, not {spent}")
     dearest = figures.chain({(name, "proofs"): row[0] for name, row in found.items() if row[0]})
     told_of = re.search(r"chain of crates took ([\d.]+) processor minutes: (.*)$", page, re.M)
     same(told_of is not None, dearest is not None, "whether all crates were proved, and the dearest chain is there")
@@ -56,7 +56,7 @@ def gate_adds_up(_place):
         names = re.findall(r"\w+", told_of[2])
         holds(all(a in below(b) for a, b in zip(names, names[1:])), "each crate of the chain stands on the one before")
         sums = [sum(found[it][0] for it in names), dearest[0]]
-        holds(all(near(value(told_of[1]), it, 0) for it in sums), f"the chain takes {told_of[1]}, not {sums}")
+        holds(all(near(value(told_of[1]), it) for it in sums), f"the chain takes {told_of[1]}, not {sums}")
     *parts, whole = [int(it) for it in re.findall(r"(\d+) passed, 0 failed$", page, re.M)]
     same(sum(parts), whole, "checks that passed")
     edits = int(re.search(r"must-fail edits: (\d+) refused", page)[1])
@@ -73,7 +73,7 @@ def compared_adds_up(_place):
     total = found.pop("together")
     same(list(found), figures.crates(), "crates")
     sums = [sum(column) for column in zip(*found.values())]
-    holds(all(abs(a - b) <= 0.05 * len(found) for a, b in zip(sums, total)), f"{total}, not {sums}")
+    holds(all(abs(a - b) <= 0.3 for a, b in zip(sums, total)), f"{total}, not {sums}")
     for name, row in cells(figures.section("The last gate")).items():
         spent = sum(value(it) for it in row)
         holds(abs(spent - found[name][1]) <= 0.2, f"{name}: {found[name][1]} minutes, not {spent:.1f}")
