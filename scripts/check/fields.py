@@ -253,6 +253,7 @@ IN_CODE = (
     ("docs/proved.md", "The receipts are the first N answers", "fe_hall/src/writing.rt", r"KEPT: usize = (\d+)", int),
     ("docs/model.md", "a missing session opens, floor N |", "fe_state/specs/Sessions.antt", r"first_session = record \{ floor = (\d+)", int),
     ("docs/model.md", "it does not exist, the floor is N and", "fe_state/specs/Sessions.antt", r"first_session = record \{ floor = (\d+)", int),
+    ("docs/headline.md", "each entry adds N to the place", "fe_state/specs/State.antt", r"place = s\.place \+ (\d+)", int),
     ("docs/performance.md", "1,000: up to 1.8 times the user time | N |", "fe_hall/src/hold.rt", r"LOOKS: u64 = (\d+)", int),
 )
 
