@@ -27,7 +27,7 @@ run: toolchain ## try it: builds femem without proving it, and runs the schedule
 test: toolchain ## test it: the gate, with every proof, must-fail edit and test, and real processes (45 to 60 minutes; 4 to 6 if nothing changed)
 	@scripts/gate
 
-figures: ## writes docs/figures.md: sizes, and what the last `make test` took
+figures: ## writes docs/figures.md: sizes, what the benches printed last, and what the last `make test` took
 	@scripts/figures
 
 plant: toolchain ## has `rt plant` try wrong bodies in every crate, and compares what it proves with scripts/planted.txt (hours)
