@@ -114,6 +114,12 @@ def bounds(_place):
         count = 1 if isinstance(wanted, int) else len(wanted)
         same(said(PAGE, form, count), wanted, form)
     same(longest, store.TWO.name, "the longest name")
+    plain = "crates/fe_state/specs/Name.antt"
+    wanted = [chr(int(it)) for it in re.findall(r"\d+", re.search(r"^is_plain_byte b = (.*)$", text(plain), re.M)[1])]
+    for page in (PAGE, "README.md", "docs/schedules.md"):
+        shown = re.findall(r"`(.)` to `(.)`, `(.)` to `(.)`(?:,| and) `(.)`", text(page))
+        same([list(it) for it in shown], [wanted] * len(shown), f"{page}: plain bytes")
+        holds(shown, f"{page}: plain bytes")
 
 
 def replies(place):
@@ -206,6 +212,25 @@ def short_of_memory(place):
     raise Wrong("some allocation is always refused")
 
 
+OLD, OPERAND = 5, 2**64 - 2
+VALUES = {"same": OLD, "operand": OPERAND, "0": 0, "(value + operand) mod 2^64": (OLD + OPERAND) % 2**64}
+
+
+def operation_table(place):
+    """each operation does to a full and to an empty word what its row in the README's table says"""
+    for name, (needs, value, tag_after, answer) in operations().items():
+        for tag in ("full", "empty"):
+            operand = f" {OPERAND}" if wire.OPS[name.encode()] in wire.WITH_OPERAND else ""
+            before = f"c1 attach 7\nc1 1 create cells 1 empty\nc1 2 writexf 1 0 {OLD}\n" + ("c1 3 readfe 1 0\n" if tag == "empty" else "")
+            given = f"{before}c1 4 {name} 1 0{operand} nowait\nc1 5 readxx 1 0\nc1 6 readff 1 0 nowait\n"
+            found = re.findall(r"^c1 [456] (.*)$", place.run("run", given=given.encode())[1].decode(), re.M)
+            runs = needs in ("any", tag)
+            after, left = (VALUES.get(value, value), tag if tag_after == "same" else tag_after) if runs else (OLD, tag)
+            wanted = [("done" if answer == "done" else f"value {OLD}") if runs else "not-now", f"value {after}", f"value {after}" if left == "full" else "not-now"]
+            same(found, wanted, f"README.md: {name} on a word that is {tag}")
+    return f"{len(operations())} operations"
+
+
 # Messages to which two refusals apply.
 ENDING = BEGIN + "hold\nc1 bye\n"
 BOTH = (
@@ -279,4 +304,4 @@ def told_again(_place):
     return f"{len(entries)} entries"
 
 
-CHECKS = (images, frames, codes, areas, bounds, replies, refusals, first_refusal, elsewhere, in_code, told_again)
+CHECKS = (images, operation_table, frames, codes, areas, bounds, replies, refusals, first_refusal, elsewhere, in_code, told_again)
