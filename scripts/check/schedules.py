@@ -172,7 +172,7 @@ def in_the_syntax(place):
     return f"{len(lines)} lines"
 
 
-def in_the_replies(_place):
+def in_the_replies(place):
     """each line that the schedules print has a form of the second table of docs/schedules.md, and each form is printed"""
     forms = {}
     for form, to in rows("docs/schedules.md", "| line | reply to |"):
@@ -189,6 +189,8 @@ def in_the_replies(_place):
             holds(found, f"docs/schedules.md has no such form: {name} prints {line.decode()}")
             met.update(found[:1])
     same(sorted(set(forms) - met), [], "forms that no schedule prints")
+    none = re.search(r"a settle's floor, or (\d+) \|", text_of("docs/schedules.md"))[1]
+    same(place.run("run", given=b"c1 bye\n")[1], f"c1 refused {none} not-attached\n".encode(), "the number in a refused bye")
     return f"{len(forms)} forms"
 
 

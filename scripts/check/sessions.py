@@ -68,6 +68,8 @@ def tables(_place):
     head, rest = Reader(header), sizes_of("| header, 20 bytes |")
     magic, session, check = (head.take(size) for _, size in rest)
     same((magic, sum(size for _, size in rest)), (sessionfile.MAGIC, said(PAGE, "| header, N bytes |")), "the header")
+    summed = [said(PAGE, "CRC-32 of the N bytes before it"), said(PAGE, "the session's number (N bytes), followed by the block's bytes")]
+    same(summed, [len(magic + session), len(session)], "what a sum is of")
     holds(f"`{magic.decode()}`; the last byte is the version" in text(PAGE), "the page names the magic")
     same(int.from_bytes(check, "big"), zlib.crc32(magic + session), "the header's sum")
     fields = sizes_of("| block, 32 bytes and the payload |")
