@@ -12,7 +12,7 @@ from .texts import PAGES, TOP, block, split, text_of, told
 
 # Every block of the documents, by its first words: the checks that run it or compare it, or `not run:` and why none does.
 NOT_RUN = "not run: "
-README, STORE, FILE, PYTHON = "clients.tests_in_python", "docs/store.md", "docs/session-file.md", "clients/python/README.md"
+EXAMPLES, STORE, FILE, PYTHON = "clients.tests_in_python", "docs/store.md", "docs/session-file.md", "clients/python/README.md"
 BLOCKS = {
     "README.md": (("make run ", "unproved.first_lines"),),
     "CONTRIBUTING.md": (
@@ -51,7 +51,7 @@ BLOCKS = {
     "clients/c/README.md": tuple((first, "blocks.page_of_c") for first in ("make ", "femem *client;", "femem_open_file(", "femem_queue_open(")),
     PYTHON: (
         ("python3 -m venv", "blocks.page_of_python"),
-        *[(first, README) for first in ("from femem import", "import threading", *["from femem import"] * 3, "from collections", "import asyncio", "from femem")],
+        *[(first, EXAMPLES) for first in ("from femem import", "import threading", *["from femem import"] * 3, "from collections", "import asyncio", "from femem")],
         ("python3 -m femem [", "blocks.page_of_python"),
         ("python3 -m unittest", "clients.python"),  # and clients.tests_in_python; the last line takes ten minutes, and is not in the gate
     ),
@@ -64,7 +64,7 @@ BLOCKS = {
 
 
 def is_check(name):
-    """Whether a part has that check, or a part whose checks are another one's."""
+    """Whether a module of scripts/check has that check."""
     part, _, function = name.partition(".")
     path = os.path.join("scripts", "check", f"{part}.py")
     return os.path.exists(os.path.join(TOP, path)) and re.search(rf"^def {function}\(_?place", text_of(path), re.M) is not None

@@ -1,5 +1,5 @@
-"""The tables of docs/formats.md that the checks' own reader and writer of frames and stores do not take: the fields of an image with
-their sizes and bounds, the bounds of frames, and which message gets which reply and refusal."""
+"""The tables of docs/formats.md that the checks' own reader and writer of frames and stores do not take: the fields of an image and of
+frames, codes and bounds, and which message gets which reply and refusal. And the README's table of operations, by runs."""
 
 import os
 import re
