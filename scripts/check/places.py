@@ -86,6 +86,7 @@ def stems(text):
 def described(_place):
     """what the table of docs/patterns.md says of a program has no fewer words of that program's file than of another row's"""
     table = [(re.search(r"\]\(\.\./(.*)\)", name)[1], stems(what)) for name, what in rows("docs/patterns.md", "| program | what it does |")]
+    holds(len(dict(table)) == len(table), "docs/patterns.md: a program stands twice in its table")
     shared = {name: {it: len(words & stems(text_of(it))) for it, _ in table} for name, words in table}
     wrong = [f"docs/patterns.md: {name} has words of {max(found, key=found.get)}" for name, found in shared.items() if found[name] < max(found.values())]
     return told(wrong, len(table), 5, "programs")
