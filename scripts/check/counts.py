@@ -73,7 +73,7 @@ def a_window(place):
 
 
 LONE = 1000
-MOST_FUTEX, MOST_CALLS = 9, 20  # of a lone call
+MOST_FUTEX, MOST_CALLS = 9, 18  # of a lone call
 
 
 def lone(conn, first, count):
@@ -85,7 +85,7 @@ def lone(conn, first, count):
 
 
 def lone_calls(place):
-    """each of a thousand lone calls takes a receive, a send, two writes, two syncs and two looks at the file after each; and at most 20 calls in all, 9 of them futex; none sleeps"""
+    """each of a thousand lone calls takes a receive, a send, two writes, two syncs and one look at the file, of two calls; and at most 18 calls in all, 9 of them futex; none sleeps"""
     counted = Counted(place)
     server = Server(place).start()
     made(server, (b"counter", 1, 1))
@@ -96,7 +96,8 @@ def lone_calls(place):
             lone(conn, first, 50)
             found, entries = counted.since(before), first + 49 + (first + 49) // 16
             name = f"{entries} entries took {found}"
-            same([found[kind] for kind in ("send", "pwrite", "sync", "size", "name")], [entries, *[2 * entries] * 4], name)
+            same([found[kind] for kind in ("send", "size", "name")], [entries] * 3, name)
+            same([found[kind] for kind in ("pwrite", "sync")], [2 * entries] * 2, name)
             # (`clock_nanosleep` and `nanosleep`)
             same((found["sleep"], found["nap"]), (0, 0), name)
             # (the next receive may have begun)
