@@ -78,60 +78,94 @@ class Opened(Blocking):
 
 
 class Block:
-    """A `with` block: the job that releases what it holds, and a look at its `__exit__`, which only Python holds.
+    """A `with` block: the job that ends it if Python drops its `__exit__` without running it.
 
     Python looks for signals as a function begins, before its first statement. If one comes there, `__exit__` has done
-    nothing, and Python drops it: then the job is begun all the same.
+    nothing, and no statement here can notice. But Python alone holds the function that it calls, made for this block, and
+    drops it then: the frame, which a traceback keeps, has the function's arguments and not the function.
     """
 
     def __init__(self, client: Client) -> None:
         self._client = client
-        self._release: Optional[Job[None]] = None
+        self._job: Optional[Job[None]] = None
         self._watch: Optional[weakref.ref[Any]] = None
 
-    def holds(self, leave: Callable[..., None], release: Job[None]) -> None:
-        self._release = release
+    def begins(self, leave: Callable[..., None], job: Job[None]) -> None:
+        self._job = job
         self._watch = weakref.ref(leave, self._is_dropped)
 
-    def leaves(self) -> None:
-        """Its `__exit__` has begun, or it does not hold anything after all."""
+    def ends(self) -> None:
+        """Its `__exit__` has begun, or it was not entered after all."""
         self._watch = None
 
-    def left(self) -> Optional[Job[None]]:
+    def job(self) -> Optional[Job[None]]:
         """The job, if it is still to be begun."""
-        return None if self._release is None or self._release.taken else self._release
+        return None if self._job is None or self._job.taken else self._job
 
     def _is_dropped(self, leave: object) -> None:
-        job = self.left()
+        job = self.job()
         if job is not None:
             self._client._abandon(job)
 
 
 class Exit:
-    """Gives each `with` block an `__exit__` of its own."""
+    """Gives each `with` block an `__exit__` of its own, which Python asks for before it calls `__enter__`."""
 
     @overload
-    def __get__(self, held: None, kind: Any = None) -> Callable[..., None]: ...
+    def __get__(self, pattern: None, kind: Any = None) -> Callable[..., None]: ...
 
     @overload
-    def __get__(self, held: Held, kind: Any = None) -> Callable[[Kind, Error, Trace], None]: ...
+    def __get__(self, pattern: Entered, kind: Any = None) -> Callable[[Kind, Error, Trace], None]: ...
 
-    def __get__(self, held: Optional[Held], kind: Any = None) -> Callable[..., None]:
-        if held is None:
-            return kind._leave  # type: ignore[no-any-return]
-        leave = functools.partial(held._leave, block=Block(held._client))
-        held._entering[get_ident()] = weakref.ref(leave)  # for `__enter__`, which Python calls next
+    def __get__(self, pattern: Optional[Entered], kind: Any = None) -> Callable[..., None]:
+        if pattern is None:
+            return kind._exit  # type: ignore[no-any-return]
+        leave = functools.partial(pattern._exit, block=Block(pattern._client))
+        pattern._entering[get_ident()] = weakref.ref(leave)
         return leave
 
 
-class Held(Blocking):
-    """What a `with` holds."""
+class Entered(Blocking):
+    """What has a `with` block, which is ended once, wherever it is interrupted."""
 
     __exit__ = Exit()
+    # The `__exit__` of the block that each thread is about to enter.
+    _entering: Dict[int, weakref.ref[functools.partial[None]]]
+
+    def _end_of(self, block: Optional[Block], is_done: bool) -> Job[None]:
+        """What ends the block. One that was left before, or is none, ends what this client has."""
+        raise NotImplementedError
+
+    def _entry(self) -> Optional[functools.partial[None]]:
+        """The `__exit__` that Python has for the block that this thread enters."""
+        entering = self._entering.pop(get_ident(), None)
+        return None if entering is None else entering()
+
+    def _exit(
+        self,
+        kind: Kind,
+        error: Error,
+        trace: Trace,
+        block: Optional[Block] = None,
+        job: Optional[Job[None]] = None,  # no caller gives it
+    ) -> None:
+        try:
+            job = self._end_of(block, kind is None)
+            if block is not None:
+                block.ends()
+            self._client._run_job(job)
+        except FememError:
+            raise
+        except BaseException:
+            self._client._abandon(job or self._end_of(block, kind is None))  # it is ended in any case
+            raise
+
+
+class Held(Entered):
+    """What a `with` holds."""
 
     def __init__(self, client: Client, name: str, *sizes: Any, **more: Any) -> None:
-        # The `__exit__` of the block that each thread is about to enter.
-        self._entering: Dict[int, weakref.ref[functools.partial[None]]] = {}
+        self._entering = {}
         super().__init__(client, name, *sizes, **more)
 
     def _begin_with(self) -> Any:
@@ -143,46 +177,22 @@ class Held(Blocking):
     def __enter__(self: C) -> C:
         begin = self._begin_with()
         job = Job(begin.steps(self), getattr(self, begin.undo))
-        entering = self._entering.pop(get_ident(), None)
-        leave = None if entering is None else entering()
+        leave = self._entry()
         try:
             self._client._run_job(job)
             if leave is not None:
-                leave.keywords["block"].holds(leave, self._release_job())
+                leave.keywords["block"].begins(leave, self._end_of(None, False))
             return self
         except FememError:
             raise
         except BaseException:
             if leave is not None:
-                leave.keywords["block"].leaves()
+                leave.keywords["block"].ends()
             self._client._abandon(job)
             raise
 
-    def _leave(
-        self,
-        kind: Kind,
-        error: Error,
-        trace: Trace,
-        block: Optional[Block] = None,
-        job: Optional[Job[None]] = None,  # no caller gives it
-    ) -> None:
-        try:
-            job = self._job_of(block)
-            if block is not None:
-                block.leaves()
-            self._client._run_job(job)
-        except FememError:
-            raise
-        except BaseException:
-            self._client._abandon(job or self._job_of(block))  # it is released in any case
-            raise
-
-    def _job_of(self, block: Optional[Block]) -> Job[None]:
-        """What releases the block. One that was left before, or is none, releases what this client has."""
-        return (None if block is None else block.left()) or self._release_job()
-
-    def _release_job(self) -> Job[None]:
-        return Job(self._end_with().steps(self), None, True)
+    def _end_of(self, block: Optional[Block], is_done: bool) -> Job[None]:
+        return (None if block is None else block.job()) or Job(self._end_with().steps(self), None, True)
 
 
 class Lock(Opened, Held, locks.Lock):
@@ -246,17 +256,22 @@ class Once(Blocking, words.Once):
         return result
 
 
-class WorkJob(Blocking, work.WorkJob):
+class WorkJob(Entered, work.WorkJob):
     __doc__ = work.WorkJob.__doc__
 
     def __init__(self, queue: Any, number: int, value: int, attempt: int) -> None:
+        self._entering = {}
         work.WorkJob.__init__(self, queue, number, value, attempt)
 
     def __enter__(self) -> WorkJob:
+        leave = self._entry()
+        if leave is not None:
+            leave.keywords["block"].begins(leave, self._end_of(None, False))
         return self
 
-    def __exit__(self, kind: Kind, error: Error, trace: Trace) -> None:
-        self._leave(kind is None)
+    def _end_of(self, block: Optional[Block], is_done: bool) -> Job[None]:
+        """It fails where Python drops its `__exit__`. Once the job has ended, another end of it does nothing."""
+        return Job(work.WorkJob._leave.steps(self, is_done), None, True)
 
 
 class WorkQueue(Blocking, work.WorkQueue):

@@ -23,8 +23,12 @@ from femem.patterns import BoundedQueue, Channel, Lock, ReadWriteLock, Semaphore
 LONG = 60
 
 
-def until(holds):
-    end = time.monotonic() + LONG
+class Raising:
+    __getitem__ = getattr(ctypes.CDLL(None), "raise")  # an index is no call, after which Python looks for signals
+
+
+def until(holds, seconds=LONG):
+    end = time.monotonic() + seconds
     while not holds() and time.monotonic() < end:
         time.sleep(0.002)
     return holds()
@@ -53,16 +57,8 @@ class Interrupted(WithFolder):
 
     def test_a_signal_between_a_block_and_its_end(self):
         """Python sees it as `__exit__` begins, before the first statement there."""
-
-        def stop(*_):
-            raise Stop
-
-        class Raising:
-            __getitem__ = getattr(ctypes.CDLL(None), "raise")  # an index is no call, after which Python looks for signals
-
         self.server()
-        before = signal.signal(signal.SIGALRM, stop)
-        self.addCleanup(signal.signal, signal.SIGALRM, before)
+        self.stop_by_signals()
         with Client(self.path, 7) as client, Client(self.path, 8) as other:
             for kind, sizes in ((Lock, ()), (Semaphore, (1,))):
                 mine, theirs = (kind(each, kind.__name__.lower(), *sizes) for each in (client, other))
@@ -74,6 +70,64 @@ class Interrupted(WithFolder):
                     theirs.release()
                     with mine:
                         self.assertFalse(theirs.acquire(timeout=0))
+
+    def stop_by_signals(self):
+        def stop(*_):
+            raise Stop
+
+        before = signal.signal(signal.SIGALRM, stop)
+        self.addCleanup(signal.signal, signal.SIGALRM, before)
+
+    def test_a_signal_between_a_job_and_its_end(self):
+        """The job is given to another taker, at once, however long the interrupted one has it in a traceback."""
+        self.server()
+        self.stop_by_signals()
+        with Client(self.path, 7) as client, Client(self.path, 8) as other:
+            mine, theirs = WorkQueue(client, "jobs", 8), WorkQueue(other, "jobs", 8)
+            for value in range(3):
+                mine.put(value)
+                with self.assertRaises(Stop) as caught:
+                    with mine.take(timeout=LONG) as job:
+                        Raising()[signal.SIGALRM]
+                again = theirs.take(timeout=LONG)
+                self.assertEqual((again.value, again.attempt), (value, 2))
+                again.done()
+                self.assertIsNotNone(caught.exception)
+                with self.assertRaises(femem.NotOwner):
+                    job.done()
+                self.assertEqual(client._core.holdings.jobs, set())
+
+    def test_a_job_at_each_bytecode(self):
+        """Of its block, which is left without an error: it is done, or given to another taker."""
+        self.server()
+        with Client(self.path, 7) as client, Client(self.path, 8) as other:
+            mine, theirs = WorkQueue(client, "jobs", 8, attempts=16), WorkQueue(other, "jobs", 8, attempts=16)
+            for at in itertools.count(1):
+                mine.put(at)
+                job = mine.take(timeout=LONG)
+
+                def use():
+                    with job:
+                        pass
+
+                was = interrupted(use, at)
+                if was and not until(lambda: job.has_ended, 0.2):
+                    job.fail()  # its block was not entered
+                self.assertTrue(until(lambda: not client._core.holdings.jobs), at)
+                if self.left(theirs, at) is None and not was:
+                    break
+            self.assertGreater(at, 50)
+            self.assertIsNone(client.failure)
+
+    def left(self, queue, value):
+        """The job if it was given back. It is done then."""
+        try:
+            job = queue.take(timeout=0.0)
+        except femem.TimedOut:
+            return None
+        self.assertEqual((job.value, job.attempt), (value, 2))
+        job.done()
+        return job
 
     def test_a_block_that_is_entered_and_left_by_hand(self):
         self.server()
