@@ -182,8 +182,8 @@ void session_file_leave(session_file *file) {
 
 /* ---- opening ---- */
 
-/* Takes the file's content, cuts off what an interrupted write left, and rewrites a file of version 1. The content is
-   synced, since a former process may have ended before its last sync. */
+/* Takes the file's content, cuts off what an interrupted write left, and rewrites a file of version 1. File and folder
+   are synced, since a former process may have ended before a sync of its last block, or of the file's new name. */
 static femem_error take_all(session_file *file, const uint8_t *bytes) {
   size_t end = file->size;
   bool old = session_is_old(bytes, file->size);
@@ -192,8 +192,8 @@ static femem_error take_all(session_file *file, const uint8_t *bytes) {
   if (old) return write_anew(file) ? FEMEM_OK : FEMEM_FILE_FAULT;
   bool cut = end == file->size || ftruncate(file->descriptor, (off_t)end) == 0;
   file->size = end; /* `compacted` is not known, so a large file is rewritten once */
-  bool ready = cut && fsync(file->descriptor) == 0 && lseek(file->descriptor, (off_t)end, SEEK_SET) >= 0;
-  return ready ? FEMEM_OK : FEMEM_FILE_FAULT;
+  bool is_synced = cut && fsync(file->descriptor) == 0 && sync_folder(file->path);
+  return is_synced && lseek(file->descriptor, (off_t)end, SEEK_SET) >= 0 ? FEMEM_OK : FEMEM_FILE_FAULT;
 }
 
 static femem_error read_all(session_file *file) {

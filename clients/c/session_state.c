@@ -43,9 +43,17 @@ static void drop_key(session_file *file, const kept_key *dropped) {
 
 /* ---- records ---- */
 
+/* Whether a number is in one window with those that have no answer, as each one that a client gives. */
+static bool is_within(const session_file *file, uint64_t wire) {
+  for (const kept_request *kept = file->requests; kept < file->requests + SESSION_REQUESTS; kept++)
+    if (kept->wire && wire > kept->wire && wire - kept->wire >= SESSION_REQUESTS) return false;
+  return true;
+}
+
 femem_error session_asked(session_file *file, const kept_request *asked, const char *key, size_t length) {
   kept_request *place = session_place(file, asked->wire);
   if (asked->wire == 0 || asked->number == 0 || asked->number > asked->wire || place->wire) return FEMEM_FILE_DAMAGED;
+  if (!is_within(file, asked->wire)) return FEMEM_FILE_DAMAGED;
   if (length > 0 && session_find(file, key, length)) return FEMEM_FILE_DAMAGED;
   kept_key *kept = length > 0 ? add_key(file, key, length) : NULL;
   if (length > 0 && !kept) return FEMEM_MEMORY;
@@ -92,10 +100,10 @@ bool session_answered(session_file *file, uint64_t wire, const femem_answer *ans
 }
 
 bool session_moved(session_file *file, uint64_t wire, uint64_t to) {
-  bool same = wire % SESSION_REQUESTS == to % SESSION_REQUESTS;
-  if (!is_unanswered(file, wire) || to <= wire || (!same && session_place(file, to)->wire)) return false;
+  if (!is_unanswered(file, wire) || to <= wire) return false;
   kept_request request = *session_place(file, wire);
   *session_place(file, wire) = (kept_request){0};
+  if (session_place(file, to)->wire || !is_within(file, to)) return false;
   request.wire = to;
   *session_place(file, to) = request;
   if (to > file->last) file->last = to;

@@ -14,7 +14,8 @@ static char kept_at[100], kept_new[100];
 
 /* ---- what is on the disk ---- */
 
-/* The bytes of a file at its last sync. A renamed file has its name once the folder is synced. */
+/* The bytes of a file at its last sync. A renamed file has its name once the folder is synced. One that is opened may
+   have been left before both syncs. */
 enum { MOST = 1 << 20, FILES = 64 };
 typedef struct synced {
   ino_t file;
@@ -23,7 +24,7 @@ typedef struct synced {
 } synced;
 
 static synced files[FILES];
-static bool is_renamed;
+static bool is_renamed, is_left;
 static unsigned renames, unsynced_writes;
 
 static uint64_t number_of(const uint8_t *at, int bytes) {
@@ -49,6 +50,7 @@ static void note_sync(int descriptor) {
   if (!to->bytes) to->bytes = malloc(MOST);
   to->count = (size_t)pread(descriptor, to->bytes, MOST, 0);
   unsynced_writes = 0;
+  is_left = false;
 }
 
 int __real_fsync(int descriptor);
@@ -167,7 +169,7 @@ static pid_t watched;
 
 ssize_t __wrap_send(int line, const void *bytes, size_t count, int flags) {
   if (getpid() != watched) return __real_send(line, bytes, count, flags);
-  CHECK(!is_renamed);
+  CHECK(!is_renamed && !is_left);
   const noted all = notes();
   ssize_t sent = __real_send(line, bytes, count, flags);
   if (sent <= 0) return sent;
@@ -259,6 +261,7 @@ static void nothing_early(void) {
   for (int i = 0; i < 5; i++) ERROR(femem_send_readfe(client, 1, 0, &last), FEMEM_OK);
   ERROR(femem_flush(client), FEMEM_OK);
   femem_close(client); /* five requests are out: the next client sends them again */
+  is_renamed = is_left = true;
   client = file_opened();
   work(client, 200);
   ERROR(femem_reconnect(client, 20000), FEMEM_OK);

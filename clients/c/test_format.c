@@ -531,6 +531,13 @@ static void refused_records(void) {
   add_asked(&p, 1, 1, "a"), add_asked(&p, 2, 2, "b"), add_moved(&p, 1, 34); ONE(1, 2, 35, FEMEM_FILE_DAMAGED);
   add_asked(&p, 1, 1, "a"), add_asked(&p, 2, 2, "b"), add_moved(&p, 1, 34); ONE(1, 3, 35, FEMEM_FILE_DAMAGED);
   add_asked(&p, 1, 1, "a"), add_moved(&p, 2, 3); REFUSED;
+  /* Numbers without an answer are in one window, also within a block. */
+  add_asked(&p, 1, 1, "a"), add_asked(&p, 32, 32, "b"), add_number(&p, 2, 1); TAKEN_AS(1, 32, 33);
+  add_asked(&p, 1, 1, "a"), add_asked(&p, 33, 33, "b"), add_number(&p, 2, 1); ONE(1, 33, 34, FEMEM_FILE_DAMAGED);
+  add_asked(&p, 1, 1, "a"), add_asked(&p, 34, 34, "b"), add_number(&p, 2, 1); ONE(1, 34, 35, FEMEM_FILE_DAMAGED);
+  add_asked(&p, 1, 1, "a"), add_number(&p, 2, 1), add_asked(&p, 34, 34, "b"); TAKEN_AS(1, 34, 35);
+  add_asked(&p, 1, 1, "a"), add_asked(&p, 2, 2, "b"), add_moved(&p, 2, 34), add_number(&p, 2, 1); ONE(1, 34, 35, FEMEM_FILE_DAMAGED);
+  add_asked(&p, 1, 1, "a"), add_asked(&p, 2, 2, "b"), add_moved(&p, 2, 32), add_number(&p, 2, 1); TAKEN_AS(1, 32, 33);
   add_asked(&p, 1, 1, "a"), add_forgotten(&p, "a"); REFUSED;
   add_asked(&p, 1, 1, "a"), add_forgotten(&p, "a"), add_number(&p, 2, 1); REFUSED;
   add_asked(&p, 1, 1, "a"), add_number(&p, 2, 1), add_forgotten(&p, "a"); REFUSED;
