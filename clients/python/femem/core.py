@@ -202,7 +202,7 @@ class Core(JobRunner, Attachment):
     def keys(self) -> List[bytes]:
         """The keys that have an answer, and those whose request has none yet."""
         assert self.file is not None
-        return [*list(self.file.keyed), *list(self._outbox.keys)]
+        return [*self.file.keys(), *list(self._outbox.keys)]
 
     def is_open(self, key: bytes) -> bool:
         """Whether a request under this key has no answer yet."""

@@ -226,7 +226,7 @@ class Tries:
             yield Pause(0.005)
         self.core.holdings.keys.add(self.key)
         self._is_begun = True
-        known = file.keyed.get(self.key)
+        known = file.kept(self.key)
         if known is None:
             return None
         frame, answer = known

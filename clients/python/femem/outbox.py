@@ -11,7 +11,7 @@ from .events import Events
 from .frames import NOWAIT, Answer, append_under, pack_number
 from .requests import of_frame, read_done, read_value
 from .sessionfile import SessionFile
-from .sessionstate import Asked, Contradiction
+from .sessionrecords import Asked, Contradiction
 from .tickets import Ticket
 from .window import Window
 
@@ -96,7 +96,7 @@ class Outbox:
         """Whether the key was used before. Then the ticket ends like the earlier one."""
         assert self._file is not None and ticket.request is not None
         first = self.keys.get(key)
-        known = self._file.keyed.get(key)
+        known = self._file.kept(key)
         if first is None and known is None:
             self.keys[key] = ticket
             return False

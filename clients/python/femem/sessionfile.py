@@ -13,33 +13,17 @@ import fcntl
 import os
 import secrets
 import stat
-import struct
-import zlib
-from typing import Dict, Optional, Tuple
+from typing import Dict, List, Optional, Tuple
 
-from . import sessionfile1
+from . import sessionblocks, sessionfile1, sessionrecords
 from .errors import SessionFileError, SessionInUse
 from .frames import Answer
-from .sessionstate import ANSWER, Asked, Contradiction, State, piece, text
-
-MAGIC = b"FEMEMSF2"
+from .sessionrecords import ANSWER, Asked, Contradiction
+from .sessionstate import State
 
 # The file is rewritten once it has `_SHORT` bytes, and `_GROWTH` times what it must hold.
 _SHORT = 65536
 _GROWTH = 4
-
-_NUMBER = struct.Struct(">Q")
-_PAIR = struct.Struct(">QQ")
-_NUMBERS = struct.Struct(">IQQQ")
-_SUM = struct.Struct(">I")
-_ASKED = struct.Struct(">QQB")
-
-_HEADER = len(MAGIC) + _NUMBER.size + _SUM.size
-
-_ENDS_WITH_PROCESS = 1
-
-# The kinds of records.
-_ASKED_KIND, _ENDED_KIND, _ANSWERED_KIND, _MOVED_KIND, _FORGOTTEN_KIND, _KEPT_KIND, _LEAVING_KIND = range(1, 8)
 
 
 class SessionFile:
@@ -89,16 +73,21 @@ class SessionFile:
 
     @property
     def unanswered(self) -> Dict[int, Asked]:
-        return self._state.unanswered
+        return {number: Asked(*asked) for number, asked in self._state.unanswered.items()}
 
     @property
     def answers(self) -> Dict[int, Answer]:
         """The answers of numbers from the floor on, as far as the file has them."""
-        return self._state.answers
+        return {number: Answer(number, *ANSWER.unpack(answer)) for number, answer in self._state.answers.items()}
 
-    @property
-    def keyed(self) -> Dict[bytes, Tuple[bytes, Answer]]:
-        return self._state.keyed
+    def keys(self) -> List[bytes]:
+        """The keys that have an answer."""
+        return [*self._state.keyed]
+
+    def kept(self, key: bytes) -> Optional[Tuple[bytes, Answer]]:
+        """The request under this key, and its answer if it has one."""
+        kept = self._state.keyed.get(key)
+        return None if kept is None else (kept[: -ANSWER.size], Answer(0, *ANSWER.unpack(kept[-ANSWER.size :])))
 
     def _open(self) -> None:
         """Opens and locks it. Tries again if another file took its path in between."""
@@ -125,7 +114,7 @@ class SessionFile:
         if self._file >= 0:
             try:
                 if (self._pending or self._noted != self._numbers()) and not self._is_broken:
-                    self._write(self._file, self._block(bytes(self._pending)))
+                    self._write(self._file, sessionblocks.block(self._state, bytes(self._pending)))
             except OSError:
                 pass  # unwritten answers, which the server gives again
             fcntl.flock(self._file, fcntl.LOCK_UN)  # a child may still have it open for a moment
@@ -159,12 +148,8 @@ class SessionFile:
     # Reading.
 
     def _read(self) -> None:
-        content = b""
-        while True:
-            more = os.read(self._file, 1 << 20)
-            if not more:
-                break
-            content += more
+        with open(self._file, "rb", closefd=False) as file:
+            content = file.read()
         if not content:
             self.start_over()
             return
@@ -172,93 +157,29 @@ class SessionFile:
             self._state = sessionfile1.read(content)
             self.compact()
             return
-        session = _session_of(content)
-        self._state = State(session)
-        end = self._take_blocks(content)
+        self._state, end = sessionblocks.read(content)
         if end < len(content):
             os.ftruncate(self._file, end)
-        os.fsync(self._file)  # a process may have ended without a sync of its last block
+        # A process may have ended without a sync of its last block, or of the file's new name.
+        os.fsync(self._file)
+        self._sync_folder()
         os.lseek(self._file, end, os.SEEK_SET)
         self._noted = self._numbers()
         self._size = end
-        self._limit = max(_SHORT, _GROWTH * len(self._snapshot()))
-
-    def _take_blocks(self, content: bytes) -> int:
-        """Where the whole blocks end. What follows was being written when a process ended, and nothing of it was sent."""
-        session = _NUMBER.pack(self.session)
-        at = _HEADER
-        while True:
-            end = block_end(content, at, session)
-            if end is None:
-                break
-            self._take_block(content, at, end)
-            at = end
-        # A whole block after one that is not whole means damage.
-        for behind in range(at + 1, len(content) - _NUMBERS.size - _SUM.size + 1):
-            if block_end(content, behind, session) is not None:
-                raise Contradiction(f"damaged at byte {at}")
-        return at
-
-    def _take_block(self, content: bytes, begin: int, end: int) -> None:
-        payload = content[begin + _NUMBERS.size : end - _SUM.size]
-        at = 0
-        try:
-            while at < len(payload):
-                at = self._take_record(payload, at + 1, payload[at])
-        except (struct.error, IndexError):
-            raise Contradiction(f"a record that does not end in the block at byte {begin}") from None
-        _, floor, asked, next = _NUMBERS.unpack_from(content, begin)
-        self._state.numbers(floor, asked, next)
-
-    def _take_record(self, payload: bytes, at: int, kind: int) -> int:
-        """Takes the record whose fields begin at `at`. Returns where it ends."""
-        state = self._state
-        if kind == _ASKED_KIND:
-            return self._take_asked(payload, at)
-        if kind == _ENDED_KIND:
-            state.ended(*_NUMBER.unpack_from(payload, at))
-            return at + _NUMBER.size
-        if kind == _ANSWERED_KIND:
-            (number,) = _NUMBER.unpack_from(payload, at)
-            state.answered(number, Answer(number, *ANSWER.unpack_from(payload, at + _NUMBER.size)))
-            return at + _NUMBER.size + ANSWER.size
-        if kind == _MOVED_KIND:
-            state.moved(*_PAIR.unpack_from(payload, at))
-            return at + _PAIR.size
-        if kind == _FORGOTTEN_KIND:
-            key, at = _key(payload, at)
-            state.forgotten(key)
-            return at
-        if kind == _KEPT_KIND:
-            key, at = _key(payload, at + _NUMBER.size)
-            frame, at = _frame(payload, at)
-            state.kept(key, frame, Answer(0, *ANSWER.unpack_from(payload, at)))
-            return at + ANSWER.size
-        if kind != _LEAVING_KIND:
-            raise Contradiction(f"a record of kind {kind}")
-        state.leaving()
-        return at
-
-    def _take_asked(self, payload: bytes, at: int) -> int:
-        number, caller, flags = _ASKED.unpack_from(payload, at)
-        if flags > _ENDS_WITH_PROCESS or not 1 <= caller <= number:
-            raise Contradiction(f"number {number} with flags {flags} and the caller's number {caller}")
-        key, at = text(payload, at + _ASKED.size)
-        if len(key) > 1024:
-            raise Contradiction(f"a key of {len(key)} bytes")
-        frame, at = _frame(payload, at)
-        self._state.asked(number, Asked(frame, key or None, bool(flags)))
-        return at
+        self._limit = max(_SHORT, _GROWTH * sessionblocks.size_of_keys(self._state))
 
     # Writing: what happens is noted at once, and is in the file after the next `commit`.
 
     def begin(self, floor: int) -> None:
         self._state.numbers(floor, floor, floor)
 
+    def _note(self, record: bytes) -> None:
+        self._state.take(record)
+        self._pending += record
+
     def asked(self, number: int, asked: Asked) -> None:
-        self._state.asked(number, asked)
+        self._note(sessionrecords.asked(number, asked))
         self._state.next = number + 1
-        self._pending += _asked_record(number, asked)
         self.must_sync = True
 
     def settling(self, floor: int) -> None:
@@ -267,28 +188,23 @@ class SessionFile:
         self.must_sync = True
 
     def answered(self, answer: Answer) -> None:
-        self._state.answered(answer.number, answer)
-        self._pending += _record(_ANSWERED_KIND, _NUMBER.pack(answer.number), _answer_bytes(answer))
+        self._note(sessionrecords.answered(answer.number, answer))
 
     def has_ended(self, number: int) -> None:
         """Notes that the request was withdrawn or refused: nothing of it happened."""
-        self._state.ended(number)
+        self._note(sessionrecords.ended(number))
         self.must_sync = True  # its caller learns this, and the next process must not ask it again
-        self._pending += _record(_ENDED_KIND, _NUMBER.pack(number))
 
     def settled(self, floor: int) -> None:
         self._state.floor = floor
         self._state.asked_floor = max(floor, self._state.asked_floor)
-        self._state.answers = {number: answer for number, answer in self._state.answers.items() if number >= floor}
 
     def forget(self, key: bytes) -> None:
         if key in self._state.keyed:
-            self._state.forgotten(key)
-            self._pending += _record(_FORGOTTEN_KIND, _text(key))
+            self._note(sessionrecords.forgotten(key))
 
     def ending(self) -> None:
-        self._state.leaving()
-        self._pending += _record(_LEAVING_KIND)
+        self._note(sessionrecords.leaving())
         self.must_sync = True
 
     def commit(self) -> None:
@@ -299,7 +215,7 @@ class SessionFile:
             if self._size + len(self._pending) > self._limit and not self._has_other_name():
                 self.compact()
                 return
-            block = self._block(bytes(self._pending))
+            block = sessionblocks.block(self._state, bytes(self._pending))
             self._write(self._file, block)
             os.fdatasync(self._file)
         except OSError as error:
@@ -324,7 +240,7 @@ class SessionFile:
         file = os.open(new, os.O_RDWR | os.O_CREAT | os.O_EXCL | os.O_NOFOLLOW | os.O_CLOEXEC, 0o600)
         try:
             fcntl.flock(file, fcntl.LOCK_EX | fcntl.LOCK_NB)
-            content = self._snapshot()
+            content = sessionblocks.snapshot(self._state)
             self._write(file, content)
             os.fsync(file)
             self.replace(new)
@@ -341,6 +257,9 @@ class SessionFile:
 
     def replace(self, new: str) -> None:
         os.rename(new, self.path)
+        self._sync_folder()
+
+    def _sync_folder(self) -> None:
         folder = os.open(os.path.dirname(os.path.abspath(self.path)), os.O_RDONLY | os.O_CLOEXEC)
         try:
             os.fsync(folder)
@@ -350,80 +269,7 @@ class SessionFile:
     def _numbers(self) -> Tuple[int, int, int]:
         return self._state.floor, self._state.asked_floor, self._state.next
 
-    def _snapshot(self) -> bytes:
-        """The shortest file that holds what this one does."""
-        state = self._state
-        head = MAGIC + _NUMBER.pack(state.session)
-        records = bytearray()
-        for key, (frame, answer) in state.keyed.items():
-            records += _record(_KEPT_KIND, _NUMBER.pack(0), _text(key), frame, _answer_bytes(answer))
-        for number, asked in sorted(state.unanswered.items()):
-            records += _asked_record(number, asked)
-        if state.is_ending:
-            records += _record(_LEAVING_KIND)
-        return head + _SUM.pack(zlib.crc32(head)) + self._block(bytes(records))
-
-    def _block(self, payload: bytes) -> bytes:
-        state = self._state
-        block = _NUMBERS.pack(len(payload), *self._numbers()) + payload
-        return block + _SUM.pack(zlib.crc32(block, zlib.crc32(_NUMBER.pack(state.session))))
-
     @staticmethod
     def _write(file: int, content: bytes) -> None:
         while content:
             content = content[os.write(file, content) :]
-
-
-def block_end(content: bytes, at: int, session: bytes) -> Optional[int]:
-    """Where the block at `at` ends, if it is whole. `session`: the bytes of its session's number."""
-    if len(content) - at < _NUMBERS.size + _SUM.size:
-        return None
-    (length,) = _SUM.unpack_from(content, at)
-    end: int = at + _NUMBERS.size + length
-    if end + _SUM.size > len(content):
-        return None
-    (checksum,) = _SUM.unpack_from(content, end)
-    return end + _SUM.size if zlib.crc32(content[at:end], zlib.crc32(session)) == checksum else None
-
-
-def _session_of(content: bytes) -> int:
-    """The session of a file, by its header."""
-    if not content.startswith(MAGIC):
-        if content[:7] == MAGIC[:7]:
-            raise Contradiction(f"a file of the C client's version {content[7:8]!r}: open it with that client first")
-        raise Contradiction("it is no session file")
-    if len(content) < _HEADER:
-        raise Contradiction("it is damaged: its header is not whole")
-    session, checksum = _NUMBER.unpack_from(content, len(MAGIC))[0], _SUM.unpack_from(content, _HEADER - _SUM.size)[0]
-    if zlib.crc32(content[: _HEADER - _SUM.size]) != checksum:
-        raise Contradiction("it is damaged in its header")
-    return int(session)
-
-
-def _record(kind: int, *fields: bytes) -> bytes:
-    return bytes((kind,)) + b"".join(fields)
-
-
-def _asked_record(number: int, asked: Asked) -> bytes:
-    flags = _ENDS_WITH_PROCESS if asked.ends_with_process else 0
-    return _record(_ASKED_KIND, _ASKED.pack(number, number, flags), _text(asked.key or b""), asked.frame)
-
-
-def _answer_bytes(answer: Answer) -> bytes:
-    return ANSWER.pack(answer.code, answer.value, answer.length)
-
-
-def _text(content: bytes) -> bytes:
-    return struct.pack(">H", len(content)) + content
-
-
-def _key(payload: bytes, at: int) -> Tuple[bytes, int]:
-    key, at = text(payload, at)
-    if not 1 <= len(key) <= 1024:
-        raise Contradiction(f"a key of {len(key)} bytes")
-    return key, at
-
-
-def _frame(payload: bytes, at: int) -> Tuple[bytes, int]:
-    (length,) = _SUM.unpack_from(payload, at)
-    return piece(payload, at, _SUM.size + length)

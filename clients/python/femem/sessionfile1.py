@@ -14,8 +14,9 @@ import struct
 import zlib
 from typing import Dict, Optional, Tuple
 
-from .frames import Answer
-from .sessionstate import ANSWER, Asked, Contradiction, State, text
+from . import sessionrecords
+from .sessionrecords import ANSWER, LENGTH, Asked, Contradiction
+from .sessionstate import State
 
 MAGIC = b"femempy1"
 
@@ -59,19 +60,19 @@ class _Reader:
         self._is_ending = False
         self._unanswered: Dict[int, Asked] = {}
         self._asked: Dict[int, Asked] = {}
-        self._keyed: Dict[bytes, Tuple[bytes, Answer]] = {}
+        self._keyed: Dict[bytes, bytes] = {}
 
     def state(self) -> State:
         """As records of today's format, which are checked like them."""
         state = State(self._session)
         if not self._session:
             raise Contradiction("it names no session")
-        for key, (frame, answer) in self._keyed.items():
-            state.kept(key, frame, answer)
+        for key, kept in self._keyed.items():
+            state.take(sessionrecords.kept(key, kept))
         for number, asked in sorted(self._unanswered.items()):
-            state.asked(number, asked)
+            state.take(sessionrecords.asked(number, asked))
         if self._is_ending:
-            state.leaving()
+            state.take(sessionrecords.leaving())
         state.numbers(self._floor, self._asked_floor, self._next)
         return state
 
@@ -88,28 +89,29 @@ class _Reader:
         at += 1
         if kind == b"A":
             number, flags = struct.unpack_from(">QB", payload, at)
-            key, at = text(payload, at + 9)
-            frame, at = text(payload, at)
+            key, at = _text(payload, at + 9)
+            frame, at = _text(payload, at)
             asked = Asked(frame, key if flags & _HAS_KEY else None, bool(flags & _ENDS_WITH_PROCESS))
             self._unanswered[number] = self._asked[number] = asked
             self._next = max(self._next, number + 1)
             return at
         if kind == b"R":
             (number,) = struct.unpack_from(">Q", payload, at)
-            answer = Answer(number, *ANSWER.unpack_from(payload, at + 8))
+            answer, at = _piece(payload, at + 8, ANSWER.size)
             asked = self._asked[number]
             self._unanswered.pop(number, None)
             if asked.key is not None:
-                self._keyed[asked.key] = (asked.frame, answer)
-            return at + 8 + ANSWER.size
+                self._keyed[asked.key] = asked.frame + answer
+            return at
         if kind in (b"K", b"X"):
-            key, at = text(payload, at)
+            key, at = _text(payload, at)
             if kind == b"X":
                 self._keyed.pop(key, None)
                 return at
-            frame, at = text(payload, at)
-            self._keyed[key] = (frame, Answer(0, *ANSWER.unpack_from(payload, at)))
-            return at + ANSWER.size
+            frame, at = _text(payload, at)
+            answer, at = _piece(payload, at, ANSWER.size)
+            self._keyed[key] = frame + answer
+            return at
         if kind == b"Z":
             self._is_ending = True
             return at
@@ -133,3 +135,15 @@ class _Reader:
             self._asked_floor = max(number, self._asked_floor)
         else:
             raise Contradiction(f"an entry {kind!r}")
+
+
+def _text(content: bytes, at: int) -> Tuple[bytes, int]:
+    """The text at `at`, with its length of two bytes, and where it ends. `IndexError` if it is not whole."""
+    (length,) = LENGTH.unpack_from(content, at)
+    return _piece(content, at + LENGTH.size, length)
+
+
+def _piece(content: bytes, at: int, length: int) -> Tuple[bytes, int]:
+    if at + length > len(content):
+        raise IndexError(at)
+    return content[at : at + length], at + length

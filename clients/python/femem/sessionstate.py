@@ -1,164 +1,162 @@
-"""What a session file holds, and which contents no client writes (docs/session-file.md, "What is refused")."""
+"""What a session file holds. A `Contradiction` is what no client writes (docs/session-file.md, "What is refused")."""
 
 from __future__ import annotations
 
 import struct
-from typing import Dict, NamedTuple, Optional, Tuple
+from typing import Callable, Dict, Optional, Set, Tuple
 
 from . import frames
-from .frames import Answer
+from .sessionrecords import ANSWER, ASKED, ENDS_WITH_PROCESS, FRAME_LENGTH, KEPT, LENGTH, LONGEST_KEY, NUMBER, PAIR
+from .sessionrecords import Contradiction, check_answer, check_request, has_happened, is_access
 
-
-class Contradiction(Exception):
-    """No client writes this."""
-
-
-class Asked(NamedTuple):
-    """A request in the file: its frame under number 0, its key if any, and whether it ends with its process."""
-
-    frame: bytes
-    key: Optional[bytes]
-    ends_with_process: bool
+_NO_NUMBER: int = 2**64
+# With so many answers, those below the floor are dropped.
+_MANY = 4 * frames.WINDOW
 
 
 class State:
     """A session's numbers, its requests without an answer, and the answers of keys. Before its first request all numbers are 0.
 
-    Each method is a record of the file, or the end of a block, and raises `Contradiction` if it can't follow.
+    It changes by the bytes of records, as they are in the file. A file may have hundreds of thousands of keys, so nothing is
+    made of a key but these bytes.
     """
 
     def __init__(self, session: int) -> None:
         self.session = session
         self.floor = self.asked_floor = self.next = 0
         self.is_ending = False
-        self.unanswered: Dict[int, Asked] = {}
-        self.keyed: Dict[bytes, Tuple[bytes, Answer]] = {}
-        # The answers that the file has of numbers without a key, or with one.
-        self.answers: Dict[int, Answer] = {}
+        # Each request without an answer, as `Asked`, in the order of their numbers, in which they are given.
+        self.unanswered: Dict[int, Tuple[bytes, Optional[bytes], bool]] = {}
+        # The request of each key that has an answer, followed by that.
+        self.keyed: Dict[bytes, bytes] = {}
+        # The answers of numbers from the floor on, without a key or with one; and some of numbers below.
+        self.answers: Dict[int, bytes] = {}
+        # The keys of `unanswered`.
+        self._open: Set[bytes] = set()
+        # The greatest number that a request was given.
         self._greatest = 0
+        # By the kind of a record: takes the one whose fields begin at a place, and returns where it ends.
+        self._takes: Tuple[Callable[[bytes, int], int], ...] = (
+            self._none, self._asked, self._ended, self._answered, self._moved, self._forgotten, self._kept, self._leaving
+        )  # fmt: skip
 
-    def asked(self, number: int, asked: Asked) -> None:
-        _must(number > self._greatest, f"number {number} after {self._greatest}")
-        check_request(asked.frame)
-        if asked.key is not None:
-            _must(not self._is_known(asked.key), f"the key {asked.key!r} is used twice")
-        self._greatest = number
-        self.unanswered[number] = asked
+    def take(self, payload: bytes) -> None:
+        """Takes these records."""
+        at, end, takes = 0, len(payload), self._takes
+        try:
+            while at < end:
+                at = takes[payload[at]](payload, at + 1)
+        except (struct.error, IndexError):
+            at = end + 1
+        if at > end:
+            raise Contradiction("a record of no kind, or one that does not end")
 
-    def ended(self, number: int) -> None:
-        self._pop(number)
-
-    def answered(self, number: int, answer: Answer) -> None:
-        asked = self._pop(number)
-        check_answer(asked.frame, answer)
-        self.answers[number] = answer
-        if asked.key is not None:
-            self.keyed[asked.key] = (asked.frame, answer)
-
-    def moved(self, number: int, new: int) -> None:
-        _must(new > self._greatest, f"number {new} after {self._greatest}")
-        self._greatest = new
-        self.unanswered[new] = self._pop(number)
-
-    def forgotten(self, key: bytes) -> None:
-        _must(key in self.keyed, f"the key {key!r} has no answer")
-        del self.keyed[key]
-
-    def kept(self, key: bytes, frame: bytes, answer: Answer) -> None:
-        _must(not self._is_known(key), f"the key {key!r} is used twice")
-        check_request(frame)
-        check_answer(frame, answer)
-        self.keyed[key] = (frame, answer)
-
-    def leaving(self) -> None:
-        self.is_ending = True
-
-    def numbers(self, floor: int, asked: int, next: int) -> None:
+    def numbers(self, floor: int, asked: int, upcoming: int) -> None:
         """The numbers at the end of a block."""
-        if (floor, asked, next) != (0, 0, 0):
-            _must(1 <= floor <= asked <= next <= asked + frames.WINDOW, f"numbers {floor}, {asked}, {next}")
-            _must(asked <= frames.GREATEST_FLOOR, f"the floor {asked}")
-        is_behind = floor >= self.floor and asked >= self.asked_floor and next >= self.next
-        _must(is_behind, f"numbers {floor}, {asked}, {next} after {self.floor}, {self.asked_floor}, {self.next}")
-        for number in self.unanswered:
-            _must(asked <= number, f"number {number} below the floor {asked}")
-        _must(not self._greatest or self._greatest < next, f"number {self._greatest} where {next} is the next one")
-        self.floor, self.asked_floor, self.next = floor, asked, next
+        if not 1 <= floor <= asked <= upcoming <= asked + frames.WINDOW and (floor or asked or upcoming):
+            raise Contradiction(f"numbers {floor}, {asked}, {upcoming}")
+        if floor < self.floor or asked < self.asked_floor or upcoming < self.next or asked > frames.GREATEST_FLOOR:
+            former = f"{self.floor}, {self.asked_floor}, {self.next}"
+            raise Contradiction(f"numbers {floor}, {asked}, {upcoming} after {former}")
+        if next(iter(self.unanswered), _NO_NUMBER) < asked:
+            raise Contradiction(f"a number below {asked}, the floor that was asked for")
+        if 0 < self._greatest >= upcoming:
+            raise Contradiction(f"number {self._greatest} where {upcoming} is the next one")
+        self.floor, self.asked_floor, self.next = floor, asked, upcoming
 
-    def _is_known(self, key: bytes) -> bool:
-        return key in self.keyed or any(asked.key == key for asked in self.unanswered.values())
+    # The records. What is cut short at the end of the payload is refused by `take`.
 
-    def _pop(self, number: int) -> Asked:
-        _must(number in self.unanswered, f"number {number} is not open")
-        return self.unanswered.pop(number)
-
-
-def _must(holds: bool, otherwise: str) -> None:
-    if not holds:
-        raise Contradiction(otherwise)
-
-
-# The length of each kind of request, without its own 4 bytes.
-_LENGTHS = {2: 31, 3: 26, 4: 17, 5: 30, 11: 30, 12: 47, 13: 42}
-_ACCESSES = range(frames.READFE, frames.INT_FETCH_ADD + 1)
-_WITH_OPERAND = (frames.WRITEEF, frames.WRITEFF, frames.WRITEXF, frames.INT_FETCH_ADD)
-_GIVE_VALUES = (frames.READFE, frames.READFF, frames.READXX, frames.INT_FETCH_ADD)
-
-
-def check_request(frame: bytes) -> None:
-    """`Contradiction` unless it is the frame of a request under number 0."""
-    _must(len(frame) >= 13, "a request that is too short")
-    kind = frame[4]
-    length = _LENGTHS.get(kind, 0)
-    _must(length + 4 == len(frame) == 4 + int.from_bytes(frame[:4], "big"), f"a request of kind {kind}")
-    _must(not any(frame[5:13]), "a request with a number")
-    if kind in (5, 11):
-        _must(frame[13] in _ACCESSES, f"operation {frame[13]}")
-        _must(frame[13] in _WITH_OPERAND or not any(frame[26:]), "an operand that is not used")
-    elif kind != 4:
-        row = 16 if kind in (2, 3) else 32
-        size = frame[13]
-        _must(size <= 16 if row == 16 else 17 <= size <= 32, f"a name of {size} bytes")
-        _must(not any(frame[14 + size : 14 + row]), "a name with more behind it")
-        _must(kind in (3, 13) or frame[-1] in (0, 1), "a tag")
-
-
-def check_answer(frame: bytes, answer: Answer) -> None:
-    """`Contradiction` unless it can be the answer to the request."""
-    code, value, length = answer.code, answer.value, answer.length
-    _must(code in _codes(frame), f"answer {code} to a request of kind {frame[4]}")
-    _must(code in (frames.VALUE, frames.ARRAY) or not value, f"answer {code} with a value")
-    if code != frames.ARRAY:
-        _must(not length, f"answer {code} with a length")
-    else:
-        _must(value > 0 and 1 <= length <= 65536, f"an array {value} of {length} words")
-        is_create = frame[4] in (2, 12)
-        _must(not is_create or length == int.from_bytes(frame[-5:-1], "big"), "an array of another length")
-
-
-def _codes(frame: bytes) -> Tuple[int, ...]:
-    """The codes of answers to the request."""
-    kind = frame[4]
-    if kind in (2, 12):
-        return frames.ARRAY, frames.BAD_NAME, frames.BAD_LENGTH, frames.NAME_TAKEN, frames.ARRAY_LIMIT, frames.WORD_LIMIT
-    if kind in (3, 13):
-        return frames.ARRAY, frames.BAD_NAME, frames.NO_ARRAY
-    if kind == 4:
-        return frames.DONE, frames.NO_ARRAY
-    done = frames.VALUE if frame[13] in _GIVE_VALUES else frames.DONE
-    return (done, frames.NO_ARRAY, frames.BAD_INDEX) + ((frames.NOT_NOW,) if kind == 11 else ())
-
-
-ANSWER = struct.Struct(">BQI")
-
-
-def text(content: bytes, at: int) -> Tuple[bytes, int]:
-    """The text at `at`, with its length of two bytes, and where it ends. `IndexError` if it is not whole."""
-    (length,) = struct.unpack_from(">H", content, at)
-    return piece(content, at + 2, length)
-
-
-def piece(content: bytes, at: int, length: int) -> Tuple[bytes, int]:
-    if at + length > len(content):
+    def _none(self, payload: bytes, at: int) -> int:
         raise IndexError(at)
-    return content[at : at + length], at + length
+
+    def _asked(self, payload: bytes, at: int) -> int:
+        number, caller, flags, length = ASKED.unpack_from(payload, at)
+        if flags > ENDS_WITH_PROCESS or not 1 <= caller <= number or length > LONGEST_KEY:
+            raise Contradiction(f"number {number}, the caller's number {caller}, flags {flags}, a key of {length} bytes")
+        at += ASKED.size
+        begin = at + length
+        end: int = begin + FRAME_LENGTH.size + FRAME_LENGTH.unpack_from(payload, begin)[0]
+        key, frame = payload[at:begin], payload[begin:end]
+        if not is_access(frame):
+            check_request(frame)
+        self._give(number)
+        if length:
+            self._must_be_new(key)
+            self._open.add(key)
+        self.unanswered[number] = (frame, key or None, flags == ENDS_WITH_PROCESS)
+        return end
+
+    def _ended(self, payload: bytes, at: int) -> int:
+        self._end(*NUMBER.unpack_from(payload, at))
+        return at + NUMBER.size
+
+    def _answered(self, payload: bytes, at: int) -> int:
+        (number,) = NUMBER.unpack_from(payload, at)
+        at += NUMBER.size
+        end = at + ANSWER.size
+        answer = payload[at:end]
+        frame, key, _ = self._end(number)
+        kept = frame + answer
+        if not has_happened(kept):
+            check_answer(frame, answer)
+        self.answers[number] = answer
+        if len(self.answers) > _MANY:
+            self.answers = {number: answer for number, answer in self.answers.items() if number >= self.floor}
+        if key is not None:
+            self.keyed[key] = kept
+        return end
+
+    def _moved(self, payload: bytes, at: int) -> int:
+        number, new = PAIR.unpack_from(payload, at)
+        moved = self._end(number)
+        self._give(new)
+        self.unanswered[new] = moved
+        if moved[1] is not None:
+            self._open.add(moved[1])
+        return at + PAIR.size
+
+    def _forgotten(self, payload: bytes, at: int) -> int:
+        at += LENGTH.size
+        end = at + int(LENGTH.unpack_from(payload, at - LENGTH.size)[0])
+        if self.keyed.pop(payload[at:end], None) is None:
+            raise Contradiction(f"the key {payload[at:end]!r} has no answer")
+        return end
+
+    def _kept(self, payload: bytes, at: int) -> int:
+        _, length = KEPT.unpack_from(payload, at)
+        if not 1 <= length <= LONGEST_KEY:
+            raise Contradiction(f"a key of {length} bytes")
+        at += KEPT.size
+        begin = at + length
+        middle: int = begin + FRAME_LENGTH.size + FRAME_LENGTH.unpack_from(payload, begin)[0]
+        end = middle + ANSWER.size
+        key = payload[at:begin]
+        if not has_happened(payload, begin):
+            check_request(payload[begin:middle])
+            check_answer(payload[begin:middle], payload[middle:end])
+        self._must_be_new(key)
+        self.keyed[key] = payload[begin:end]
+        return end
+
+    def _leaving(self, payload: bytes, at: int) -> int:
+        self.is_ending = True
+        return at
+
+    def _give(self, number: int) -> None:
+        """Gives a request this number. Numbers rise, and each is in one window with those that have no answer."""
+        least = next(iter(self.unanswered), _NO_NUMBER)
+        if not self._greatest < number < least + frames.WINDOW:
+            raise Contradiction(f"number {number} after {self._greatest}, where {least} has no answer")
+        self._greatest = number
+
+    def _must_be_new(self, key: bytes) -> None:
+        if key in self.keyed or key in self._open:
+            raise Contradiction(f"the key {key!r} is used twice")
+
+    def _end(self, number: int) -> Tuple[bytes, Optional[bytes], bool]:
+        asked = self.unanswered.pop(number, None)
+        if asked is None:
+            raise Contradiction(f"number {number} is not open")
+        if asked[1] is not None:
+            self._open.discard(asked[1])
+        return asked

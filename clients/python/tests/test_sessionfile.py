@@ -22,7 +22,7 @@ from femem.aio import AsyncClient
 from femem.arguments import key_bytes
 from femem.core import Core
 from femem.sessionfile import SessionFile
-from femem.sessionstate import Asked
+from femem.sessionrecords import Asked
 from femem.worker import Worker
 
 POINTS = {
@@ -405,7 +405,7 @@ class Files(WithFolder):
         drawn = chance.random()
         if drawn < 0.35 and file.next < file.asked_floor + 32:
             number, key = file.next, chance.choice([None, b"one", b"two", b"three"])
-            taken = {file.unanswered[each].key for each in out} | set(file.keyed)
+            taken = {file.unanswered[each].key for each in out} | set(file.keys())
             frame = requests.int_fetch_add(1, number, number).frame
             file.asked(number, Asked(frame, None if key in taken else key, drawn < 0.05))
             out.append(number)
@@ -419,14 +419,14 @@ class Files(WithFolder):
             file.settling(min([*out, file.next, file.floor + 31]))
         elif drawn < 0.8:
             file.settled(file.asked_floor)
-        elif drawn < 0.9 and file.keyed:
-            file.forget(chance.choice(sorted(file.keyed)))
+        elif drawn < 0.9 and file.keys():
+            file.forget(chance.choice(sorted(file.keys())))
         elif file.must_sync:
             file.commit()
 
     @staticmethod
     def says(file):
-        keyed = {key: (frame, answer._replace(number=0)) for key, (frame, answer) in file.keyed.items()}
+        keyed = {key: file.kept(key) for key in file.keys()}
         numbers = (file.session, file.floor, file.asked_floor, file.next)
         return numbers, file.unanswered, keyed
 

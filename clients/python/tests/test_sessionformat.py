@@ -1,5 +1,6 @@
 """The session file's format, byte by byte: what is read, what is refused, and in which order it is written and sent."""
 
+import itertools
 import os
 import random
 import re
@@ -15,9 +16,9 @@ from serving import WithFolder
 from test_ends import FOLDER, LONG
 
 import femem
-from femem import Client, frames, requests
+from femem import Client, frames, requests, sessionrecords
 from femem.sessionfile import SessionFile
-from femem.sessionstate import Asked
+from femem.sessionrecords import Asked
 
 SESSION = 0x8000000000000007
 ADD = requests.int_fetch_add(1, 0, 1).frame
@@ -129,6 +130,9 @@ REFUSED = {
     "two answers": [block(asked(33) + 2 * (numbered(3, 33) + answer()), 33, 33, 34)],
     "a move of nothing": [block(numbered(4, 33, 34), 33, 33, 35)],
     "a move to a lower number": [block(asked(34) + numbered(4, 34, 33), 33, 33, 35)],
+    "two open numbers that no window has": [block(asked(1) + asked(33) + numbered(2, 1), 1, 33, 34)],
+    "two that are further apart": [block(asked(1) + asked(34) + numbered(2, 1), 1, 34, 35)],
+    "a move to a number that no window has": [block(asked(1) + asked(2) + numbered(4, 2, 34) + numbered(2, 1), 1, 34, 35)],
     "a key forgotten while its request is open": [block(asked(33, key=b"k") + b"\5" + text(b"k"), 33, 33, 34)],
     "an answer of no code": [block(asked(33) + numbered(3, 33) + answer(12), 33, 33, 34)],
     "an answer of another request": [block(asked(33) + numbered(3, 33) + answer(2), 33, 33, 34)],
@@ -146,6 +150,20 @@ REFUSED = {
     "a number below the floor": [block(asked(33), 33, 34, 34)],
     "a number that is not below the next": [block(asked(34), 33, 33, 34)],
 }
+
+
+# What the window allows, next to what it does not.
+TAKEN = {
+    "two open numbers in one window": [block(asked(1) + asked(32) + numbered(2, 1), 1, 32, 33)],
+    "a number once the other has ended": [block(asked(1) + numbered(2, 1) + asked(34), 1, 34, 35)],
+    "a move within the window": [block(asked(1) + asked(2) + numbered(4, 2, 32) + numbered(2, 1), 1, 32, 33)],
+    "a move out of its own place": [block(asked(1) + numbered(4, 1, 33), 1, 2, 34)],
+}
+
+
+def contents(blocks):
+    """A file of these blocks, if the first of them has no header."""
+    return blocks[0] if blocks[0][:4] in (b"FEME", b"feme") else header() + block() + b"".join(blocks)
 
 
 class Format(WithFolder):
@@ -168,7 +186,7 @@ class Format(WithFolder):
         self.assertEqual((file.session, file.floor, file.asked_floor, file.next), (SESSION, 34, 34, 40))
         held = {35: Asked(READ, b"waits", False), 37: Asked(READ, None, False), 39: Asked(ADD, None, True)}
         self.assertEqual(file.unanswered, held)
-        self.assertEqual({key: answer.value for key, (_, answer) in file.keyed.items()}, {b"first": 41})
+        self.assertEqual({key: file.kept(key)[1].value for key in file.keys()}, {b"first": 41})
         # Rewritten, it says the same.
         file.compact()
         file.close()
@@ -177,7 +195,7 @@ class Format(WithFolder):
         )
         self.assertEqual(self.read(), whole)
         again = SessionFile(self.file)
-        self.assertEqual((again.unanswered, again.next, list(again.keyed)), (held, 40, [b"first"]))
+        self.assertEqual((again.unanswered, again.next, again.keys()), (held, 40, [b"first"]))
         again.abandon()
 
     def test_each_torn_end_of_the_example_is_cut_off(self):
@@ -209,12 +227,18 @@ class Format(WithFolder):
 
     def test_what_no_client_writes_is_refused_and_not_touched(self):
         for name, blocks in REFUSED.items():
-            content = blocks[0] if blocks[0][:4] in (b"FEME", b"feme") else header() + block() + b"".join(blocks)
+            content = contents(blocks)
             with self.subTest(name):
                 self.write(content)
                 with self.assertRaises(femem.SessionFileError):
                     SessionFile(self.file)
                 self.assertEqual(self.read(), content)
+
+    def test_numbers_within_a_window_are_read(self):
+        for name, blocks in TAKEN.items():
+            with self.subTest(name):
+                self.write(contents(blocks))
+                SessionFile(self.file).abandon()
 
     def test_any_records_with_right_sums_are_read_or_refused(self):
         """Random records, whole and in pieces: `SessionFileError` or a file, and no other error."""
@@ -234,6 +258,44 @@ class Format(WithFolder):
             except femem.SessionFileError:
                 pass
         self.assertGreater(read, 100)
+
+    def test_the_short_way_of_reading_refuses_the_same(self):
+        """Accesses with the answer that they happened are matched at once, others are checked field by field."""
+        for kind, code, operand in itertools.product((4, 5, 6, 11), range(14, 26), (0, 1)):
+            frame = struct.pack(">IBQBQIQ", 30, kind, 0, code, 1, 2, operand)
+            is_one = kind in (5, 11) and code in range(16, 24) and (operand == 0 or code in (19, 20, 21, 23))
+            self.assertEqual(bool(sessionrecords.is_access(frame)), is_one)
+            for told, value, length in itertools.product((0, 1, 2, 3, 4, 11), (0, 1), (0, 1)):
+                gives = code in (16, 17, 18, 23)
+                has_happened = is_one and told == (1 if gives else 2) and length == 0 and (gives or value == 0)
+                found = sessionrecords.has_happened(frame + answer(told, value, length))
+                self.assertEqual(bool(found), has_happened, (kind, code, operand, told, value, length))
+
+    def test_a_key_costs_few_steps_to_read(self):
+        """Calls of Python's functions, since seconds depend on the machine."""
+        count = 2000
+        keys = [b"key %d" % k for k in range(count)]
+        rewritten = block(b"".join(kept(key, told=answer(1, 5)) for key in keys), 33, 33, 33)
+        grown, number = [], 33
+        for key in keys:
+            grown.append(block(asked(number, key=key) + numbered(3, number) + answer(1, 5), number, number, number + 1))
+            number += 1
+        for blocks, most in (([rewritten], 2), (grown, 8)):
+            self.write(header() + block() + b"".join(blocks))
+            calls = 0
+
+            def called(frame, event, argument):
+                nonlocal calls
+                calls += event == "call"
+
+            sys.setprofile(called)
+            try:
+                file = SessionFile(self.file)
+            finally:
+                sys.setprofile(None)
+            self.assertEqual(file.keys(), keys)
+            file.abandon()
+            self.assertLess(calls, (most + 0.5) * count)
 
     def test_the_former_version_is_read(self):
         """A file of `femempy1` goes on: its session, its keys and what it had asked."""
@@ -302,8 +364,8 @@ class Format(WithFolder):
     @unittest.skipUnless(shutil.which("strace"), "strace is not installed")
     def test_nothing_is_sent_before_the_sync_of_its_note(self):
         """By the recorded system calls of two processes, the second of which finds the first one's file: a file that is opened is
-        synced before anything is sent, and each request's note is written and synced before it is sent. A new file is synced before
-        it replaces the old one, and its folder before anything more is sent."""
+        synced with its folder before anything is sent, and each request's note is written and synced before it is sent. A new file is
+        synced before it replaces the old one, and its folder before anything more is sent."""
         self.server()
         with Client(self.path, 8) as other:
             word = other.create("word", 1, full=True)
@@ -325,7 +387,7 @@ class Format(WithFolder):
             if done.returncode != 0 and "ptrace" in done.stderr:
                 self.skipTest("this machine allows no tracing")
             self.assertEqual(done.returncode, 0, done.stderr)
-            due = {"file"}  # what has to be synced before anything is sent
+            due = {"file", "folder"}  # what has to be synced before anything is sent
             with open(trace) as lines:
                 for line in lines:
                     strings = re.findall('"((?:\\\\x[0-9a-f]{2})*)"', line)

@@ -11,6 +11,7 @@ import unittest
 
 import paths
 from serving import WithFolder
+from test_sessionformat import REFUSED, TAKEN, contents
 
 from femem import Client
 from femem.patterns import WorkQueue
@@ -45,6 +46,18 @@ class TwoClients(WithFolder):
 
     def queue(self, client):
         return WorkQueue(client, "jobs", 16, attempts=3, away_after=1.0)
+
+    def test_both_refuse_the_same_session_files(self):
+        """But for files of version 1, which are each client's own."""
+        file = self.path + ".session"
+        cases = [(name, blocks, True) for name, blocks in REFUSED.items() if "first version" not in name]
+        cases += [(name, blocks, False) for name, blocks in TAKEN.items()]
+        for name, blocks, is_refused in cases:
+            with open(file, "wb") as out:
+                out.write(contents(blocks))
+            done = subprocess.run([self.program, file, "open", "0"], timeout=60)
+            with self.subTest(name):
+                self.assertEqual(done.returncode, 3 if is_refused else 0)
 
     def test_jobs_of_each_are_done_by_the_other(self):
         with Client(self.path, 1) as client:

@@ -1,6 +1,7 @@
 /* One work queue from C: `two_clients SOCKET put COUNT` puts 0 to COUNT - 1, `take COUNT` prints the jobs that it has done,
-   and `hold` takes one and is killed. */
+   and `hold` takes one and is killed. `two_clients FILE open 0` opens a session file, and ends with 3 if it is refused. */
 #include "femem.h"
+#include "session_file.h"
 
 #include <signal.h>
 #include <stdio.h>
@@ -23,8 +24,16 @@ static femem_error work(femem_queue *queue, const char *what, uint64_t count) {
   return error;
 }
 
+static int open_file(const char *path) {
+  session_file *file;
+  femem_error error = session_file_open(&file, path);
+  session_file_close(file);
+  return error == FEMEM_FILE_DAMAGED ? 3 : error != FEMEM_OK;
+}
+
 int main(int count, char **words) {
   if (count != 4) return 2;
+  if (strcmp(words[2], "open") == 0) return open_file(words[1]);
   femem *client;
   femem_queue *queue;
   femem_settings settings = {.wait = 30000, .reconnect = 30000};
