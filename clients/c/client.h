@@ -97,7 +97,8 @@ struct femem {
   uint64_t ready_numbers[WINDOW];           /* on the wire */
   session_file *file;       /* may be NULL, like the next */
   femem_recovered *recovered;
-  unsigned recovered_count, retaken; /* retaken: how often it was attached again after another had it */
+  unsigned recovered_count, retaken; /* retaken: how often it was attached again after an earlier life's late messages */
+  bool late; /* whether such a message waits below the floor that was asked for */
   report_state report;
   femem_error report_error;
   char *text;

@@ -57,6 +57,8 @@ void fe_put_slot(femem *client, uint64_t number) {
 void fe_put_again(femem *client) {
   uint64_t floor = client->restored ? client->low : client->floor_asked;
   client->restored = false;
+  for (uint64_t ended = client->floor_told; client->late && ended < client->low; ended++) fe_put_cancel(client, ended);
+  client->late = false;
   if (floor > client->floor_told) fe_put_settle(client, floor);
   for (uint64_t number = client->low; number < client->next; number++) {
     if (fe_slot_of(client, number)->state != OUT) continue;

@@ -51,6 +51,7 @@ static femem_error take_answer(femem *client, const reply *told) {
 
 static femem_error take_withdrawn(femem *client, const reply *told) {
   if (client->phase == OPENING) return FEMEM_OK;
+  if (client->cancels > 0 && told->number < client->low) return client->cancels--, FEMEM_OK; /* came late */
   if (!fe_is_known(client, told->number)) return FEMEM_WRONG_NUMBER;
   slot *place = fe_slot_of(client, told->number);
   if (place->state != OUT || place->cancelled == NOT || client->cancels == 0) return FEMEM_WRONG_NUMBER;
@@ -155,6 +156,10 @@ static femem_error take_refused(femem *client, const reply *told) {
      this one's. */
   bool own = client->file && client->retaken < WINDOW;
   if (refusal == FEMEM_REFUSED_NOT_ATTACHED && own) return client->retaken++, FEMEM_DISCONNECTED;
+  /* Of its late requests one may wait that was taken back since, so that a settle is refused, and what needs it is
+     beyond the window. */
+  bool late = refusal == FEMEM_REFUSED_STILL_WAITING && client->phase == SERVED && !client->bye;
+  if (late && own) return client->retaken++, client->late = true, FEMEM_DISCONNECTED;
   if (client->phase == OPENING) return take_opening_refusal(client, told, refusal);
   if (client->phase == RETURNING) return told->number == client->session ? refusal : FEMEM_STRANGE_REPLY;
   if (refusal == FEMEM_REFUSED_NOT_ATTACHED) return refusal;

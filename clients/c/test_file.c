@@ -589,6 +589,50 @@ static void crowded(void) {
   END(server);
 }
 
+static void late_server(int listener) {
+  int line = take_line(listener);
+  meet_any(line);
+  for (unsigned number = 1; number <= 32; number++) heard(line, add_of, number);
+  for (unsigned number = 1; number <= 32; number++) said(line, value_of, number);
+  hear_end(line);
+  line = take_line(listener);
+  welcome_any(line, "0000000000000021");
+  heard(line, settle_of, 33);
+  heard(line, add_of, 33);
+  said(line, "0000000a 46 %016x 06", 33); /* the settle: a request below it waits */
+  said(line, "0000000a 46 %016x 04", 33); /* the request: it is beyond the window */
+  hear_end(line);
+  line = take_line(listener);
+  welcome_any(line, "0000000000000021");
+  for (unsigned number = 1; number <= 32; number++) heard(line, cancel_of, number);
+  heard(line, settle_of, 33);
+  heard(line, add_of, 33);
+  for (unsigned number = 1; number <= 32; number++)
+    said(line, number == 5 ? withdrawn_of : not_waiting_of, number);
+  said(line, settled_of, 33);
+  said(line, value_of, 33);
+  hear_end(line);
+}
+
+/* A request that the server reads late, from an earlier life's connection, may wait although it was taken back since. It
+   is taken back again, since no settle passes it. */
+static void late_request(void) {
+  test = "an earlier life's request that comes late";
+  fresh();
+  pid_t server = begin_at(32, late_server);
+  femem *client = OPEN(&patient, FEMEM_OK);
+  femem_answer answer;
+  for (int i = 0; i < 32; i++) ERROR(femem_send_int_fetch_add(client, 1, 0, 1, NULL), FEMEM_OK);
+  for (int i = 0; i < 32; i++) ERROR(femem_next(client, &answer, 20000), FEMEM_OK);
+  femem_close(client);
+  client = OPEN(&going_on, FEMEM_OK);
+  uint64_t value = 0;
+  ERROR(femem_int_fetch_add(client, 1, 0, 1, &value), FEMEM_OK);
+  CHECK(value == 33 && femem_reconnects(client) == 1);
+  femem_close(client);
+  END(server);
+}
+
 static void copied_server(int listener) {
   for (int i = 0; i < 2; i++) {
     int line = take_line(listener);
@@ -657,7 +701,7 @@ int main(void) {
   snprintf(kept_at, sizeof kept_at, "%s/session", folder);
   snprintf(kept_new, sizeof kept_new, "%s/session.new", folder);
   void (*const tests[])(void) = {batch, many, many_keys, earlier, ends_with_process, keys, file_fault,
-                                 leaving, strange_session, left_answers, crowded, copied,
+                                 leaving, strange_session, left_answers, crowded, late_request, copied,
                                  arguments};
   for (size_t i = 0; i < sizeof tests / sizeof *tests; i++) tests[i]();
   unlink(path);
