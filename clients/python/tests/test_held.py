@@ -7,8 +7,10 @@ import inspect
 import itertools
 import random
 import signal
+import sys
 import threading
 import time
+import unittest
 
 import paths  # noqa: F401
 from serving import WithFolder
@@ -230,6 +232,31 @@ class Interrupted(WithFolder):
             self.assertLessEqual(got[-1] + 1 - len(got), stops)
             self.assertEqual(self.waits(other, client.find("word")), [])
 
+    @unittest.skipUnless(sys.version_info >= (3, 11), "an older Python looks for signals after each step")
+    def test_signals_within_acquire(self, stops=150):
+        """It returned, or nothing is held: Python looks for no signal between its last call and what its caller does with
+        the result."""
+        self.server()
+        self.stop_by_signals()
+        self.addCleanup(signal.setitimer, signal.ITIMER_REAL, 0)
+        chance = random.Random(5)
+        with Client(self.path, 7) as client, Client(self.path, 8) as other:
+            for kind, sizes in ((Lock, ()), (Semaphore, (1,))):
+                mine, theirs = (kind(each, kind.__name__.lower(), *sizes) for each in (client, other))
+                interrupted = 0
+                while interrupted < stops:
+                    got = False
+                    try:
+                        signal.setitimer(signal.ITIMER_REAL, chance.random() * 1e-3 + 1e-6)
+                        got = mine.acquire()
+                        signal.setitimer(signal.ITIMER_REAL, 0)
+                    except Stop:
+                        signal.setitimer(signal.ITIMER_REAL, 0)
+                    if not got:
+                        interrupted += 1
+                        self.assertTrue(theirs.acquire(timeout=LONG))
+                    (mine if got else theirs).release()
+
     def test_a_release_of_a_task_that_is_cancelled(self):
         self.server()
 
@@ -324,6 +351,4 @@ class Sizes(WithFolder):
 
 
 if __name__ == "__main__":
-    import unittest
-
     unittest.main()
