@@ -487,7 +487,7 @@ class Kills(WithFolder):
                     client.forget(number)
                     number += 1
 
-        self.history(work, 3)
+        self.history(work, 3, lambda: min(len(self.log(f"add{k}").lines()) for k in range(3)))
         with Client(self.path, 1) as client:
             added = sum(len(self.log(f"add{k}").lines()) for k in range(3))
             # (a life may have been killed between its answer and its line; the next one found that answer)
