@@ -2,6 +2,7 @@ pub mod Advancing
 pub mod Connecting
 pub mod Outputs
 pub mod Emptying
+pub mod Bells
 pub mod Anew
 pub mod Writing
 pub mod Quiets

@@ -1,3 +1,4 @@
+pub mod Bells
 pub mod Keeping
 pub mod Places
 pub mod Desk

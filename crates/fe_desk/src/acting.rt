@@ -1,11 +1,13 @@
 //! The steps.
 
-ghost use Rattle.std.specs.Prelude.{◌≡◌, true, false, OnOk, MatchResult};
+ghost use Rattle.std.specs.Prelude.{◌≡◌, ◌⊎◌, ℕ, true, false, OnOk, MatchResult};
 ghost use Rattle.fe_desk.specs.Output.{Extends};
 ghost use Rattle.fe_desk.specs.Messages.{outputs, told_as};
 ghost use Rattle.fe_desk.specs.Crash.{Advances};
-ghost use Rattle.fe_desk.specs.Quiet.{HasNoMail, mails_nothing};
+ghost use Rattle.fe_front.specs.Ringing.{IsRung, HasItsBox};
+ghost use Rattle.fe_desk.specs.Quiet.{HasNoMail};
 ghost use Rattle.fe_desk.specs.Taken.{IsStep};
+ghost use Rattle.fe_desk.specs.within.Bells.{AreRung};
 ghost use Rattle.fe_desk.specs.within.Desk.{desk_of, standing_of, IsDesk};
 ghost use Rattle.fe_desk.specs.within.Goes.{Empties, GoesAct, Settles};
 ghost use Rattle.fe_desk.specs.within.Keeping.{HasStore};
@@ -14,16 +16,17 @@ use crate::fault::DeskFault;
 use crate::messages::told;
 use crate::parts::Parts;
 use crate::step::Step;
-use crate::telling::empty_boxes;
+use crate::telling::{bells_after, empty_boxes};
 use fe_disk::Disk;
+use fe_front::BELLS;
 use fe_keeper::Fault;
 use std::alloc::AllocError;
 
 impl<D: Disk> Parts<D> {
-    /// Takes a step. With `still`, there is no mail before it, and it makes none.
-    pub(crate) fn step(&mut self, step: &Step, still: bool) -> Result<(), DeskFault>
+    /// Takes a step. With `quiet`, there is no mail before it.
+    pub(crate) fn step(&mut self, step: &Step, quiet: bool) -> Result<(), DeskFault>
         requires desk { IsDesk D.honest D.may_leave (desk_of self.old) }
-        requires still { still ≡ true → HasNoMail (standing_of self.old) × (mails_nothing step.now ≡ true) }
+        requires quiet { quiet ≡ true → HasNoMail (standing_of self.old) }
         ensures desk { IsDesk D.honest D.may_leave (desk_of self.new) }
         ensures is_step { IsStep D.failures (desk_of self.old) step.now result (desk_of self.new) }
         ensures quiet { OnOk result (HasNoMail (standing_of self.new)) }
@@ -36,8 +39,10 @@ impl<D: Disk> Parts<D> {
         if self.settle().is_err() {
             return Err(DeskFault::NoMemory { fed: false });
         }
-        self.act(step)?;
-        if self.finish(still).is_err() {
+        let mut rung = [false; BELLS as usize];
+        self.act(step, &mut rung)?;
+        let bells = bells_after(&self.front, step.posts(quiet), rung);
+        if self.finish(step.is_still(quiet), &bells).is_err() {
             return Err(DeskFault::Unwritten);
         }
         Ok(())
@@ -52,15 +57,16 @@ impl<D: Disk> Parts<D> {
         ensures extends { Extends (outputs (standing_of self.old)) (outputs (standing_of self.new)) }
     {
         if self.owes {
-            return self.empty();
+            return self.empty(&[true; BELLS as usize]);
         }
         Ok(())
     }
 
     /// Ends a step: every box is emptied. With `still`, there is no mail.
-    fn finish(&mut self, still: bool) -> Result<(), AllocError>
+    fn finish(&mut self, still: bool, bells: &[bool; BELLS as usize]) -> Result<(), AllocError>
         requires desk { IsDesk D.honest D.may_leave (desk_of self.old) }
         requires still { still ≡ true → HasNoMail (standing_of self.old) }
+        requires rung { AreRung self.old.front bells.now }
         ensures desk { IsDesk D.honest D.may_leave (desk_of self.new) }
         ensures empties { Empties result (standing_of self.old) (standing_of self.new) }
         ensures store { HasStore (desk_of self.old) (desk_of self.new) }
@@ -69,28 +75,31 @@ impl<D: Disk> Parts<D> {
         if still {
             return Ok(());
         }
-        self.empty()
+        self.empty(bells)
     }
 
     /// Empties every box. Where memory is short, the next step begins with it.
-    fn empty(&mut self) -> Result<(), AllocError>
+    fn empty(&mut self, bells: &[bool; BELLS as usize]) -> Result<(), AllocError>
         requires desk { IsDesk D.honest D.may_leave (desk_of self.old) }
+        requires rung { AreRung self.old.front bells.now }
         ensures desk { IsDesk D.honest D.may_leave (desk_of self.new) }
         ensures empties { Empties result (standing_of self.old) (standing_of self.new) }
         ensures store { HasStore (desk_of self.old) (desk_of self.new) }
         ensures extends { Extends (outputs (standing_of self.old)) (outputs (standing_of self.new)) }
     {
-        let outcome = empty_boxes(&mut self.front, &mut self.trace.ports);
+        let outcome = empty_boxes(&mut self.front, &mut self.trace.ports, bells);
         self.owes = outcome.is_err();
         outcome
     }
 
-    /// What a step does before the boxes are emptied.
-    fn act(&mut self, step: &Step) -> Result<(), DeskFault>
+    /// What a step does before the boxes are emptied. A post rings the bells of the boxes that it changed.
+    fn act(&mut self, step: &Step, bells: &mut [bool; BELLS as usize]) -> Result<(), DeskFault>
         requires desk { IsDesk D.honest D.may_leave (desk_of self.old) }
         requires works { self.old.keeper.store.has_failed ≡ false }
         ensures desk { IsDesk D.honest D.may_leave (desk_of self.new) }
         ensures goes { GoesAct D.Disk (desk_of self.old) step.now result (desk_of self.new) }
+        ensures rung { step.now ≡ Step.Post
+            → (conn : ℕ) → IsRung bells.new conn ⊎ HasItsBox self.old.front self.new.front conn }
     {
         match step {
             Step::Connect { conn } => {
@@ -110,7 +119,7 @@ impl<D: Disk> Parts<D> {
             }
             Step::Append => told_by(self.store()),
             Step::Post => {
-                self.post();
+                self.post(bells);
                 Ok(())
             }
             Step::CheckBegin => told_by(self.keeper.checkpoint_begin()),

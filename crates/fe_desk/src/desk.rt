@@ -110,8 +110,7 @@ impl<D: Disk> Desk<D> {
             → StepAsksFor asked self.old step.now
             → IsAcknowledged begun asked self.old → IsAcknowledged begun asked self.new }
     {
-        let still = self.quiet && step.mails_nothing();
-        let outcome = self.parts.step(step, still);
+        let outcome = self.parts.step(step, self.quiet);
         self.quiet = outcome.is_ok();
         outcome
     }

@@ -1,4 +1,4 @@
-ghost use Rattle.std.specs.Prelude.{◌≡◌};
+ghost use Rattle.std.specs.Prelude.{◌≡◌, true};
 ghost use Rattle.fe_desk.specs.Quiet.{mails_nothing};
 
 /// A step of a desk. A step with nothing to act on only writes the mails that are owed.
@@ -25,10 +25,17 @@ pub enum Step {
 }
 
 impl Step {
-    /// Whether the step makes no mail.
-    pub(crate) fn mails_nothing(&self) -> bool
-        ensures { result ≡ mails_nothing self.now }
+    /// Whether no box has a mail after the step, if none had one before (`quiet`).
+    pub(crate) fn is_still(&self, quiet: bool) -> bool
+        ensures { result ≡ true → (quiet ≡ true) × (mails_nothing self.now ≡ true) }
     {
-        !matches!(self, Step::Bytes { .. } | Step::Gone { .. } | Step::Post)
+        quiet && !matches!(self, Step::Bytes { .. } | Step::Gone { .. } | Step::Post)
+    }
+
+    /// Whether the step posts the batch that is stored, and no box had a mail before (`quiet`).
+    pub(crate) fn posts(&self, quiet: bool) -> bool
+        ensures { result ≡ true → (quiet ≡ true) × (self.now ≡ Step.Post) }
+    {
+        quiet && matches!(self, Step::Post)
     }
 }

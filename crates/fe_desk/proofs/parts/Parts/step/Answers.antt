@@ -1,11 +1,14 @@
-use Rattle.std.proofs.Common.{sym, ap, ◌∙◌}
+use Rattle.std.proofs.Common.{◌≡◌, sym, ap, ◌∙◌}
+use Rattle.fe_mail.specs.Connections.{mails_on}
 use Rattle.fe_desk.specs.within.Desk.{standing_of, desk_of}
 use Rattle.fe_desk.specs.Messages.{outputs}
 use Rattle.fe_desk.specs.Quiet.{HasNoMail}
 use Rattle.fe_desk.proofs.Outputs.{extends_itself, extends_both, extends_as, acts_extends}
 use Rattle.fe_desk.proofs.Advancing.{advances_as, advances_itself, advances_after, advances_then}
 use Rattle.fe_desk.proofs.Quiets.{still_quiet_after}
-use Rattle.fe_desk.proofs.StepParts.{settles_ok, settles_err, empties_ok, empties_err}
+use Rattle.fe_desk.specs.Standing.{Standing}
+use Rattle.fe_desk.proofs.Bells.{rung_since}
+use Rattle.fe_desk.proofs.StepParts.{discharged_at, settles_ok, settles_err, empties_ok, empties_err}
 use Rattle.fe_desk.proofs.Stepping.{refused, settled, step_settling, step_fault, step_owing, step_whole, act_silent, of_fault}
 use Rattle.fe_desk.proofs.parts.Parts.step.Goals as goal
 
@@ -48,11 +51,20 @@ returns-in_err-act g c =
       advances = advances_after g.D.Disk.honest g.D.Disk.may_leave g.D.Disk.moment g.D.Disk.left_since (desk_of old) (desk_of mid) (desk_of new) c.settle.ensures.store c.in_err-act.ensures.goes.advances;
     }
 
+-- where no box had a mail, the settling changed nothing
+pub bells_after-bells-requires : goal.bells_after-bells-requires
+bells_after-bells-requires g c = λ posts.
+    let e = c.posts.ensures posts in
+    let quiet = c.requires.quiet e.0 in
+    let settles = settles_ok c.settle.result (standing_of c.args.self.now) (standing_of c.settle.new.self) (sym c.if-is_err.ensures.value) c.settle.ensures.settles in
+    let same : standing_of c.settle.new.self ≡ standing_of c.args.self.now = settles ∙ discharged_at (standing_of c.args.self.now) quiet.owes in
+    rung_since c.settle.new.self.front c.act.new.self.front c.act.new.bells (λ conn. ap (λ (s : Standing). mails_on s.front.connections conn) same ∙ quiet.boxes conn) (c.act.ensures.rung e.1)
+
 pub finish-requires-clause-still : goal.finish-requires-clause-still
 finish-requires-clause-still g c = λ still.
-    let quiet = c.requires.still still in
+    let e = c.is_still.ensures still in
     let settles = settles_ok c.settle.result (standing_of c.args.self.now) (standing_of c.settle.new.self) (sym c.if-is_err.ensures.value) c.settle.ensures.settles in
-    still_quiet_after (standing_of c.args.self.now) (standing_of c.settle.new.self) (standing_of c.act.new.self) c.args.step.now settles quiet.1 quiet.0 c.in_ok-act.ensures.goes.ends.acts
+    still_quiet_after (standing_of c.args.self.now) (standing_of c.settle.new.self) (standing_of c.act.new.self) c.args.step.now settles e.1 (c.requires.quiet e.0) c.in_ok-act.ensures.goes.ends.acts
 
 pub returns-then-is_err-2 : goal.returns-then-is_err-2
 returns-then-is_err-2 g c =
