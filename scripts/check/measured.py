@@ -150,8 +150,8 @@ def beside(_place):
     table = {row[0]: " ".join(row[1:]) for row in rows(PAGE, "| | femem | in its place |")}
     one, eight, lock = (NUMBER.findall(table[it]) for it in ("a client adds to a counter", "8 clients add to one counter", "a lock around true"))
     said = re.search(
-        r"\[On another machine, from Python\]\(.*?\): .*? in (\d+) µs, .*? in (\d+)\. Eight clients add ([\d,]+) times a second, and ([\d,]+) times"
-        r" to a row\. A lock around a command takes ([\d.]+) ms, and `flock` ([\d.]+)\.", text("README.md"))
+        r"\[On another machine, from Python\]\(.*?\): .*? in (\d+) µs, .*? in (\d+)\. Eight clients together make ([\d,]+) additions a second with femem, and"
+        r" ([\d,]+) to one SQLite row\. A lock around a command takes ([\d.]+) ms, and `flock` ([\d.]+)\.", text("README.md"))
     holds(said, "the README has the sentence")
     same(list(said.groups()), [one[1], one[3], eight[0], eight[2], *lock], "README.md")
     return "6 figures"
