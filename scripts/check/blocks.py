@@ -41,6 +41,7 @@ BLOCKS = {
         ("  printf 'attach 7", "blocks.page_of_operating"),
     ),
     "docs/patterns.md": (("femem run < examples/queue_of_one.txt", "runs.worked_schedules"),),
+    "docs/stops.md": (("life 1 ", "blocks.timeline"),),
     "docs/performance.md": (("make bench-serve", NOT_RUN + "minutes, and a quiet machine; outside.py runs the benches on less work"),),
     "docs/replication.md": (("# on both", "places.recipe"),),  # hosts.py does the same where there is root, with its packages
     FILE: tuple((first, "sessions.tables") for first in ("46454d454d534632", "00000000 ", "000000ac", "00000050", "00000054", "00000053")),
@@ -200,6 +201,25 @@ def saves(place, server, runs):
     holds(told_of.startswith(f"damaged at {JOURNAL + 5}") and told_of.endswith("\nplace 0\n"), told_of)
 
 
+def timeline(place):
+    """over the two stops that docs/stops.md shows, each request is answered as the page says, and adds once"""
+    lives = [re.findall(r"(?<!\w)(\d) (create|int_fetch_add)(?: hits)?(?:, sent again)?(?:: (\d))?", line) for line in block("docs/stops.md", "life 1 ").splitlines()]
+    same([len(life) for life in lives], [3, 2, 1], "requests of each life")
+    lines, wanted = [], []
+    for at, life in enumerate(lives):
+        lines += ["c1 attach 7"]
+        for number, what, value in life:
+            # (what has no answer on the page is not stored before the stop)
+            stored = what == "create" or value
+            lines += [] if stored else ["hold"]
+            lines += [f"c1 {number} create hits 1 full" if what == "create" else f"c1 {number} int_fetch_add 1 0 1"]
+            wanted += [f"c1 {number} value {value}"] if value else []
+        lines += ["stop"]
+    status, output, _ = place.run("run", given="\n".join([*lines, ""]).encode())
+    same((status, re.findall(r"^c1 \d value \d$", output.decode(), re.M)), (0, wanted))
+    return f"{len(wanted)} answers"
+
+
 def planted_edit(_place):
     """the edit that CONTRIBUTING.md shows is one of fe_wire's"""
     wanted = block("CONTRIBUTING.md", "# clause: Decoder::feed reads").strip()
@@ -320,4 +340,4 @@ def page_of_python(place):
     same([it.split()[-1:] for it in said[2:]], [["42"]], "what the shell reads")
 
 
-CHECKS = (blocks_known, unit_line, targets, example_of_commands, lines_of_python, page_of_operating, planted_edit, page_of_c, page_of_cli, page_of_python)
+CHECKS = (blocks_known, unit_line, targets, example_of_commands, timeline, lines_of_python, page_of_operating, planted_edit, page_of_c, page_of_cli, page_of_python)
