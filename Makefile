@@ -24,7 +24,7 @@ run: toolchain ## try it: builds femem without proving it, and runs the schedule
 	@echo "its answers:"
 	@$(UNPROVED) run < $(SCHEDULE)
 
-test: toolchain ## test it: the gate, with every proof, must-fail edit and test, and real processes (45 to 60 minutes; 4 to 6 if nothing changed)
+test: toolchain ## test it: the gate, with every proof, must-fail edit and test, and real processes (45 to 80 minutes; 4 to 6 if nothing changed)
 	@scripts/gate
 
 figures: ## writes docs/figures.md: sizes, what the benches printed last, and what the last `make test` took
@@ -76,7 +76,7 @@ faults: $(PROGRAM) ## runs every schedule with each allocation refused in turn, 
 	@scripts/refuse_each $(PROGRAM)
 	@scripts/refuse_test
 
-check-programs: $(PROGRAM) ## real processes: crowds, kills under load, damaged stores, faults, clients, installations (4 minutes)
+check-programs: $(PROGRAM) ## real processes: crowds, kills under load, damaged stores, faults, clients, installations (4 to 10 minutes)
 	@scripts/check_programs $(PROGRAM)
 
 check-deb: $(PROGRAM) ## the packages, in a clean Debian with its own systemd: installed, killed, upgraded, purged; the pages; needs root (4 minutes)
