@@ -224,7 +224,7 @@ def page(asked):
     """The page, from the sources and from what the last gate left."""
     parts = [
         "# Figures", "",
-        "Written by `make figures` after a run of the gate. Times are of one machine and one hour: hosts vary by 1.7 times, so compare"
+        "Written by `make figures`. Sizes are of this text, and counts of the last gate of the commit that it names. Times are of one machine and one hour: hosts vary by 1.7 times, so compare"
         " two texts in one hour.", "",
         "## Size", "", "Lines that are not empty.", "", *size(), "",
         "## The last gate", "", *gate(), "", *compared(asked),
