@@ -31,14 +31,19 @@ def needed_c_library(program):
     return ".".join(map(str, max(found)))
 
 
+def entry(line):
+    """A line of CHANGELOG.md in Debian's format: an entry, or the heading of some."""
+    if line.startswith("- "):
+        return textwrap.fill(line[2:], 78, initial_indent="  * ", subsequent_indent="    ")
+    return f"  [ {line.removesuffix(':')} ]" if line else ""
+
+
 def changelog(maintainer):
     """CHANGELOG.md's entries for this version, in Debian's format."""
     version = pages.version()
     text = read("CHANGELOG.md").decode()
     entries = re.search(rf"^## {re.escape(version)}\n\n(.*?)(?=\n## |\Z)", text, re.M | re.S)[1].strip()
-    lines = "\n".join(
-        textwrap.fill(it[2:], 78, initial_indent="  * ", subsequent_indent="    ") for it in entries.replace("`", "").splitlines()
-    )
+    lines = "\n".join(entry(it) for it in entries.replace("`", "").splitlines())
     date = time.strftime("%a, %d %b %Y %H:%M:%S +0000", time.gmtime(pages.epoch()))
     return f"femem ({version}) unstable; urgency=medium\n\n{lines}\n\n -- {maintainer}  {date}\n".encode()
 
