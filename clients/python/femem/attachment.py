@@ -270,7 +270,7 @@ class Attachment:
         elif self._handshake is not None:
             self._handshake.take(refusal)
             self._go_on_handshake(self._handshake)
-        elif not self._outbox.refused(refusal):
+        elif not self._outbox.refused(refusal, now, self._leaving is not None):
             self._take_other_refusal(refusal)
 
     def _take_echo(self, number: int, now: float) -> None:

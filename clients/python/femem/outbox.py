@@ -2,8 +2,8 @@
 
 from __future__ import annotations
 
-from collections import deque
-from typing import Any, Deque, Dict, List, Optional, Sequence, Set, Tuple
+from collections import Counter, deque
+from typing import Any, Deque, Dict, Iterable, List, Optional, Sequence, Tuple
 
 from . import errors, frames
 from .errors import AnswerError, ProtocolError
@@ -17,6 +17,9 @@ from .window import Window
 
 # How long requests that wait keep their numbers while there are more of them than numbers, in seconds.
 PATIENCE = 0.05
+
+# How often a client with a session file may ask again for a floor that an earlier process's late request holds.
+_CLEARINGS = 20
 
 _OF_CALL = (frames.BELOW_FLOOR, frames.BEYOND_WINDOW, frames.NUMBER_USED, frames.NO_MEMORY, frames.SPENT)
 _OF_SETTLE = (frames.BELOW_FLOOR, frames.BEYOND_WINDOW, frames.STILL_WAITING, frames.SPENT)
@@ -45,11 +48,14 @@ class Outbox:
         self.to_send = to_send
         self._ended = ended
         self._queue: Deque[Ticket[Any]] = deque()
+        # How often it asked again for a floor that an earlier process's late request held.
+        self._clearings = 0
         self.start_over()
 
     def start_over(self) -> None:
         """Begins with a new connection, over which nothing was cancelled or settled."""
-        self._cancelled: Set[int] = set()
+        # How many replies to cancels of each number are due.
+        self._cancelled: Counter[int] = Counter()
         self._settle_sent: Optional[float] = None
 
     def begin(self, floor: int) -> None:
@@ -209,12 +215,18 @@ class Outbox:
         """Sends the settle that is due, every unanswered request under its old number, and the cancels."""
         window = self.window
         assert window is not None
+        self._cancelled.clear()  # they had their replies, or were refused since another connection had the session
         for floor in window.floors():
             self._settle(floor, now)
+        self._send_all(window.unanswered.values(), now)
         for ticket in window.unanswered.values():
-            self._send(ticket, now)
             self._tell("sent_again", ticket)
-        for ticket in window.unanswered.values():
+
+    def _send_all(self, tickets: Iterable[Ticket[Any]], now: float) -> None:
+        """Sends them under their old numbers, and the cancels of those that are taken back."""
+        for ticket in tickets:
+            self._send(ticket, now)
+        for ticket in tickets:
             if ticket.taken_back is not None:
                 self._cancel(ticket, now)
 
@@ -242,8 +254,16 @@ class Outbox:
         if not ticket.cancel_sent:
             ticket.cancel_sent = True
             ticket.sent_at = now
-            self._cancelled.add(ticket.number)
-            self.to_send += frames.cancel(ticket.number)
+            self._cancel_number(ticket.number)
+
+    def _cancel_number(self, number: int) -> None:
+        self._cancelled[number] += 1
+        self.to_send += frames.cancel(number)
+
+    def _cancel_had_reply(self, number: int) -> None:
+        self._cancelled[number] -= 1
+        if not self._cancelled[number]:
+            del self._cancelled[number]
 
     def _end(self, ticket: Ticket[Any], result: Any = None, error: Optional[BaseException] = None) -> None:
         ticket.end(result, error)
@@ -343,9 +363,12 @@ class Outbox:
 
     def withdrawn(self, number: int) -> None:
         window = self.window
-        if window is None or number not in self._cancelled or number not in window.unanswered:
+        is_late = window is not None and number < window.asked
+        if window is None or number not in self._cancelled or number not in window.unanswered and not is_late:
             raise ProtocolError(f"number {number} is withdrawn, which nobody asked for")
-        self._cancelled.discard(number)
+        self._cancel_had_reply(number)
+        if is_late:
+            return
         ticket = self._end_number(window, number)
         if ticket.taken_back is not None:
             self._end(ticket, error=ticket.taken_back)
@@ -377,16 +400,23 @@ class Outbox:
         if self._file is not None:
             self._file.settled(window.floor)
 
-    def refused(self, refusal: frames.Refusal) -> bool:
-        """Whether it refuses a request, a cancel or a settle. A settle's is raised, since nothing can go on then."""
+    def refused(self, refusal: frames.Refusal, now: float, is_leaving: bool) -> bool:
+        """Whether it refuses a request, a cancel or a settle. A settle's is raised if it can't be asked again."""
         window = self.window
         number, code = refusal.number, refusal.code
         if window is None:
             return False
+        is_floor = number in window.floors()
         if code == frames.NOT_WAITING and number in self._cancelled:
-            self._cancelled.discard(number)  # the request has happened, and its answer comes
-        elif number == window.asked != window.floor and code in _OF_SETTLE:
-            raise errors.REFUSALS[code](f"settle {number}")
+            self._cancel_had_reply(number)  # the request has happened, and its answer comes
+        elif self._is_above_refused_settle(window, refusal) and (is_floor or number in window.unanswered):
+            pass  # it was sent again behind that settle
+        elif is_floor and code in _OF_SETTLE:
+            if code != frames.STILL_WAITING or self._file is None or self._clearings == _CLEARINGS:
+                raise errors.REFUSALS[code](f"settle {number}")
+            self._clearings += 1
+            if not is_leaving:
+                self._clear(window, now)
         elif number in window.unanswered and code in _OF_CALL:
             ticket = self._end_number(window, number)
             assert ticket.request is not None
@@ -394,3 +424,20 @@ class Outbox:
         else:
             return False
         return True
+
+    def _is_above_refused_settle(self, window: Window[Ticket[Any]], refusal: frames.Refusal) -> bool:
+        """Whether the message is refused only because a settle before it was."""
+        is_above = refusal.number >= window.floor + frames.WINDOW
+        return refusal.code == frames.BEYOND_WINDOW and is_above and self._clearings > 0
+
+    def _clear(self, window: Window[Ticket[Any]], now: float) -> None:
+        """Takes back what waits below the floor that is asked for, and sends again what depends on that floor.
+
+        An earlier process sent it, and the server read it late, after this client or an earlier one had taken it back.
+        """
+        for number in range(window.floor, window.asked):
+            self._cancel_number(number)
+        for floor in window.floors():
+            self._settle(floor, now)
+        beyond = window.floor + frames.WINDOW
+        self._send_all([ticket for number, ticket in window.unanswered.items() if number >= beyond], now)

@@ -43,7 +43,7 @@ class Sessions(WithFolder):
                 for index in range(40):
                     self.assertEqual(unanswered(client), [])
                     self.assertEqual(await client.readxx(words, index), 0)
-                    self.assertEqual(client._core._outbox._cancelled, set())
+                    self.assertFalse(client._core._outbox._cancelled)
                 await asyncio.gather(*[other.writexf(words, index, index) for index in range(1000)])
                 self.assertEqual(await asyncio.gather(*tasks), list(range(1000)))
                 self.assertFalse(client._core.is_busy())
