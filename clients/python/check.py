@@ -2,8 +2,8 @@
 """Tries the client against a real server: `check.py PROGRAM`, where PROGRAM is the program `femem`.
 
 It tries every pattern with 16 processes, the shell, a counter that 16 processes raise while the server is killed and
-restarted twenty times, and a server that never comes back. It prints a line for each, and ends with status 0 if all went
-well. Socket and store are in a temporary folder.
+restarted twenty times, a client with a session file that is killed, a request that comes late, and a server that never
+comes back. It prints a line for each, and ends with status 0 if all went well. Socket and store are in a temporary folder.
 """
 
 import json
@@ -11,6 +11,7 @@ import os
 import pathlib
 import random
 import signal
+import socket
 import subprocess
 import sys
 import tempfile
@@ -20,7 +21,7 @@ ROOT = pathlib.Path(__file__).resolve().parent
 sys.path.insert(0, str(ROOT))
 
 import femem  # noqa: E402
-from femem import Client, requests  # noqa: E402
+from femem import Client, Observer, frames, requests  # noqa: E402
 from femem.patterns import Barrier, BoundedQueue, Channel, Counter, Election, Future, Lock, Once  # noqa: E402
 from femem.patterns import ReadWriteLock, Semaphore, WorkQueue, shared_array  # noqa: E402
 
@@ -359,6 +360,24 @@ def try_restarts(server):
     return kills
 
 
+def try_late(server):
+    """A request that was taken back comes late, over an earlier connection. It waits, and holds up no other request."""
+    with Client(server.path, session_file=server.path + ".late") as client, socket.socket(socket.AF_UNIX) as earlier:
+        word, count = client.create("late", 1), client.create("beside", 1, full=True)
+        taken_back = client.submit(requests.readfe(word, 0), timeout=0.01)
+        expect("a request that is taken back", type(taken_back.exception(60)), femem.TimedOut)
+        number = taken_back.asked[1].number
+        earlier.connect(server.path)
+        earlier.sendall(frames.attach(client.session) + frames.access(number, frames.READFE, word.id, 0, 0, False))
+        with Observer(server.path) as observer:
+            while not observer.report().waiters:
+                time.sleep(0.01)
+        futures = [client.submit(requests.int_fetch_add(count, 0, 1)) for _ in range(100)]
+        expect("what is asked beside it", [each.result(60) for each in futures], list(range(100)))
+        expect("what waits then", client.report().waiters, [])
+        client.bye()
+
+
 def try_no_server(server):
     """Requests to a server that never comes back end with an error, after about the given time."""
     # This is long because on a slow machine even a running server may not answer at once.
@@ -389,6 +408,8 @@ def check(program):
             finally:
                 processes.close()
             print(f"restarts: {try_restarts(server)} kills of a client with a session file, and its count is exact", flush=True)
+            try_late(server)
+            print("a late request: it holds up no other", flush=True)
             try_no_server(server)
             print("no server: it is told in time", flush=True)
         finally:
