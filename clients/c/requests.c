@@ -57,11 +57,26 @@ static femem_error make_room(femem *client) {
     if (!first && fe_is_past(end)) return FEMEM_TIMEOUT;
     error = fe_write_all(client, end);
     if (error) return error;
-    if (!crowded && client->moving == 0) begin_moves(client);
+    if (!crowded && client->moving == 0 && client->phase == SERVED) begin_moves(client);
     error = fe_wait_for(client, crowded ? has_place : fe_is_moved, client->low, end);
     if (error) return error;
   }
   return FEMEM_OK;
+}
+
+/* Makes the client ready for one more request. Making room may find that the connection is gone: then nothing may be put
+   into the output, since it would go out before the attach, or before the welcome. */
+static femem_error make_ready(femem *client) {
+  /* The first request of a write has checked this for the others. */
+  bool found = client->phase == SERVED && !client->bye && client->output_begin < client->output_end;
+  femem_error error = FEMEM_OK;
+  do {
+    if (!found) error = fe_usable(client);
+    found = false;
+    if (error == FEMEM_OK) error = make_room(client);
+    if (error == FEMEM_OK && !fe_has_room(client, RESERVE)) error = femem_flush(client);
+  } while (error == FEMEM_OK && client->phase != SERVED);
+  return error;
 }
 
 /* `key` may be NULL. */
@@ -69,11 +84,7 @@ femem_error fe_send_request(femem *client, const femem_request *request, const c
                             uint64_t *number) {
   if (fe_is_copy(client)) return FEMEM_FORKED;
   if (!fe_is_spelled(request)) return FEMEM_BAD_CALL;
-  /* The first request of a write has checked this for the others. */
-  bool found = client->phase == SERVED && !client->bye && client->output_begin < client->output_end;
-  femem_error error = found ? FEMEM_OK : fe_usable(client);
-  if (error == FEMEM_OK) error = make_room(client);
-  if (error == FEMEM_OK && !fe_has_room(client, RESERVE)) error = femem_flush(client);
+  femem_error error = make_ready(client);
   if (error) return error;
   /* A settle goes in the same write as a request: after it, or before it if it must make room. */
   if (is_full(client)) fe_put_settle(client, client->low);

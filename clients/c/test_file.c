@@ -6,6 +6,7 @@
 #include "scripts.h"
 
 #include <errno.h>
+#include <poll.h>
 #include <signal.h>
 #include <sys/stat.h>
 
@@ -633,6 +634,57 @@ static void late_request(void) {
   END(server);
 }
 
+static void closing_server(int listener) {
+  int line = take_line(listener);
+  meet_any(line);
+  heard(line, read_of, 1);
+  hear_end(line);
+  line = take_line(listener);
+  welcome_any(line, "0000000000000021");
+  heard(line, read_of, 1);
+  for (unsigned number = 2; number <= 32; number++) heard(line, add_of, number);
+  char hex[200]; /* the answer that makes room, and that an earlier life has the session: in one piece */
+  snprintf(hex, sizeof hex, "00000016 42 %016x 01 %016x 00000000 0000000a 46 %016x 01", 33, 1, 34);
+  say(line, hex);
+  hear_end(line);
+  line = take_line(listener);
+  welcome_any(line, "0000000000000021");
+  for (unsigned number = 2; number <= 32; number++) heard(line, add_of, number);
+  said_all(line, value_of, 2, 32);
+  heard(line, settle_of, 2);
+  heard(line, add_of, 33);
+  said(line, settled_of, 2);
+  said(line, value_of, 33);
+  hear_end(line);
+}
+
+/* A send reads what has come, to make room, and finds that the connection is gone. The attach goes out first. */
+static void closed_by_a_send(void) {
+  test = "a connection that a send finds closed";
+  fresh();
+  pid_t server = begin_at(32, closing_server);
+  femem_answer answer = {0};
+  pid_t life = life_of(3);
+  if (life == 0) {
+    femem *client = OPEN(&patient, FEMEM_OK);
+    femem_once(client, "one", &read_one, &answer);
+    _exit(1);
+  }
+  END(life);
+  femem *client = OPEN(&going_on, FEMEM_OK);
+  for (unsigned number = 2; number <= 32; number++) ERROR(femem_send_int_fetch_add(client, 1, 0, 1, NULL), FEMEM_OK);
+  ERROR(femem_flush(client), FEMEM_OK);
+  CHECK(poll(&(struct pollfd){.fd = femem_descriptor(client), .events = POLLIN}, 1, 20000) == 1);
+  ERROR(femem_send_int_fetch_add(client, 1, 0, 1, NULL), FEMEM_OK);
+  for (unsigned due = 2; due <= 33; due++) {
+    ERROR(femem_next(client, &answer, 20000), FEMEM_OK);
+    CHECK(answer.error == FEMEM_OK && answer.value == due);
+  }
+  CHECK(femem_reconnects(client) == 1);
+  femem_close(client);
+  END(server);
+}
+
 static void copied_server(int listener) {
   for (int i = 0; i < 2; i++) {
     int line = take_line(listener);
@@ -701,7 +753,8 @@ int main(void) {
   snprintf(kept_at, sizeof kept_at, "%s/session", folder);
   snprintf(kept_new, sizeof kept_new, "%s/session.new", folder);
   void (*const tests[])(void) = {batch, many, many_keys, earlier, ends_with_process, keys, file_fault,
-                                 leaving, strange_session, left_answers, crowded, late_request, copied,
+                                 leaving, strange_session, left_answers, crowded, late_request, closed_by_a_send,
+                                 copied,
                                  arguments};
   for (size_t i = 0; i < sizeof tests / sizeof *tests; i++) tests[i]();
   unlink(path);
