@@ -4,8 +4,8 @@
     work_queue.py produce SOCKET SESSION_FILE COUNT    puts the jobs 0 to COUNT - 1, each once
     work_queue.py work SOCKET SESSION_FILE COUNT       works until the results of all COUNT jobs are there
 
-Each process has a session file of its own, and is started again with it after it was killed. The result of a job is a word that
-is written once; a worker that was only away and comes back finds it there. A worker prints each job that it ends.
+Each process has a session file of its own, and is started again with it after it was killed. Each attempt at a job writes the
+same result into the job's word, so a second one does no harm. A worker prints each job that it ends.
 """
 
 import sys
