@@ -43,7 +43,10 @@ BLOCKS = {
     "docs/patterns.md": (("femem run < examples/queue_of_one.txt", "runs.worked_schedules"),),
     "docs/stops.md": (("life 1 ", "blocks.timeline"),),
     "docs/performance.md": (("make bench-serve", NOT_RUN + "minutes, and a quiet machine; outside.py runs the benches on less work"),),
-    "docs/replication.md": (("# on both", "places.recipe"),),  # hosts.py does the same where there is root, with its packages
+    "docs/replication.md": (
+        ("   install -d ", NOT_RUN + "it needs the package's user and a mount; its postinst, which deb.py runs, makes the store so"),
+        ("# on both", "places.recipe"),  # hosts.py does the same where there is root, with its packages
+    ),
     FILE: tuple((first, "sessions.tables") for first in ("46454d454d534632", "00000000 ", "000000ac", "00000050", "00000054", "00000053")),
     STORE: (
         ("slot 0 ", "writes.layout"), ("at offset o", "writes.orders"), ("write   journal area", "writes.orders"), ("sync\nread ", "writes.orders"),
