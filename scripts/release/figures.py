@@ -229,8 +229,8 @@ def page(asked):
         "## Size", "", "Lines that are not empty.", "", *size(), "",
         "## The last gate", "", *gate(), "", *compared(asked),
         "## Wrong bodies", "",
-        "What `rt plant` tried, without bodies that could not be judged. A body that is proved gives the same as the right one, or"
-        " `scripts/planted.txt` has the reason why it does no harm.", "", *wrong_bodies(), "",
+        "What `rt plant` tried and could judge. Tried bodies in no later column give, by the contract, the"
+        " same as the right one. `scripts/planted.txt` says why the explained ones do no harm.", "", *wrong_bodies(), "",
         "## Speed", "", *speed(),
         "## Documents", "", *words(),
     ]
