@@ -13,6 +13,7 @@ from .crowds import adding
 from .harness import Held, Server, Skipped, holds, same, until, within
 from .looks import Load
 from .model import State
+from .store import TWO
 
 TOOLS = os.path.join(tables.TOP, "packaging", "tools")
 COPIES = 40
@@ -243,4 +244,18 @@ def slow_sync(place):
     server.stop()
 
 
-CHECKS = (layout, restored, rescued, synced, probed, slow_sync, while_served)
+def made(place):
+    """`make-store` makes an empty store that its owner alone may read; where there is a file, or the server fails, it says so at once"""
+    tool, env = os.path.join(tables.TOP, "packaging", "make-store"), {**os.environ, "FEMEM": place.program}
+    for path, status, said in (
+        ("new.store", 0, ""),
+        ("new.store", 3, f"make-store: there is a file: {place.path('new.store')}\n"),
+        ("nowhere/new.store", 3, f"femem: store device\nmake-store: no store was made: {place.path('nowhere/new.store')}\n"),
+    ):
+        ended = subprocess.run(["sh", tool, place.path(path)], env=env, capture_output=True, text=True, timeout=20)
+        same((ended.returncode, ended.stdout, ended.stderr), (status, "", said), path)
+    holds(place.read("new.store") == bytes(store.device_of(TWO)), "it is not an empty store")
+    same(os.stat(place.path("new.store")).st_mode & 0o777, 0o600, "its mode")
+
+
+CHECKS = (layout, made, restored, rescued, synced, probed, slow_sync, while_served)
