@@ -600,8 +600,9 @@ static void late_server(int listener) {
   welcome_any(line, "0000000000000021");
   heard(line, settle_of, 33);
   heard(line, add_of, 33);
-  said(line, "0000000a 46 %016x 06", 33); /* the settle: a request below it waits */
-  said(line, "0000000a 46 %016x 04", 33); /* the request: it is beyond the window */
+  char hex[80]; /* the settle: a request below it waits; and the request: it is beyond the window. In one piece */
+  snprintf(hex, sizeof hex, "0000000a 46 %016x 06 0000000a 46 %016x 04", 33, 33);
+  say(line, hex);
   hear_end(line);
   line = take_line(listener);
   welcome_any(line, "0000000000000021");
