@@ -15,9 +15,9 @@ use Rattle.fe_desk.specs.Standing.{Standing}
 use Rattle.fe_desk.specs.Storing.{stored, is_making}
 use Rattle.fe_desk.specs.Steps.{find, unmade, Acts, Connects, IsAgain, TakesBytes}
 use Rattle.fe_desk.specs.Messages.{outputs, told_as}
-use Rattle.fe_desk.specs.Crash.{DeskState, Advances, IsFine}
+use Rattle.fe_desk.specs.Crash.{DeskState, Advances}
 use Rattle.fe_desk.specs.Checks.{Checks}
-use Rattle.fe_desk.specs.Ends.{Lacks, Tears, Breaks, BreaksOff}
+use Rattle.fe_desk.specs.Ends.{Lacks, Tears, TearsStep, BreaksOff}
 use Rattle.fe_desk.specs.within.Desk.{IsDesk}
 use Rattle.fe_desk.specs.within.Keeping.{HasStore}
 use Rattle.fe_desk.specs.within.Goes.{Goes, GoesAct, GoesPiece, Is, IsLacking, IsUnstored, LeavesStream, StopsStream, TakesStream}
@@ -25,6 +25,7 @@ use Rattle.fe_desk.proofs.Advancing.{advances_as, fine_as}
 use Rattle.fe_desk.proofs.Feeding.{same_reads}
 use Rattle.fe_desk.proofs.Goes.{CountsNow, OnlyNow}
 use Rattle.fe_desk.proofs.Making.{advances_checked, desk_checked}
+use Rattle.fe_keeper.specs.Ends.{Works}
 
 -- what a call answered, in the words of a step
 abbrev pub IsTold : {T : Type 0} → Result T Fault → Result (Unit {0}) DeskFault → Type 0
@@ -36,15 +37,15 @@ act_at {D} {k} {x} {y} {q} {a} {b} is h = subst (λ (z : Step). GoesAct k a z q 
 
 module _ {D : Type 0} {k : Ghosts D} {y : Step} {a b : DeskState D} where
   -- the store is not touched
-  pub act_still : OnlyNow k → IsDesk k.honest k.may_leave a → a.keeper.store.has_failed ≡ false → HasStore a b → b.standing.owes ≡ a.standing.owes → Acts a.standing y b.standing → Checks y a b → GoesAct k a y (Ok tt) b
+  pub act_still : OnlyNow k → IsDesk k a → a.keeper.store.has_failed ≡ false → HasStore a b → b.standing.owes ≡ a.standing.owes → Acts a.standing y b.standing → Checks y a b → GoesAct k a y (Ok tt) b
   act_still only_now desk works same owes acts checked = record {
     owes = owes;
-    advances = advances_as k.honest k.may_leave k.moment k.left_since only_now a b desk same;
-    ends = record { acts = acts; checked = checked; fine = fine_as k.failures a b works same };
+    advances = advances_as k only_now a b desk same;
+    ends = record { acts = acts; checked = checked; fine = fine_as k a b works same };
   }
 
   -- memory was short, and nothing was done
-  lacking : b ≡ a → IsFine k.failures a b → Lacks false y a b → IsLacking k false a y b
+  lacking : b ≡ a → Works k a.keeper b.keeper → Lacks false y a b → IsLacking k false a y b
   lacking same fine lacks =
       let is : b.standing ≡ a.standing = ap (λ (d : DeskState D). d.standing) same in
       record {
@@ -55,13 +56,13 @@ module _ {D : Type 0} {k : Ghosts D} {y : Step} {a b : DeskState D} where
         fine = fine;
       }
 
-  pub act_short : OnlyNow k → IsDesk k.honest k.may_leave a → a.keeper.store.has_failed ≡ false → b ≡ a → Lacks false y a b → GoesAct k a y (Err (desk.NoMemory false)) b
+  pub act_short : OnlyNow k → IsDesk k a → a.keeper.store.has_failed ≡ false → b ≡ a → Lacks false y a b → GoesAct k a y (Err (desk.NoMemory false)) b
   act_short only_now desk works same lacks =
       let still : HasStore a b = record { keeper = ap (λ (d : DeskState D). d.keeper) same; groups = ap (λ (d : DeskState D). d.standing.groups) same; synced = ap (λ (d : DeskState D). d.synced) same } in
       record {
         owes = ap (λ (d : DeskState D). d.standing.owes) same;
-        advances = advances_as k.honest k.may_leave k.moment k.left_since only_now a b desk still;
-        ends = lacking same (fine_as k.failures a b works still) lacks;
+        advances = advances_as k only_now a b desk still;
+        ends = lacking same (fine_as k a b works still) lacks;
       }
 
 -- ---- connections come and go
@@ -155,17 +156,17 @@ with_keeper d new = record d { keeper = new }
 
 module _ {D : Type 0} {k : Ghosts D} (y : Step) (d : DeskState D) (new : KeeperState D) where
   -- A step makes a call of the keeper that keeps the replica.
-  pub act_check : {T : Type 0} {q : Result (Unit {0}) DeskFault} (r : Result T Fault) (Cause : Fault → Type 0) → CountsNow k → IsDesk k.honest k.may_leave d → keeper.Rests k.honest k.moment k.left_since d.keeper new
+  pub act_check : {T : Type 0} {q : Result (Unit {0}) DeskFault} (r : Result T Fault) (Cause : Fault → Type 0) → CountsNow k → IsDesk k d → keeper.Rests k d.keeper new
       → d.keeper.store.has_failed ≡ false → Acts d.standing y d.standing → OnOk r (Checks y d (with_keeper d new)) → (Cause NoMemory → with_keeper d new ≡ d → Lacks false y d (with_keeper d new)) → ((place : ℕ) → Cause (Mismatch place) → ⊥)
-      → (BreaksOff d (with_keeper d new) → Breaks y d (with_keeper d new)) → IsTold r q → keeper.Ends k.failures Cause r d.keeper new → IsDesk k.honest k.may_leave (with_keeper d new) × GoesAct k d y q (with_keeper d new)
+      → (BreaksOff d (with_keeper d new) → TearsStep y d (with_keeper d new)) → IsTold r q → keeper.Ends k Cause r d.keeper new → IsDesk k (with_keeper d new) × GoesAct k d y q (with_keeper d new)
   act_check {T} {q} r Cause counts_now desk rests works acts checked lacks mismatch breaks told h =
-      (desk_checked k.honest k.may_leave k.moment k.left_since d new counts_now desk works rests.state rests.any_moment rests.honesty, by r checked told h)
+      (desk_checked k d new counts_now desk works rests.state rests.any_moment rests.honesty, by r checked told h)
     where
-      advances : Advances k.honest k.moment k.left_since d (with_keeper d new)
-      advances = advances_checked k.honest k.may_leave k.moment k.left_since d new desk rests.state rests.any_moment rests.honesty
+      advances : Advances k d (with_keeper d new)
+      advances = advances_checked k d new desk rests.state rests.any_moment rests.honesty
 
-      of : (f : Fault) → keeper.Fails k.failures Cause d.keeper new f → GoesAct k d y (Err (told_as f false)) (with_keeper d new)
-      of Device h = record { owes = refl; advances = advances; ends = (refl, record { breaks = breaks (record { standing = refl; synced = refl }); silent = refl; failed = record { failed = h.1.failed; rises = h.1.rises } }) }
+      of : (f : Fault) → keeper.Fails k Cause d.keeper new f → GoesAct k d y (Err (told_as f false)) (with_keeper d new)
+      of Device h = record { owes = refl; advances = advances; ends = (refl, record { breaks = breaks (record { standing = refl; synced = refl }); silent = refl; failed = h.1 }) }
       of Failed h = let had = h.0 in absurd (cc (had, works))
       of NoMemory h =
           let same : new ≡ d.keeper = h.1.same in
@@ -173,12 +174,12 @@ module _ {D : Type 0} {k : Ghosts D} (y : Step) (d : DeskState D) (new : KeeperS
           record {
             owes = refl;
             advances = advances;
-            ends = lacking is (record { works = ap (λ (j : KeeperState D). j.store.has_failed) same ∙ works; still = ap (λ (j : KeeperState D). k.failures j.store.disk) same }) (lacks h.0 is);
+            ends = lacking is (record { before = works; after = ap (λ (j : KeeperState D). j.store.has_failed) same ∙ works; still = ap (λ (j : KeeperState D). k.failures j.store.disk) same }) (lacks h.0 is);
           }
       of (Mismatch place) h = absurd (mismatch place h.0)
       of (Damaged offset) h = absurd h
       of Unformatted h = absurd h
 
-      by : (r : Result T Fault) → OnOk r (Checks y d (with_keeper d new)) → IsTold r q → keeper.Ends k.failures Cause r d.keeper new → GoesAct k d y q (with_keeper d new)
-      by (Ok x) checked told h = subst (λ (p : Result (Unit {0}) DeskFault). GoesAct k d y p (with_keeper d new)) (sym told) (record { owes = refl; advances = advances; ends = record { acts = acts; checked = checked; fine = record { works = h.after; still = h.still } } })
+      by : (r : Result T Fault) → OnOk r (Checks y d (with_keeper d new)) → IsTold r q → keeper.Ends k Cause r d.keeper new → GoesAct k d y q (with_keeper d new)
+      by (Ok x) checked told h = subst (λ (p : Result (Unit {0}) DeskFault). GoesAct k d y p (with_keeper d new)) (sym told) (record { owes = refl; advances = advances; ends = record { acts = acts; checked = checked; fine = h } })
       by (Err f) checked told h = subst (λ (p : Result (Unit {0}) DeskFault). GoesAct k d y p (with_keeper d new)) (sym told) (of f h)

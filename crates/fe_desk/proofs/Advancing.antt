@@ -2,7 +2,7 @@
 use Rattle.std.proofs.Common.{◌≡◌, ℕ, ◌≤◌, true, false, List, [], ◌++◌, length, take, refl, sym, ap, subst, ◌∙◌, append_assoc, arith}
 use Rattle.std.specs.Prelude.{is_some}
 use Rattle.std.proofs.lemmas.List.{append-nil, length-append, take-append-le}
-use Rattle.fe_disk.specs.Disk.{LeavesOnly}
+use Rattle.fe_disk.specs.Runs.{LeavesOnly}
 use Rattle.fe_disk.proofs.Moments.{started, joined, weaker}
 use Rattle.fe_state.specs.State.{ServerState, after_all}
 use Rattle.fe_state.specs.History.{IsHistory, AreLegal, after_groups}
@@ -13,10 +13,12 @@ use Rattle.fe_keeper.specs.Prefix.{LeavesPrefix}
 use Rattle.fe_desk.specs.declared.handed.Handed.{Handed}
 use Rattle.fe_desk.specs.Standing.{Standing}
 use Rattle.fe_desk.specs.Steps.{find}
-use Rattle.fe_desk.specs.Crash.{DeskState, IsFrom, Advances, IsFine, disk_of}
+use Rattle.fe_desk.specs.Crash.{DeskState, IsFrom, Advances, disk_of}
 use Rattle.fe_desk.specs.Acknowledged.{cut_entries}
 use Rattle.fe_desk.specs.within.Keeping.{HasStore}
 use Rattle.fe_desk.specs.within.Desk.{IsAhead, IsDesk, IsHanded, unstored}
+use Rattle.fe_disk.specs.declared.disk.Disk.{Ghosts}
+use Rattle.fe_keeper.specs.Ends.{Works}
 
 -- an image that stands for a prefix of a history stands for one of the history that goes on from it, which holds as many
 -- groups or fewer
@@ -65,10 +67,10 @@ tied_as s t replica handed out pending state tied =
       state = state ∙ tied.state ∙ ap (λ (es : List Entry). after_all replica es) (sym same);
     }
 
-module _ {D : Type 0} (honest : D → Type 0) (may_leave : D → List ℕ → Type 0) where
+module _ {D : Type 0} (model : Ghosts D) where
   -- what is always true of a desk's store stays where the store does
-  pub desk_as : (old new : DeskState D) → IsDesk honest may_leave old → HasStore old new → IsAhead new.standing new.keeper.state
-      → ((conn : ℕ) → is_connected new.standing.front conn ≡ true → is_some (find conn new.standing.clients) ≡ true) → IsDesk honest may_leave new
+  pub desk_as : (old new : DeskState D) → IsDesk model old → HasStore old new → IsAhead new.standing new.keeper.state
+      → ((conn : ℕ) → is_connected new.standing.front conn ≡ true → is_some (find conn new.standing.clients) ≡ true) → IsDesk model new
   desk_as old new desk same tied known =
       let disk = disk_as old new same in
       let back : HasStore new old = record { keeper = sym same.keeper; groups = sym same.groups; synced = sym same.synced } in
@@ -81,13 +83,13 @@ module _ {D : Type 0} (honest : D → Type 0) (may_leave : D → List ℕ → Ty
         upheld = λ h begun from image may.
             prefix_as begun old.standing.groups new.standing.groups new.synced image same.groups
             (subst (λ (n : ℕ). LeavesPrefix begun old.standing.groups n image) (sym same.synced)
-            (desk.upheld (subst honest disk h) begun (from_as begun new old back from) image (subst (λ (d : D). may_leave d image) disk may)));
+            (desk.upheld (subst model.honest disk h) begun (from_as begun new old back from) image (subst (λ (d : D). model.may_leave d image) disk may)));
       }
 
-module _ {D : Type 0} (honest : D → Type 0) (may_leave : D → List ℕ → Type 0) (moment : D → ℕ) (left_since : D → ℕ → List ℕ → Type 0) where
+module _ {D : Type 0} (model : Ghosts D) where
   -- nothing happened: a stop leaves now what it would have left before
-  pub advances_as : ((disk : D) (image : List ℕ) → honest disk → left_since disk (moment disk) image → may_leave disk image) → (old new : DeskState D)
-      → IsDesk honest may_leave old → HasStore old new → Advances honest moment left_since old new
+  pub advances_as : ((disk : D) (image : List ℕ) → model.honest disk → model.left_since disk (model.moment disk) image → model.may_leave disk image) → (old new : DeskState D)
+      → IsDesk model old → HasStore old new → Advances model old new
   advances_as only_now old new desk same =
       let disk = disk_as old new same in
       record {
@@ -96,19 +98,19 @@ module _ {D : Type 0} (honest : D → Type 0) (may_leave : D → List ℕ → Ty
         synced = let s = same.synced in omega arith;
         from = λ begun from. from_as begun old new same from;
         any_moment = λ h works begun from.
-            let here = started moment left_since (disk_of old) (LeavesPrefix begun new.standing.groups old.synced)
+            let here = started model (disk_of old) (LeavesPrefix begun new.standing.groups old.synced)
             (λ image left. prefix_as begun old.standing.groups new.standing.groups old.synced image same.groups
             (desk.upheld h begun from image (only_now (disk_of old) image h left))) in
-            subst (λ (d : D). LeavesOnly moment left_since (disk_of old) d (LeavesPrefix begun new.standing.groups old.synced)) (sym disk) here;
-        honesty = (λ h. subst honest disk h, λ h. subst honest (sym disk) h);
+            subst (λ (d : D). LeavesOnly model (disk_of old) d (LeavesPrefix begun new.standing.groups old.synced)) (sym disk) here;
+        honesty = (λ h. subst model.honest disk h, λ h. subst model.honest (sym disk) h);
       }
 
-  pub advances_itself : ((disk : D) (image : List ℕ) → honest disk → left_since disk (moment disk) image → may_leave disk image) → (d : DeskState D)
-      → IsDesk honest may_leave d → Advances honest moment left_since d d
+  pub advances_itself : ((disk : D) (image : List ℕ) → model.honest disk → model.left_since disk (model.moment disk) image → model.may_leave disk image) → (d : DeskState D)
+      → IsDesk model d → Advances model d d
   advances_itself only_now d desk = advances_as only_now d d desk (store_itself d)
 
   -- calls after calls
-  pub advances_both : (a b c : DeskState D) → b.keeper.store.has_failed ≡ false → Advances honest moment left_since a b → Advances honest moment left_since b c → Advances honest moment left_since a c
+  pub advances_both : (a b c : DeskState D) → b.keeper.store.has_failed ≡ false → Advances model a b → Advances model b c → Advances model a c
   advances_both a b c works ab bc =
       record {
         more = ab.more ++ bc.more;
@@ -116,12 +118,12 @@ module _ {D : Type 0} (honest : D → Type 0) (may_leave : D → List ℕ → Ty
         synced = omega (arith, ab.synced, bc.synced);
         from = λ begun from. bc.from begun (ab.from begun from);
         any_moment = λ h fine begun from.
-            joined moment left_since (disk_of a) (disk_of b) (disk_of c) (LeavesPrefix begun c.standing.groups a.synced)
-            (weaker moment left_since (disk_of a) (disk_of b) (LeavesPrefix begun b.standing.groups a.synced) (LeavesPrefix begun c.standing.groups a.synced)
+            joined model (disk_of a) (disk_of b) (disk_of c) (LeavesPrefix begun c.standing.groups a.synced)
+            (weaker model (disk_of a) (disk_of b) (LeavesPrefix begun b.standing.groups a.synced) (LeavesPrefix begun c.standing.groups a.synced)
             (λ image p. prefix_as begun (b.standing.groups ++ bc.more) c.standing.groups a.synced image bc.groups
             (prefix_more begun b.standing.groups bc.more a.synced a.synced image (omega arith) p))
             (ab.any_moment h fine begun from))
-            (weaker moment left_since (disk_of b) (disk_of c) (LeavesPrefix begun c.standing.groups b.synced) (LeavesPrefix begun c.standing.groups a.synced)
+            (weaker model (disk_of b) (disk_of c) (LeavesPrefix begun c.standing.groups b.synced) (LeavesPrefix begun c.standing.groups a.synced)
             (λ image p. fewer begun c.standing.groups b.synced a.synced image ab.synced p)
             (bc.any_moment (ab.honesty.1 h) works begun (ab.from begun from)));
         honesty = (λ h. ab.honesty.0 (bc.honesty.0 h), λ h. bc.honesty.1 (ab.honesty.1 h));
@@ -135,7 +137,7 @@ module _ {D : Type 0} (honest : D → Type 0) (may_leave : D → List ℕ → Ty
       }
 
   -- calls, and then what does not touch the store, or the other way round
-  pub advances_then : (a b c : DeskState D) → Advances honest moment left_since a b → HasStore b c → Advances honest moment left_since a c
+  pub advances_then : (a b c : DeskState D) → Advances model a b → HasStore b c → Advances model a c
   advances_then a b c ab same =
       let disk = disk_as b c same in
       record {
@@ -144,13 +146,13 @@ module _ {D : Type 0} (honest : D → Type 0) (may_leave : D → List ℕ → Ty
         synced = let s = same.synced in omega (arith, ab.synced);
         from = λ begun from. from_as begun b c same (ab.from begun from);
         any_moment = λ h fine begun from.
-            subst (λ (d : D). LeavesOnly moment left_since (disk_of a) d (LeavesPrefix begun c.standing.groups a.synced)) (sym disk)
-            (weaker moment left_since (disk_of a) (disk_of b) (LeavesPrefix begun b.standing.groups a.synced) (LeavesPrefix begun c.standing.groups a.synced)
+            subst (λ (d : D). LeavesOnly model (disk_of a) d (LeavesPrefix begun c.standing.groups a.synced)) (sym disk)
+            (weaker model (disk_of a) (disk_of b) (LeavesPrefix begun b.standing.groups a.synced) (LeavesPrefix begun c.standing.groups a.synced)
             (λ image p. prefix_as begun b.standing.groups c.standing.groups a.synced image same.groups p) (ab.any_moment h fine begun from));
-        honesty = (λ h. ab.honesty.0 (subst honest disk h), λ h. subst honest (sym disk) (ab.honesty.1 h));
+        honesty = (λ h. ab.honesty.0 (subst model.honest disk h), λ h. subst model.honest (sym disk) (ab.honesty.1 h));
       }
 
-  pub advances_after : (a b c : DeskState D) → HasStore a b → Advances honest moment left_since b c → Advances honest moment left_since a c
+  pub advances_after : (a b c : DeskState D) → HasStore a b → Advances model b c → Advances model a c
   advances_after a b c same bc =
       let disk = disk_as a b same in
       record {
@@ -159,18 +161,19 @@ module _ {D : Type 0} (honest : D → Type 0) (may_leave : D → List ℕ → Ty
         synced = let s = same.synced in omega (arith, bc.synced);
         from = λ begun from. bc.from begun (from_as begun a b same from);
         any_moment = λ h fine begun from.
-            subst (λ (d : D). LeavesOnly moment left_since d (disk_of c) (LeavesPrefix begun c.standing.groups a.synced)) disk
-            (subst (λ (n : ℕ). LeavesOnly moment left_since (disk_of b) (disk_of c) (LeavesPrefix begun c.standing.groups n)) same.synced
-            (bc.any_moment (subst honest (sym disk) h) (ap (λ (k : KeeperState D). k.store.has_failed) same.keeper ∙ fine) begun (from_as begun a b same from)));
-        honesty = (λ h. subst honest disk (bc.honesty.0 h), λ h. bc.honesty.1 (subst honest (sym disk) h));
+            subst (λ (d : D). LeavesOnly model d (disk_of c) (LeavesPrefix begun c.standing.groups a.synced)) disk
+            (subst (λ (n : ℕ). LeavesOnly model (disk_of b) (disk_of c) (LeavesPrefix begun c.standing.groups n)) same.synced
+            (bc.any_moment (subst model.honest (sym disk) h) (ap (λ (k : KeeperState D). k.store.has_failed) same.keeper ∙ fine) begun (from_as begun a b same from)));
+        honesty = (λ h. subst model.honest disk (bc.honesty.0 h), λ h. bc.honesty.1 (subst model.honest (sym disk) h));
       }
 
-module _ {D : Type 0} (failures : D → ℕ) where
-  pub fine_both : (a b c : DeskState D) → IsFine failures a b → IsFine failures b c → IsFine failures a c
-  fine_both a b c ab bc = record { works = bc.works; still = bc.still ∙ ab.still }
+module _ {D : Type 0} (model : Ghosts D) where
+  pub fine_both : (a b c : DeskState D) → Works model a.keeper b.keeper → Works model b.keeper c.keeper → Works model a.keeper c.keeper
+  fine_both a b c ab bc = record { before = ab.before; after = bc.after; still = bc.still ∙ ab.still }
 
-  pub fine_as : (a b : DeskState D) → a.keeper.store.has_failed ≡ false → HasStore a b → IsFine failures a b
+  pub fine_as : (a b : DeskState D) → a.keeper.store.has_failed ≡ false → HasStore a b → Works model a.keeper b.keeper
   fine_as a b works same = record {
-    works = ap (λ (k : KeeperState D). k.store.has_failed) same.keeper ∙ works;
-    still = ap (λ (k : KeeperState D). failures k.store.disk) same.keeper;
+    before = works;
+    after = ap (λ (k : KeeperState D). k.store.has_failed) same.keeper ∙ works;
+    still = ap (λ (k : KeeperState D). model.failures k.store.disk) same.keeper;
   }

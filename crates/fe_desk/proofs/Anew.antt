@@ -15,6 +15,7 @@ use Rattle.fe_desk.specs.declared.port.Port.{Port}
 use Rattle.fe_desk.specs.declared.trace.Trace.{Trace}
 use Rattle.fe_desk.specs.within.Desk.{client_of, standing_of, desk_of, IsDesk}
 use Rattle.fe_desk.proofs.Openings.{stands_at}
+use Rattle.fe_disk.specs.declared.disk.Disk.{Ghosts}
 
 -- the client of a port, without what is written
 abbrev pub bare : Port → Client
@@ -67,9 +68,9 @@ module _ {D : Type 0} where
       ∙ ap (λ (cs : List Client). record { standing = record s { groups = []; clients = cs }; keeper = k; synced = t.synced }) ports
       ∙ ap (λ (n : ℕ). record { standing = anew s; keeper = k; synced = n }) synced
 
-  anew_desk : (honest : D → Type 0) (may_leave : D → List ℕ → Type 0) (d : DeskState D) → IsDesk honest may_leave d → (honest (disk_of d) → EachStandsFor may_leave (disk_of d) d.keeper.state)
-      → IsDesk honest may_leave (desk_anew d)
-  anew_desk honest may_leave d is stands = record {
+  anew_desk : (model : Ghosts D) (d : DeskState D) → IsDesk model d → (model.honest (disk_of d) → EachStandsFor model (disk_of d) d.keeper.state)
+      → IsDesk model (desk_anew d)
+  anew_desk model d is stands = record {
     tied = record { handed = is.tied.handed; legal = is.tied.legal; state = is.tied.state };
     known = λ conn there. found conn d.standing.clients (is.known conn there);
     few = omega arith;
@@ -78,10 +79,10 @@ module _ {D : Type 0} where
   }
 
   -- a desk with such a trace is one
-  pub still_desk : (honest : D → Type 0) (may_leave : D → List ℕ → Type 0) (p : Parts D) (t : Trace) → t.groups.items ≡ [] → t.synced ≡ 0 → map client_of t.ports.items ≡ map unwritten_to (map client_of p.trace.ports.items)
-      → IsDesk honest may_leave (desk_of p) → (honest p.keeper.store.disk → EachStandsFor may_leave p.keeper.store.disk p.keeper.state) → IsDesk honest may_leave (desk_of (record p { trace = t }))
-  still_desk honest may_leave p t groups synced ports is stands =
-      subst (λ (d : DeskState D). IsDesk honest may_leave d) (sym (is_anew p t groups synced ports)) (anew_desk honest may_leave (desk_of p) is stands)
+  pub still_desk : (model : Ghosts D) (p : Parts D) (t : Trace) → t.groups.items ≡ [] → t.synced ≡ 0 → map client_of t.ports.items ≡ map unwritten_to (map client_of p.trace.ports.items)
+      → IsDesk model (desk_of p) → (model.honest p.keeper.store.disk → EachStandsFor model p.keeper.store.disk p.keeper.state) → IsDesk model (desk_of (record p { trace = t }))
+  still_desk model p t groups synced ports is stands =
+      subst (λ (d : DeskState D). IsDesk model d) (sym (is_anew p t groups synced ports)) (anew_desk model (desk_of p) is stands)
 
   -- and where there was no mail there is none
   pub still_quiet : (p : Parts D) (t : Trace) → map client_of t.ports.items ≡ map unwritten_to (map client_of p.trace.ports.items) → HasNoMail (standing_of p) → HasNoMail (standing_of (record p { trace = t }))

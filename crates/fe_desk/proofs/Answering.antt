@@ -14,7 +14,7 @@ use Rattle.fe_desk.specs.declared.step.Step.{Step}
 use Rattle.fe_desk.specs.declared.step.Step.TheVariants as step
 use Rattle.fe_desk.specs.Acknowledged.{IsWritten, AsksFor, StepAsksFor, IsAcknowledged, AnySessionMayBeAsked, AreStepsFor, AcknowledgedStand, stored_groups}
 use Rattle.fe_desk.specs.Crash.{DeskState}
-use Rattle.fe_desk.specs.Ends.{Tears, BreaksOff, Lacks, Breaks, discharged_desk}
+use Rattle.fe_desk.specs.Ends.{Tears, BreaksOff, Lacks, TearsStep, discharged_desk}
 use Rattle.fe_desk.specs.Standing.{Client, Standing, IsFirstStanding, emptied, discharged}
 use Rattle.fe_desk.specs.Taken.{Ends, IsStep}
 use Rattle.fe_desk.proofs.Holding.{AllTell, Tells, Holds, HoldsAt, some_holds, emptied_holds, discharged_holds}
@@ -22,6 +22,7 @@ use Rattle.fe_messages.proofs.Answers.{KeepsBelow, keeps_below}
 use Rattle.fe_desk.proofs.Acknowledging.{StepAsks, acts_hold, before_holds, unread_holds, behind_holds, first_holds}
 use Rattle.fe_messages.proofs.Boxes.{all_weaker}
 use Rattle.fe_desk.proofs.Feeding.{discharged_reads}
+use Rattle.fe_disk.specs.declared.disk.Disk.{Ghosts}
 
 all_written : (begun : ServerState) (groups : List (List Entry)) (asked : ℕ → ℕ → Bool) (cs : List Client) → AllTell begun groups asked cs → AllByRecursion (IsWritten begun groups asked) cs
 all_written begun groups asked cs =
@@ -101,7 +102,7 @@ module _ {D : Type 0} (begun : ServerState) (asked : ℕ → ℕ → Bool) where
       let synced = off.synced in
       acknowledged_by new (omega (arith, same, synced, all)) (subst (λ (s : Standing). HoldsAt begun asked s) (sym off.standing) h)
 
-  module _ (below : KeepsBelow begun) (failures : D → ℕ) where
+  module _ (below : KeepsBelow begun) (model : Ghosts D) where
     -- what a step at fault did, where no mails are owed
     lacks_hold : (fed : Bool) (x : Step) (old new : DeskState D) → StepAsks begun asked below old.standing x → Lacks fed x old new → HoldsAt begun asked old.standing → HoldsAt begun asked new.standing
     lacks_hold false (step.Connect conn) old new asks lacks h = subst (λ (d : DeskState D). HoldsAt begun asked d.standing) (sym lacks.1) h
@@ -126,7 +127,7 @@ module _ {D : Type 0} (begun : ServerState) (asked : ℕ → ℕ → Bool) where
     lacks_hold true step.CheckStep old new asks lacks h = absurd lacks
     lacks_hold true step.CheckFinish old new asks lacks h = absurd lacks
 
-    breaks_acknowledged : (x : Step) (old new : DeskState D) → StepAsks begun asked below old.standing x → Breaks x old new → new.keeper.store.has_failed ≡ true → old.synced ≡ length old.standing.groups → HoldsAt begun asked old.standing → IsAcknowledged begun asked new
+    breaks_acknowledged : (x : Step) (old new : DeskState D) → StepAsks begun asked below old.standing x → TearsStep x old new → new.keeper.store.has_failed ≡ true → old.synced ≡ length old.standing.groups → HoldsAt begun asked old.standing → IsAcknowledged begun asked new
     breaks_acknowledged (step.Bytes conn piece) old new asks breaks failed all h = elim breaks.stops [
       | inl stops ↦ torn breaks.last new breaks.tears failed (before_holds begun asked below old.standing conn breaks.last stops h)
       | inr stops ↦ torn breaks.last new breaks.tears failed (behind_holds begun asked below old.standing conn piece.items breaks.last asks stops h)
@@ -152,7 +153,7 @@ module _ {D : Type 0} (begun : ServerState) (asked : ℕ → ℕ → Bool) where
     asks_discharged d step.CheckStep asks = tt
     asks_discharged d step.CheckFinish asks = tt
 
-    ends_acknowledged : (old : DeskState D) (x : Step) (r : Result (Unit {0}) DeskFault) (new : DeskState D) → StepAsksFor asked old x → Ends failures old x r new → old.synced ≡ length old.standing.groups
+    ends_acknowledged : (old : DeskState D) (x : Step) (r : Result (Unit {0}) DeskFault) (new : DeskState D) → StepAsksFor asked old x → Ends model old x r new → old.synced ≡ length old.standing.groups
         → HoldsAt begun asked old.standing → IsAcknowledged begun asked new
     ends_acknowledged old x r new asks ends all h = by r ends
       where
@@ -162,7 +163,7 @@ module _ {D : Type 0} (begun : ServerState) (asked : ℕ → ℕ → Bool) where
         mine : StepAsks begun asked below (discharged old.standing) x
         mine = asks_discharged old x asks
 
-        by : (r : Result (Unit {0}) DeskFault) → Ends failures old x r new → IsAcknowledged begun asked new
+        by : (r : Result (Unit {0}) DeskFault) → Ends model old x r new → IsAcknowledged begun asked new
         by (Ok done) ends =
             acknowledged_by new ends.sound.stored (subst (λ (s : Standing). HoldsAt begun asked s) (sym ends.took.after)
             (emptied_holds begun asked ends.took.last (acts_hold begun asked below (discharged old.standing) x ends.took.last mine ends.took.acts there)))
@@ -175,21 +176,21 @@ module _ {D : Type 0} (begun : ServerState) (asked : ℕ → ℕ → Bool) where
         by (Err Unwritten) ends =
             acknowledged_by new ends.sound.stored (some_holds begun asked ends.last new.standing ends.writes (acts_hold begun asked below (discharged old.standing) x ends.last mine ends.acts there))
 
-    pub step_acknowledged : (old : DeskState D) (x : Step) (r : Result (Unit {0}) DeskFault) (new : DeskState D) → StepAsksFor asked old x → IsStep failures old x r new → IsAcknowledged begun asked old
+    pub step_acknowledged : (old : DeskState D) (x : Step) (r : Result (Unit {0}) DeskFault) (new : DeskState D) → StepAsksFor asked old x → IsStep model old x r new → IsAcknowledged begun asked old
         → IsAcknowledged begun asked new
     step_acknowledged old x r new asks is h = by old.keeper.store.has_failed refl is
       where
-        by : (b : Bool) → old.keeper.store.has_failed ≡ b → MatchBool b ((r ≡ Err (Store keeper.Failed)) × (new ≡ old)) (Ends failures old x r new) → IsAcknowledged begun asked new
+        by : (b : Bool) → old.keeper.store.has_failed ≡ b → MatchBool b ((r ≡ Err (Store keeper.Failed)) × (new ≡ old)) (Ends model old x r new) → IsAcknowledged begun asked new
         by true failed refused = subst (λ (d : DeskState D). IsAcknowledged begun asked d) (sym refused.1) h
         by false works ends = ends_acknowledged old x r new asks ends (h.all works) (holds_of old (h.all works) h)
 
-    steps_acknowledged : (old new : DeskState D) (steps : List (Step × Result (Unit {0}) DeskFault)) → AreStepsFor failures asked old steps new → IsAcknowledged begun asked old → IsAcknowledged begun asked new
+    steps_acknowledged : (old new : DeskState D) (steps : List (Step × Result (Unit {0}) DeskFault)) → AreStepsFor model asked old steps new → IsAcknowledged begun asked old → IsAcknowledged begun asked new
     steps_acknowledged old new [] is h = subst (λ (d : DeskState D). IsAcknowledged begun asked d) (sym is) h
     steps_acknowledged old new (x ∷ xs) is h = steps_acknowledged is.0 new xs is.3 (step_acknowledged old x.0 x.1 is.0 is.1 is.2 h)
 
-pub acknowledged_stand : {D : Type 0} (failures : D → ℕ) → AcknowledgedStand failures
-acknowledged_stand failures begun asked first last steps limits begins none taken =
-    steps_acknowledged begun asked (keeps_below begun limits) failures first last steps taken (first_acknowledged begun asked first begins none)
+pub acknowledged_stand : {D : Type 0} (model : Ghosts D) → AcknowledgedStand model
+acknowledged_stand model begun asked first last steps limits begins none taken =
+    steps_acknowledged begun asked (keeps_below begun limits) model first last steps taken (first_acknowledged begun asked first begins none)
 
 -- ---- nothing is asked of a step
 

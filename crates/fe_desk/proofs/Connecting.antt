@@ -22,6 +22,7 @@ use Rattle.fe_desk.specs.Acknowledged.{cut_entries}
 use Rattle.fe_desk.specs.within.Desk.{IsDesk, IsHanded, client_of}
 use Rattle.fe_front.proofs.Coming.{dropped-stays}
 use Rattle.fe_desk.proofs.Places.{numbers_changed, found_by_numbers, found_more, found_last, found_there, changed_nowhere, port_changed}
+use Rattle.fe_disk.specs.declared.disk.Disk.{Ghosts}
 
 -- ---- the front and the clients change, and not the store
 
@@ -41,9 +42,9 @@ moved s f clients making owes = record s { front = f; clients = clients; making 
 abbrev desk_at : {D : Type 0} → Standing → KeeperState D → ℕ → DeskState D
 desk_at s k n = record { standing = s; keeper = k; synced = n }
 
-moved_desk : {D : Type 0} (honest : D → Type 0) (may_leave : D → List ℕ → Type 0) (s : Standing) (k : KeeperState D) (n : ℕ) (f : FrontState) (clients : List Client) (making : Option ℕ) (owes : Bool)
-    → IsDesk honest may_leave (desk_at s k n) → KeepsMade s.front f → AreKnown f clients → IsDesk honest may_leave (desk_at (moved s f clients making owes) k n)
-moved_desk honest may_leave s k n f clients making owes desk keeps known = record {
+moved_desk : {D : Type 0} (model : Ghosts D) (s : Standing) (k : KeeperState D) (n : ℕ) (f : FrontState) (clients : List Client) (making : Option ℕ) (owes : Bool)
+    → IsDesk model (desk_at s k n) → KeepsMade s.front f → AreKnown f clients → IsDesk model (desk_at (moved s f clients making owes) k n)
+moved_desk model s k n f clients making owes desk keeps known = record {
   tied = record {
     handed = subst (IsHanded s.handed) (sym keeps.out) desk.tied.handed;
     legal = subst (λ (p : List Entry). AreLegal k.state (cut_entries s.handed ++ p)) (sym keeps.pending) desk.tied.legal;
@@ -56,13 +57,13 @@ moved_desk honest may_leave s k n f clients making owes desk keeps known = recor
 }
 
 -- the same of a standing that is equal, and a keeper and a number that are
-pub keeps_desk : {D : Type 0} (honest : D → Type 0) (may_leave : D → List ℕ → Type 0) (s t : Standing) (k k' : KeeperState D) (n n' : ℕ) (f : FrontState) (clients : List Client) (making : Option ℕ) (owes : Bool)
-    → t ≡ moved s f clients making owes → k' ≡ k → n' ≡ n → IsDesk honest may_leave (desk_at s k n) → KeepsMade s.front f → AreKnown f clients → IsDesk honest may_leave (desk_at t k' n')
-keeps_desk {D} honest may_leave s t k k' n n' f clients making owes standing keeper synced desk keeps known =
-    subst (λ (x : Standing). IsDesk honest may_leave (desk_at x k' n')) (sym standing)
-    (subst (λ (x : KeeperState D). IsDesk honest may_leave (desk_at (moved s f clients making owes) x n')) (sym keeper)
-    (subst (λ (x : ℕ). IsDesk honest may_leave (desk_at (moved s f clients making owes) k x)) (sym synced)
-    (moved_desk honest may_leave s k n f clients making owes desk keeps known)))
+pub keeps_desk : {D : Type 0} (model : Ghosts D) (s t : Standing) (k k' : KeeperState D) (n n' : ℕ) (f : FrontState) (clients : List Client) (making : Option ℕ) (owes : Bool)
+    → t ≡ moved s f clients making owes → k' ≡ k → n' ≡ n → IsDesk model (desk_at s k n) → KeepsMade s.front f → AreKnown f clients → IsDesk model (desk_at t k' n')
+keeps_desk {D} model s t k k' n n' f clients making owes standing keeper synced desk keeps known =
+    subst (λ (x : Standing). IsDesk model (desk_at x k' n')) (sym standing)
+    (subst (λ (x : KeeperState D). IsDesk model (desk_at (moved s f clients making owes) x n')) (sym keeper)
+    (subst (λ (x : ℕ). IsDesk model (desk_at (moved s f clients making owes) k x)) (sym synced)
+    (moved_desk model s k n f clients making owes desk keeps known)))
 
 -- ---- room is made for nobody
 
@@ -116,12 +117,12 @@ connects s mid t conn joins is = record {
       ∙ sym (unmade_apart s conn (connected s.front conn) (clients_with s.clients conn joins.decoder));
 }
 
-pub connects_desk : {D : Type 0} (honest : D → Type 0) (may_leave : D → List ℕ → Type 0) (s t : Standing) (k k' : KeeperState D) (n n' conn : ℕ)
-    → Connects s conn t → k' ≡ k → n' ≡ n → IsDesk honest may_leave (desk_at s k n) → IsDesk honest may_leave (desk_at t k' n')
-connects_desk honest may_leave s t k k' n n' conn connects keeper synced desk =
+pub connects_desk : {D : Type 0} (model : Ghosts D) (s t : Standing) (k k' : KeeperState D) (n n' conn : ℕ)
+    → Connects s conn t → k' ≡ k → n' ≡ n → IsDesk model (desk_at s k n) → IsDesk model (desk_at t k' n')
+connects_desk model s t k k' n n' conn connects keeper synced desk =
     let f = connected s.front conn in
     let clients = clients_with s.clients conn connects.decoder in
-    keeps_desk honest may_leave s t k k' n n' f clients (unmade s conn).making s.owes (connects.after ∙ unmade_apart s conn f clients) keeper synced desk
+    keeps_desk model s t k k' n n' f clients (unmade s conn).making s.owes (connects.after ∙ unmade_apart s conn f clients) keeper synced desk
     (record { state = refl; pending = refl; out = refl }) (came_all s.front s.clients conn connects.decoder desk.known)
 
 -- ---- a connection goes
@@ -141,15 +142,15 @@ goes s t f conn front is =
     let clients = on_client conn (λ c. record c { left = [] }) s.clients in
     is ∙ ap (λ (x : FrontState). unmade (with_left (record s { front = x }) conn []) conn) front ∙ unmade_moved s conn g clients ∙ sym (gone_moved s conn)
 
-pub gone_desk : {D : Type 0} (honest : D → Type 0) (may_leave : D → List ℕ → Type 0) (s t : Standing) (k k' : KeeperState D) (n n' conn : ℕ)
-    → t ≡ gone s conn → k' ≡ k → n' ≡ n → IsDesk honest may_leave (desk_at s k n) → IsDesk honest may_leave (desk_at t k' n')
-gone_desk honest may_leave s t k k' n n' conn is keeper synced desk =
+pub gone_desk : {D : Type 0} (model : Ghosts D) (s t : Standing) (k k' : KeeperState D) (n n' conn : ℕ)
+    → t ≡ gone s conn → k' ≡ k → n' ≡ n → IsDesk model (desk_at s k n) → IsDesk model (desk_at t k' n')
+gone_desk model s t k k' n n' conn is keeper synced desk =
     let f = dropped s.front conn in
     let clients = on_client conn (λ c. record c { left = [] }) s.clients in
     let keeps = dropped-keeps s.front conn in
     let stays = dropped-stays s.front conn in
     let known : AreKnown f clients = λ q there. found_by_numbers s.clients clients q (numbers_changed s.clients conn (λ c. record c { left = [] }) (λ c. refl)) ∙ desk.known q (stays.none_comes q there) in
-    keeps_desk honest may_leave s t k k' n n' f clients (unmade s conn).making s.owes (is ∙ gone_moved s conn) keeper synced desk
+    keeps_desk model s t k k' n n' f clients (unmade s conn).making s.owes (is ∙ gone_moved s conn) keeper synced desk
     (record { state = keeps.state; pending = stays.pending; out = keeps.out }) known
 
 -- ---- from the calls on ports

@@ -32,10 +32,10 @@ OnlyNow {D} k = (disk : D) (image : List ℕ) → k.honest disk → k.left_since
 
 module _ {D : Type 0} (k : Ghosts D) where
   stores_still : (a b : DeskState D) → a.keeper.store.has_failed ≡ false → HasStore a b → Stores k a b
-  stores_still a b works same = record { fine = fine_as k.failures a b works same; grows = stores_none a b same }
+  stores_still a b works same = record { fine = fine_as k a b works same; grows = stores_none a b same }
 
   both : (a b c : DeskState D) → Stores k a b → Stores k b c → Stores k a c
-  both a b c ab bc = record { fine = fine_both k.failures a b c ab.fine bc.fine; grows = stores_both a b c ab.grows bc.grows }
+  both a b c ab bc = record { fine = fine_both k a b c ab.fine bc.fine; grows = stores_both a b c ab.grows bc.grows }
 
   -- a fault after a call that was done
   faults_then : (Short : DeskState D → Type 0) (Until : Standing → Type 0) (a b c : DeskState D) (fault : Fault) → Stores k a b → Faults k Short Until b c fault → Faults k Short Until a c fault
@@ -43,7 +43,7 @@ module _ {D : Type 0} (k : Ghosts D) where
     last = bc.last;
     until = bc.until;
     tears = bc.tears;
-    failed = record { failed = bc.failed.failed; rises = subst (λ (n : ℕ). Rises n (k.failures (disk_of c))) ab.fine.still bc.failed.rises };
+    failed = record { before = ab.fine.before; failed = bc.failed.failed; rises = subst (λ (n : ℕ). Rises n (k.failures (disk_of c))) ab.fine.still bc.failed.rises };
   }
   faults_then Short Until a b c Failed ab bc = bc
   faults_then Short Until a b c NoMemory ab bc = (both a b c ab bc.0, bc.1)
@@ -92,27 +92,27 @@ module _ {D : Type 0} {k : Ghosts D} where
       → Goes k P Q R (Ok x) a b → Goes k Done Short Until r b c → Goes k Done Short Until r a c
   then {P} {Q} {R} {x} {Done} {Short} {Until} {r} {a} {b} {c} ab bc = record {
     owes = bc.owes ∙ ab.owes;
-    advances = advances_both k.honest k.may_leave k.moment k.left_since a b c ab.ends.0.fine.works ab.advances bc.advances;
+    advances = advances_both k a b c ab.ends.0.fine.after ab.advances bc.advances;
     ends = ends_then k Done Short Until r a b c ab.ends.0 bc.ends;
   }
 
   -- what does not touch the store
   pub stays : {P : Standing → Type 0} {Q : DeskState D → Type 0} {R : Standing → Type 0} {a b : DeskState D} → OnlyNow k
-      → IsDesk k.honest k.may_leave a → a.keeper.store.has_failed ≡ false → HasStore a b → b.standing.owes ≡ a.standing.owes → P b.standing → Goes k P Q R (Ok tt) a b
+      → IsDesk k a → a.keeper.store.has_failed ≡ false → HasStore a b → b.standing.owes ≡ a.standing.owes → P b.standing → Goes k P Q R (Ok tt) a b
   stays {P} {Q} {R} {a} {b} only_now desk works same owes p = record {
     owes = owes;
-    advances = advances_as k.honest k.may_leave k.moment k.left_since only_now a b desk same;
+    advances = advances_as k only_now a b desk same;
     ends = (stores_still k a b works same, p);
   }
 
   -- memory was short for the batch at hand, and nothing was done
-  pub unstored : {Done Until : Standing → Type 0} {fault : Fault} {a b : DeskState D} → OnlyNow k → fault ≡ NoMemory → IsDesk k.honest k.may_leave a → a.keeper.store.has_failed ≡ false
+  pub unstored : {Done Until : Standing → Type 0} {fault : Fault} {a b : DeskState D} → OnlyNow k → fault ≡ NoMemory → IsDesk k a → a.keeper.store.has_failed ≡ false
       → HasCut a.standing → b ≡ a → Goes k Done (IsUnstored a) Until (Err fault) a b
   unstored {Done} {Until} {fault} {a} {b} only_now is desk works cut same =
       let still : HasStore a b = record { keeper = ap (λ (d : DeskState D). d.keeper) same; groups = ap (λ (d : DeskState D). d.standing.groups) same; synced = ap (λ (d : DeskState D). d.synced) same } in
       record {
         owes = ap (λ (d : DeskState D). d.standing.owes) same;
-        advances = advances_as k.honest k.may_leave k.moment k.left_since only_now a b desk still;
+        advances = advances_as k only_now a b desk still;
         ends = subst (Faults k (IsUnstored a) Until a b) (sym is) (stores_still k a b works still, record { at_hand = cut; same = same });
       }
 
@@ -121,7 +121,7 @@ module _ {D : Type 0} {k : Ghosts D} where
       → Goes k Done Short Until r b c → Goes k Done Short Until r a c
   before {Done} {Short} {Until} {r} {a} {b} {c} works same owes bc = record {
     owes = bc.owes ∙ owes;
-    advances = advances_after k.honest k.may_leave k.moment k.left_since a b c same bc.advances;
+    advances = advances_after k a b c same bc.advances;
     ends = ends_then k Done Short Until r a b c (stores_still k a b works same) bc.ends;
   }
 
@@ -129,8 +129,8 @@ module _ {D : Type 0} {k : Ghosts D} where
       → Goes k P Q R (Ok x) a b → HasStore b c → c.standing.owes ≡ b.standing.owes → Done c.standing → Goes k Done Short Until (Ok y) a c
   after {P} {Q} {R} {x} {y} {Done} {Short} {Until} {a} {b} {c} ab same owes d = record {
     owes = owes ∙ ab.owes;
-    advances = advances_then k.honest k.may_leave k.moment k.left_since a b c ab.advances same;
-    ends = (both k a b c ab.ends.0 (stores_still k b c ab.ends.0.fine.works same), d);
+    advances = advances_then k a b c ab.advances same;
+    ends = (both k a b c ab.ends.0 (stores_still k b c ab.ends.0.fine.after same), d);
   }
 
   -- ---- the same call, said otherwise
@@ -173,10 +173,10 @@ module _ {D : Type 0} {k : Ghosts D} where
   -- ---- where a piece is read
 
   pub unread : {Done : Standing → Type 0} {Short : Bool → Standing → Type 0} {Until : Standing → Type 0} {a : DeskState D} → OnlyNow k
-      → IsDesk k.honest k.may_leave a → a.keeper.store.has_failed ≡ false → Done a.standing → GoesPiece k Done Short Until (Ok tt) a a
+      → IsDesk k a → a.keeper.store.has_failed ≡ false → Done a.standing → GoesPiece k Done Short Until (Ok tt) a a
   unread {Done} {Short} {Until} {a} only_now desk works done =
       let same : HasStore a a = record { keeper = refl; groups = refl; synced = refl } in
-      record { owes = refl; advances = advances_as k.honest k.may_leave k.moment k.left_since only_now a a desk same; ends = (stores_still k a a works same, done) }
+      record { owes = refl; advances = advances_as k only_now a a desk same; ends = (stores_still k a a works same, done) }
 
   pub piece_done : {P : Standing → Type 0} {Q : DeskState D → Type 0} {R : Standing → Type 0} {x y : Unit {0}} {Done : Standing → Type 0} {Short : Bool → Standing → Type 0} {Until : Standing → Type 0} {a b c : DeskState D}
       → Goes k P Q R (Ok x) a b → HasStore b c → c.standing.owes ≡ b.standing.owes → Done c.standing → GoesPiece k Done Short Until (Ok y) a c

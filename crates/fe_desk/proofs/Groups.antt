@@ -3,7 +3,7 @@ use Rattle.std.proofs.Common.{◌≡◌, ◌⊎◌, ⊎_elim, ℕ, ◌+◌, ◌-
 use Rattle.std.specs.Prelude.{◌↔◌, Option, Some, None, IfSome, is_some, OnOk, IsErr, Result, Ok, Err, is_ok, is_err, if◌then◌else◌, map}
 use Rattle.std.specs.Option.{option_map_or}
 use Rattle.std.proofs.lemmas.List.{append-nil, length-append, map-append, take-append-le, take_all}
-use Rattle.fe_disk.specs.Disk.{LeavesOnly}
+use Rattle.fe_disk.specs.Runs.{LeavesOnly}
 use Rattle.fe_disk.proofs.Moments.{weaker}
 use Rattle.fe_state.specs.State.{ServerState, after, after_all}
 use Rattle.fe_state.specs.History.{IsHistory, AreLegal, after_groups}
@@ -30,6 +30,7 @@ use Rattle.fe_front.proofs.Coming.{pending-posted}
 use Rattle.fe_desk.specs.Crash.{DeskState, IsFrom, Advances, disk_of}
 use Rattle.fe_desk.specs.Acknowledged.{cut_entries}
 use Rattle.fe_desk.specs.within.Desk.{IsHanded, IsAhead, IsDesk, unstored}
+use Rattle.fe_disk.specs.declared.disk.Disk.{Ghosts}
 
 -- ---- entries after entries
 
@@ -232,12 +233,12 @@ either_leaves {D} begun old groups entries same all from image stands =
     (ap (λ (s : ServerState). after_all s entries) (all_stored begun old all from) ∙ sym (after_group begun before entries)) (omega (arith, length-append before (entries ∷ []))) s)
     stands)
 
-module _ {D : Type 0} (honest : D → Type 0) (may_leave : D → List ℕ → Type 0) (moment : D → ℕ) (left_since : D → ℕ → List ℕ → Type 0) where
+module _ {D : Type 0} (model : Ghosts D) where
   pub advances_group : (old new : DeskState D) (entries : List Entry) → new.standing.groups ≡ old.standing.groups ++ entries ∷ [] → old.synced ≡ length old.standing.groups
       → 0 < length entries → AreLegal old.keeper.state entries → GoesOn old new entries
-      → (honest (disk_of old) → old.keeper.store.has_failed ≡ false
-      → LeavesOnly moment left_since (disk_of old) (disk_of new) (StandsForEither old.keeper.state (after_all old.keeper.state entries)))
-      → (honest (disk_of new) ↔ honest (disk_of old)) → Advances honest moment left_since old new
+      → (model.honest (disk_of old) → old.keeper.store.has_failed ≡ false
+      → LeavesOnly model (disk_of old) (disk_of new) (StandsForEither old.keeper.state (after_all old.keeper.state entries)))
+      → (model.honest (disk_of new) ↔ model.honest (disk_of old)) → Advances model old new
   advances_group old new entries groups all some legal goes run honesty = record {
     more = entries ∷ [];
     groups = groups;
@@ -248,14 +249,14 @@ module _ {D : Type 0} (honest : D → Type 0) (may_leave : D → List ℕ → Ty
         let e = stored.0 in omega (arith, length-append old.standing.groups (entries ∷ []))) goes;
     from = λ begun from. group_from begun old new entries groups all some legal goes from;
     any_moment = λ h works begun from.
-        weaker moment left_since (disk_of old) (disk_of new) (StandsForEither old.keeper.state (after_all old.keeper.state entries)) (LeavesPrefix begun new.standing.groups old.synced)
+        weaker model (disk_of old) (disk_of new) (StandsForEither old.keeper.state (after_all old.keeper.state entries)) (LeavesPrefix begun new.standing.groups old.synced)
         (either_leaves begun old new.standing.groups entries groups all from) (run h works);
     honesty = honesty;
   }
 
   -- the group is stored
   pub desk_stored : (new : DeskState D) → IsAhead new.standing new.keeper.state → ((conn : ℕ) → is_connected new.standing.front conn ≡ true → is_some (find conn new.standing.clients) ≡ true)
-      → new.synced ≡ length new.standing.groups → (honest (disk_of new) → EachStandsFor may_leave (disk_of new) new.keeper.state) → IsDesk honest may_leave new
+      → new.synced ≡ length new.standing.groups → (model.honest (disk_of new) → EachStandsFor model (disk_of new) new.keeper.state) → IsDesk model new
   desk_stored new tied known all stands = record {
     tied = tied;
     known = known;
@@ -265,13 +266,13 @@ module _ {D : Type 0} (honest : D → Type 0) (may_leave : D → List ℕ → Ty
   }
 
   -- the device failed, and the group may be stored or not
-  pub desk_torn : ((disk : D) (t : ℕ) (image : List ℕ) → honest disk → t ≤ moment disk → may_leave disk image → left_since disk t image) → (old new : DeskState D) (entries : List Entry)
+  pub desk_torn : ((disk : D) (t : ℕ) (image : List ℕ) → model.honest disk → t ≤ model.moment disk → model.may_leave disk image → model.left_since disk t image) → (old new : DeskState D) (entries : List Entry)
       → old.keeper.store.has_failed ≡ false → new.standing.groups ≡ old.standing.groups ++ entries ∷ [] → old.synced ≡ length old.standing.groups
       → new.synced ≡ old.synced → new.keeper.state ≡ old.keeper.state → new.keeper.store.has_failed ≡ true
-      → (honest (disk_of old) → old.keeper.store.has_failed ≡ false
-      → LeavesOnly moment left_since (disk_of old) (disk_of new) (StandsForEither old.keeper.state (after_all old.keeper.state entries)))
-      → (honest (disk_of new) ↔ honest (disk_of old)) → IsAhead new.standing new.keeper.state
-      → ((conn : ℕ) → is_connected new.standing.front conn ≡ true → is_some (find conn new.standing.clients) ≡ true) → IsDesk honest may_leave new
+      → (model.honest (disk_of old) → old.keeper.store.has_failed ≡ false
+      → LeavesOnly model (disk_of old) (disk_of new) (StandsForEither old.keeper.state (after_all old.keeper.state entries)))
+      → (model.honest (disk_of new) ↔ model.honest (disk_of old)) → IsAhead new.standing new.keeper.state
+      → ((conn : ℕ) → is_connected new.standing.front conn ≡ true → is_some (find conn new.standing.clients) ≡ true) → IsDesk model new
   desk_torn counts_now old new entries works groups all synced state failed run honesty tied known =
       let n = ap (λ (gs : List (List Entry)). length gs) groups in
       let few : new.synced ≤ length new.standing.groups = omega (arith, length-append old.standing.groups (entries ∷ [])) in
@@ -291,14 +292,14 @@ module _ {D : Type 0} (honest : D → Type 0) (may_leave : D → List ℕ → Ty
             (λ (s : StandsFor image (after_all old.keeper.state entries)).
             leaves_all begun new.standing.groups new.synced image (after_all old.keeper.state entries)
             (ap (λ (s : ServerState). after_all s entries) replica ∙ sym (after_group begun old.standing.groups entries) ∙ ap (λ (gs : List (List Entry)). after_groups begun gs) (sym groups)) few s)
-            (ran.each image (counts_now (disk_of new) (moment (disk_of old)) image h ran.later may));
+            (ran.each image (counts_now (disk_of new) (model.moment (disk_of old)) image h ran.later may));
       }
 
   -- ---- calls that leave the replica and the groups as they are
 
   pub advances_kept : (old new : DeskState D) → new.standing.groups ≡ old.standing.groups → new.synced ≡ old.synced → new.keeper.state ≡ old.keeper.state → old.synced ≤ length old.standing.groups
-      → (honest (disk_of old) → old.keeper.store.has_failed ≡ false → LeavesOnly moment left_since (disk_of old) (disk_of new) (λ image. StandsFor image old.keeper.state))
-      → (honest (disk_of new) ↔ honest (disk_of old)) → Advances honest moment left_since old new
+      → (model.honest (disk_of old) → old.keeper.store.has_failed ≡ false → LeavesOnly model (disk_of old) (disk_of new) (λ image. StandsFor image old.keeper.state))
+      → (model.honest (disk_of new) ↔ model.honest (disk_of old)) → Advances model old new
   advances_kept old new groups synced state few run honesty = record {
     more = [];
     groups = groups ∙ sym (append-nil old.standing.groups);
@@ -311,18 +312,18 @@ module _ {D : Type 0} (honest : D → Type 0) (may_leave : D → List ℕ → Ty
               ∙ ap (λ (n : ℕ). after_groups begun (take n new.standing.groups)) (sym synced);
         };
     any_moment = λ h works begun from.
-        weaker moment left_since (disk_of old) (disk_of new) (λ image. StandsFor image old.keeper.state) (LeavesPrefix begun new.standing.groups old.synced)
+        weaker model (disk_of old) (disk_of new) (λ image. StandsFor image old.keeper.state) (LeavesPrefix begun new.standing.groups old.synced)
         (λ image s.
         subst (λ (gs : List (List Entry)). LeavesPrefix begun gs old.synced image) (sym groups) (leaves_at begun old.standing.groups old.synced image old.keeper.state from.replica few s))
         (run h works);
     honesty = honesty;
   }
 
-  pub desk_kept : ((disk : D) (t : ℕ) (image : List ℕ) → honest disk → t ≤ moment disk → may_leave disk image → left_since disk t image) → (old new : DeskState D) → IsDesk honest may_leave old
+  pub desk_kept : ((disk : D) (t : ℕ) (image : List ℕ) → model.honest disk → t ≤ model.moment disk → model.may_leave disk image → model.left_since disk t image) → (old new : DeskState D) → IsDesk model old
       → old.keeper.store.has_failed ≡ false → new.standing.groups ≡ old.standing.groups → new.synced ≡ old.synced → new.keeper.state ≡ old.keeper.state
-      → (honest (disk_of old) → old.keeper.store.has_failed ≡ false → LeavesOnly moment left_since (disk_of old) (disk_of new) (λ image. StandsFor image old.keeper.state))
-      → (honest (disk_of new) ↔ honest (disk_of old)) → IsAhead new.standing new.keeper.state
-      → ((conn : ℕ) → is_connected new.standing.front conn ≡ true → is_some (find conn new.standing.clients) ≡ true) → IsDesk honest may_leave new
+      → (model.honest (disk_of old) → old.keeper.store.has_failed ≡ false → LeavesOnly model (disk_of old) (disk_of new) (λ image. StandsFor image old.keeper.state))
+      → (model.honest (disk_of new) ↔ model.honest (disk_of old)) → IsAhead new.standing new.keeper.state
+      → ((conn : ℕ) → is_connected new.standing.front conn ≡ true → is_some (find conn new.standing.clients) ≡ true) → IsDesk model new
   desk_kept counts_now old new desk works groups synced state run honesty tied known =
       let n = ap (λ (gs : List (List Entry)). length gs) groups in
       let all : old.synced ≡ length old.standing.groups = desk.all works in
@@ -335,5 +336,5 @@ module _ {D : Type 0} (honest : D → Type 0) (may_leave : D → List ℕ → Ty
         upheld = λ h begun from image may.
             let ran = run (honesty.0 h) works in
             leaves_at begun new.standing.groups new.synced image old.keeper.state (sym state ∙ from.replica) few
-            (ran.each image (counts_now (disk_of new) (moment (disk_of old)) image h ran.later may));
+            (ran.each image (counts_now (disk_of new) (model.moment (disk_of old)) image h ran.later may));
       }

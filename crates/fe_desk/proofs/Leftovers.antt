@@ -48,13 +48,13 @@ tied_enters s t replica es handed enters tied =
     }
 
 -- a desk where entries entered and a client changed
-pub desk_enters : {D : Type 0} (honest : D → Type 0) (may_leave : D → List ℕ → Type 0) (old new : DeskState D) (es : List Entry) (conn : ℕ) (change : Client → Client)
+pub desk_enters : {D : Type 0} (model : Ghosts D) (old new : DeskState D) (es : List Entry) (conn : ℕ) (change : Client → Client)
     → HasStore old new → new.standing.handed ≡ old.standing.handed → Enters old.standing.front es new.standing.front → new.standing.clients ≡ on_client conn change old.standing.clients
-    → ((c : Client) → (change c).conn ≡ c.conn) → IsDesk honest may_leave old → IsDesk honest may_leave new
-desk_enters {D} honest may_leave old new es conn change same handed enters clients keeps desk =
+    → ((c : Client) → (change c).conn ≡ c.conn) → IsDesk model old → IsDesk model new
+desk_enters {D} model old new es conn change same handed enters clients keeps desk =
     let tied : IsAhead new.standing new.keeper.state =
     subst (λ (k : KeeperState D). IsAhead new.standing k.state) (sym same.keeper) (tied_enters old.standing new.standing old.keeper.state es handed enters desk.tied) in
-    desk_as honest may_leave old new desk same tied
+    desk_as model old new desk same tied
     (λ k on. ap (λ (cs : List Client). is_some (find k cs)) clients ∙ found-on_client conn change old.standing.clients k keeps ∙ desk.known k (enters.none_comes k on))
 
 -- ---- the port of a client
@@ -205,7 +205,7 @@ rest_then conn s a u clients taken = subst (λ (cs : List Client). EndsWith (lef
 
 -- messages of the connection whose client is there were taken as far as to a desk
 pub record Going {D : Type 0} (k : Ghosts D) (conn at : ℕ) (old new : DeskState D) : Type 0 where
-  pub desk : IsDesk k.honest k.may_leave new
+  pub desk : IsDesk k new
   pub place : IsFirstAt new.standing.clients conn at
   pub taken : IsTaken conn old.standing new.standing
   pub goes : Goes k (λ s. ⊤) (λ d. ⊤) (λ s. ⊤) (Ok tt) old new
@@ -214,11 +214,11 @@ pub place_as : (clients others : List Client) (conn at : ℕ) → others ≡ cli
 place_as clients others conn at same place = subst (λ (cs : List Client). IsFirstAt cs conn at) (sym same) place
 
 module _ {D : Type 0} {k : Ghosts D} (conn at : ℕ) where
-  pub going_first : (d : DeskState D) → OnlyNow k → IsDesk k.honest k.may_leave d → d.keeper.store.has_failed ≡ false → IsFirstAt d.standing.clients conn at → Going k conn at d d
+  pub going_first : (d : DeskState D) → OnlyNow k → IsDesk k d → d.keeper.store.has_failed ≡ false → IsFirstAt d.standing.clients conn at → Going k conn at d d
   going_first d only_now desk works place = record { desk = desk; place = place; taken = taken_none conn d.standing; goes = stays only_now desk works (store_itself d) refl tt }
 
   pub going_on : {Q : DeskState D → Type 0} {R : Standing → Type 0} {x : Unit {0}} (old a r t : DeskState D) → is_some (find conn old.standing.clients) ≡ true → Going k conn at old a
-      → Goes k (Is (roomy a.standing conn)) Q R (Ok x) a r → TakesNext r.standing conn t.standing → HasStore r t → IsDesk k.honest k.may_leave t → Going k conn at old t
+      → Goes k (Is (roomy a.standing conn)) Q R (Ok x) a r → TakesNext r.standing conn t.standing → HasStore r t → IsDesk k t → Going k conn at old t
   going_on old a r t here going room next same desk =
       let clients : r.standing.clients ≡ a.standing.clients = ap (λ (u : Standing). u.clients) room.ends.1 ∙ roomy-keeps a.standing conn in
       let changed : numbers t.standing.clients ≡ numbers a.standing.clients =

@@ -2,7 +2,7 @@
 use Rattle.std.proofs.Common.{◌≡◌, ◌⊎◌, inl, inr, ℕ, ◌≤◌, Bool, true, false, List, [], length, Some, None, is_some, refl, sym, ap, subst, ◌∙◌, arith, if◌then◌else◌}
 use Rattle.std.specs.Prelude.{◌↔◌, ◌||◌, nat_eq, nat_le}
 use Rattle.std.proofs.lemmas.Bool.Decides.{nat_tests}
-use Rattle.fe_disk.specs.Disk.{LeavesOnly}
+use Rattle.fe_disk.specs.Runs.{LeavesOnly}
 use Rattle.fe_state.specs.State.{ServerState}
 use Rattle.fe_state.specs.declared.entry.Entry.{Entry}
 use Rattle.fe_front.specs.Front.{FrontState, has_room}
@@ -17,6 +17,7 @@ use Rattle.fe_desk.specs.Crash.{DeskState, Advances, disk_of}
 use Rattle.fe_desk.specs.within.Desk.{IsDesk, IsAhead, IsHanded}
 use Rattle.fe_front.proofs.Coming.{posted-stays}
 use Rattle.fe_desk.proofs.Groups.{advances_kept, desk_kept}
+use Rattle.fe_disk.specs.declared.disk.Disk.{Ghosts}
 
 -- ---- room
 
@@ -81,16 +82,16 @@ roomy_later s mid t conn begun handed none (inr is) =
 
 -- ---- a call of the keeper that keeps the replica
 
-module _ {D : Type 0} (honest : D → Type 0) (may_leave : D → List ℕ → Type 0) (moment : D → ℕ) (left_since : D → ℕ → List ℕ → Type 0) (d : DeskState D) (k : KeeperState D) where
-  pub desk_checked : ((disk : D) (t : ℕ) (image : List ℕ) → honest disk → t ≤ moment disk → may_leave disk image → left_since disk t image) → IsDesk honest may_leave d
+module _ {D : Type 0} (model : Ghosts D) (d : DeskState D) (k : KeeperState D) where
+  pub desk_checked : ((disk : D) (t : ℕ) (image : List ℕ) → model.honest disk → t ≤ model.moment disk → model.may_leave disk image → model.left_since disk t image) → IsDesk model d
       → d.keeper.store.has_failed ≡ false → k.state ≡ d.keeper.state
-      → (honest (disk_of d) → d.keeper.store.has_failed ≡ false → LeavesOnly moment left_since (disk_of d) k.store.disk (λ image. StandsFor image d.keeper.state))
-      → (honest k.store.disk ↔ honest (disk_of d)) → IsDesk honest may_leave (record d { keeper = k })
+      → (model.honest (disk_of d) → d.keeper.store.has_failed ≡ false → LeavesOnly model (disk_of d) k.store.disk (λ image. StandsFor image d.keeper.state))
+      → (model.honest k.store.disk ↔ model.honest (disk_of d)) → IsDesk model (record d { keeper = k })
   desk_checked counts_now desk works state run honesty =
-      desk_kept honest may_leave moment left_since counts_now d (record d { keeper = k }) desk works refl refl state run honesty
+      desk_kept model counts_now d (record d { keeper = k }) desk works refl refl state run honesty
       (subst (λ (s : ServerState). IsAhead d.standing s) (sym state) desk.tied) desk.known
 
-  pub advances_checked : IsDesk honest may_leave d → k.state ≡ d.keeper.state
-      → (honest (disk_of d) → d.keeper.store.has_failed ≡ false → LeavesOnly moment left_since (disk_of d) k.store.disk (λ image. StandsFor image d.keeper.state))
-      → (honest k.store.disk ↔ honest (disk_of d)) → Advances honest moment left_since d (record d { keeper = k })
-  advances_checked desk state run honesty = advances_kept honest may_leave moment left_since d (record d { keeper = k }) refl refl state desk.few run honesty
+  pub advances_checked : IsDesk model d → k.state ≡ d.keeper.state
+      → (model.honest (disk_of d) → d.keeper.store.has_failed ≡ false → LeavesOnly model (disk_of d) k.store.disk (λ image. StandsFor image d.keeper.state))
+      → (model.honest k.store.disk ↔ model.honest (disk_of d)) → Advances model d (record d { keeper = k })
+  advances_checked desk state run honesty = advances_kept model d (record d { keeper = k }) refl refl state desk.few run honesty

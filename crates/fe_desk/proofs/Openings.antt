@@ -9,7 +9,7 @@ use Rattle.fe_state.specs.History.{IsHistory, AreLegal, after_groups}
 use Rattle.fe_state.specs.declared.entry.Entry.{Entry}
 use Rattle.fe_front.specs.Front.{FrontState, IsFirst, is_connected}
 use Rattle.fe_disk.specs.Disk.{Rises}
-use Rattle.fe_disk.specs.Outcome.{told}
+use Rattle.fe_disk.specs.Runs.{told}
 use Rattle.fe_journal.specs.Found.{AsksToOpen}
 use Rattle.fe_disk.specs.declared.calls.Calls.{Calls}
 use Rattle.fe_keeper.specs.Keeper.{KeeperState}
@@ -31,6 +31,7 @@ use Rattle.fe_desk.specs.Standing.{Client, Standing, IsFirstStanding}
 use Rattle.fe_desk.specs.Crash.{DeskState, IsFrom, disk_of}
 use Rattle.fe_desk.specs.Acknowledged.{cut_entries}
 use Rattle.fe_desk.specs.within.Desk.{IsDesk, IsAhead, IsHanded, unstored, client_of, standing_of}
+use Rattle.fe_disk.specs.declared.disk.Disk.{Ghosts}
 
 first_tied : (begun : ServerState) (s : Standing) → IsFirstStanding begun s → IsAhead s begun
 first_tied begun s first =
@@ -66,9 +67,9 @@ module _ {D : Type 0} where
   stands_at begun d image from few stands =
       record { state = d.keeper.state; stands = stands; prefix = record { kept = d.synced; least = omega arith; most = few; state_is = from.replica } }
 
-  pub first_desk : (honest : D → Type 0) (may_leave : D → List ℕ → Type 0) (d : DeskState D) → IsFirstStanding d.keeper.state d.standing → d.synced ≡ 0
-      → (honest (disk_of d) → EachStandsFor may_leave (disk_of d) d.keeper.state) → IsDesk honest may_leave d
-  first_desk honest may_leave d first synced stands =
+  pub first_desk : (model : Ghosts D) (d : DeskState D) → IsFirstStanding d.keeper.state d.standing → d.synced ≡ 0
+      → (model.honest (disk_of d) → EachStandsFor model (disk_of d) d.keeper.state) → IsDesk model d
+  first_desk model d first synced stands =
       let few : d.synced ≤ length d.standing.groups = omega (arith, synced) in
       record {
         tied = first_tied d.keeper.state d.standing first;
@@ -100,10 +101,10 @@ module _ {D : Type 0} (r : Result (DeskState D) (DeskFault × D)) (k : KeeperSta
 -- ---- what opening asked of the device
 
 -- The fault of the one is the device's where that of the other is.
-asks_as : {D T U E F : Type 0} {size failures : D → ℕ} {calls : D → Calls} {honest : D → Type 0} {device : E} {other : F} {r : Result T E} {old new : D} (s : Result U F) (again : D) → again ≡ new → (s ≡ Err other) ↔ (r ≡ Err device)
-    → AsksToOpen size failures calls honest device r old new → AsksToOpen size failures calls honest other s old again
-asks_as {size = size} {failures = failures} {calls = calls} {honest = honest} {other = other} {old = old} s again is same asks =
-    subst (λ d. AsksToOpen size failures calls honest other s old d) (sym is)
+asks_as : {D T U E F : Type 0} {model : Ghosts D} {device : E} {other : F} {r : Result T E} {old new : D} (s : Result U F) (again : D) → again ≡ new → (s ≡ Err other) ↔ (r ≡ Err device)
+    → AsksToOpen model device r old new → AsksToOpen model other s old again
+asks_as {model = model} {other = other} {old = old} s again is same asks =
+    subst (λ d. AsksToOpen model other s old d) (sym is)
     (record {
       fault = (λ e. asks.fault.0 (same.0 e), λ rises. same.1 (asks.fault.1 rises));
       still = λ none. asks.still (λ e. none (same.1 e));
@@ -121,26 +122,26 @@ device_told (keeper.Mismatch place) = (λ e. cc, λ e. cc)
 device_told (keeper.Damaged offset) = (λ e. cc, λ e. cc)
 device_told keeper.Unformatted = (λ e. cc, λ e. cc)
 
-module _ {D : Type 0} {size failures : D → ℕ} {calls : D → Calls} {honest : D → Type 0} {old : D} where
+module _ {D : Type 0} {model : Ghosts D} {old : D} where
   -- over a keeper that was opened, whether there was memory for the desk or not
   pub asks_over : (r : Result (DeskState D) (DeskFault × D)) (k : KeeperState D) → IfOk r (λ d. d.keeper ≡ k) → IfErr r (λ e. e.0 ≡ NoMemory false) → IfErr r (λ e. e.1 ≡ k.store.disk)
-      → AsksToOpen size failures calls honest keeper.Device (Ok k) old k.store.disk → AsksToOpen size failures calls honest (Store keeper.Device) (told r) old (disk_after r)
+      → AsksToOpen model keeper.Device (Ok k) old k.store.disk → AsksToOpen model (Store keeper.Device) (told r) old (disk_after r)
   asks_over r k = by r
     where
       by : (x : Result (DeskState D) (DeskFault × D)) → IfOk x (λ d. d.keeper ≡ k) → IfErr x (λ e. e.0 ≡ NoMemory false) → IfErr x (λ e. e.1 ≡ k.store.disk)
-          → AsksToOpen size failures calls honest keeper.Device (Ok k) old k.store.disk → AsksToOpen size failures calls honest (Store keeper.Device) (told x) old (disk_after x)
+          → AsksToOpen model keeper.Device (Ok k) old k.store.disk → AsksToOpen model (Store keeper.Device) (told x) old (disk_after x)
       by (Ok d) same short disk asks = asks_as (Ok d) (disk_of d) (ap (λ (x : KeeperState D). x.store.disk) same) (λ e. cc, λ e. cc) asks
       by (Err e) same short disk asks = asks_as (Err e.0) e.1 disk (λ is. let fault : e.0 ≡ Store keeper.Device = cc in absurd (none_both e.0 short fault), λ is. cc) asks
 
   -- over a store that the keeper refused
-  pub asks_refused : {T U : Type 0} {new : D} (f : Fault) (fault : DeskFault) → fault ≡ told_as f false → AsksToOpen {T = T} size failures calls honest keeper.Device (Err f) old new
-      → AsksToOpen {T = U} size failures calls honest (Store keeper.Device) (Err fault) old new
+  pub asks_refused : {T U : Type 0} {new : D} (f : Fault) (fault : DeskFault) → fault ≡ told_as f false → AsksToOpen {T = T} model keeper.Device (Err f) old new
+      → AsksToOpen {T = U} model (Store keeper.Device) (Err fault) old new
   asks_refused {new = new} f fault is asks =
       asks_as (Err fault) new refl (λ e. let told_is : told_as f false ≡ Store keeper.Device = cc in ap (λ x. Err x) ((device_told f).0 told_is), λ e. let same : f ≡ keeper.Device = cc in ap (λ x. Err x) (is ∙ (device_told f).1 same)) asks
 
   -- which fault the device's is, and that no call failed at another
-  pub device_alone : {T : Type 0} {new : D} (fault : DeskFault) → AsksToOpen {T = T} size failures calls honest (Store keeper.Device) (Err fault) old new
-      → ((fault ≡ Store keeper.Device) ↔ Rises (failures old) (failures new)) × (fault ≢ Store keeper.Device → failures new ≡ failures old)
+  pub device_alone : {T : Type 0} {new : D} (fault : DeskFault) → AsksToOpen {T = T} model (Store keeper.Device) (Err fault) old new
+      → ((fault ≡ Store keeper.Device) ↔ Rises (model.failures old) (model.failures new)) × (fault ≢ Store keeper.Device → model.failures new ≡ model.failures old)
   device_alone fault asks =
       ((λ is. asks.fault.0 (ap (λ x. Err x) is), λ rises. let e = asks.fault.1 rises in cc), λ other. asks.still (λ e. other cc))
 
@@ -164,6 +165,6 @@ tells_opening image before now (keeper.Damaged offset) tells = tells
 tells_opening image before now keeper.Unformatted tells = tells
 
 -- the store stands for a state, and there was no memory for its desk
-pub short_opening : {T D : Type 0} (calls : D → Calls) (before : Calls) (r : Result T (DeskFault × D)) (image : List ℕ) (s : ServerState) → StandsFor image s → IfErr r (λ e. e.0 ≡ NoMemory false) → IfErr r (λ e. TellsOpening e.0 image before (calls e.1))
-short_opening calls before (Ok desk) image s stands short = tt
-short_opening calls before (Err e) image s stands short = subst (λ (f : DeskFault). TellsOpening f image before (calls e.1)) (sym short) (lacks_standing image before (calls e.1) s stands)
+pub short_opening : {T D : Type 0} (model : Ghosts D) (before : Calls) (r : Result T (DeskFault × D)) (image : List ℕ) (s : ServerState) → StandsFor image s → IfErr r (λ e. e.0 ≡ NoMemory false) → IfErr r (λ e. TellsOpening e.0 image before (model.calls e.1))
+short_opening model before (Ok desk) image s stands short = tt
+short_opening model before (Err e) image s stands short = subst (λ (f : DeskFault). TellsOpening f image before (model.calls e.1)) (sym short) (lacks_standing image before (model.calls e.1) s stands)

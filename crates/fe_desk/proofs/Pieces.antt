@@ -21,6 +21,7 @@ use Rattle.fe_desk.proofs.Places.{found_first, number_here, client_there, number
 use Rattle.fe_desk.proofs.Reading.{on_client-twice, find-on_client, on_client-alike, on_client-stays, found-on_client, each-on_client, relieved, left_among, left_emptied, takes_all-keeps, first_again, piece_again, later_again}
 use Rattle.fe_desk.proofs.Feeding.{read_among, read_kept, find_other}
 use Rattle.fe_desk.proofs.Advancing.{desk_as}
+use Rattle.fe_disk.specs.declared.disk.Disk.{Ghosts}
 
 -- ---- the client of a connection number
 
@@ -106,11 +107,11 @@ fed_place ports conn at p q place is client =
     (ap numbers (port_changed ports conn at p q change place is client) ∙ numbers_changed (map client_of ports) conn change (λ c. refl)) place
 
 -- what is always true of a desk does not change with what a client read
-pub desk_reads : {D : Type 0} (honest : D → Type 0) (may_leave : D → List ℕ → Type 0) (b : DeskState D) (conn : ℕ) (change : Client → Client) (cs : List Client) → ((c : Client) → (change c).conn ≡ c.conn)
-    → cs ≡ on_client conn change b.standing.clients → IsDesk honest may_leave b → IsDesk honest may_leave (record b { standing = record b.standing { clients = cs } })
-desk_reads honest may_leave b conn change cs keeps clients is =
+pub desk_reads : {D : Type 0} (model : Ghosts D) (b : DeskState D) (conn : ℕ) (change : Client → Client) (cs : List Client) → ((c : Client) → (change c).conn ≡ c.conn)
+    → cs ≡ on_client conn change b.standing.clients → IsDesk model b → IsDesk model (record b { standing = record b.standing { clients = cs } })
+desk_reads model b conn change cs keeps clients is =
     let new = record b { standing = record b.standing { clients = cs } } in
-    desk_as honest may_leave b new is (record { keeper = refl; groups = refl; synced = refl })
+    desk_as model b new is (record { keeper = refl; groups = refl; synced = refl })
     (record { handed = is.tied.handed; legal = is.tied.legal; state = is.tied.state })
     (λ k on. ap (λ (ds : List Client). is_some (find k ds)) clients ∙ found-on_client conn change b.standing.clients k keeps ∙ is.known k on)
 

@@ -18,6 +18,7 @@ use Rattle.fe_desk.specs.within.Desk.{IsDesk, IsAhead, client_of, desk_of, stand
 use Rattle.fe_desk.proofs.Advancing.{desk_as, tied_as}
 use Rattle.fe_desk.proofs.Outputs.{all_told-extends}
 use Rattle.fe_desk.proofs.Emptying.{boxes_empty, no_box}
+use Rattle.fe_disk.specs.declared.disk.Disk.{Ghosts}
 
 -- ---- clients by their numbers
 
@@ -74,10 +75,10 @@ clients_in p = map client_of p.trace.ports.items
 
 module _ {D : Type 0} (p q : Parts D) where
   -- a desk is one still
-  pub emptied_desk : (honest : D → Type 0) (may_leave : D → List ℕ → Type 0) → IsDesk honest may_leave (desk_of p) → HasStore (desk_of p) (desk_of q) → q.handed ≡ p.handed → KeepsFront p.front q.front
-      → map (λ (port : Port). port.conn) q.trace.ports.items ≡ map (λ (port : Port). port.conn) p.trace.ports.items → IsDesk honest may_leave (desk_of q)
-  emptied_desk honest may_leave desk same handed kept numbers =
-      desk_as honest may_leave (desk_of p) (desk_of q) desk same
+  pub emptied_desk : (model : Ghosts D) → IsDesk model (desk_of p) → HasStore (desk_of p) (desk_of q) → q.handed ≡ p.handed → KeepsFront p.front q.front
+      → map (λ (port : Port). port.conn) q.trace.ports.items ≡ map (λ (port : Port). port.conn) p.trace.ports.items → IsDesk model (desk_of q)
+  emptied_desk model desk same handed kept numbers =
+      desk_as model (desk_of p) (desk_of q) desk same
       (subst (λ (k : KeeperState D). IsAhead (standing_of q) k.state) (sym same.keeper)
       (tied_as (standing_of p) (standing_of q) p.keeper.state handed kept.out kept.pending kept.state desk.tied))
       (λ conn there.

@@ -7,7 +7,7 @@ use Rattle.fe_keeper.specs.declared.fault.Fault.TheVariants as keeper
 use Rattle.fe_desk.specs.declared.fault.DeskFault.{DeskFault}
 use Rattle.fe_desk.specs.declared.fault.DeskFault.TheVariants.{Store, NoMemory, Unwritten}
 use Rattle.fe_desk.specs.declared.step.Step.{Step}
-use Rattle.fe_desk.specs.Crash.{DeskState, IsFine}
+use Rattle.fe_desk.specs.Crash.{DeskState}
 use Rattle.fe_desk.specs.Ends.{discharged_desk}
 use Rattle.fe_desk.specs.Messages.{outputs}
 use Rattle.fe_desk.specs.Standing.{Standing, discharged}
@@ -20,6 +20,7 @@ use Rattle.fe_desk.proofs.Advancing.{fine_as, fine_both}
 use Rattle.fe_desk.proofs.Feeding.{settling_reads, fed_discharged}
 use Rattle.fe_desk.proofs.Growing.{checks_as}
 use Rattle.fe_desk.proofs.StepParts.{stepped, stepped_settling, stepped_again, stepped_owing, owes_discharged, discharged_at, discharged_owing}
+use Rattle.fe_keeper.specs.Ends.{Works}
 
 -- of a fault nothing is said that is said of what is done
 pub of_fault : {T E : Type 0} (P : Type 0) (r : Result T E) (e : E) → IsErrAnd r (λ f. f ≡ e) → OnOk r P
@@ -27,8 +28,8 @@ of_fault P (Ok x) e told = absurd told
 of_fault P (Err f) e told = tt
 
 -- where the store works
-pub ends_of : {D : Type 0} (failures : D → ℕ) (old : DeskState D) (step : Step) (new : DeskState D) (r : Result (Unit {0}) DeskFault) → old.keeper.store.has_failed ≡ false → IsStep failures old step r new → Ends failures old step r new
-ends_of failures old step new r works is = subst (λ (b : Bool). MatchBool b ((r ≡ Err (Store keeper.Failed)) × (new ≡ old)) (Ends failures old step r new)) works is
+pub ends_of : {D : Type 0} (model : Ghosts D) (old : DeskState D) (step : Step) (new : DeskState D) (r : Result (Unit {0}) DeskFault) → old.keeper.store.has_failed ≡ false → IsStep model old step r new → Ends model old step r new
+ends_of model old step new r works is = subst (λ (b : Bool). MatchBool b ((r ≡ Err (Store keeper.Failed)) × (new ≡ old)) (Ends model old step r new)) works is
 
 -- a desk of which all parts are the same
 pub same_desk : {D : Type 0} (a b : DeskState D) → b.standing ≡ a.standing → b.keeper ≡ a.keeper → b.synced ≡ a.synced → b ≡ a
@@ -40,21 +41,21 @@ pub settled : {D : Type 0} (a mid : DeskState D) → mid.standing ≡ discharged
 settled a mid is same = same_desk (discharged_desk a) mid is same.keeper same.synced
 
 module _ {D : Type 0} (k : Ghosts D) (x : Step) (a : DeskState D) where
-  step_at : (r : Result (Unit {0}) DeskFault) (b : DeskState D) → a.keeper.store.has_failed ≡ false → Ends k.failures a x r b → IsStep k.failures a x r b
-  step_at r b works h = subst (λ (c : Bool). MatchBool c ((r ≡ Err (Store keeper.Failed)) × (b ≡ a)) (Ends k.failures a x r b)) (sym works) h
+  step_at : (r : Result (Unit {0}) DeskFault) (b : DeskState D) → a.keeper.store.has_failed ≡ false → Ends k a x r b → IsStep k a x r b
+  step_at r b works h = subst (λ (c : Bool). MatchBool c ((r ≡ Err (Store keeper.Failed)) × (b ≡ a)) (Ends k a x r b)) (sym works) h
 
   -- the device had failed
-  pub refused : a.keeper.store.has_failed ≡ true → IsStep k.failures a x (Err (Store keeper.Failed)) a
+  pub refused : a.keeper.store.has_failed ≡ true → IsStep k a x (Err (Store keeper.Failed)) a
   refused failed =
       let told : Result (Unit {0}) DeskFault = Err (Store keeper.Failed) in
-      subst (λ (c : Bool). MatchBool c ((told ≡ Err (Store keeper.Failed)) × (a ≡ a)) (Ends k.failures a x told a)) (sym failed) (refl, refl)
+      subst (λ (c : Bool). MatchBool c ((told ≡ Err (Store keeper.Failed)) × (a ≡ a)) (Ends k a x told a)) (sym failed) (refl, refl)
 
-  sound : {b : DeskState D} → IsDesk k.honest k.may_leave b → IsFine k.failures a b → IsSound k.failures a b
-  sound desk fine = record { fine = fine; stored = desk.all fine.works }
+  sound : {b : DeskState D} → IsDesk k b → Works k a.keeper b.keeper → IsSound k a b
+  sound desk fine = record { fine = fine; stored = desk.all fine.after }
 
   -- memory was short for mails that were owed
-  pub step_settling : {b : DeskState D} → a.keeper.store.has_failed ≡ false → IsDesk k.honest k.may_leave b → HasStore a b → (a.standing.owes ≡ true) × StillHolds a.standing b.standing
-      → IsStep k.failures a x (Err (NoMemory false)) b
+  pub step_settling : {b : DeskState D} → a.keeper.store.has_failed ≡ false → IsDesk k b → HasStore a b → (a.standing.owes ≡ true) × StillHolds a.standing b.standing
+      → IsStep k a x (Err (NoMemory false)) b
   step_settling {b} works desk same still =
       let later : discharged b.standing ≡ discharged a.standing = discharged_owing b.standing still.1.owes ∙ still.1.later ∙ sym (discharged_owing a.standing still.0) in
       step_at (Err (NoMemory false)) b works (record {
@@ -62,29 +63,29 @@ module _ {D : Type 0} (k : Ghosts D) (x : Step) (a : DeskState D) where
         read = settling_reads a.standing b.standing later;
         again = λ next t again h. stepped_settling a.standing b.standing t x later (subst (λ (y : Step). DeskStep b.standing y t) again h);
         silent = λ none. absurd (true≢false (sym still.0 ∙ none));
-        sound = sound desk (fine_as k.failures a b works same);
+        sound = sound desk (fine_as k a b works same);
       })
 
   -- what it does after them is at fault
-  pub step_fault : {mid b : DeskState D} {fault : DeskFault} (r : Result (Unit {0}) DeskFault) → IsErrAnd r (λ f. f ≡ fault) → a.keeper.store.has_failed ≡ false → mid ≡ discharged_desk a → IsDesk k.honest k.may_leave b
-      → GoesAct k mid x (Err fault) b → IsStep k.failures a x r b
+  pub step_fault : {mid b : DeskState D} {fault : DeskFault} (r : Result (Unit {0}) DeskFault) → IsErrAnd r (λ f. f ≡ fault) → a.keeper.store.has_failed ≡ false → mid ≡ discharged_desk a → IsDesk k b
+      → GoesAct k mid x (Err fault) b → IsStep k a x r b
   step_fault {mid} {b} {fault} r told works is desk goes = by r told
     where
       none : b.standing.owes ≡ false
       none = goes.owes ∙ ap (λ (d : DeskState D). d.standing.owes) is ∙ owes_discharged a.standing
 
-      of : (f : DeskFault) → ActEnds k (discharged_desk a) x b (Err f) → Ends k.failures a x (Err f) b
-      of (Store cause) h = (h.0, record { breaks = h.1.breaks; silent = h.1.silent; failed = record { failed = h.1.failed.failed; rises = h.1.failed.rises } })
+      of : (f : DeskFault) → ActEnds k (discharged_desk a) x b (Err f) → Ends k a x (Err f) b
+      of (Store cause) h = (h.0, record { breaks = h.1.breaks; silent = h.1.silent; failed = record { before = h.1.failed.before; failed = h.1.failed.failed; rises = h.1.failed.rises } })
       of (NoMemory fed) h = record {
         finds = inr h.lacks;
         read = fed_discharged fed a.standing (discharged a.standing) x b.standing refl h.read;
         again = λ next t again d. stepped_again a.standing (discharged a.standing) b.standing t x next refl none (λ last. h.again next last again) d;
         silent = λ clear. h.silent ∙ ap outputs (discharged_at a.standing clear);
-        sound = sound desk (record { works = h.fine.works; still = h.fine.still });
+        sound = sound desk (record { before = h.fine.before; after = h.fine.after; still = h.fine.still });
       }
       of Unwritten h = absurd h
 
-      by : (r : Result (Unit {0}) DeskFault) → IsErrAnd r (λ f. f ≡ fault) → IsStep k.failures a x r b
+      by : (r : Result (Unit {0}) DeskFault) → IsErrAnd r (λ f. f ≡ fault) → IsStep k a x r b
       by (Ok y) told = absurd told
       by (Err f) told = step_at (Err f) b works (of f (subst (λ (d : DeskState D). ActEnds k d x b (Err f)) is (subst (λ (g : DeskFault). ActEnds k mid x b (Err g)) (sym told) goes.ends)))
 
@@ -97,12 +98,12 @@ module _ {D : Type 0} (k : Ghosts D) (x : Step) (a : DeskState D) where
       by (NoMemory fed) h = h.silent
       by Unwritten h = absurd h
 
-  fine_to : {mid last b : DeskState D} → a.keeper.store.has_failed ≡ false → HasStore a mid → IsFine k.failures mid last → HasStore last b → IsFine k.failures a b
-  fine_to {mid} {last} {b} works before fine behind = fine_both k.failures a last b (fine_both k.failures a mid last (fine_as k.failures a mid works before) fine) (fine_as k.failures last b fine.works behind)
+  fine_to : {mid last b : DeskState D} → a.keeper.store.has_failed ≡ false → HasStore a mid → Works k mid.keeper last.keeper → HasStore last b → Works k a.keeper b.keeper
+  fine_to {mid} {last} {b} works before fine behind = fine_both k a last b (fine_both k a mid last (fine_as k a mid works before) fine) (fine_as k last b fine.after behind)
 
   -- memory was short for its mails
   pub step_owing : {mid last b : DeskState D} {y : Unit {0}} → a.keeper.store.has_failed ≡ false → mid.standing ≡ discharged a.standing → HasStore a mid → GoesAct k mid x (Ok y) last
-      → HasStore last b → StillHolds last.standing b.standing → IsDesk k.honest k.may_leave b → IsStep k.failures a x (Err Unwritten) b
+      → HasStore last b → StillHolds last.standing b.standing → IsDesk k b → IsStep k a x (Err Unwritten) b
   step_owing {mid} {last} {b} works is before goes behind still desk =
       step_at (Err Unwritten) b works (record {
         last = last.standing;
@@ -114,7 +115,7 @@ module _ {D : Type 0} (k : Ghosts D) (x : Step) (a : DeskState D) where
       })
 
   pub step_whole : {mid last b : DeskState D} {y : Unit {0}} → a.keeper.store.has_failed ≡ false → mid.standing ≡ discharged a.standing → HasStore a mid → GoesAct k mid x (Ok y) last
-      → HasStore last b → HasEmptied last.standing b.standing → IsDesk k.honest k.may_leave b → IsStep k.failures a x (Ok tt) b
+      → HasStore last b → HasEmptied last.standing b.standing → IsDesk k b → IsStep k a x (Ok tt) b
   step_whole {mid} {last} {b} works is before goes behind empty desk =
       step_at (Ok tt) b works (record {
         took = stepped a.standing mid.standing last.standing b.standing x is goes.ends.acts empty.after;

@@ -25,6 +25,7 @@ use Rattle.fe_desk.specs.Messages.{read_by}
 use Rattle.fe_desk.specs.Standing.{Client, Standing, IsFirstStanding}
 use Rattle.fe_desk.specs.Steps.{Reads}
 use Rattle.fe_desk.specs.Taken.{IsStep}
+use Rattle.fe_disk.specs.declared.disk.Disk.{Ghosts}
 
 -- the entries of groups, in their order
 abbrev pub entries_of : List (List Entry) → List Entry
@@ -115,12 +116,12 @@ pub record IsAcknowledged {D : Type 0} (begun : ServerState) (asked : ℕ → �
   pub all : d.keeper.store.has_failed ≡ false → d.synced ≡ length d.standing.groups
 
 -- steps one after another, each with its answer, which ask for such sessions alone
-abbrev pub AreStepsFor : {D : Type 0} → (D → ℕ) → (ℕ → ℕ → Bool) → DeskState D → List (Step × Result (Unit {0}) DeskFault) → DeskState D → Type 0
-AreStepsFor failures asked old [] new = new ≡ old
-AreStepsFor {D} failures asked old (given ∷ more) new =
-    (mid : DeskState D) × StepAsksFor asked old given.0 × IsStep failures old given.0 given.1 mid × AreStepsFor failures asked mid more new
+abbrev pub AreStepsFor : {D : Type 0} → Ghosts D → (ℕ → ℕ → Bool) → DeskState D → List (Step × Result (Unit {0}) DeskFault) → DeskState D → Type 0
+AreStepsFor model asked old [] new = new ≡ old
+AreStepsFor {D} model asked old (given ∷ more) new =
+    (mid : DeskState D) × StepAsksFor asked old given.0 × IsStep model old given.0 given.1 mid × AreStepsFor model asked mid more new
 
 -- so is a desk that was opened, and what any steps make of it
-abbrev pub AcknowledgedStand : {D : Type 0} → (D → ℕ) → Type 0
-AcknowledgedStand {D} failures = (begun : ServerState) (asked : ℕ → ℕ → Bool) (first last : DeskState D) (steps : List (Step × Result (Unit {0}) DeskFault)) → IsWithinLimits begun
-    → IsFirstStanding begun first.standing → first.synced ≡ 0 → AreStepsFor failures asked first steps last → IsAcknowledged begun asked last
+abbrev pub AcknowledgedStand : {D : Type 0} → Ghosts D → Type 0
+AcknowledgedStand {D} model = (begun : ServerState) (asked : ℕ → ℕ → Bool) (first last : DeskState D) (steps : List (Step × Result (Unit {0}) DeskFault)) → IsWithinLimits begun
+    → IsFirstStanding begun first.standing → first.synced ≡ 0 → AreStepsFor model asked first steps last → IsAcknowledged begun asked last

@@ -1,9 +1,10 @@
 -- What a stop leaves of a desk's store.
 use Rattle.std.specs.Prelude.{◌≡◌, ◌↔◌, ℕ, ◌≤◌, true, false, List, ◌++◌, take}
-use Rattle.fe_disk.specs.Disk.{LeavesOnly, Rises}
+use Rattle.fe_disk.specs.Runs.{LeavesOnly}
 use Rattle.fe_state.specs.State.{ServerState}
 use Rattle.fe_state.specs.History.{IsHistory, after_groups}
 use Rattle.fe_state.specs.declared.entry.Entry.{Entry}
+use Rattle.fe_keeper.specs.Ends.{Works, Breaks}
 use Rattle.fe_keeper.specs.Keeper.{KeeperState}
 use Rattle.fe_keeper.specs.Prefix.{LeavesPrefix}
 use Rattle.fe_keeper.specs.declared.fault.Fault.{Fault}
@@ -13,6 +14,7 @@ use Rattle.fe_desk.specs.declared.fault.DeskFault.TheVariants as desk
 use Rattle.fe_desk.specs.declared.handed.Handed.{Handed}
 use Rattle.fe_desk.specs.Standing.{Standing}
 use Rattle.fe_desk.specs.Storing.{handing}
+use Rattle.fe_disk.specs.declared.disk.Disk.{Ghosts}
 
 -- a desk as its callers see it: where its run stands, its keeper, and how many of the groups are known to be stored
 pub record DeskState (D : Type 0) : Type 0 where
@@ -34,38 +36,28 @@ pub record IsFrom {D : Type 0} (begun : ServerState) (d : DeskState D) : Type 0 
 
 -- Calls go on with the store: the groups get more after them, no fewer are stored, and at every moment each image that a
 -- stop leaves stands for a prefix of the history, which holds all groups that were stored before.
-pub record Advances {D : Type 0} (honest : D → Type 0) (moment : D → ℕ) (left_since : D → ℕ → List ℕ → Type 0) (old new : DeskState D) : Type 0 where
+pub record Advances {D : Type 0} (model : Ghosts D) (old new : DeskState D) : Type 0 where
   pub more : List (List Entry)
   pub groups : new.standing.groups ≡ old.standing.groups ++ more
   pub synced : old.synced ≤ new.synced
   pub from : (begun : ServerState) → IsFrom begun old → IsFrom begun new
-  pub any_moment : honest (disk_of old) → old.keeper.store.has_failed ≡ false → (begun : ServerState) → IsFrom begun old
-      → LeavesOnly moment left_since (disk_of old) (disk_of new) (LeavesPrefix begun new.standing.groups old.synced)
-  pub honesty : honest (disk_of new) ↔ honest (disk_of old)
+  pub any_moment : model.honest (disk_of old) → old.keeper.store.has_failed ≡ false → (begun : ServerState) → IsFrom begun old
+      → LeavesOnly model (disk_of old) (disk_of new) (LeavesPrefix begun new.standing.groups old.synced)
+  pub honesty : model.honest (disk_of new) ↔ model.honest (disk_of old)
 
 -- ---- what calls answer of the store
 
--- the disk works, and no call of it failed
-pub record IsFine {D : Type 0} (failures : D → ℕ) (old new : DeskState D) : Type 0 where
-  pub works : new.keeper.store.has_failed ≡ false
-  pub still : failures (disk_of new) ≡ failures (disk_of old)
-
--- a call of the disk failed
-pub record HasFailed {D : Type 0} (failures : D → ℕ) (old new : DeskState D) : Type 0 where
-  pub failed : new.keeper.store.has_failed ≡ true
-  pub rises : Rises (failures (disk_of old)) (failures (disk_of new))
-
 -- what the keeper tells, where it had not failed
-abbrev pub TellsCall : {D : Type 0} → (D → ℕ) → DeskState D → DeskState D → Fault → Type 0
-TellsCall failures old new keeper.Device = HasFailed failures old new
-TellsCall failures old new keeper.Failed = ⊥
-TellsCall failures old new keeper.NoMemory = IsFine failures old new
-TellsCall failures old new (keeper.Mismatch place) = ⊥
-TellsCall failures old new (keeper.Damaged offset) = ⊥
-TellsCall failures old new keeper.Unformatted = ⊥
+abbrev pub TellsCall : {D : Type 0} → Ghosts D → DeskState D → DeskState D → Fault → Type 0
+TellsCall model old new keeper.Device = Breaks model old.keeper new.keeper
+TellsCall model old new keeper.Failed = ⊥
+TellsCall model old new keeper.NoMemory = Works model old.keeper new.keeper
+TellsCall model old new (keeper.Mismatch place) = ⊥
+TellsCall model old new (keeper.Damaged offset) = ⊥
+TellsCall model old new keeper.Unformatted = ⊥
 
 -- what a step tells, where the keeper had not failed
-abbrev pub TellsStep : {D : Type 0} → (D → ℕ) → DeskState D → DeskState D → DeskFault → Type 0
-TellsStep failures old new (desk.Store cause) = (cause ≡ keeper.Device) × HasFailed failures old new
-TellsStep failures old new (desk.NoMemory fed) = IsFine failures old new
-TellsStep failures old new desk.Unwritten = IsFine failures old new
+abbrev pub TellsStep : {D : Type 0} → Ghosts D → DeskState D → DeskState D → DeskFault → Type 0
+TellsStep model old new (desk.Store cause) = (cause ≡ keeper.Device) × Breaks model old.keeper new.keeper
+TellsStep model old new (desk.NoMemory fed) = Works model old.keeper new.keeper
+TellsStep model old new desk.Unwritten = Works model old.keeper new.keeper

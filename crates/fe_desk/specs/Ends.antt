@@ -58,10 +58,10 @@ pub record BreaksOff {D : Type 0} (old new : DeskState D) : Type 0 where
   pub synced : new.synced ≡ old.synced
 
 -- What a step did that the device failed, where no mails are owed. Other steps make no call of it.
-abbrev pub Breaks : {D : Type 0} → Step → DeskState D → DeskState D → Type 0
-Breaks (step.Bytes conn piece) old new = TearsBytes old.standing conn piece.items new
-Breaks step.Append old new = Tears old.standing new
-Breaks step.CheckBegin old new = BreaksOff old new
-Breaks step.CheckStep old new = BreaksOff old new
-Breaks step.CheckFinish old new = BreaksOff old new
-Breaks other old new = ⊥
+abbrev pub TearsStep : {D : Type 0} → Step → DeskState D → DeskState D → Type 0
+TearsStep (step.Bytes conn piece) old new = TearsBytes old.standing conn piece.items new
+TearsStep step.Append old new = Tears old.standing new
+TearsStep step.CheckBegin old new = BreaksOff old new
+TearsStep step.CheckStep old new = BreaksOff old new
+TearsStep step.CheckFinish old new = BreaksOff old new
+TearsStep other old new = ⊥

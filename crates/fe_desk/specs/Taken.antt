@@ -6,65 +6,67 @@ use Rattle.fe_desk.specs.declared.fault.DeskFault.{DeskFault}
 use Rattle.fe_desk.specs.declared.fault.DeskFault.TheVariants.{Store, NoMemory, Unwritten}
 use Rattle.fe_desk.specs.declared.step.Step.{Step}
 use Rattle.fe_desk.specs.Checks.{Checks}
-use Rattle.fe_desk.specs.Crash.{DeskState, IsFine, HasFailed}
-use Rattle.fe_desk.specs.Ends.{FindsNoMemory, Breaks, discharged_desk}
+use Rattle.fe_desk.specs.Crash.{DeskState}
+use Rattle.fe_desk.specs.Ends.{FindsNoMemory, TearsStep, discharged_desk}
 use Rattle.fe_desk.specs.Messages.{outputs, TellsFed}
 use Rattle.fe_desk.specs.Standing.{Standing, discharged}
 use Rattle.fe_desk.specs.Steps.{Acts, DeskStep, IsAgain}
 use Rattle.fe_desk.specs.Writing.{WritesSome}
+use Rattle.fe_disk.specs.declared.disk.Disk.{Ghosts}
+use Rattle.fe_keeper.specs.Ends.{Works, Breaks}
 
 -- ---- a step, by its answer
 
 -- the disk works, no call of it failed, and all groups are stored
-pub record IsSound {D : Type 0} (failures : D → ℕ) (old new : DeskState D) : Type 0 where
-  pub fine : IsFine failures old new
+pub record IsSound {D : Type 0} (model : Ghosts D) (old new : DeskState D) : Type 0 where
+  pub fine : Works model old.keeper new.keeper
   pub stored : new.synced ≡ length new.standing.groups
 
 -- The step was taken, and every box is empty.
-pub record EndsWhole {D : Type 0} (failures : D → ℕ) (old : DeskState D) (step : Step) (new : DeskState D) : Type 0 where
+pub record EndsWhole {D : Type 0} (model : Ghosts D) (old : DeskState D) (step : Step) (new : DeskState D) : Type 0 where
   pub took : DeskStep old.standing step new.standing
   pub boxes : (conn : ℕ) → mails_on new.standing.front.connections conn ≡ []
   pub checked : Checks step old new
-  pub sound : IsSound failures old new
+  pub sound : IsSound model old new
 
 -- The step took effect. Memory was short for its mails, which are owed now.
-pub record EndsOwing {D : Type 0} (failures : D → ℕ) (old : DeskState D) (step : Step) (new : DeskState D) : Type 0 where
+pub record EndsOwing {D : Type 0} (model : Ghosts D) (old : DeskState D) (step : Step) (new : DeskState D) : Type 0 where
   pub last : Standing
   pub acts : Acts (discharged old.standing) step last
   pub writes : WritesSome last new.standing
   pub took : DeskStep old.standing step (discharged new.standing)
   pub checked : Checks step old new
-  pub sound : IsSound failures old new
+  pub sound : IsSound model old new
 
 -- Memory was short for the step: it says what it did and what it read, nothing of it is written, and given again it comes to
 -- the same as one step.
-pub record EndsByMemory {D : Type 0} (failures : D → ℕ) (fed : Bool) (old : DeskState D) (step : Step) (new : DeskState D) : Type 0 where
+pub record EndsByMemory {D : Type 0} (model : Ghosts D) (fed : Bool) (old : DeskState D) (step : Step) (new : DeskState D) : Type 0 where
   pub finds : FindsNoMemory fed step old new
   pub read : TellsFed fed old.standing step new.standing
   pub again : (next : Step) (u : Standing) → IsAgain fed step next → DeskStep new.standing next u → DeskStep old.standing step u
   pub silent : old.standing.owes ≡ false → outputs new.standing ≡ outputs old.standing
-  pub sound : IsSound failures old new
+  pub sound : IsSound model old new
 
 -- The device failed in the step: mails that were owed are written, and nothing of the step is.
-pub record EndsByDevice {D : Type 0} (failures : D → ℕ) (old : DeskState D) (step : Step) (new : DeskState D) : Type 0 where
-  pub breaks : Breaks step (discharged_desk old) new
+pub record EndsByDevice {D : Type 0} (model : Ghosts D) (old : DeskState D) (step : Step) (new : DeskState D) : Type 0 where
+  pub breaks : TearsStep step (discharged_desk old) new
   pub silent : outputs new.standing ≡ outputs (discharged old.standing)
-  pub failed : HasFailed failures old new
+  pub failed : Breaks model old.keeper new.keeper
 
-abbrev pub Ends : {D : Type 0} → (D → ℕ) → DeskState D → Step → Result (Unit {0}) DeskFault → DeskState D → Type 0
-Ends failures old step (Ok done) new = EndsWhole failures old step new
-Ends failures old step (Err (Store cause)) new = (cause ≡ keeper.Device) × EndsByDevice failures old step new
-Ends failures old step (Err (NoMemory fed)) new = EndsByMemory failures fed old step new
-Ends failures old step (Err Unwritten) new = EndsOwing failures old step new
+abbrev pub Ends : {D : Type 0} → Ghosts D → DeskState D → Step → Result (Unit {0}) DeskFault → DeskState D → Type 0
+Ends model old step (Ok done) new = EndsWhole model old step new
+Ends model old step (Err (Store cause)) new = (cause ≡ keeper.Device) × EndsByDevice model old step new
+Ends model old step (Err (NoMemory fed)) new = EndsByMemory model fed old step new
+Ends model old step (Err Unwritten) new = EndsOwing model old step new
 
 -- A step. After a failure of the device each one is refused, and does nothing.
-abbrev pub IsStep : {D : Type 0} → (D → ℕ) → DeskState D → Step → Result (Unit {0}) DeskFault → DeskState D → Type 0
-IsStep failures old step result new =
-    MatchBool old.keeper.store.has_failed ((result ≡ Err (Store keeper.Failed)) × (new ≡ old)) (Ends failures old step result new)
+abbrev pub IsStep : {D : Type 0} → Ghosts D → DeskState D → Step → Result (Unit {0}) DeskFault → DeskState D → Type 0
+IsStep model old step result new =
+    MatchBool old.keeper.store.has_failed ((result ≡ Err (Store keeper.Failed)) × (new ≡ old)) (Ends model old step result new)
 
 -- ---- steps
 
 -- steps one after another, each with its answer
-abbrev pub AreSteps : {D : Type 0} → (D → ℕ) → DeskState D → List (Step × Result (Unit {0}) DeskFault) → DeskState D → Type 0
-AreSteps failures old [] new = new ≡ old
-AreSteps {D} failures old (given ∷ more) new = (mid : DeskState D) × IsStep failures old given.0 given.1 mid × AreSteps failures mid more new
+abbrev pub AreSteps : {D : Type 0} → Ghosts D → DeskState D → List (Step × Result (Unit {0}) DeskFault) → DeskState D → Type 0
+AreSteps model old [] new = new ≡ old
+AreSteps {D} model old (given ∷ more) new = (mid : DeskState D) × IsStep model old given.0 given.1 mid × AreSteps model mid more new

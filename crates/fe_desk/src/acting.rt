@@ -25,13 +25,13 @@ use std::alloc::AllocError;
 impl<D: Disk> Parts<D> {
     /// Takes a step. With `quiet`, there is no mail before it.
     pub(crate) fn step(&mut self, step: &Step, quiet: bool) -> Result<(), DeskFault>
-        requires desk { IsDesk D.honest D.may_leave (desk_of self.old) }
+        requires desk { IsDesk D.Disk (desk_of self.old) }
         requires quiet { quiet ≡ true → HasNoMail (standing_of self.old) }
-        ensures desk { IsDesk D.honest D.may_leave (desk_of self.new) }
-        ensures is_step { IsStep D.failures (desk_of self.old) step.now result (desk_of self.new) }
+        ensures desk { IsDesk D.Disk (desk_of self.new) }
+        ensures is_step { IsStep D.Disk (desk_of self.old) step.now result (desk_of self.new) }
         ensures quiet { OnOk result (HasNoMail (standing_of self.new)) }
         ensures extends { Extends (outputs (standing_of self.old)) (outputs (standing_of self.new)) }
-        ensures advances { Advances D.honest D.moment D.left_since (desk_of self.old) (desk_of self.new) }
+        ensures advances { Advances D.Disk (desk_of self.old) (desk_of self.new) }
     {
         if self.keeper.has_failed() {
             return Err(DeskFault::Store(Fault::Failed));
@@ -50,8 +50,8 @@ impl<D: Disk> Parts<D> {
 
     /// Writes what an earlier step left unwritten.
     fn settle(&mut self) -> Result<(), AllocError>
-        requires desk { IsDesk D.honest D.may_leave (desk_of self.old) }
-        ensures desk { IsDesk D.honest D.may_leave (desk_of self.new) }
+        requires desk { IsDesk D.Disk (desk_of self.old) }
+        ensures desk { IsDesk D.Disk (desk_of self.new) }
         ensures settles { Settles result (standing_of self.old) (standing_of self.new) }
         ensures store { HasStore (desk_of self.old) (desk_of self.new) }
         ensures extends { Extends (outputs (standing_of self.old)) (outputs (standing_of self.new)) }
@@ -64,10 +64,10 @@ impl<D: Disk> Parts<D> {
 
     /// Ends a step: every box is emptied. With `still`, there is no mail.
     fn finish(&mut self, still: bool, bells: &[bool; BELLS as usize]) -> Result<(), AllocError>
-        requires desk { IsDesk D.honest D.may_leave (desk_of self.old) }
+        requires desk { IsDesk D.Disk (desk_of self.old) }
         requires still { still ≡ true → HasNoMail (standing_of self.old) }
         requires rung { AreRung self.old.front bells.now }
-        ensures desk { IsDesk D.honest D.may_leave (desk_of self.new) }
+        ensures desk { IsDesk D.Disk (desk_of self.new) }
         ensures empties { Empties result (standing_of self.old) (standing_of self.new) }
         ensures store { HasStore (desk_of self.old) (desk_of self.new) }
         ensures extends { Extends (outputs (standing_of self.old)) (outputs (standing_of self.new)) }
@@ -80,9 +80,9 @@ impl<D: Disk> Parts<D> {
 
     /// Empties every box. Where memory is short, the next step begins with it.
     fn empty(&mut self, bells: &[bool; BELLS as usize]) -> Result<(), AllocError>
-        requires desk { IsDesk D.honest D.may_leave (desk_of self.old) }
+        requires desk { IsDesk D.Disk (desk_of self.old) }
         requires rung { AreRung self.old.front bells.now }
-        ensures desk { IsDesk D.honest D.may_leave (desk_of self.new) }
+        ensures desk { IsDesk D.Disk (desk_of self.new) }
         ensures empties { Empties result (standing_of self.old) (standing_of self.new) }
         ensures store { HasStore (desk_of self.old) (desk_of self.new) }
         ensures extends { Extends (outputs (standing_of self.old)) (outputs (standing_of self.new)) }
@@ -94,9 +94,9 @@ impl<D: Disk> Parts<D> {
 
     /// What a step does before the boxes are emptied. A post rings the bells of the boxes that it changed.
     fn act(&mut self, step: &Step, bells: &mut [bool; BELLS as usize]) -> Result<(), DeskFault>
-        requires desk { IsDesk D.honest D.may_leave (desk_of self.old) }
+        requires desk { IsDesk D.Disk (desk_of self.old) }
         requires works { self.old.keeper.store.has_failed ≡ false }
-        ensures desk { IsDesk D.honest D.may_leave (desk_of self.new) }
+        ensures desk { IsDesk D.Disk (desk_of self.new) }
         ensures goes { GoesAct D.Disk (desk_of self.old) step.now result (desk_of self.new) }
         ensures rung { step.now ≡ Step.Post
             → (conn : ℕ) → IsRung bells.new conn ⊎ HasItsBox self.old.front self.new.front conn }

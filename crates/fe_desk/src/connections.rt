@@ -23,8 +23,8 @@ impl<D: Disk> Parts<D> {
 
     /// A connection comes, where its number is not connected.
     pub(crate) fn connect(&mut self, conn: u64) -> Result<(), AllocError>
-        requires desk { IsDesk D.honest D.may_leave (desk_of self.old) }
-        ensures desk { IsDesk D.honest D.may_leave (desk_of self.new) }
+        requires desk { IsDesk D.Disk (desk_of self.old) }
+        ensures desk { IsDesk D.Disk (desk_of self.new) }
         ensures connected { OnOk result
             (MatchBool (is_connected self.old.front conn) (standing_of self.new
             ≡ standing_of self.old) (Connects (standing_of self.old) conn (standing_of self.new))) }
@@ -90,8 +90,8 @@ impl<D: Disk> Parts<D> {
 
     /// A connection is gone, with the messages that were left.
     pub(crate) fn leave(&mut self, conn: u64)
-        requires desk { IsDesk D.honest D.may_leave (desk_of self.old) }
-        ensures desk { IsDesk D.honest D.may_leave (desk_of self.new) }
+        requires desk { IsDesk D.Disk (desk_of self.old) }
+        ensures desk { IsDesk D.Disk (desk_of self.new) }
         ensures gone { standing_of self.new ≡ steps.gone (standing_of self.old) conn }
         ensures keeper { self.new.keeper ≡ self.old.keeper }
         ensures synced { self.new.trace.synced ≡ self.old.trace.synced }

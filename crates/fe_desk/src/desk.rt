@@ -57,7 +57,7 @@ impl<D: Disk> Model for Desk<D> {
 
     ghost view = { λ d. desk_of d.parts };
 
-    ghost invariant = { λ d. IsDesk D.honest D.may_leave (desk_of d.parts)
+    ghost invariant = { λ d. IsDesk D.Disk (desk_of d.parts)
         × (d.quiet ≡ true → HasNoMail (standing_of d.parts)) };
 }
 
@@ -65,7 +65,7 @@ impl<D: Disk> Desk<D> {
     /// A desk with no connection over a front and a keeper of one state.
     pub(crate) fn over(alloc: Global, front: Front, keeper: Keeper<D>) -> Desk<D>
         requires first { IsFirst keeper.state front }
-        requires stands { D.honest keeper.store.disk → EachStandsFor D.may_leave keeper.store.disk keeper.state }
+        requires stands { D.honest keeper.store.disk → EachStandsFor D.Disk keeper.store.disk keeper.state }
         ensures first { IsFirstStanding keeper.state result.standing }
         ensures acknowledged { (asked : ℕ → ℕ → Bool) → IsAcknowledged keeper.state asked result }
         ensures keeper { result.keeper ≡ keeper }
@@ -91,13 +91,13 @@ impl<D: Disk> Desk<D> {
     /// After a fault of the device each step answers `Store(Failed)` and does nothing.
     pub fn step(&mut self, step: &Step) -> Result<(), DeskFault>
         // What it answers and what it did: of a schedule, of faults, and to the store.
-        ensures is_step { IsStep D.failures self.old step.now result self.new }
+        ensures is_step { IsStep D.Disk self.old step.now result self.new }
         // What is written goes on from what was.
         ensures extends { Extends (outputs self.old.standing) (outputs self.new.standing) }
 
         // Of a crash: the groups are a history from the state that was opened. A stop at any moment leaves a prefix of it, with
         // all groups that were stored before.
-        ensures advances { Advances D.honest D.moment D.left_since self.old self.new }
+        ensures advances { Advances D.Disk self.old self.new }
         ensures stands { D.honest (disk_of self.new) → (begun : ServerState) → IsFrom begun self.new → (image : List ℕ)
             → D.may_leave (disk_of self.new) image
             → LeavesPrefix begun self.new.standing.groups self.new.synced image }
@@ -118,7 +118,7 @@ impl<D: Disk> Desk<D> {
     /// The trace begins anew, so that a long run does not keep all that it did. All groups have to be stored.
     pub fn clear_trace(&mut self)
         requires { D.honest (disk_of self.old)
-            → EachStandsFor D.may_leave (disk_of self.old) self.old.keeper.state }
+            → EachStandsFor D.Disk (disk_of self.old) self.old.keeper.state }
         ensures { self.new ≡ desk_anew self.old }
     {
         self.parts.trace.clear();

@@ -17,7 +17,7 @@ pub fn lives_join()
 /// at the entry's place, and the operation table's in the state there; or it was kept when the store was opened. And each
 /// welcome, goodbye and settled floor is that of an entry of those groups. So it is after any steps, whatever they answered.
 pub fn acknowledged_answers_stand<D: Disk>()
-    ensures { AcknowledgedStand D.failures }
+    ensures { AcknowledgedStand D.Disk }
 {}
 
 /// With every session asked for by every connection, `Desk::step: acknowledged` asks nothing of a step.

@@ -21,9 +21,9 @@ impl<D: Disk> Parts<D> {
     /// Takes the bytes of a connection: first the messages of it that are left, then those that the piece completes, if it
     /// is there.
     pub(crate) fn bytes(&mut self, conn: u64, piece: &[u8]) -> Result<(), DeskFault>
-        requires desk { IsDesk D.honest D.may_leave (desk_of self.old) }
+        requires desk { IsDesk D.Disk (desk_of self.old) }
         requires works { self.old.keeper.store.has_failed ≡ false }
-        ensures desk { IsDesk D.honest D.may_leave (desk_of self.new) }
+        ensures desk { IsDesk D.Disk (desk_of self.new) }
         ensures outputs { outputs (standing_of self.new) ≡ outputs (standing_of self.old) }
         ensures goes { GoesPiece D.Disk (TakesStream (standing_of self.old) conn piece.now)
             (LeavesStream (standing_of self.old) conn piece.now) (StopsStream (standing_of self.old) conn piece.now)
@@ -53,10 +53,10 @@ impl<D: Disk> Parts<D> {
 
     /// Takes the messages of a connection that are left, one after the other.
     fn take_left(&mut self, at: usize, conn: u64) -> Result<(), Fault>
-        requires desk { IsDesk D.honest D.may_leave (desk_of self.old) }
+        requires desk { IsDesk D.Disk (desk_of self.old) }
         requires works { self.old.keeper.store.has_failed ≡ false }
         requires place { IsFirstAt (standing_of self.old).clients conn at }
-        ensures desk { IsDesk D.honest D.may_leave (desk_of self.new) }
+        ensures desk { IsDesk D.Disk (desk_of self.new) }
         ensures place { IsFirstAt (standing_of self.new).clients conn at }
         ensures clients { (standing_of self.new).clients
             ≡ (with_left (standing_of self.old) conn (left_of (standing_of self.new) conn)).clients }
@@ -74,11 +74,11 @@ impl<D: Disk> Parts<D> {
 
     /// Takes the first message of a connection that is left, where there is room.
     fn take_next(&mut self, at: usize, conn: u64)
-        requires desk { IsDesk D.honest D.may_leave (desk_of self.old) }
+        requires desk { IsDesk D.Disk (desk_of self.old) }
         requires room { IsTrue (has_room self.old.front) }
         requires place { IsFirstAt (standing_of self.old).clients conn at }
         requires some { 0 < length (left_of (standing_of self.old) conn) }
-        ensures desk { IsDesk D.honest D.may_leave (desk_of self.new) }
+        ensures desk { IsDesk D.Disk (desk_of self.new) }
         ensures next { TakesNext (standing_of self.old) conn (standing_of self.new) }
         ensures keeper { self.new.keeper ≡ self.old.keeper }
         ensures synced { self.new.trace.synced ≡ self.old.trace.synced }

@@ -1,6 +1,6 @@
 ghost use Rattle.std.specs.Prelude.{◌≡◌, ◌≢◌, ◌⊎◌, ◌↔◌, ℕ, Bool, false, None, IfOk, IfErr, IsErrAnd};
 ghost use Rattle.fe_disk.specs.Disk.{Rises};
-ghost use Rattle.fe_disk.specs.Outcome.{told as outcome};
+ghost use Rattle.fe_disk.specs.Runs.{told as outcome};
 ghost use Rattle.fe_state.specs.State.{ServerState, first_state};
 ghost use Rattle.fe_journal.specs.Damage.{IsUnformatted};
 ghost use Rattle.fe_journal.specs.Found.{AsksToOpen};
@@ -29,7 +29,7 @@ impl<D: Disk> Desk<D> {
     pub fn open(alloc: Global, disk: D) -> Result<Desk<D>, (DeskFault, D)>
         ensures opened { D.honest disk → IfOk result (λ desk. StandsFor (D.seen disk) desk.keeper.state) }
         ensures stands { D.honest disk
-            → IfOk result (λ desk. EachStandsFor D.may_leave (disk_of desk) desk.keeper.state) }
+            → IfOk result (λ desk. EachStandsFor D.Disk (disk_of desk) desk.keeper.state) }
         ensures first { IfOk result (λ desk. IsFirstStanding desk.keeper.state desk.standing × (desk.synced ≡ 0)) }
         ensures acknowledged { (asked : ℕ → ℕ → Bool)
             → IfOk result (λ desk. IsAcknowledged desk.keeper.state asked desk) }
@@ -40,11 +40,11 @@ impl<D: Disk> Desk<D> {
         ensures told { D.honest disk → IfErr result (λ e. TellsOpening e.0 (D.seen disk) (D.calls disk) (D.calls e.1)) }
         ensures unformatted { D.honest disk → IsUnformatted (D.seen disk)
             → IsErrAnd result (λ e. (e.0 ≡ Store keeper.Unformatted) ⊎ (e.0 ≡ Store keeper.Device)) }
-        ensures reads { D.honest disk → OnlyReads D.seen D.may_leave D.moment D.left_since disk (disk_after result) }
+        ensures reads { D.honest disk → OnlyReads D.Disk disk (disk_after result) }
         ensures works { IfOk result (λ desk. desk.keeper.store.has_failed ≡ false) }
         ensures none_under_way { IfOk result (λ desk. desk.keeper.store.checkpoint ≡ None) }
         ensures faults { IfErr result (λ e. IsOpenFault e.0) }
-        ensures device { AsksToOpen D.size D.failures D.calls D.honest (Store keeper.Device) (outcome result) disk
+        ensures device { AsksToOpen D.Disk (Store keeper.Device) (outcome result) disk
             (disk_after result) }
         ensures sized { IfOk result (λ desk. D.size disk ≡ device_bytes) }
     {
@@ -56,7 +56,7 @@ impl<D: Disk> Desk<D> {
 
     /// Makes a new store of format 2 on the device, whatever was there. If memory is short, the device may be formatted already.
     pub fn format(alloc: Global, disk: D) -> Result<Desk<D>, (DeskFault, D)>
-        ensures formatted { D.honest disk → IfOk result (λ desk. EachStandsFor D.may_leave (disk_of desk) first_state) }
+        ensures formatted { D.honest disk → IfOk result (λ desk. EachStandsFor D.Disk (disk_of desk) first_state) }
         ensures first { IfOk result
             (λ desk. IsFirstStanding first_state desk.standing × (desk.keeper.state ≡ first_state)
             × (desk.synced ≡ 0)) }

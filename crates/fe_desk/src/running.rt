@@ -1,5 +1,5 @@
 ghost use Rattle.std.specs.Prelude.{◌≡◌, ◌↔◌, None, List, ℕ, false};
-ghost use Rattle.fe_disk.specs.Disk.{LeavesOnly};
+ghost use Rattle.fe_disk.specs.Runs.{LeavesOnly};
 ghost use Rattle.fe_state.specs.State.{ServerState};
 ghost use Rattle.fe_state.specs.History.{IsHistory};
 ghost use Rattle.fe_keeper.specs.Stands.{StandsFor, EachStandsFor};
@@ -29,13 +29,13 @@ pub struct Ran<D: Disk> {
 pub fn run<D: Disk>(alloc: Global, disk: D, steps: &[Step]) -> Ran<D>
     // The run ends at the opening, at a step, or whole: what it did, what it reports, and whether the device failed. A store that
     // is not opened is not written.
-    ensures ran { IsRunOf D.honest D.seen D.failures D.calls D.may_leave D.moment D.left_since disk steps.now result }
+    ensures ran { IsRunOf D.Disk disk steps.now result }
     // The groups are a history from the state that was there.
     ensures history { D.honest disk → (s : ServerState) → StandsFor (D.seen disk) s
         → IsHistory s (groups_of result.trace) }
     // Where every image at the start stands for that state, a stop at any moment leaves a prefix of the history.
-    ensures any_moment { D.honest disk → (s : ServerState) → EachStandsFor D.may_leave disk s
-        → LeavesOnly D.moment D.left_since disk result.disk (LeavesPrefix s (groups_of result.trace) 0) }
+    ensures any_moment { D.honest disk → (s : ServerState) → EachStandsFor D.Disk disk s
+        → LeavesOnly D.Disk disk result.disk (LeavesPrefix s (groups_of result.trace) 0) }
     // Wherever the store was opened, a stop at the end leaves a prefix that holds all groups that were stored.
     ensures stands { D.honest disk → (s : ServerState) → StandsFor (D.seen disk) s → IsPastOpening result.fault
         → (image : List ℕ) → D.may_leave result.disk image
@@ -66,8 +66,8 @@ fn take_steps<D: Disk>(desk: &mut Desk<D>, steps: &[Step]) -> Option<(u64, DeskF
     requires stands { D.honest (disk_of desk.old) → (begun : ServerState) → IsFrom begun desk.old → (image : List ℕ)
         → D.may_leave (disk_of desk.old) image
         → LeavesPrefix begun desk.old.standing.groups desk.old.synced image }
-    ensures goes { GoesTo D.failures desk.old steps.now result desk.new }
-    ensures advances { Advances D.honest D.moment D.left_since desk.old desk.new }
+    ensures goes { GoesTo D.Disk desk.old steps.now result desk.new }
+    ensures advances { Advances D.Disk desk.old desk.new }
 {
     for k in 0..steps.len() {
         if let Err(fault) = desk.step(&steps[k]) {

@@ -23,8 +23,8 @@ use std::mem;
 impl<D: Disk> Parts<D> {
     /// What is pending becomes the batch that is out, where there is something and no batch is out.
     pub(crate) fn cut(&mut self)
-        requires desk { IsDesk D.honest D.may_leave (desk_of self.old) }
-        ensures desk { IsDesk D.honest D.may_leave (desk_of self.new) }
+        requires desk { IsDesk D.Disk (desk_of self.old) }
+        ensures desk { IsDesk D.Disk (desk_of self.new) }
         ensures cut { standing_of self.new ≡ way.cut (standing_of self.old) }
         ensures keeper { self.new.keeper ≡ self.old.keeper }
         ensures trace { self.new.trace ≡ self.old.trace }
@@ -36,9 +36,9 @@ impl<D: Disk> Parts<D> {
 
     /// Stores the batch that is cut, if there is one. The faults are `Device` and `NoMemory`.
     pub(crate) fn store(&mut self) -> Result<(), Fault>
-        requires desk { IsDesk D.honest D.may_leave (desk_of self.old) }
+        requires desk { IsDesk D.Disk (desk_of self.old) }
         requires works { self.old.keeper.store.has_failed ≡ false }
-        ensures desk { IsDesk D.honest D.may_leave (desk_of self.new) }
+        ensures desk { IsDesk D.Disk (desk_of self.new) }
         ensures clients { (standing_of self.new).clients ≡ (standing_of self.old).clients }
         ensures goes { Goes D.Disk (Is (stored (standing_of self.old))) (IsUnstored (desk_of self.old))
             (Is (standing_of self.old)) result (desk_of self.old) (desk_of self.new) }
@@ -58,9 +58,9 @@ impl<D: Disk> Parts<D> {
 
     /// Hands a batch to the store, as a group of the trace. Where there is no memory it leaves the trace again.
     fn store_batch(&mut self, batch: Batch) -> (Handed, Result<(), Fault>)
-        requires desk { IsDesk D.honest D.may_leave (with_handed (desk_of self.old) (Cut batch)) }
+        requires desk { IsDesk D.Disk (with_handed (desk_of self.old) (Cut batch)) }
         requires works { self.old.keeper.store.has_failed ≡ false }
-        ensures desk { IsDesk D.honest D.may_leave (with_handed (desk_of self.new) result.0) }
+        ensures desk { IsDesk D.Disk (with_handed (desk_of self.new) result.0) }
         ensures clients { (standing_of self.new).clients ≡ (standing_of self.old).clients }
         ensures goes { let old = with_handed (desk_of self.old) (Cut batch) in
             Goes D.Disk (Is (stored old.standing)) (IsUnstored old) (Is old.standing) result.1 old
@@ -92,8 +92,8 @@ impl<D: Disk> Parts<D> {
     /// Posts the batch that is stored, if there is one, and rings the bell of each connection whose box that changed. Room that
     /// was begun is made then.
     pub(crate) fn post(&mut self, bells: &mut [bool; BELLS as usize])
-        requires desk { IsDesk D.honest D.may_leave (desk_of self.old) }
-        ensures desk { IsDesk D.honest D.may_leave (desk_of self.new) }
+        requires desk { IsDesk D.Disk (desk_of self.old) }
+        ensures desk { IsDesk D.Disk (desk_of self.new) }
         ensures posted { standing_of self.new ≡ posted (standing_of self.old) }
         ensures rung { (conn : ℕ) → IsRung bells.new conn ⊎ HasItsBox self.old.front self.new.front conn }
         ensures keeper { self.new.keeper ≡ self.old.keeper }
@@ -111,9 +111,9 @@ impl<D: Disk> Parts<D> {
 
     /// Stores the batch that is out, where it is not yet, and posts it.
     pub(crate) fn clear(&mut self) -> Result<(), Fault>
-        requires desk { IsDesk D.honest D.may_leave (desk_of self.old) }
+        requires desk { IsDesk D.Disk (desk_of self.old) }
         requires works { self.old.keeper.store.has_failed ≡ false }
-        ensures desk { IsDesk D.honest D.may_leave (desk_of self.new) }
+        ensures desk { IsDesk D.Disk (desk_of self.new) }
         ensures clients { (standing_of self.new).clients ≡ (standing_of self.old).clients }
         ensures goes { GoesTo D.Disk (cleared (standing_of self.old)) (Is (standing_of self.old)) result
             (desk_of self.old) (desk_of self.new) }
@@ -125,9 +125,9 @@ impl<D: Disk> Parts<D> {
 
     /// Makes room for a message of a connection. Where memory is short, what is left of it is done for its next message.
     pub(crate) fn make_room(&mut self, conn: u64) -> Result<(), Fault>
-        requires desk { IsDesk D.honest D.may_leave (desk_of self.old) }
+        requires desk { IsDesk D.Disk (desk_of self.old) }
         requires works { self.old.keeper.store.has_failed ≡ false }
-        ensures desk { IsDesk D.honest D.may_leave (desk_of self.new) }
+        ensures desk { IsDesk D.Disk (desk_of self.new) }
         ensures clients { (standing_of self.new).clients ≡ (standing_of self.old).clients }
         ensures room { OnOk result (IsTrue (has_room self.new.front)) }
         ensures goes { GoesTo D.Disk (roomy (standing_of self.old) conn) (StopsMaking (standing_of self.old) conn)
@@ -142,9 +142,9 @@ impl<D: Disk> Parts<D> {
 
     /// Goes on with the room that was begun for a message of this connection, if it was.
     fn go_on(&mut self, conn: u64) -> Result<(), Fault>
-        requires desk { IsDesk D.honest D.may_leave (desk_of self.old) }
+        requires desk { IsDesk D.Disk (desk_of self.old) }
         requires works { self.old.keeper.store.has_failed ≡ false }
-        ensures desk { IsDesk D.honest D.may_leave (desk_of self.new) }
+        ensures desk { IsDesk D.Disk (desk_of self.new) }
         ensures clients { (standing_of self.new).clients ≡ (standing_of self.old).clients }
         ensures goes { GoesTo D.Disk (begun_room (standing_of self.old) conn) (WasBegun (standing_of self.old) conn)
             result (desk_of self.old) (desk_of self.new) }
@@ -159,9 +159,9 @@ impl<D: Disk> Parts<D> {
     /// Stores and posts what is out, and then what is pending. If memory is short after the cut, room is begun for
     /// this connection.
     fn commit(&mut self, conn: u64) -> Result<(), Fault>
-        requires desk { IsDesk D.honest D.may_leave (desk_of self.old) }
+        requires desk { IsDesk D.Disk (desk_of self.old) }
         requires works { self.old.keeper.store.has_failed ≡ false }
-        ensures desk { IsDesk D.honest D.may_leave (desk_of self.new) }
+        ensures desk { IsDesk D.Disk (desk_of self.new) }
         ensures clients { (standing_of self.new).clients ≡ (standing_of self.old).clients }
         ensures goes { GoesTo D.Disk (made (committed (cleared (standing_of self.old))))
             (MayBegin (standing_of self.old) conn) result (desk_of self.old) (desk_of self.new) }

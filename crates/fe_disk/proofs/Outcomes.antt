@@ -3,8 +3,9 @@ use Rattle.std.proofs.Common.{◌≡◌, ◌⊎◌, ◌∙◌, ℕ, ◌+◌, ◌
 use Rattle.std.specs.Prelude.{IsErrOf}
 use Rattle.std.specs.Result.{is_err}
 use Rattle.fe_disk.specs.Disk.{Rises, RisesAtMost, MakesAtMost, MakesJust}
-use Rattle.fe_disk.specs.Outcome.{Asks, Runs}
+use Rattle.fe_disk.specs.Runs.{Asks, Runs}
 use Rattle.fe_disk.specs.declared.calls.Calls.{Calls}
+use Rattle.fe_disk.specs.declared.disk.Disk.{Ghosts}
 
 pub at_ok : {T E P : Type 0} (r : Result T E) → is_err r ≡ false → OnOk r P → P
 at_ok (Ok x) is clause = clause
@@ -32,31 +33,31 @@ most_within r w s r' w' s' old new few_reads few_writes few_syncs ((a, b), (c, d
 pub just_joined : (r w s r' w' s' : ℕ) (old mid new : Calls) → MakesJust r w s old mid → MakesJust r' w' s' mid new → MakesJust (r + r') (w + w') (s + s') old new
 just_joined r w s r' w' s' old mid new (a, b, c) (d, e, f) = (omega arith, omega arith, omega arith)
 
-module _ {D : Type 0} (size failures : D → ℕ) (calls : D → Calls) (honest : D → Type 0) where
+module _ {D : Type 0} (model : Ghosts D) where
   -- a run whose result is passed on, as another type maybe
-  pub runs_as : {T U E : Type 0} (r w s : ℕ) (device : E) (first : Result T E) (result : Result U E) (old new : D) → Runs size failures calls honest r w s device first old new
-      → (IsErrOf result device → IsErrOf first device) → (IsErrOf first device → IsErrOf result device) → Runs size failures calls honest r w s device result old new
+  pub runs_as : {T U E : Type 0} (r w s : ℕ) (device : E) (first : Result T E) (result : Result U E) (old new : D) → Runs model r w s device first old new
+      → (IsErrOf result device → IsErrOf first device) → (IsErrOf first device → IsErrOf result device) → Runs model r w s device result old new
   runs_as r w s device first result old new run back forth =
       record { fault = λ e. run.fault (back e); still = λ none. run.still (λ e. none (forth e)); most = run.most; honesty = run.honesty; same_size = run.same_size }
 
-  pub runs_within : {T E : Type 0} (r w s r' w' s' : ℕ) (device : E) (result : Result T E) (old new : D) → r ≤ r' → w ≤ w' → s ≤ s' → Runs size failures calls honest r w s device result old new
-      → Runs size failures calls honest r' w' s' device result old new
+  pub runs_within : {T E : Type 0} (r w s r' w' s' : ℕ) (device : E) (result : Result T E) (old new : D) → r ≤ r' → w ≤ w' → s ≤ s' → Runs model r w s device result old new
+      → Runs model r' w' s' device result old new
   runs_within r w s r' w' s' device result old new few_reads few_writes few_syncs run =
-      record { fault = run.fault; still = run.still; most = most_within r w s r' w' s' (calls old) (calls new) few_reads few_writes few_syncs run.most; honesty = run.honesty; same_size = run.same_size }
+      record { fault = run.fault; still = run.still; most = most_within r w s r' w' s' (model.calls old) (model.calls new) few_reads few_writes few_syncs run.most; honesty = run.honesty; same_size = run.same_size }
 
   -- a call that succeeded is a run without a fault
-  pub asks_run : {T U E F : Type 0} (r w s : ℕ) (device : F) (x : T) (y : U) (old new : D) → Asks {E = E} size failures calls honest r w s (Ok x) old new → Runs size failures calls honest r w s device (Ok y) old new
+  pub asks_run : {T U E F : Type 0} (r w s : ℕ) (device : F) (x : T) (y : U) (old new : D) → Asks {E = E} model r w s (Ok x) old new → Runs model r w s device (Ok y) old new
   asks_run r w s device x y old new asks =
       record { fault = λ e. absurd (cc); still = λ _. asks.still; most = asks.most; honesty = asks.honesty; same_size = asks.same_size }
 
   -- a run after another that had no fault of the device
-  pub runs_joined : {T U E : Type 0} (r w s r' w' s' : ℕ) (device : E) (first : Result T E) (second : Result U E) (old mid new : D) → Runs size failures calls honest r w s device first old mid
-      → (IsErrOf first device → ⊥) → Runs size failures calls honest r' w' s' device second mid new → Runs size failures calls honest (r + r') (w + w') (s + s') device second old new
+  pub runs_joined : {T U E : Type 0} (r w s r' w' s' : ℕ) (device : E) (first : Result T E) (second : Result U E) (old mid new : D) → Runs model r w s device first old mid
+      → (IsErrOf first device → ⊥) → Runs model r' w' s' device second mid new → Runs model (r + r') (w + w') (s + s') device second old new
   runs_joined r w s r' w' s' device first second old mid new one none two =
       record {
-        fault = λ e. subst (λ (n : ℕ). Rises n (failures new)) (one.still none) (two.fault e);
+        fault = λ e. subst (λ (n : ℕ). Rises n (model.failures new)) (one.still none) (two.fault e);
         still = λ no. two.still no ∙ one.still none;
-        most = most_joined r w s r' w' s' (calls old) (calls mid) (calls new) one.most two.most;
+        most = most_joined r w s r' w' s' (model.calls old) (model.calls mid) (model.calls new) one.most two.most;
         honesty = (λ h. one.honesty.0 (two.honesty.0 h), λ h. two.honesty.1 (one.honesty.1 h));
         same_size = two.same_size ∙ one.same_size;
       }

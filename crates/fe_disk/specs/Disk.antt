@@ -57,10 +57,3 @@ MakesAtMost reads writes syncs before now =
 abbrev pub MakesJust : ℕ → ℕ → ℕ → Calls → Calls → Type 0
 MakesJust reads writes syncs before now =
     (now.reads ≡ before.reads + reads) × (now.writes ≡ before.writes + writes) × (now.syncs ≡ before.syncs + syncs)
-
--- A stop at any moment of a run of calls, from `old` to `new`, leaves an image that has P.
-pub record LeavesOnly {D : Type 0} (moment : D → ℕ) (left_since : D → ℕ → List ℕ → Type 0) (old new : D) (P : List ℕ → Type 0) : Type 0 where
-  pub later : moment old ≤ moment new
-  pub each : (image : List ℕ) → left_since new (moment old) image → P image
-  -- for a run that began earlier
-  pub before : (t : ℕ) (image : List ℕ) → t ≤ moment old → left_since new t image → left_since old t image ⊎ P image

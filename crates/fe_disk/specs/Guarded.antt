@@ -2,6 +2,7 @@
 use Rattle.std.specs.Prelude.{◌≡◌, ◌↔◌, ℕ, ◌-◌, ◌^◌, ◌<◌, Result, IsErr}
 use Rattle.fe_disk.specs.Disk.{Rises}
 use Rattle.fe_disk.specs.declared.guarded.Guarded.{Guarded}
+use Rattle.fe_disk.specs.declared.disk.Disk.{Ghosts}
 
 -- the disk that it passes calls on to
 abbrev pub disk_of : {D P : Type 0} → Guarded D P → D
@@ -24,7 +25,7 @@ fault_count disk = disk.failures
 
 -- The policy counts each call. A call that it doesn't pass on fails and leaves the disk as it is; any other call
 -- fails exactly where the disk's fails.
-pub record Guards {D P T E : Type 0} (passes : P → Type 0) (next : P → P) (failures : D → ℕ) (result : Result T E) (old new : Guarded D P) : Type 0 where
+pub record Guards {D P T E : Type 0} (passes : P → Type 0) (next : P → P) (model : Ghosts D) (result : Result T E) (old new : Guarded D P) : Type 0 where
   pub counted : policy_of new ≡ next (policy_of old)
   pub refused : (passes (policy_of old) → ⊥) → IsErr result × (disk_of new ≡ disk_of old)
-  pub passed : passes (policy_of old) → fault_count old < 2 ^ 64 - 1 → (IsErr result ↔ Rises (failures (disk_of old)) (failures (disk_of new)))
+  pub passed : passes (policy_of old) → fault_count old < 2 ^ 64 - 1 → (IsErr result ↔ Rises (model.failures (disk_of old)) (model.failures (disk_of new)))

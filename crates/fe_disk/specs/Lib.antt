@@ -1,6 +1,7 @@
 pub mod Calls
 pub mod Disk
 pub mod Outcome
+pub mod Runs
 pub mod Memory
 pub mod Ranges
 pub mod Record

@@ -1,7 +1,7 @@
 // A disk as its users see it. `docs/model.md` has the model in plain words.
 ghost use Rattle.std.specs.Prelude.{◌≡◌, ◌+◌, ◌≤◌, ℕ, List, length, OnOk};
 ghost use Rattle.fe_disk.specs.Disk.{IsImage, bytes_at, after_write, IsTorn, Follows, AddsNone, LeavesJust, Elapses};
-ghost use Rattle.fe_disk.specs.Outcome.{Asks};
+ghost use Rattle.fe_disk.specs.Outcome.{EndsCall};
 ghost use Rattle.fe_disk.specs.declared.calls.Calls.{Calls};
 
 /// A device call failed. It carries no reason.
@@ -56,7 +56,7 @@ pub trait Disk {
         ensures same { honest self.old → seen self.new ≡ seen self.old }
         ensures stop { honest self.old → AddsNone (may_leave self.old) (may_leave self.new) }
         ensures time { honest self.old → Elapses moment left_since may_leave self.old self.new }
-        ensures device { Asks size failures calls honest 1 0 0 result self.old self.new };
+        ensures device { EndsCall size failures calls honest 1 0 0 result self.old self.new };
 
     /// Writes the bytes from `at` on. Until a sync succeeds, a stop may leave any bytes instead.
     /// A write that fails may have written: in its range a read may give anything, and a stop may leave anything.
@@ -68,7 +68,7 @@ pub trait Disk {
         ensures stop { honest self.old
             → Follows (IsTorn at (length bytes.now)) (may_leave self.old) (may_leave self.new) }
         ensures time { honest self.old → Elapses moment left_since may_leave self.old self.new }
-        ensures device { Asks size failures calls honest 0 1 0 result self.old self.new };
+        ensures device { EndsCall size failures calls honest 0 1 0 result self.old self.new };
 
     /// Makes all earlier writes durable. A sync that fails makes nothing durable.
     fn sync(&mut self) -> Result<(), DeviceFault>
@@ -77,7 +77,7 @@ pub trait Disk {
         ensures same { honest self.old → seen self.new ≡ seen self.old }
         ensures stop { honest self.old → AddsNone (may_leave self.old) (may_leave self.new) }
         ensures time { honest self.old → Elapses moment left_since may_leave self.old self.new }
-        ensures device { Asks size failures calls honest 0 0 1 result self.old self.new };
+        ensures device { EndsCall size failures calls honest 0 0 1 result self.old self.new };
 
     /// A read of the whole disk gives as many bytes as the disk has.
     ghost seen_is_image: { (disk : Self) → honest disk → IsImage (size disk) (seen disk) };

@@ -52,7 +52,7 @@ pub struct FileDisk {
 
 impl FileDisk {
     ghost use Rattle.fe_disk.specs.FileDisk.{file_size, fault_count, calls_of};
-    ghost use Rattle.fe_disk.specs.Outcome.{Asks};
+    ghost use Rattle.fe_disk.specs.Outcome.{EndsCall};
     ghost use Rattle.fe_disk.specs.within.Samples.{StaysRight, IsOf};
 
     /// Makes a file of this many zero bytes, which only its owner may read and write, and syncs it and its folder. If
@@ -153,7 +153,7 @@ impl FileDisk {
     fn put(&mut self, at: usize, bytes: &[u8]) -> Result<(), DeviceFault>
         requires count { self.old.failures < 2 ^ 64 - 1 }
         requires calls { self.old.calls.writes < 2 ^ 64 - 1 }
-        ensures device { Asks file_size fault_count calls_of (λ disk. ⊥) 0 1 0 result self.old self.new }
+        ensures device { EndsCall file_size fault_count calls_of (λ disk. ⊥) 0 1 0 result self.old self.new }
         ensures noted { OnOk result (StaysRight at bytes.now self.old.samples.written self.new.samples.written) }
         ensures kept { OnOk result (StaysRight at bytes.now self.old.samples.synced self.new.samples.synced) }
         ensures long { OnOk result (16 ≤ length bytes.now → IsOf at bytes.now self.new.samples.written) }
@@ -173,7 +173,7 @@ impl FileDisk {
     fn settle(&mut self) -> Result<(), DeviceFault>
         requires count { self.old.failures < 2 ^ 64 - 1 }
         requires calls { self.old.calls.syncs < 2 ^ 64 - 1 }
-        ensures device { Asks file_size fault_count calls_of (λ disk. ⊥) 0 0 1 result self.old self.new }
+        ensures device { EndsCall file_size fault_count calls_of (λ disk. ⊥) 0 0 1 result self.old self.new }
         // Only `Samples::confirm` makes it so, once it has found in the file what was synced before.
         ensures compared { OnOk result
             (IsTrue self.old.samples.is_short → self.new.samples.synced ≡ self.old.samples.written) }

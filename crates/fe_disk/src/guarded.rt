@@ -62,7 +62,7 @@ impl<D: Disk, P: Policy + Drop> Guarded<D, P> {
 impl<D: Disk, P: Policy> Disk for Guarded<D, P> {
     ghost use Rattle.std.specs.Prelude.{◌≡◌, ◌+◌, ◌≤◌, length, OnOk};
     ghost use Rattle.fe_disk.specs.Disk.{bytes_at, after_write, IsTorn, Follows, AddsNone, LeavesJust, Elapses};
-    ghost use Rattle.fe_disk.specs.Outcome.{Asks};
+    ghost use Rattle.fe_disk.specs.Outcome.{EndsCall};
     ghost use Rattle.fe_disk.specs.Guarded.{disk_of, fault_count, inner, inner_holds, Guards};
 
     ghost size = { inner D.size };
@@ -108,9 +108,9 @@ impl<D: Disk, P: Policy> Disk for Guarded<D, P> {
             → AddsNone (D.may_leave (disk_of self.old)) (D.may_leave (disk_of self.new)) }
         ensures time { D.honest (disk_of self.old)
             → Elapses D.moment D.left_since D.may_leave (disk_of self.old) (disk_of self.new) }
-        ensures device { Asks (inner D.size) fault_count (inner D.calls) (inner_holds D.honest)
+        ensures device { EndsCall (inner D.size) fault_count (inner D.calls) (inner_holds D.honest)
             1 0 0 result self.old self.new }
-        ensures guard { Guards P.passes P.next D.failures result self.old self.new }
+        ensures guard { Guards P.passes P.next D.Disk result self.old self.new }
     {
         if !self.admits(Asked::Read) {
             return Err(fault(&mut self.failures));
@@ -129,9 +129,9 @@ impl<D: Disk, P: Policy> Disk for Guarded<D, P> {
             → Follows (IsTorn at (length bytes.now)) (D.may_leave (disk_of self.old)) (D.may_leave (disk_of self.new)) }
         ensures time { D.honest (disk_of self.old)
             → Elapses D.moment D.left_since D.may_leave (disk_of self.old) (disk_of self.new) }
-        ensures device { Asks (inner D.size) fault_count (inner D.calls) (inner_holds D.honest)
+        ensures device { EndsCall (inner D.size) fault_count (inner D.calls) (inner_holds D.honest)
             0 1 0 result self.old self.new }
-        ensures guard { Guards P.passes P.next D.failures result self.old self.new }
+        ensures guard { Guards P.passes P.next D.Disk result self.old self.new }
     {
         if !self.admits(Asked::Write) {
             return Err(fault(&mut self.failures));
@@ -148,9 +148,9 @@ impl<D: Disk, P: Policy> Disk for Guarded<D, P> {
             → AddsNone (D.may_leave (disk_of self.old)) (D.may_leave (disk_of self.new)) }
         ensures time { D.honest (disk_of self.old)
             → Elapses D.moment D.left_since D.may_leave (disk_of self.old) (disk_of self.new) }
-        ensures device { Asks (inner D.size) fault_count (inner D.calls) (inner_holds D.honest)
+        ensures device { EndsCall (inner D.size) fault_count (inner D.calls) (inner_holds D.honest)
             0 0 1 result self.old self.new }
-        ensures guard { Guards P.passes P.next D.failures result self.old self.new }
+        ensures guard { Guards P.passes P.next D.Disk result self.old self.new }
     {
         if !self.admits(Asked::Sync) {
             return Err(fault(&mut self.failures));

@@ -1,7 +1,7 @@
 //! A disk that always reads the same bytes, for tests of a store over any bytes.
 ghost use Rattle.std.specs.Prelude.{◌≡◌, ◌⊎◌, ◌+◌, ◌-◌, ◌^◌, ◌≤◌, length, IsErr, OnOk};
 ghost use Rattle.fe_disk.specs.Disk.{bytes_at};
-ghost use Rattle.fe_disk.specs.Outcome.{Asks};
+ghost use Rattle.fe_disk.specs.Outcome.{EndsCall};
 
 use crate::faults::fault;
 use crate::{Calls, DeviceFault, Disk};
@@ -75,7 +75,7 @@ impl Disk for Liar {
         ensures same { told self.new ≡ told self.old }
         ensures only_at_top { IsErr result
             → (fault_count self.old ≡ 2 ^ 64 - 1) ⊎ ((calls_of self.old).reads ≡ 2 ^ 64 - 1) }
-        ensures device { Asks byte_count fault_count calls_of (λ disk. ⊥) 1 0 0 result self.old self.new }
+        ensures device { EndsCall byte_count fault_count calls_of (λ disk. ⊥) 1 0 0 result self.old self.new }
     {
         if self.failures == u64::MAX || self.calls.reads == u64::MAX {
             return Err(fault(&mut self.failures));
@@ -90,7 +90,7 @@ impl Disk for Liar {
         ensures same { told self.new ≡ told self.old }
         ensures only_at_top { IsErr result
             → (fault_count self.old ≡ 2 ^ 64 - 1) ⊎ ((calls_of self.old).writes ≡ 2 ^ 64 - 1) }
-        ensures device { Asks byte_count fault_count calls_of (λ disk. ⊥) 0 1 0 result self.old self.new }
+        ensures device { EndsCall byte_count fault_count calls_of (λ disk. ⊥) 0 1 0 result self.old self.new }
     {
         if self.failures == u64::MAX || self.calls.writes == u64::MAX {
             return Err(fault(&mut self.failures));
@@ -103,7 +103,7 @@ impl Disk for Liar {
         ensures same { told self.new ≡ told self.old }
         ensures only_at_top { IsErr result
             → (fault_count self.old ≡ 2 ^ 64 - 1) ⊎ ((calls_of self.old).syncs ≡ 2 ^ 64 - 1) }
-        ensures device { Asks byte_count fault_count calls_of (λ disk. ⊥) 0 0 1 result self.old self.new }
+        ensures device { EndsCall byte_count fault_count calls_of (λ disk. ⊥) 0 0 1 result self.old self.new }
     {
         if self.failures == u64::MAX || self.calls.syncs == u64::MAX {
             return Err(fault(&mut self.failures));

@@ -1,7 +1,7 @@
 //! A disk in memory that records its calls, so that a test can make every stop that the record allows.
 ghost use Rattle.std.specs.Prelude.{◌≡◌, ◌⊎◌, ◌+◌, ◌-◌, ◌^◌, ◌≤◌, ◌↔◌, length, IfOk, IsErr, OnOk, OnErr};
 ghost use Rattle.fe_disk.specs.Disk.{bytes_at, after_write, IsTorn, Follows, AddsNone, LeavesJust, Elapses, Rises};
-ghost use Rattle.fe_disk.specs.Outcome.{Asks};
+ghost use Rattle.fe_disk.specs.Outcome.{EndsCall};
 ghost use Rattle.fe_disk.specs.Memory.{size_of, failures_of, calls_of, seen_of, moment_of, IsHonest, LeavesNow, LeavesSince, IsLeftBy, IsFresh, IsBlank, disk_after_read, disk_after_write, disk_after_sync, disk_after_fault};
 ghost use Rattle.fe_disk.specs.within.MemoryLaws.{seen_may_stay_law, left_is_image_law, counts_now_law, only_now_law};
 
@@ -193,7 +193,7 @@ impl Disk for MemoryDisk {
         ensures same { IsHonest self.old → self.new.image ≡ self.old.image }
         ensures stop { IsHonest self.old → AddsNone (LeavesNow self.old) (LeavesNow self.new) }
         ensures time { IsHonest self.old → Elapses moment_of LeavesSince LeavesNow self.old self.new }
-        ensures device { Asks size_of failures_of calls_of IsHonest 1 0 0 result self.old self.new }
+        ensures device { EndsCall size_of failures_of calls_of IsHonest 1 0 0 result self.old self.new }
 
         // A read takes no memory, so it fails only once the count of faults, or that of reads, is at its top.
         ensures only_at_top { IsErr result ↔ ((self.old.failures ≡ 2 ^ 64 - 1) ⊎ (self.old.calls.reads ≡ 2 ^ 64 - 1)) }
@@ -210,7 +210,7 @@ impl Disk for MemoryDisk {
         ensures stop { IsHonest self.old
             → Follows (IsTorn at (length bytes.now)) (LeavesNow self.old) (LeavesNow self.new) }
         ensures time { IsHonest self.old → Elapses moment_of LeavesSince LeavesNow self.old self.new }
-        ensures device { Asks size_of failures_of calls_of IsHonest 0 1 0 result self.old self.new }
+        ensures device { EndsCall size_of failures_of calls_of IsHonest 0 1 0 result self.old self.new }
 
         // The record has one write more, or nothing was done.
         ensures ok { OnOk result (self.new ≡ disk_after_write self.old at bytes.now) }
@@ -224,7 +224,7 @@ impl Disk for MemoryDisk {
         ensures same { IsHonest self.old → self.new.image ≡ self.old.image }
         ensures stop { IsHonest self.old → AddsNone (LeavesNow self.old) (LeavesNow self.new) }
         ensures time { IsHonest self.old → Elapses moment_of LeavesSince LeavesNow self.old self.new }
-        ensures device { Asks size_of failures_of calls_of IsHonest 0 0 1 result self.old self.new }
+        ensures device { EndsCall size_of failures_of calls_of IsHonest 0 0 1 result self.old self.new }
 
         // The record has one sync more, or nothing was done.
         ensures ok { OnOk result (self.new ≡ disk_after_sync self.old) }

@@ -2,7 +2,7 @@
 use Rattle.std.proofs.Common.{◌≡◌, inl, inr, ⊎_elim, ℕ, suc, ◌+◌, ◌≤◌, Bool, true, false, Option, Some, None, List, [], ◌∷◌, ◌++◌, length, take, refl, sym, ap, subst, ◌∙◌, zero-add, arith}
 use Rattle.std.specs.Prelude.{◌↔◌, if◌then◌else◌, Result, Ok, Err, IsErrAnd, IfErr}
 use Rattle.std.proofs.lemmas.List.{length-append, take-append-le, take_all}
-use Rattle.fe_disk.specs.Disk.{LeavesOnly}
+use Rattle.fe_disk.specs.Runs.{LeavesOnly}
 use Rattle.fe_disk.proofs.Moments.{started, joined, weaker}
 use Rattle.fe_state.specs.State.{ServerState, after_all}
 use Rattle.fe_state.specs.History.{IsHistory, AreLegal, after_groups}
@@ -10,17 +10,18 @@ use Rattle.fe_state.specs.declared.batch.Batch.{Batch}
 use Rattle.fe_state.specs.declared.entry.Entry.{Entry}
 use Rattle.fe_state.proofs.Histories.{history-append}
 use Rattle.std.specs.Option.{option_map_or}
-use Rattle.fe_keeper.specs.Ends.{Rests, StopsLeave, Works, Breaks, Fails, ForBatch}
+use Rattle.fe_keeper.specs.Ends.{Rests, StopsLeave, Works, Breaks, Fails, ForBatch, IsStill}
 use Rattle.fe_keeper.specs.Keeper.{KeeperState, StoreState, Progress, fits, must_begin, made_room, renewed, appended, stepped, stepped_by, finished, finished_by}
 use Rattle.fe_keeper.specs.Prefix.{LeavesPrefix}
 use Rattle.fe_keeper.specs.Stands.{StandsFor, StandsForEither, EachStandsFor}
 use Rattle.fe_keeper.specs.declared.fault.Fault.{Fault}
 use Rattle.fe_keeper.specs.declared.fault.Fault.TheVariants.{Device, Failed, NoMemory, Mismatch, Damaged, Unformatted}
 use Rattle.fe_hall.proofs.Noted.{none_noted, both_noted, turn_noted}
-use Rattle.fe_hall.specs.Commits.{Append, AreAppends, AreNoted, HoldsSince, Commits, IsStill, HasFailed, TellsEnd, end_of}
+use Rattle.fe_hall.specs.Commits.{Append, AreAppends, AreNoted, HoldsSince, Commits, TellsEnd, end_of}
 use Rattle.fe_history.specs.declared.act.Act.{Act}
 use Rattle.fe_hall.specs.declared.commit_end.CommitEnd.{CommitEnd}
 use Rattle.fe_hall.specs.declared.commit_end.CommitEnd.TheVariants.{Store, Strange}
+use Rattle.fe_disk.specs.declared.disk.Disk.{Ghosts}
 
 -- ---- groups after groups
 
@@ -84,24 +85,24 @@ appends_both s t (group ∷ groups) more [] second is one two = absurd one
 appends_both s t (group ∷ groups) more (append ∷ appends) second is one two =
     (one.0, one.1, one.2, appends_both (after_all s group) t groups more appends second is one.3 two)
 
-module _ {D : Type 0} (moment : D → ℕ) (left_since : D → ℕ → List ℕ → Type 0) where
+module _ {D : Type 0} (model : Ghosts D) where
   -- what holds before the next append
-  holds_here : (begun : ServerState) (history : List (List Entry)) (n : ℕ) (here : D) (appends : List (Append D)) (last : D) → HoldsSince moment left_since begun history n here appends last
-      → LeavesOnly moment left_since here last (LeavesPrefix begun history n)
+  holds_here : (begun : ServerState) (history : List (List Entry)) (n : ℕ) (here : D) (appends : List (Append D)) (last : D) → HoldsSince model begun history n here appends last
+      → LeavesOnly model here last (LeavesPrefix begun history n)
   holds_here begun history n here [] last holds = holds
   holds_here begun history n here (append ∷ appends) last holds = holds.0
 
-  holds_as : (begun : ServerState) (history : List (List Entry)) (n m : ℕ) (here : D) (appends : List (Append D)) (last : D) → n ≡ m → HoldsSince moment left_since begun history n here appends last
-      → HoldsSince moment left_since begun history m here appends last
-  holds_as begun history n m here appends last is holds = subst (λ (k : ℕ). HoldsSince moment left_since begun history k here appends last) is holds
+  holds_as : (begun : ServerState) (history : List (List Entry)) (n m : ℕ) (here : D) (appends : List (Append D)) (last : D) → n ≡ m → HoldsSince model begun history n here appends last
+      → HoldsSince model begun history m here appends last
+  holds_as begun history n m here appends last is holds = subst (λ (k : ℕ). HoldsSince model begun history k here appends last) is holds
 
   -- the groups come after others
   holds_behind : (begun : ServerState) (groups more : List (List Entry)) (s : ServerState) → s ≡ after_groups begun groups → (n : ℕ) (here : D) (appends : List (Append D)) (last : D)
-      → HoldsSince moment left_since s more n here appends last → HoldsSince moment left_since begun (groups ++ more) (length groups + n) here appends last
+      → HoldsSince model s more n here appends last → HoldsSince model begun (groups ++ more) (length groups + n) here appends last
   holds_behind begun groups more s is n here [] last holds =
-      weaker moment left_since here last (LeavesPrefix s more n) (LeavesPrefix begun (groups ++ more) (length groups + n)) (λ image p. prefix_behind begun groups more s n image is p) holds
+      weaker model here last (LeavesPrefix s more n) (LeavesPrefix begun (groups ++ more) (length groups + n)) (λ image p. prefix_behind begun groups more s n image is p) holds
   holds_behind begun groups more s is n here (append ∷ appends) last holds = (
-    weaker moment left_since here last (LeavesPrefix s more n) (LeavesPrefix begun (groups ++ more) (length groups + n)) (λ image p. prefix_behind begun groups more s n image is p) holds.0,
+    weaker model here last (LeavesPrefix s more n) (LeavesPrefix begun (groups ++ more) (length groups + n)) (λ image p. prefix_behind begun groups more s n image is p) holds.0,
     holds.1,
     holds.2,
     holds_as begun (groups ++ more) (length groups + (n + 1)) (length groups + n + 1) append.after.store.disk appends last (omega arith)
@@ -109,17 +110,17 @@ module _ {D : Type 0} (moment : D → ℕ) (left_since : D → ℕ → List ℕ 
   )
 
   -- what holds of the first groups holds while those after are stored too
-  holds_longer : (begun : ServerState) (groups more : List (List Entry)) (n : ℕ) (here mid last : D) → n ≤ length groups → LeavesOnly moment left_since here mid (LeavesPrefix begun groups n)
-      → LeavesOnly moment left_since mid last (LeavesPrefix begun (groups ++ more) (length groups)) → LeavesOnly moment left_since here last (LeavesPrefix begun (groups ++ more) n)
+  holds_longer : (begun : ServerState) (groups more : List (List Entry)) (n : ℕ) (here mid last : D) → n ≤ length groups → LeavesOnly model here mid (LeavesPrefix begun groups n)
+      → LeavesOnly model mid last (LeavesPrefix begun (groups ++ more) (length groups)) → LeavesOnly model here last (LeavesPrefix begun (groups ++ more) n)
   holds_longer begun groups more n here mid last le first second =
-      joined moment left_since here mid last (LeavesPrefix begun (groups ++ more) n)
-      (weaker moment left_since here mid (LeavesPrefix begun groups n) (LeavesPrefix begun (groups ++ more) n) (λ image p. prefix_front begun groups more n image p) first)
-      (weaker moment left_since mid last (LeavesPrefix begun (groups ++ more) (length groups)) (LeavesPrefix begun (groups ++ more) n)
+      joined model here mid last (LeavesPrefix begun (groups ++ more) n)
+      (weaker model here mid (LeavesPrefix begun groups n) (LeavesPrefix begun (groups ++ more) n) (λ image p. prefix_front begun groups more n image p) first)
+      (weaker model mid last (LeavesPrefix begun (groups ++ more) (length groups)) (LeavesPrefix begun (groups ++ more) n)
       (λ image p. prefix_fewer begun (groups ++ more) n (length groups) image le p) second)
 
   holds_both : (begun : ServerState) (groups more : List (List Entry)) (n : ℕ) (here : D) (first : List (Append D)) (mid : D) (second : List (Append D)) (last : D) → n + length first ≡ length groups
-      → HoldsSince moment left_since begun groups n here first mid → HoldsSince moment left_since begun (groups ++ more) (length groups) mid second last
-      → HoldsSince moment left_since begun (groups ++ more) n here (first ++ second) last
+      → HoldsSince model begun groups n here first mid → HoldsSince model begun (groups ++ more) (length groups) mid second last
+      → HoldsSince model begun (groups ++ more) n here (first ++ second) last
   holds_both begun groups more n here [] mid [] last count one two = holds_longer begun groups more n here mid last (omega (arith, count)) one two
   holds_both begun groups more n here [] mid (append ∷ appends) last count one two = (
     holds_longer begun groups more n here mid last (omega (arith, count)) one two.0,
@@ -136,9 +137,9 @@ module _ {D : Type 0} (moment : D → ℕ) (left_since : D → ℕ → List ℕ 
 
 -- ---- calls of a keeper
 
-module _ {D : Type 0} (honest : D → Type 0) (moment : D → ℕ) (left_since : D → ℕ → List ℕ → Type 0) where
+module _ {D : Type 0} (model : Ghosts D) where
   -- the state was kept
-  pub commits_kept : (old new : KeeperState D) (end : Option CommitEnd) → Rests honest moment left_since old new → Commits honest moment left_since old new end
+  pub commits_kept : (old new : KeeperState D) (end : Option CommitEnd) → Rests model old new → Commits model old new end
   commits_kept old new end rests = record {
     groups = [];
     history = tt;
@@ -148,7 +149,7 @@ module _ {D : Type 0} (honest : D → Type 0) (moment : D → ℕ) (left_since :
     appends = [];
     are_appends = tt;
     any_moment = λ h works.
-        weaker moment left_since old.store.disk new.store.disk (λ image. StandsFor image old.state) (LeavesPrefix old.state [] 0)
+        weaker model old.store.disk new.store.disk (λ image. StandsFor image old.state) (LeavesPrefix old.state [] 0)
         (λ image stands. leaves_at old.state [] 0 0 image old.state (omega arith) (omega arith) refl stands) (rests.any_moment h works);
   }
 
@@ -157,12 +158,12 @@ module _ {D : Type 0} (honest : D → Type 0) (moment : D → ℕ) (left_since :
   either s entries image (inr after) = leaves_at s (entries ∷ []) 0 1 image (after_all s entries) (omega arith) (omega arith) refl after
 
   -- a group was appended
-  pub commits_group : (may_leave : D → List ℕ → Type 0) → ((disk : D) (image : List ℕ) → honest disk → left_since disk (moment disk) image → may_leave disk image) → (old new : KeeperState D) (end : Option CommitEnd) (batch : Batch)
-      → 1 ≤ length batch.entries → AreLegal old.state batch.entries → new.state ≡ after_all old.state batch.entries → new.store.has_failed ≡ old.store.has_failed → (honest new.store.disk ↔ honest old.store.disk)
-      → (honest new.store.disk → new.store.has_failed ≡ false → EachStandsFor may_leave new.store.disk new.state)
-      → (honest old.store.disk → old.store.has_failed ≡ false → LeavesOnly moment left_since old.store.disk new.store.disk (StandsForEither old.state (after_all old.state batch.entries)))
-      → Commits honest moment left_since old new end
-  commits_group may_leave only_now old new end batch some legal state still honesty stands run = record {
+  pub commits_group : ((disk : D) (image : List ℕ) → model.honest disk → model.left_since disk (model.moment disk) image → model.may_leave disk image) → (old new : KeeperState D) (end : Option CommitEnd) (batch : Batch)
+      → 1 ≤ length batch.entries → AreLegal old.state batch.entries → new.state ≡ after_all old.state batch.entries → new.store.has_failed ≡ old.store.has_failed → (model.honest new.store.disk ↔ model.honest old.store.disk)
+      → (model.honest new.store.disk → new.store.has_failed ≡ false → EachStandsFor model new.store.disk new.state)
+      → (model.honest old.store.disk → old.store.has_failed ≡ false → LeavesOnly model old.store.disk new.store.disk (StandsForEither old.state (after_all old.state batch.entries)))
+      → Commits model old new end
+  commits_group only_now old new end batch some legal state still honesty stands run = record {
     groups = batch.entries ∷ [];
     history = (omega (arith, some), legal, tt);
     stored = 1;
@@ -172,19 +173,19 @@ module _ {D : Type 0} (honest : D → Type 0) (moment : D → ℕ) (left_since :
     are_appends = (refl, state, refl, tt);
     any_moment = λ h works.
         let moments = run h works in (
-          weaker moment left_since old.store.disk new.store.disk (StandsForEither old.state (after_all old.state batch.entries)) (LeavesPrefix old.state (batch.entries ∷ []) 0)
+          weaker model old.store.disk new.store.disk (StandsForEither old.state (after_all old.state batch.entries)) (LeavesPrefix old.state (batch.entries ∷ []) 0)
               (λ image two. either old.state batch.entries image two) moments,
           omega arith,
           moments.later,
-          started moment left_since new.store.disk (LeavesPrefix old.state (batch.entries ∷ []) 1)
+          started model new.store.disk (LeavesPrefix old.state (batch.entries ∷ []) 1)
               (λ image left. leaves_at old.state (batch.entries ∷ []) 1 1 image new.state (omega arith) (omega arith) state (stands (honesty.1 h) (still ∙ works) image (only_now new.store.disk image (honesty.1 h) left))),
         );
   }
 
   -- the device failed as a group was appended
   pub commits_torn : (old new : KeeperState D) (entries : List Entry) → 1 ≤ length entries → AreLegal old.state entries → new.state ≡ old.state
-      → (honest old.store.disk → old.store.has_failed ≡ false → LeavesOnly moment left_since old.store.disk new.store.disk (StandsForEither old.state (after_all old.state entries)))
-      → Commits honest moment left_since old new (Some (Store Device))
+      → (model.honest old.store.disk → old.store.has_failed ≡ false → LeavesOnly model old.store.disk new.store.disk (StandsForEither old.state (after_all old.state entries)))
+      → Commits model old new (Some (Store Device))
   commits_torn old new entries some legal state run = record {
     groups = entries ∷ [];
     history = (omega (arith, some), legal, tt);
@@ -194,13 +195,13 @@ module _ {D : Type 0} (honest : D → Type 0) (moment : D → ℕ) (left_since :
     appends = [];
     are_appends = tt;
     any_moment = λ h works.
-        weaker moment left_since old.store.disk new.store.disk (StandsForEither old.state (after_all old.state entries)) (LeavesPrefix old.state (entries ∷ []) 0)
+        weaker model old.store.disk new.store.disk (StandsForEither old.state (after_all old.state entries)) (LeavesPrefix old.state (entries ∷ []) 0)
         (λ image two. either old.state entries image two) (run h works);
   }
 
   -- calls after calls
-  pub commits_both : (a b c : KeeperState D) (end : Option CommitEnd) → b.store.has_failed ≡ a.store.has_failed → (honest b.store.disk ↔ honest a.store.disk)
-      → Commits honest moment left_since a b None → Commits honest moment left_since b c end → Commits honest moment left_since a c end
+  pub commits_both : (a b c : KeeperState D) (end : Option CommitEnd) → b.store.has_failed ≡ a.store.has_failed → (model.honest b.store.disk ↔ model.honest a.store.disk)
+      → Commits model a b None → Commits model b c end → Commits model a c end
   commits_both a b c end works honesty ab bc = record {
     groups = ab.groups ++ bc.groups;
     history = history-append a.state ab.groups bc.groups ab.history (subst (λ (s : ServerState). IsHistory s bc.groups) reached bc.history);
@@ -216,9 +217,9 @@ module _ {D : Type 0} (honest : D → Type 0) (moment : D → ℕ) (left_since :
         subst (λ (gs : List (List Entry)). AreAppends a.state gs (ab.appends ++ bc.appends)) (sym (take_behind ab.groups bc.groups bc.stored))
         (appends_both a.state b.state ab.groups (take bc.stored bc.groups) ab.appends bc.appends reached each bc.are_appends);
     any_moment = λ h fine.
-        holds_both moment left_since a.state ab.groups bc.groups 0 a.store.disk ab.appends b.store.disk bc.appends c.store.disk (zero-add (length ab.appends) ∙ appends_length a.state ab.groups ab.appends each) (ab.any_moment h fine)
-        (holds_as moment left_since a.state (ab.groups ++ bc.groups) (length ab.groups + 0) (length ab.groups) b.store.disk bc.appends c.store.disk (omega arith)
-        (holds_behind moment left_since a.state ab.groups bc.groups b.state reached 0 b.store.disk bc.appends c.store.disk (bc.any_moment (honesty.1 h) (works ∙ fine))));
+        holds_both model a.state ab.groups bc.groups 0 a.store.disk ab.appends b.store.disk bc.appends c.store.disk (zero-add (length ab.appends) ∙ appends_length a.state ab.groups ab.appends each) (ab.any_moment h fine)
+        (holds_as model a.state (ab.groups ++ bc.groups) (length ab.groups + 0) (length ab.groups) b.store.disk bc.appends c.store.disk (omega arith)
+        (holds_behind model a.state ab.groups bc.groups b.state reached 0 b.store.disk bc.appends c.store.disk (bc.any_moment (honesty.1 h) (works ∙ fine))));
   }
     where
       whole : take ab.stored ab.groups ≡ ab.groups
@@ -234,47 +235,47 @@ module _ {D : Type 0} (honest : D → Type 0) (moment : D → ℕ) (left_since :
 
   -- a batch was stored, and then the state was kept
   pub commits_turn : (a k m n : KeeperState D) (end : Option CommitEnd) → k.store.has_failed ≡ a.store.has_failed → m.store.has_failed ≡ k.store.has_failed
-      → (honest k.store.disk ↔ honest a.store.disk) → (honest m.store.disk ↔ honest k.store.disk) → Commits honest moment left_since a k None → Commits honest moment left_since k m None
-      → Rests honest moment left_since m n → Commits honest moment left_since a n end
+      → (model.honest k.store.disk ↔ model.honest a.store.disk) → (model.honest m.store.disk ↔ model.honest k.store.disk) → Commits model a k None → Commits model k m None
+      → Rests model m n → Commits model a n end
   commits_turn a k m n end ak km honest_ak honest_km first second rests =
       commits_both a m n end (km ∙ ak) (λ h. honest_ak.0 (honest_km.0 h), λ h. honest_km.1 (honest_ak.1 h)) (commits_both a k m None ak honest_ak first second) (commits_kept m n end rests)
 
   -- ---- with the history
 
-  pub kept_noted : (old new : KeeperState D) (end : Option CommitEnd) (rests : Rests honest moment left_since old new) (acts : List Act)
-      → (all : Commits honest moment left_since old new end) × AreNoted moment all.appends end acts acts
+  pub kept_noted : (old new : KeeperState D) (end : Option CommitEnd) (rests : Rests model old new) (acts : List Act)
+      → (all : Commits model old new end) × AreNoted model all.appends end acts acts
   unfolding commits_kept
-  kept_noted old new end rests acts = (commits_kept old new end rests, none_noted moment [] end acts refl)
+  kept_noted old new end rests acts = (commits_kept old new end rests, none_noted model [] end acts refl)
 
-  pub group_noted : (may_leave : D → List ℕ → Type 0) → ((disk : D) (image : List ℕ) → honest disk → left_since disk (moment disk) image → may_leave disk image) → (old new : KeeperState D) (end : Option CommitEnd) (batch : Batch) (a b : List Act)
-      → 1 ≤ length batch.entries → AreLegal old.state batch.entries → new.state ≡ after_all old.state batch.entries → new.store.has_failed ≡ old.store.has_failed → (honest new.store.disk ↔ honest old.store.disk)
-      → (honest new.store.disk → new.store.has_failed ≡ false → EachStandsFor may_leave new.store.disk new.state)
-      → (honest old.store.disk → old.store.has_failed ≡ false → LeavesOnly moment left_since old.store.disk new.store.disk (StandsForEither old.state (after_all old.state batch.entries)))
-      → AreNoted moment (record { batch = batch; before = old; after = new } ∷ []) end a b
-      → (all : Commits honest moment left_since old new end) × AreNoted moment all.appends end a b
+  pub group_noted : ((disk : D) (image : List ℕ) → model.honest disk → model.left_since disk (model.moment disk) image → model.may_leave disk image) → (old new : KeeperState D) (end : Option CommitEnd) (batch : Batch) (a b : List Act)
+      → 1 ≤ length batch.entries → AreLegal old.state batch.entries → new.state ≡ after_all old.state batch.entries → new.store.has_failed ≡ old.store.has_failed → (model.honest new.store.disk ↔ model.honest old.store.disk)
+      → (model.honest new.store.disk → new.store.has_failed ≡ false → EachStandsFor model new.store.disk new.state)
+      → (model.honest old.store.disk → old.store.has_failed ≡ false → LeavesOnly model old.store.disk new.store.disk (StandsForEither old.state (after_all old.state batch.entries)))
+      → AreNoted model (record { batch = batch; before = old; after = new } ∷ []) end a b
+      → (all : Commits model old new end) × AreNoted model all.appends end a b
   unfolding commits_group
-  group_noted may_leave only_now old new end batch a b some legal state still honesty stands run notes =
-      (commits_group may_leave only_now old new end batch some legal state still honesty stands run, notes)
+  group_noted only_now old new end batch a b some legal state still honesty stands run notes =
+      (commits_group only_now old new end batch some legal state still honesty stands run, notes)
 
-  pub both_commits : (a b c : KeeperState D) (end : Option CommitEnd) (x y z : List Act) → b.store.has_failed ≡ a.store.has_failed → (honest b.store.disk ↔ honest a.store.disk)
-      → (ab : Commits honest moment left_since a b None) → AreNoted moment ab.appends None x y → (bc : Commits honest moment left_since b c end) → AreNoted moment bc.appends end y z
-      → (all : Commits honest moment left_since a c end) × AreNoted moment all.appends end x z
+  pub both_commits : (a b c : KeeperState D) (end : Option CommitEnd) (x y z : List Act) → b.store.has_failed ≡ a.store.has_failed → (model.honest b.store.disk ↔ model.honest a.store.disk)
+      → (ab : Commits model a b None) → AreNoted model ab.appends None x y → (bc : Commits model b c end) → AreNoted model bc.appends end y z
+      → (all : Commits model a c end) × AreNoted model all.appends end x z
   unfolding commits_both
-  both_commits a b c end x y z works honesty ab one bc two = (commits_both a b c end works honesty ab bc, both_noted moment ab.appends bc.appends end x y z one two)
+  both_commits a b c end x y z works honesty ab one bc two = (commits_both a b c end works honesty ab bc, both_noted model ab.appends bc.appends end x y z one two)
 
   pub turn_commits : (a k m n : KeeperState D) (end : Option CommitEnd) (x y z : List Act) → k.store.has_failed ≡ a.store.has_failed → m.store.has_failed ≡ k.store.has_failed
-      → (honest k.store.disk ↔ honest a.store.disk) → (honest m.store.disk ↔ honest k.store.disk) → (first : Commits honest moment left_since a k None) → AreNoted moment first.appends None x y
-      → (second : Commits honest moment left_since k m None) → AreNoted moment second.appends None y z → Rests honest moment left_since m n
-      → (all : Commits honest moment left_since a n end) × AreNoted moment all.appends end x z
+      → (model.honest k.store.disk ↔ model.honest a.store.disk) → (model.honest m.store.disk ↔ model.honest k.store.disk) → (first : Commits model a k None) → AreNoted model first.appends None x y
+      → (second : Commits model k m None) → AreNoted model second.appends None y z → Rests model m n
+      → (all : Commits model a n end) × AreNoted model all.appends end x z
   unfolding commits_turn commits_both commits_kept
   turn_commits a k m n end x y z ak km honest_ak honest_km first one second two rests = (
     commits_turn a k m n end ak km honest_ak honest_km first second rests,
-    turn_noted moment first.appends second.appends end x y z one two,
+    turn_noted model first.appends second.appends end x y z one two,
   )
 
   -- a side that went on may end
-  pub ended_noted : (a b : KeeperState D) (end : Option CommitEnd) (x y : List Act) (c : Commits honest moment left_since a b None) → AreNoted moment c.appends None x y
-      → (all : Commits honest moment left_since a b end) × AreNoted moment all.appends end x y
+  pub ended_noted : (a b : KeeperState D) (end : Option CommitEnd) (x y : List Act) (c : Commits model a b None) → AreNoted model c.appends None x y
+      → (all : Commits model a b end) × AreNoted model all.appends end x y
   ended_noted a b end x y c (p, n, is, inr strange) = absurd (cc (strange.0))
   ended_noted a b end x y c (p, n, is, inl notes) = (
     record {
@@ -317,70 +318,67 @@ appended_works {D} s t entries disk is = ap (λ (u : StoreState D). u.has_failed
     by false false None = refl
     by false false (Some p) = refl
 
-module _ {D : Type 0} (honest : D → Type 0) (may_leave : D → List ℕ → Type 0) (moment : D → ℕ) (left_since : D → ℕ → List ℕ → Type 0) where
+module _ {D : Type 0} (model : Ghosts D) where
   -- nothing was done
-  pub rests_itself : ((disk : D) (image : List ℕ) → honest disk → left_since disk (moment disk) image → may_leave disk image) → (k : KeeperState D)
-      → (honest k.store.disk → k.store.has_failed ≡ false → EachStandsFor may_leave k.store.disk k.state) → Rests honest moment left_since k k
+  pub rests_itself : ((disk : D) (image : List ℕ) → model.honest disk → model.left_since disk (model.moment disk) image → model.may_leave disk image) → (k : KeeperState D)
+      → (model.honest k.store.disk → k.store.has_failed ≡ false → EachStandsFor model k.store.disk k.state) → Rests model k k
   rests_itself only_now k stands = record {
     state = refl;
-    any_moment = λ h works. started moment left_since k.store.disk (λ image. StandsFor image k.state) (λ image left. stands h works image (only_now k.store.disk image h left));
+    any_moment = λ h works. started model k.store.disk (λ image. StandsFor image k.state) (λ image left. stands h works image (only_now k.store.disk image h left));
     honesty = (λ h. h, λ h. h);
   }
 
-  pub rests_as : ((disk : D) (image : List ℕ) → honest disk → left_since disk (moment disk) image → may_leave disk image) → (old new : KeeperState D) → new ≡ old
-      → (honest new.store.disk → new.store.has_failed ≡ false → EachStandsFor may_leave new.store.disk new.state) → Rests honest moment left_since old new
-  rests_as only_now old new same stands = subst (λ (k : KeeperState D). Rests honest moment left_since k new) same (rests_itself only_now new stands)
+  pub rests_as : ((disk : D) (image : List ℕ) → model.honest disk → model.left_since disk (model.moment disk) image → model.may_leave disk image) → (old new : KeeperState D) → new ≡ old
+      → (model.honest new.store.disk → new.store.has_failed ≡ false → EachStandsFor model new.store.disk new.state) → Rests model old new
+  rests_as only_now old new same stands = subst (λ (k : KeeperState D). Rests model k new) same (rests_itself only_now new stands)
 
   -- calls after calls
-  pub rests_both : (a b c : KeeperState D) → b.store.has_failed ≡ a.store.has_failed → Rests honest moment left_since a b → Rests honest moment left_since b c → Rests honest moment left_since a c
+  pub rests_both : (a b c : KeeperState D) → b.store.has_failed ≡ a.store.has_failed → Rests model a b → Rests model b c → Rests model a c
   rests_both a b c works ab bc = record {
     state = bc.state ∙ ab.state;
     any_moment = λ h fine.
-        joined moment left_since a.store.disk b.store.disk c.store.disk (λ image. StandsFor image a.state) (ab.any_moment h fine)
-        (subst (λ (s : ServerState). LeavesOnly moment left_since b.store.disk c.store.disk (λ image. StandsFor image s)) ab.state (bc.any_moment (ab.honesty.1 h) (works ∙ fine)));
+        joined model a.store.disk b.store.disk c.store.disk (λ image. StandsFor image a.state) (ab.any_moment h fine)
+        (subst (λ (s : ServerState). LeavesOnly model b.store.disk c.store.disk (λ image. StandsFor image s)) ab.state (bc.any_moment (ab.honesty.1 h) (works ∙ fine)));
     honesty = (λ h. ab.honesty.0 (bc.honesty.0 h), λ h. bc.honesty.1 (ab.honesty.1 h));
   }
 
 -- ---- what ends tell
 
-module _ {D : Type 0} (failures : D → ℕ) where
-  pub still_itself : (k : KeeperState D) → IsStill failures k k
+module _ {D : Type 0} (model : Ghosts D) where
+  pub still_itself : (k : KeeperState D) → IsStill model k k
   still_itself k = record { works = refl; still = refl }
 
-  pub still_both : (a b c : KeeperState D) → IsStill failures a b → IsStill failures b c → IsStill failures a c
+  pub still_both : (a b c : KeeperState D) → IsStill model a b → IsStill model b c → IsStill model a c
   still_both a b c ab bc = record { works = bc.works ∙ ab.works; still = bc.still ∙ ab.still }
 
 -- ---- faults
 
-module _ {D : Type 0} (honest : D → Type 0) (may_leave : D → List ℕ → Type 0) (moment : D → ℕ) (left_since : D → ℕ → List ℕ → Type 0) (only_now : (disk : D) (image : List ℕ) → honest disk → left_since disk (moment disk) image → may_leave disk image) (old new : KeeperState D) (stands : honest new.store.disk → new.store.has_failed ≡ false → EachStandsFor may_leave new.store.disk new.state) where
+module _ {D : Type 0} (model : Ghosts D) (only_now : (disk : D) (image : List ℕ) → model.honest disk → model.left_since disk (model.moment disk) image → model.may_leave disk image) (old new : KeeperState D) (stands : model.honest new.store.disk → new.store.has_failed ≡ false → EachStandsFor model new.store.disk new.state) where
   -- nothing was done
-  pub commits_none : (end : Option CommitEnd) → new ≡ old → Commits honest moment left_since old new end
-  commits_none end same = commits_kept honest moment left_since old new end (rests_as honest may_leave moment left_since only_now old new same stands)
+  pub commits_none : (end : Option CommitEnd) → new ≡ old → Commits model old new end
+  commits_none end same = commits_kept model old new end (rests_as model only_now old new same stands)
 
   -- a batch was not appended
-  pub commits_fault : (failures : D → ℕ) (fault : Fault) (first : ℕ) (entries : List Entry) → Fails failures (ForBatch old first entries) old new fault → new.state ≡ old.state
-      → StopsLeave honest moment left_since old new (StandsForEither old.state (after_all old.state entries))
-      → (all : Commits honest moment left_since old new (Some (end_of fault))) × (all.appends ≡ [])
+  pub commits_fault : (fault : Fault) (first : ℕ) (entries : List Entry) → Fails model (ForBatch old first entries) old new fault → new.state ≡ old.state
+      → StopsLeave model old new (StandsForEither old.state (after_all old.state entries))
+      → (all : Commits model old new (Some (end_of fault))) × (all.appends ≡ [])
   unfolding commits_none commits_torn commits_kept
-  commits_fault failures Device first entries fails state run =
+  commits_fault Device first entries fails state run =
       let continues = fails.0 in
-      (commits_torn honest moment left_since old new entries continues.some continues.legal state run, refl)
-  commits_fault failures Failed first entries fails state run = (commits_none (Some (Store Failed)) fails.1, refl)
-  commits_fault failures NoMemory first entries fails state run = (commits_none (Some (Store NoMemory)) fails.1.same, refl)
-  commits_fault failures (Mismatch place) first entries fails state run = (commits_none (Some Strange) fails.1.same, refl)
-  commits_fault failures (Damaged offset) first entries fails state run = absurd fails
-  commits_fault failures Unformatted first entries fails state run = absurd fails
+      (commits_torn model old new entries continues.some continues.legal state run, refl)
+  commits_fault Failed first entries fails state run = (commits_none (Some (Store Failed)) fails.1, refl)
+  commits_fault NoMemory first entries fails state run = (commits_none (Some (Store NoMemory)) fails.1.same, refl)
+  commits_fault (Mismatch place) first entries fails state run = (commits_none (Some Strange) fails.1.same, refl)
+  commits_fault (Damaged offset) first entries fails state run = absurd fails
+  commits_fault Unformatted first entries fails state run = absurd fails
 
-module _ {D : Type 0} (failures : D → ℕ) (old new : KeeperState D) where
-  still_same : new ≡ old → IsStill failures old new
-  still_same same = record { works = ap (λ (k : KeeperState D). k.store.has_failed) same; still = ap (λ (k : KeeperState D). failures k.store.disk) same }
-
-  has_failed : Breaks failures old new → HasFailed failures old new
-  has_failed breaks = record { before = breaks.before; failed = breaks.failed; rises = breaks.rises }
+module _ {D : Type 0} (model : Ghosts D) (old new : KeeperState D) where
+  still_same : new ≡ old → IsStill model old new
+  still_same same = record { works = ap (λ (k : KeeperState D). k.store.has_failed) same; still = ap (λ (k : KeeperState D). model.failures k.store.disk) same }
 
   -- what the end tells of it
-  pub fault_tells : (fault : Fault) (first : ℕ) (entries : List Entry) → Fails failures (ForBatch old first entries) old new fault → TellsEnd failures old new (Some (end_of fault))
-  fault_tells Device first entries fails = has_failed fails.1
+  pub fault_tells : (fault : Fault) (first : ℕ) (entries : List Entry) → Fails model (ForBatch old first entries) old new fault → TellsEnd model old new (Some (end_of fault))
+  fault_tells Device first entries fails = fails.1
   fault_tells Failed first entries fails = fails
   fault_tells NoMemory first entries fails = still_same fails.1.same
   fault_tells (Mismatch place) first entries fails = still_same fails.1.same
@@ -388,21 +386,21 @@ module _ {D : Type 0} (failures : D → ℕ) (old new : KeeperState D) where
   fault_tells Unformatted first entries fails = absurd fails
 
   -- the disk works on
-  pub still_works : Works failures old new → IsStill failures old new
+  pub still_works : Works model old new → IsStill model old new
   still_works works = record { works = works.after ∙ sym works.before; still = works.still }
 
   -- a fault of a checkpoint that takes no memory, or has it
-  pub device_alone : (Cause : Fault → Type 0) (fault : Fault) → old.store.has_failed ≡ false → (fault ≡ NoMemory → Cause NoMemory → ⊥) → ((place : ℕ) → Cause (Mismatch place) → ⊥) → Fails failures Cause old new fault
-      → (fault ≡ Device) × HasFailed failures old new
-  device_alone Cause Device works memory mismatch fails = (refl, has_failed fails.1)
+  pub device_alone : (Cause : Fault → Type 0) (fault : Fault) → old.store.has_failed ≡ false → (fault ≡ NoMemory → Cause NoMemory → ⊥) → ((place : ℕ) → Cause (Mismatch place) → ⊥) → Fails model Cause old new fault
+      → (fault ≡ Device) × Breaks model old new
+  device_alone Cause Device works memory mismatch fails = (refl, fails.1)
   device_alone Cause Failed works memory mismatch fails = let had = fails.0 in absurd (cc (had, works))
   device_alone Cause NoMemory works memory mismatch fails = absurd (memory refl fails.0)
   device_alone Cause (Mismatch place) works memory mismatch fails = absurd (mismatch place fails.0)
   device_alone Cause (Damaged offset) works memory mismatch fails = absurd fails
   device_alone Cause Unformatted works memory mismatch fails = absurd fails
 
-  pub still_short : (Cause : Fault → Type 0) (fault : Fault) → fault ≡ NoMemory → Fails failures Cause old new fault → IsStill failures old new
-  still_short Cause fault is fails = still_same (subst (Fails failures Cause old new) is fails).1.same
+  pub still_short : (Cause : Fault → Type 0) (fault : Fault) → fault ≡ NoMemory → Fails model Cause old new fault → IsStill model old new
+  still_short Cause fault is fails = still_same (subst (Fails model Cause old new) is fails).1.same
 
 -- what is said of a fault is said of a result that has it
 pub told : {T : Type 0} (result : Result T Fault) (fault : Fault) (P : Fault → Type 0) → IsErrAnd result (λ f. f ≡ fault) → P fault → IfErr result P

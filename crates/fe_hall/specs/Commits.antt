@@ -1,11 +1,12 @@
 -- What the committing side of a hall does to the keeper that it is lent.
 use Rattle.std.specs.Prelude.{◌≡◌, ◌⊎◌, ℕ, ◌+◌, ◌≤◌, true, false, List, [], ◌∷◌, ◌++◌, length, map, take, Option, Some, None, Result, Ok, Err}
 use mathlib.Core.List.{IsPrefix}
-use Rattle.fe_disk.specs.Disk.{LeavesOnly, Rises}
+use Rattle.fe_disk.specs.Runs.{LeavesOnly}
 use Rattle.fe_state.specs.State.{ServerState, after_all}
 use Rattle.fe_state.specs.History.{IsHistory, after_groups}
 use Rattle.fe_state.specs.declared.batch.Batch.{Batch}
 use Rattle.fe_state.specs.declared.entry.Entry.{Entry}
+use Rattle.fe_keeper.specs.Ends.{IsStill, Breaks}
 use Rattle.fe_keeper.specs.Keeper.{KeeperState}
 use Rattle.fe_keeper.specs.Prefix.{LeavesPrefix}
 use Rattle.fe_keeper.specs.declared.fault.Fault.{Fault}
@@ -16,6 +17,7 @@ use Rattle.fe_shared.specs.declared.shared.batches.Unposted.TheVariants as unpos
 use Rattle.fe_history.specs.declared.act.Act.{Act}
 use Rattle.fe_hall.specs.declared.commit_end.CommitEnd.{CommitEnd}
 use Rattle.fe_hall.specs.declared.commit_end.CommitEnd.TheVariants.{Stopped, Store, Strange, Spent}
+use Rattle.fe_disk.specs.declared.disk.Disk.{Ghosts}
 
 -- an append that succeeded: the batch, the keeper as it began, and the keeper as it ended
 pub record Append (D : Type 0) : Type 0 where
@@ -33,18 +35,18 @@ AreAppends s (group ∷ groups) (append ∷ appends) =
 
 -- From this disk on, and up to the last, each image that a stop leaves stands for a prefix of the history with n groups or more. From the
 -- end of the next append on the prefix has one group more, and so on. Each append begins where the one before it has ended, or later.
-abbrev pub HoldsSince : {D : Type 0} → (D → ℕ) → (D → ℕ → List ℕ → Type 0) → ServerState → List (List Entry) → ℕ → D → List (Append D) → D → Type 0
-HoldsSince moment left_since begun history n here [] last = LeavesOnly moment left_since here last (LeavesPrefix begun history n)
-HoldsSince moment left_since begun history n here (append ∷ appends) last =
-    LeavesOnly moment left_since here last (LeavesPrefix begun history n)
-    × (moment here ≤ moment append.before.store.disk)
-    × (moment append.before.store.disk ≤ moment append.after.store.disk)
-    × HoldsSince moment left_since begun history (n + 1) append.after.store.disk appends last
+abbrev pub HoldsSince : {D : Type 0} → Ghosts D → ServerState → List (List Entry) → ℕ → D → List (Append D) → D → Type 0
+HoldsSince model begun history n here [] last = LeavesOnly model here last (LeavesPrefix begun history n)
+HoldsSince model begun history n here (append ∷ appends) last =
+    LeavesOnly model here last (LeavesPrefix begun history n)
+    × (model.moment here ≤ model.moment append.before.store.disk)
+    × (model.moment append.before.store.disk ≤ model.moment append.after.store.disk)
+    × HoldsSince model begun history (n + 1) append.after.store.disk appends last
 
 -- Groups were appended, a history from the keeper's state. All of them are in its state then, but for a last one, where the side
 -- ended since the device failed. At every moment each image that a stop leaves stands for a prefix of that history, with all
 -- groups whose appends had ended by then. `None`: the side goes on.
-pub record Commits {D : Type 0} (honest : D → Type 0) (moment : D → ℕ) (left_since : D → ℕ → List ℕ → Type 0) (old new : KeeperState D) (end : Option CommitEnd) : Type 0 where
+pub record Commits {D : Type 0} (model : Ghosts D) (old new : KeeperState D) (end : Option CommitEnd) : Type 0 where
   pub groups : List (List Entry)
   pub history : IsHistory old.state groups
   pub stored : ℕ
@@ -52,21 +54,21 @@ pub record Commits {D : Type 0} (honest : D → Type 0) (moment : D → ℕ) (le
   pub state_is : new.state ≡ after_groups old.state (take stored groups)
   pub appends : List (Append D)
   pub are_appends : AreAppends old.state (take stored groups) appends
-  pub any_moment : honest old.store.disk → old.store.has_failed ≡ false
-      → HoldsSince moment left_since old.state groups 0 old.store.disk appends new.store.disk
+  pub any_moment : model.honest old.store.disk → old.store.has_failed ≡ false
+      → HoldsSince model old.state groups 0 old.store.disk appends new.store.disk
 
 -- what the history notes of an append: the batch, and the moment of its end
-abbrev pub noted : {D : Type 0} → (D → ℕ) → Append D → Batch × ℕ
-noted moment append = (append.batch, moment append.after.store.disk)
+abbrev pub noted : {D : Type 0} → Ghosts D → Append D → Batch × ℕ
+noted model append = (append.batch, model.moment append.after.store.disk)
 
 -- What was noted of these appends, in their order: all of them, except the last where something is strange.
-abbrev pub AreNotes : {D : Type 0} → (D → ℕ) → List (Append D) → Option CommitEnd → List (Batch × ℕ) → Type 0
-AreNotes moment appends end notes = (notes ≡ map (noted moment) appends) ⊎ ((end ≡ Some Strange) × (last : Batch × ℕ) × (notes ++ last ∷ [] ≡ map (noted moment) appends))
+abbrev pub AreNotes : {D : Type 0} → Ghosts D → List (Append D) → Option CommitEnd → List (Batch × ℕ) → Type 0
+AreNotes model appends end notes = (notes ≡ map (noted model) appends) ⊎ ((end ≡ Some Strange) × (last : Batch × ℕ) × (notes ++ last ∷ [] ≡ map (noted model) appends))
 
 -- The history notes these appends in their order, and none besides.
-abbrev pub AreNoted : {D : Type 0} → (D → ℕ) → List (Append D) → Option CommitEnd → List Act → List Act → Type 0
-AreNoted moment appends end before after =
-    IsPrefix before after × (notes : List (Batch × ℕ)) × (stores_in after ≡ stores_in before ++ notes) × AreNotes moment appends end notes
+abbrev pub AreNoted : {D : Type 0} → Ghosts D → List (Append D) → Option CommitEnd → List Act → List Act → Type 0
+AreNoted model appends end before after =
+    IsPrefix before after × (notes : List (Batch × ℕ)) × (stores_in after ≡ stores_in before ++ notes) × AreNotes model appends end notes
 
 -- ---- ends
 
@@ -89,26 +91,15 @@ abbrev pub end_of_post : Unposted → CommitEnd
 end_of_post (unposted.Full full) = Spent
 end_of_post (unposted.Strange strange) = Strange
 
--- no call of the disk failed
-pub record IsStill {D : Type 0} (failures : D → ℕ) (old new : KeeperState D) : Type 0 where
-  pub works : new.store.has_failed ≡ old.store.has_failed
-  pub still : failures new.store.disk ≡ failures old.store.disk
-
--- a call of the disk failed, and none before
-pub record HasFailed {D : Type 0} (failures : D → ℕ) (old new : KeeperState D) : Type 0 where
-  pub before : old.store.has_failed ≡ false
-  pub failed : new.store.has_failed ≡ true
-  pub rises : Rises (failures old.store.disk) (failures new.store.disk)
-
 -- what the end of the side tells of the keeper's disk; `None`: the side goes on
-abbrev pub TellsEnd : {D : Type 0} → (D → ℕ) → KeeperState D → KeeperState D → Option CommitEnd → Type 0
-TellsEnd failures old new None = IsStill failures old new
-TellsEnd failures old new (Some Stopped) = IsStill failures old new
-TellsEnd failures old new (Some (Store Device)) = HasFailed failures old new
-TellsEnd failures old new (Some (Store Failed)) = (old.store.has_failed ≡ true) × (new ≡ old)
-TellsEnd failures old new (Some (Store NoMemory)) = IsStill failures old new
-TellsEnd failures old new (Some (Store (Mismatch place))) = ⊥
-TellsEnd failures old new (Some (Store (Damaged offset))) = ⊥
-TellsEnd failures old new (Some (Store Unformatted)) = ⊥
-TellsEnd failures old new (Some Strange) = IsStill failures old new
-TellsEnd failures old new (Some Spent) = IsStill failures old new
+abbrev pub TellsEnd : {D : Type 0} → Ghosts D → KeeperState D → KeeperState D → Option CommitEnd → Type 0
+TellsEnd model old new None = IsStill model old new
+TellsEnd model old new (Some Stopped) = IsStill model old new
+TellsEnd model old new (Some (Store Device)) = Breaks model old new
+TellsEnd model old new (Some (Store Failed)) = (old.store.has_failed ≡ true) × (new ≡ old)
+TellsEnd model old new (Some (Store NoMemory)) = IsStill model old new
+TellsEnd model old new (Some (Store (Mismatch place))) = ⊥
+TellsEnd model old new (Some (Store (Damaged offset))) = ⊥
+TellsEnd model old new (Some (Store Unformatted)) = ⊥
+TellsEnd model old new (Some Strange) = IsStill model old new
+TellsEnd model old new (Some Spent) = IsStill model old new

@@ -1,11 +1,11 @@
 //! The committing side: it stores the batches of a hall, and posts them.
 
 ghost use Rattle.std.specs.Prelude.{◌≡◌, ◌≢◌, ◌↔◌, ◌+◌, false, Some, IfOk, IfErr, OnOk, length};
-ghost use Rattle.fe_keeper.specs.Ends.{Rests};
+ghost use Rattle.fe_keeper.specs.Ends.{Rests, IsStill, Breaks};
 ghost use Rattle.fe_keeper.specs.Stands.{EachStandsFor};
 ghost use Rattle.fe_keeper.specs.declared.fault.Fault.TheVariants.{Device};
 ghost use Rattle.fe_history.specs.Acts.{IsStored, WasCut};
-ghost use Rattle.fe_hall.specs.Commits.{AreNoted, Commits, IsStill, HasFailed, TellsEnd, end_in};
+ghost use Rattle.fe_hall.specs.Commits.{AreNoted, Commits, TellsEnd, end_in};
 ghost use Rattle.fe_hall.specs.declared.commit_end.CommitEnd.{CommitEnd};
 
 use crate::breaking::Break;
@@ -30,11 +30,11 @@ pub fn commit_side<C: Tally, M: Tally, D: Disk, R: Wait>(
     keeper: &mut Keeper<D>,
     seat: &mut StoreSeat<M>,
 ) -> Ended
-    ensures commits { (all : Commits D.honest D.moment D.left_since keeper.old keeper.new (Some result))
-        × AreNoted D.moment all.appends (Some result) seat.old seat.new }
+    ensures commits { (all : Commits D.Disk keeper.old keeper.new (Some result))
+        × AreNoted D.Disk all.appends (Some result) seat.old seat.new }
     ensures stands { D.honest keeper.new.store.disk → keeper.new.store.has_failed ≡ false
-        → EachStandsFor D.may_leave keeper.new.store.disk keeper.new.state }
-    ensures tells { TellsEnd D.failures keeper.old keeper.new (Some result) }
+        → EachStandsFor D.Disk keeper.new.store.disk keeper.new.state }
+    ensures tells { TellsEnd D.Disk keeper.old keeper.new (Some result) }
     ensures honesty { D.honest keeper.new.store.disk ↔ D.honest keeper.old.store.disk }
 {
     // It names what is always true of the keeper (`docs/DECISIONS.md`, "Toolchain").
@@ -68,11 +68,11 @@ fn commit<C: Tally, M: Tally, D: Disk, R: Wait>(
     cuts: &History<M>,
 ) -> Result<Posted, Break>
     requires cut { WasCut cuts.now cut.count cut.batch }
-    ensures commits { (all : Commits D.honest D.moment D.left_since keeper.old keeper.new (end_in result))
-        × AreNoted D.moment all.appends (end_in result) seat.old seat.new }
+    ensures commits { (all : Commits D.Disk keeper.old keeper.new (end_in result))
+        × AreNoted D.Disk all.appends (end_in result) seat.old seat.new }
     ensures stands { D.honest keeper.new.store.disk → keeper.new.store.has_failed ≡ false
-        → EachStandsFor D.may_leave keeper.new.store.disk keeper.new.state }
-    ensures tells { TellsEnd D.failures keeper.old keeper.new (end_in result) }
+        → EachStandsFor D.Disk keeper.new.store.disk keeper.new.state }
+    ensures tells { TellsEnd D.Disk keeper.old keeper.new (end_in result) }
     ensures works { OnOk result (keeper.old.store.has_failed ≡ false) }
     // It goes on only if it stored what was cut, and posted it.
     ensures stored { OnOk result (IsStored cut.batch keeper.new.state) }
@@ -101,11 +101,11 @@ fn commit<C: Tally, M: Tally, D: Disk, R: Wait>(
 /// it is due. `slices` is whether slices were left of it, and so is the answer. The fault is `Device`.
 fn tend<D: Disk>(keeper: &mut Keeper<D>, slices: bool) -> Result<bool, Fault>
     requires works { keeper.old.store.has_failed ≡ false }
-    ensures rests { Rests D.honest D.moment D.left_since keeper.old keeper.new }
+    ensures rests { Rests D.Disk keeper.old keeper.new }
     ensures stands { D.honest keeper.new.store.disk → keeper.new.store.has_failed ≡ false
-        → EachStandsFor D.may_leave keeper.new.store.disk keeper.new.state }
-    ensures still { OnOk result (IsStill D.failures keeper.old keeper.new) }
-    ensures device { IfErr result (λ fault. (fault ≡ Device) × HasFailed D.failures keeper.old keeper.new) }
+        → EachStandsFor D.Disk keeper.new.store.disk keeper.new.state }
+    ensures still { OnOk result (IsStill D.Disk keeper.old keeper.new) }
+    ensures device { IfErr result (λ fault. (fault ≡ Device) × Breaks D.Disk keeper.old keeper.new) }
 {
     if slices {
         if keeper.checkpoint_step()? {
@@ -123,11 +123,11 @@ fn tend<D: Disk>(keeper: &mut Keeper<D>, slices: bool) -> Result<bool, Fault>
 /// Begins a checkpoint where it is due and none is under way. One that finds no memory is begun later. Whether it was begun.
 fn begin_when_due<D: Disk>(keeper: &mut Keeper<D>) -> Result<bool, Fault>
     requires works { keeper.old.store.has_failed ≡ false }
-    ensures rests { Rests D.honest D.moment D.left_since keeper.old keeper.new }
+    ensures rests { Rests D.Disk keeper.old keeper.new }
     ensures stands { D.honest keeper.new.store.disk → keeper.new.store.has_failed ≡ false
-        → EachStandsFor D.may_leave keeper.new.store.disk keeper.new.state }
-    ensures still { OnOk result (IsStill D.failures keeper.old keeper.new) }
-    ensures device { IfErr result (λ fault. (fault ≡ Device) × HasFailed D.failures keeper.old keeper.new) }
+        → EachStandsFor D.Disk keeper.new.store.disk keeper.new.state }
+    ensures still { OnOk result (IsStill D.Disk keeper.old keeper.new) }
+    ensures device { IfErr result (λ fault. (fault ≡ Device) × Breaks D.Disk keeper.old keeper.new) }
 {
     // It names what is always true of the keeper (`docs/DECISIONS.md`, "Toolchain").
     let _ = keeper.state();

@@ -11,6 +11,7 @@ use Rattle.fe_format.specs.declared.format.Format.{Format}
 use Rattle.fe_format.specs.declared.format.Format.TheVariants.{One, Two}
 use Rattle.fe_journal.proofs.Bytes.{same_back, same_through, same_byte, torn_same, written_same, known_same}
 use Rattle.fe_journal.proofs.Spelled.{HasFields, fields_spelled, length-header_fields}
+use Rattle.fe_disk.specs.declared.disk.Disk.{Ghosts}
 
 -- the header and the empty image, written after closed gates
 pub first_written : (format : Format) (seen mid new fields : List ℕ) (header image : ℕ) → length seen ≡ 4202496 → IsCleared seen → header ≡ header_of 0 → image ≡ image_of 0 → fields ≡ header_fields format 1 24
@@ -103,11 +104,11 @@ module _ (format : Format) (seen : List ℕ) (area gate : ℕ) (whole : length s
   first_holds new is = subst (λ (l : List ℕ). Holds (first_contents format) l) (sym is) holds
 
 -- the journal of a new store
-pub first_keeps : {D : Type 0} (seen : D → List ℕ) (may_leave : D → List ℕ → Type 0) (journal : JournalState D) (disk : D) (format : Format)
+pub first_keeps : {D : Type 0} (model : Ghosts D) (journal : JournalState D) (disk : D) (format : Format)
     → journal ≡ new_journal format disk
-    → Holds (first_contents format) (seen disk) → LeavesJust (seen disk) (may_leave disk) → KeepsContents seen may_leave journal (first_contents format) None
-first_keeps {D} seen may_leave journal disk format journal_is holds just =
-    subst (λ (j : JournalState D). KeepsContents seen may_leave j (first_contents format) None) (sym journal_is)
+    → Holds (first_contents format) (model.seen disk) → LeavesJust (model.seen disk) (model.may_leave disk) → KeepsContents model journal (first_contents format) None
+first_keeps {D} model journal disk format journal_is holds just =
+    subst (λ (j : JournalState D). KeepsContents model j (first_contents format) None) (sym journal_is)
     (record {
       slot_is = refl;
       format_is = refl;

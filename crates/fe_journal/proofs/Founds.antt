@@ -23,6 +23,7 @@ use Rattle.fe_journal.specs.declared.opening.Found.{Found}
 use Rattle.fe_journal.specs.declared.store.Store.{Store}
 use Rattle.fe_journal.proofs.Bytes.{SameBytes, same_back, same_part, same_byte, known_same}
 use Rattle.fe_journal.proofs.Frames.{groups_same, image_short}
+use Rattle.fe_disk.specs.declared.disk.Disk.{Ghosts}
 
 module _ (image : List ℕ) (store : Store) (whole : length image ≡ device_bytes) (sized : IsWholeStore store) (is : IsStore image store) where
   abbrev pub contents_of : Contents
@@ -65,11 +66,11 @@ opened_as disk store = record { disk = disk; slot = store.slot; format = store.h
 abbrev pub first_of : Store → Cursor
 first_of store = record { bytes = store.parts.area.items; start = area_of store.slot; at = 0 }
 
-module _ {D : Type 0} (seen : D → List ℕ) (may_leave : D → List ℕ → Type 0) (disk : D) (store : Store) (whole : length (seen disk) ≡ device_bytes) (sized : IsWholeStore store) (is : IsStore (seen disk) store) (just : LeavesJust (seen disk) (may_leave disk)) where
+module _ {D : Type 0} (model : Ghosts D) (disk : D) (store : Store) (whole : length (model.seen disk) ≡ device_bytes) (sized : IsWholeStore store) (is : IsStore (model.seen disk) store) (just : LeavesJust (model.seen disk) (model.may_leave disk)) where
   abbrev found_contents : Contents
-  found_contents = contents_of (seen disk) store whole sized is
+  found_contents = contents_of (model.seen disk) store whole sized is
 
-  opened_keeps : KeepsContents seen may_leave (opened_as disk store) found_contents None
+  opened_keeps : KeepsContents model (opened_as disk store) found_contents None
   opened_keeps =
       record {
         slot_is = refl;
@@ -77,17 +78,17 @@ module _ {D : Type 0} (seen : D → List ℕ) (may_leave : D → List ℕ → Ty
         generation_is = refl;
         used_is = is.read.ends.at_is;
         begun_is = refl;
-        left = λ image left. subst (λ (l : List ℕ). IsLeft found_contents None l) (sym (just image left)) (record { holds = store_holds (seen disk) store whole sized is; shut = λ is_some. cc });
+        left = λ image left. subst (λ (l : List ℕ). IsLeft found_contents None l) (sym (just image left)) (record { holds = store_holds (model.seen disk) store whole sized is; shut = λ is_some. cc });
         drafted = λ d none. absurd (none-some d none);
         settled = λ _. just;
       }
 
-  pub is_found : (found : Found D) → found.journal ≡ opened_as disk store → found.image.items ≡ store.parts.image.items → found.groups ≡ first_of store → IsFound seen may_leave (seen disk) found
+  pub is_found : (found : Found D) → found.journal ≡ opened_as disk store → found.image.items ≡ store.parts.image.items → found.groups ≡ first_of store → IsFound model (model.seen disk) found
   is_found found journal_is image_is groups_are =
       record {
         contents = found_contents;
-        holds = store_holds (seen disk) store whole sized is;
-        keeps = subst (λ (j : JournalState D). KeepsContents seen may_leave j found_contents None) (sym journal_is) opened_keeps;
+        holds = store_holds (model.seen disk) store whole sized is;
+        keeps = subst (λ (j : JournalState D). KeepsContents model j found_contents None) (sym journal_is) opened_keeps;
         image_is = image_is;
         groups_are = subst (λ (s : Cursor). Lists s is.read.ends.groups) (sym groups_are) (store.header.format, is.read.ends.holds);
         start_is = ap (λ (s : Cursor). s.start) groups_are;
@@ -192,9 +193,9 @@ module _ (c : Contents) (image : List ℕ) (holds : Holds c image) where
 -- ---- the disk of a store that is opened
 
 -- the fault is passed on, as another layer's maybe
-pub opens_as : {D T U E F : Type 0} (size failures : D → ℕ) (calls : D → Calls) (honest : D → Type 0) (below : E) (device : F) (first : Result T E) (result : Result U F) (old new : D)
-    → AsksToOpen size failures calls honest below first old new → (IsErrOf result device → IsErrOf first below) → (IsErrOf first below → IsErrOf result device) → AsksToOpen size failures calls honest device result old new
-opens_as size failures calls honest below device first result old new asks back forth =
+pub opens_as : {D T U E F : Type 0} (model : Ghosts D) (below : E) (device : F) (first : Result T E) (result : Result U F) (old new : D)
+    → AsksToOpen model below first old new → (IsErrOf result device → IsErrOf first below) → (IsErrOf first below → IsErrOf result device) → AsksToOpen model device result old new
+opens_as model below device first result old new asks back forth =
     record {
       fault = (λ is. asks.fault.0 (back is), λ rises. forth (asks.fault.1 rises));
       still = λ none. asks.still (λ is. none (forth is));

@@ -17,15 +17,16 @@ use Rattle.fe_journal.specs.declared.fault.StoreFault.{StoreFault}
 use Rattle.fe_journal.specs.declared.fault.StoreFault.TheVariants.{Unformatted, Damaged, Device, NoMemory}
 use Rattle.fe_journal.proofs.Bytes.{SameBytes, same_back, same_part, same_byte, same_number_at, known_same}
 use Rattle.fe_journal.proofs.Frames.{stand_same}
+use Rattle.fe_disk.specs.declared.disk.Disk.{Ghosts}
 
 -- two calls that only read are one
-pub reads_again : {D : Type 0} (seen : D → List ℕ) (may_leave : D → List ℕ → Type 0) (moment : D → ℕ) (left_since : D → ℕ → List ℕ → Type 0) (old mid new : D)
-    → OnlyReads seen may_leave moment left_since old mid → OnlyReads seen may_leave moment left_since mid new → OnlyReads seen may_leave moment left_since old new
-reads_again seen may_leave moment left_since old mid new first second =
+pub reads_again : {D : Type 0} (model : Ghosts D) (old mid new : D)
+    → OnlyReads model old mid → OnlyReads model mid new → OnlyReads model old new
+reads_again model old mid new first second =
     record {
       same = second.same ∙ first.same;
       adds_none = λ image left. first.adds_none image (second.adds_none image left);
-      run = joined moment left_since old mid new (may_leave old) first.run (weaker moment left_since mid new (may_leave mid) (may_leave old) first.adds_none second.run);
+      run = joined model old mid new (model.may_leave old) first.run (weaker model mid new (model.may_leave mid) (model.may_leave old) first.adds_none second.run);
     }
 
 -- the header in the bytes that were read of it

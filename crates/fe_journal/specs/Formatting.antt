@@ -5,19 +5,20 @@ use Rattle.fe_disk.specs.declared.calls.Calls.{Calls}
 use Rattle.fe_journal.specs.Layout.{device_bytes}
 use Rattle.fe_journal.specs.Journal.{JournalState}
 use Rattle.fe_journal.specs.declared.fault.StoreFault.{StoreFault}
+use Rattle.fe_disk.specs.declared.disk.Disk.{Ghosts}
 
 -- Six writes and three syncs make a store. A disk of another size is refused with `unformatted`. The fault is
 -- `device` where a call of the disk failed, and with any other fault nothing was done to the disk.
-pub record Formats {D T E : Type 0} (size failures : D → ℕ) (calls : D → Calls) (honest : D → Type 0) (unformatted device memory : E) (result : Result T E) (old new : D) : Type 0 where
-  pub wrong_size : IfErr result (λ fault. (fault ≡ unformatted) ↔ (size old ≢ device_bytes))
+pub record Formats {D T E : Type 0} (model : Ghosts D) (unformatted device memory : E) (result : Result T E) (old new : D) : Type 0 where
+  pub wrong_size : IfErr result (λ fault. (fault ≡ unformatted) ↔ (model.size old ≢ device_bytes))
   pub faults : IfErr result (λ fault. (fault ≡ device) ⊎ ((fault ≡ unformatted) ⊎ (fault ≡ memory)))
-  pub fault : IfErr result (λ fault. fault ≡ device → Rises (failures old) (failures new))
+  pub fault : IfErr result (λ fault. fault ≡ device → Rises (model.failures old) (model.failures new))
   pub untouched : IfErr result (λ fault. fault ≢ device → new ≡ old)
-  pub still : OnOk result (failures new ≡ failures old)
-  pub made : OnOk result (MakesJust 0 6 3 (calls old) (calls new))
-  pub most : MakesAtMost 0 6 3 (calls old) (calls new)
-  pub honesty : honest new ↔ honest old
-  pub same_size : size new ≡ size old
+  pub still : OnOk result (model.failures new ≡ model.failures old)
+  pub made : OnOk result (MakesJust 0 6 3 (model.calls old) (model.calls new))
+  pub most : MakesAtMost 0 6 3 (model.calls old) (model.calls new)
+  pub honesty : model.honest new ↔ model.honest old
+  pub same_size : model.size new ≡ model.size old
 
 -- the disk, after it was formatted or not
 abbrev pub disk_left : {D : Type 0} → Result (JournalState D) (StoreFault × D) → D

@@ -11,13 +11,14 @@ use Rattle.fe_journal.specs.Damage.{TellsFound}
 use Rattle.fe_journal.specs.declared.opening.Found.{Found}
 use Rattle.fe_journal.specs.declared.fault.StoreFault.{StoreFault}
 use Rattle.fe_journal.specs.declared.fault.StoreFault.TheVariants.{Device, NoMemory}
+use Rattle.fe_disk.specs.declared.disk.Disk.{Ghosts}
 
 -- What was found are the contents of the image that the disk reads: a journal that keeps them, the bytes of their
 -- image, and a cursor before the first of their groups.
-pub record IsFound {D : Type 0} (seen : D → List ℕ) (may_leave : D → List ℕ → Type 0) (image : List ℕ) (found : Found D) : Type 0 where
+pub record IsFound {D : Type 0} (model : Ghosts D) (image : List ℕ) (found : Found D) : Type 0 where
   pub contents : Contents
   pub holds : Holds contents image
-  pub keeps : KeepsContents seen may_leave found.journal contents None
+  pub keeps : KeepsContents model found.journal contents None
   pub image_is : found.image.items ≡ contents.image
   pub groups_are : Lists found.groups contents.groups
   pub start_is : found.groups.start ≡ area_of contents.slot
@@ -42,12 +43,12 @@ pub record IsReason (image : List ℕ) (before now : Calls) (fault : StoreFault)
 
 -- What opening does to a disk besides what it reads: a sync and four reads at most. The fault is `device` exactly
 -- where a call of the disk failed.
-pub record AsksToOpen {D T E : Type 0} (size failures : D → ℕ) (calls : D → Calls) (honest : D → Type 0) (device : E) (result : Result T E) (old new : D) : Type 0 where
-  pub fault : IsErrOf result device ↔ Rises (failures old) (failures new)
-  pub still : (IsErrOf result device → ⊥) → failures new ≡ failures old
-  pub most : MakesAtMost 4 0 1 (calls old) (calls new)
-  pub honesty : honest new ↔ honest old
-  pub same_size : size new ≡ size old
+pub record AsksToOpen {D T E : Type 0} (model : Ghosts D) (device : E) (result : Result T E) (old new : D) : Type 0 where
+  pub fault : IsErrOf result device ↔ Rises (model.failures old) (model.failures new)
+  pub still : (IsErrOf result device → ⊥) → model.failures new ≡ model.failures old
+  pub most : MakesAtMost 4 0 1 (model.calls old) (model.calls new)
+  pub honesty : model.honest new ↔ model.honest old
+  pub same_size : model.size new ≡ model.size old
 
 -- the disk, after it was opened or not
 abbrev pub disk_after : {D : Type 0} → Result (Found D) (StoreFault × D) → D

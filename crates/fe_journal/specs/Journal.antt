@@ -10,6 +10,7 @@ use Rattle.fe_format.specs.declared.format.Format.{Format}
 use Rattle.fe_journal.specs.declared.begun.Begun.{Begun}
 use Rattle.fe_journal.specs.declared.fault.JournalFault.{JournalFault}
 use Rattle.fe_journal.specs.declared.fault.JournalFault.TheVariants.{Device, Failed}
+use Rattle.fe_disk.specs.declared.disk.Disk.{Ghosts}
 
 -- a journal's disk and what it knows of the slot that counts, of the slot begun, and whether its disk has failed
 pub record JournalState (D : Type 0) : Type 0 where
@@ -32,14 +33,14 @@ pub record IsIdle {D : Type 0} (journal : JournalState D) : Type 0 where
 
 -- How a call of a journal ends that makes at most this many device calls: after a fault of the device the journal has
 -- failed, and a journal that had failed does nothing.
-pub record CallEnds {D T : Type 0} (failures : D → ℕ) (calls : D → Calls) (honest : D → Type 0) (reads writes syncs : ℕ) (result : Result T JournalFault) (old new : JournalState D) : Type 0 where
-  pub device : old.has_failed ≡ false → (IsErrOf result Device ↔ Rises (failures old.disk) (failures new.disk))
-  pub still : OnOk result (failures new.disk ≡ failures old.disk)
+pub record CallEnds {D T : Type 0} (model : Ghosts D) (reads writes syncs : ℕ) (result : Result T JournalFault) (old new : JournalState D) : Type 0 where
+  pub device : old.has_failed ≡ false → (IsErrOf result Device ↔ Rises (model.failures old.disk) (model.failures new.disk))
+  pub still : OnOk result (model.failures new.disk ≡ model.failures old.disk)
   pub failed : IsErrOf result Failed ↔ IsTrue old.has_failed
   pub untouched : IsErrOf result Failed → new ≡ old
   pub failing : OnErr result (new ≡ record old { disk = new.disk; has_failed = true })
-  pub most : MakesAtMost reads writes syncs (calls old.disk) (calls new.disk)
-  pub honesty : honest new.disk ↔ honest old.disk
+  pub most : MakesAtMost reads writes syncs (model.calls old.disk) (model.calls new.disk)
+  pub honesty : model.honest new.disk ↔ model.honest old.disk
 
 -- a slot begun and not finished, with the bytes of its image that were written so far
 pub record Draft : Type 0 where
@@ -69,15 +70,15 @@ pub record IsLeft (c : Contents) (draft : Option Draft) (image : List ℕ) : Typ
 
 -- The journal knows the slot that counts, and each image that a stop may leave now holds these contents. A slot begun
 -- stands as its draft where the disk is read, and without one all that was written is on the disk.
-pub record KeepsContents {D : Type 0} (seen : D → List ℕ) (may_leave : D → List ℕ → Type 0) (journal : JournalState D) (c : Contents) (draft : Option Draft) : Type 0 where
+pub record KeepsContents {D : Type 0} (model : Ghosts D) (journal : JournalState D) (c : Contents) (draft : Option Draft) : Type 0 where
   pub slot_is : journal.slot ≡ c.slot
   pub format_is : journal.format ≡ c.format
   pub generation_is : journal.generation ≡ c.generation
   pub used_is : journal.used ≡ end_of_groups c.groups
   pub begun_is : journal.begun ≡ begun_of draft
-  pub left : (image : List ℕ) → may_leave journal.disk image → IsLeft c draft image
-  pub drafted : (d : Draft) → draft ≡ Some d → IsDraft (other_than c.slot) d (seen journal.disk) × (d.generation ≡ c.generation + 1)
-  pub settled : draft ≡ None → LeavesJust (seen journal.disk) (may_leave journal.disk)
+  pub left : (image : List ℕ) → model.may_leave journal.disk image → IsLeft c draft image
+  pub drafted : (d : Draft) → draft ≡ Some d → IsDraft (other_than c.slot) d (model.seen journal.disk) × (d.generation ≡ c.generation + 1)
+  pub settled : draft ≡ None → LeavesJust (model.seen journal.disk) (model.may_leave journal.disk)
 
 -- what `slot_close` begins
 abbrev pub new_draft : Format → ℕ → ℕ → Draft

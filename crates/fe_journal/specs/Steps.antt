@@ -1,13 +1,15 @@
 -- What single steps of the journal do to a disk, byte by byte.
 use Rattle.std.specs.Prelude.{◌≡◌, ◌⊎◌, ℕ, ◌+◌, List, [], ◌∷◌, ◌++◌, length}
 use Rattle.byteorder.specs.Endian.{big_bytes}
-use Rattle.fe_disk.specs.Disk.{IsTorn, AddsNone, LeavesOnly, MakesJust, bytes_at, after_write}
+use Rattle.fe_disk.specs.Disk.{IsTorn, AddsNone, MakesJust, bytes_at, after_write}
+use Rattle.fe_disk.specs.Runs.{LeavesOnly}
 use Rattle.fe_disk.specs.declared.calls.Calls.{Calls}
 use Rattle.fe_journal.specs.Layout.{IsGateOpen, IsGateShut, header_bytes, header_of, gate_of, image_of}
 use Rattle.fe_format.specs.Layout.{magic_of}
 use Rattle.fe_journal.specs.Groups.{after_gate}
 use Rattle.fe_journal.specs.Contents.{empty_image}
 use Rattle.fe_format.specs.declared.format.Format.{Format}
+use Rattle.fe_disk.specs.declared.disk.Disk.{Ghosts}
 
 -- the spelling of a header's fields
 abbrev pub header_fields : Format → ℕ → ℕ → List ℕ
@@ -19,10 +21,10 @@ area_start [] = 0 ∷ []
 area_start (byte ∷ bytes) = 1 ∷ after_gate (byte ∷ bytes)
 
 -- the disk was only read: nothing is read otherwise, and no stop leaves what could not be left before
-pub record OnlyReads {D : Type 0} (seen : D → List ℕ) (may_leave : D → List ℕ → Type 0) (moment : D → ℕ) (left_since : D → ℕ → List ℕ → Type 0) (old new : D) : Type 0 where
-  pub same : seen new ≡ seen old
-  pub adds_none : AddsNone (may_leave old) (may_leave new)
-  pub run : LeavesOnly moment left_since old new (may_leave old)
+pub record OnlyReads {D : Type 0} (model : Ghosts D) (old new : D) : Type 0 where
+  pub same : model.seen new ≡ model.seen old
+  pub adds_none : AddsNone (model.may_leave old) (model.may_leave new)
+  pub run : LeavesOnly model old new (model.may_leave old)
 
 -- the image that a whole commit leaves: the bytes, and the gate open
 abbrev pub after_commit : List ℕ → ℕ → List ℕ → ℕ → List ℕ

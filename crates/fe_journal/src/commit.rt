@@ -1,7 +1,7 @@
 // The two orders of writing that every crash promise rests on.
 ghost use Rattle.std.specs.Prelude.{◌≡◌, ◌+◌, ◌≤◌, [], ◌∷◌, length, OnOk};
-ghost use Rattle.fe_disk.specs.Disk.{IsTorn, LeavesJust, LeavesOnly, after_write};
-ghost use Rattle.fe_disk.specs.Outcome.{Asks, AsksAtMost};
+ghost use Rattle.fe_disk.specs.Disk.{IsTorn, LeavesJust, after_write};
+ghost use Rattle.fe_disk.specs.Runs.{LeavesOnly, Asks, AsksAtMost};
 ghost use Rattle.fe_journal.specs.Layout.{IsGateShut};
 ghost use Rattle.fe_journal.specs.Steps.{after_commit, IsLeftInCommit, IsLeftInShutting, Shuts};
 
@@ -18,13 +18,13 @@ pub fn commit<D: Disk>(
     requires gate_fits { gate + 1 ≤ D.size disk.old }
 
     // A stop leaves the bytes torn, and, only once all of them are on the disk, the gate torn.
-    ensures any_moment { D.honest disk.old → LeavesOnly D.moment D.left_since disk.old disk.new
+    ensures any_moment { D.honest disk.old → LeavesOnly D.Disk disk.old disk.new
         (IsLeftInCommit (D.may_leave disk.old) (D.seen disk.old) at bytes.now gate) }
     ensures committed { D.honest disk.old
         → OnOk result (D.seen disk.new ≡ after_commit (D.seen disk.old) at bytes.now gate) }
     ensures durable { D.honest disk.old → OnOk result (LeavesJust (D.seen disk.new) (D.may_leave disk.new)) }
 
-    ensures device { Asks D.size D.failures D.calls D.honest 0 2 2 result disk.old disk.new }
+    ensures device { Asks D.Disk 0 2 2 result disk.old disk.new }
 {
     disk.write_at(at, bytes)?;
     disk.sync()?;
@@ -36,11 +36,11 @@ fn open_gate<D: Disk>(disk: &mut D, gate: usize) -> Result<(), DeviceFault>
     requires gate_fits { gate + 1 ≤ D.size disk.old }
     requires settled { D.honest disk.old → LeavesJust (D.seen disk.old) (D.may_leave disk.old) }
     ensures any_moment { D.honest disk.old
-        → LeavesOnly D.moment D.left_since disk.old disk.new (IsTorn gate 1 (D.seen disk.old)) }
+        → LeavesOnly D.Disk disk.old disk.new (IsTorn gate 1 (D.seen disk.old)) }
     ensures opened { D.honest disk.old → OnOk result (D.seen disk.new ≡ after_write (D.seen disk.old) gate (1 ∷ [])) }
     ensures durable { D.honest disk.old → OnOk result (LeavesJust (D.seen disk.new) (D.may_leave disk.new)) }
 
-    ensures device { Asks D.size D.failures D.calls D.honest 0 1 1 result disk.old disk.new }
+    ensures device { Asks D.Disk 0 1 1 result disk.old disk.new }
 {
     disk.write_at(gate, &[1])?;
     disk.sync()
@@ -53,7 +53,7 @@ pub fn shut<D: Disk>(disk: &mut D, gate: usize) -> Result<(), DeviceFault>
 
     // From a disk on which all that was written is synced.
     ensures any_moment { D.honest disk.old → LeavesJust (D.seen disk.old) (D.may_leave disk.old)
-        → LeavesOnly D.moment D.left_since disk.old disk.new (IsLeftInShutting (D.seen disk.old) gate) }
+        → LeavesOnly D.Disk disk.old disk.new (IsLeftInShutting (D.seen disk.old) gate) }
     ensures settled { D.honest disk.old → LeavesJust (D.seen disk.old) (D.may_leave disk.old)
         → OnOk result (LeavesJust (D.seen disk.new) (D.may_leave disk.new)) }
 
@@ -62,7 +62,7 @@ pub fn shut<D: Disk>(disk: &mut D, gate: usize) -> Result<(), DeviceFault>
 
     ensures made { D.honest disk.old
         → OnOk result (Shuts (D.seen disk.old) gate 0 (D.calls disk.old) (D.calls disk.new)) }
-    ensures device { AsksAtMost D.size D.failures D.calls D.honest 1 1 1 result disk.old disk.new }
+    ensures device { AsksAtMost D.Disk 1 1 1 result disk.old disk.new }
 {
     let mut byte = [0];
     disk.read_at(gate, &mut byte)?;

@@ -1,6 +1,6 @@
 ghost use Rattle.std.specs.Prelude.{◌≡◌, None, IfOk, OnOk, vec_len};
 ghost use Rattle.fe_disk.specs.Disk.{LeavesJust};
-ghost use Rattle.fe_disk.specs.Outcome.{Asks, told};
+ghost use Rattle.fe_disk.specs.Runs.{Asks, told};
 ghost use Rattle.fe_journal.specs.Layout.{device_bytes, area_bytes};
 ghost use Rattle.fe_journal.specs.Journal.{KeepsContents, new_journal};
 ghost use Rattle.fe_journal.specs.Contents.{Holds, first_contents};
@@ -28,11 +28,11 @@ impl<D: Disk> Journal<D> {
     /// promised about the device, and it has to be formatted again.
     pub fn format(alloc: Global, disk: D) -> Result<Journal<D>, (StoreFault, D)>
         ensures formatted { D.honest disk
-            → IfOk result (λ journal. KeepsContents D.seen D.may_leave journal (first_contents Two) None) }
+            → IfOk result (λ journal. KeepsContents D.Disk journal (first_contents Two) None) }
 
         // Over any disk: a journal that is at the beginning.
         ensures value { IfOk result (λ journal. journal ≡ new_journal Two journal.disk) }
-        ensures ends { Formats D.size D.failures D.calls D.honest Unformatted Device NoMemory (told result) disk
+        ensures ends { Formats D.Disk Unformatted Device NoMemory (told result) disk
             (disk_left result) }
     {
         Journal::format_in(alloc, Format::Two, disk)
@@ -41,11 +41,11 @@ impl<D: Disk> Journal<D> {
     /// The same, in this format.
     pub fn format_in(alloc: Global, format: Format, disk: D) -> Result<Journal<D>, (StoreFault, D)>
         ensures formatted { D.honest disk
-            → IfOk result (λ journal. KeepsContents D.seen D.may_leave journal (first_contents format) None) }
+            → IfOk result (λ journal. KeepsContents D.Disk journal (first_contents format) None) }
 
         // Over any disk: a journal that is at the beginning.
         ensures value { IfOk result (λ journal. journal ≡ new_journal format journal.disk) }
-        ensures ends { Formats D.size D.failures D.calls D.honest Unformatted Device NoMemory (told result) disk
+        ensures ends { Formats D.Disk Unformatted Device NoMemory (told result) disk
             (disk_left result) }
     {
         let mut disk = disk;
@@ -62,7 +62,7 @@ fn write_store<D: Disk>(alloc: Global, format: Format, disk: &mut D) -> Result<V
     ensures settled { D.honest disk.old → OnOk result (LeavesJust (D.seen disk.new) (D.may_leave disk.new)) }
     ensures buffer { IfOk result (λ buffer. vec_len buffer ≡ area_bytes) }
     ensures sized { OnOk result (D.size disk.new ≡ device_bytes) }
-    ensures ends { Formats D.size D.failures D.calls D.honest Unformatted Device NoMemory result disk.old disk.new }
+    ensures ends { Formats D.Disk Unformatted Device NoMemory result disk.old disk.new }
 {
     if disk.size() != DEVICE_BYTES {
         return Err(StoreFault::Unformatted);
@@ -80,7 +80,7 @@ fn shut_both<D: Disk>(disk: &mut D) -> Result<(), DeviceFault>
     ensures cleared { D.honest disk.old → OnOk result (IsCleared (D.seen disk.new)) }
     ensures settled { D.honest disk.old → OnOk result (LeavesJust (D.seen disk.new) (D.may_leave disk.new)) }
 
-    ensures device { Asks D.size D.failures D.calls D.honest 0 2 1 result disk.old disk.new }
+    ensures device { Asks D.Disk 0 2 1 result disk.old disk.new }
 {
     disk.write_at(gate_of(0), &[0])?;
     disk.write_at(gate_of(1), &[0])?;
@@ -95,7 +95,7 @@ fn write_first<D: Disk>(disk: &mut D, format: Format) -> Result<(), DeviceFault>
     ensures first { D.honest disk.old → IsCleared (D.seen disk.old)
         → OnOk result (IsFirstSlot format (D.seen disk.new)) }
 
-    ensures device { Asks D.size D.failures D.calls D.honest 0 2 0 result disk.old disk.new }
+    ensures device { Asks D.Disk 0 2 0 result disk.old disk.new }
 {
     disk.write_at(header_of(0), &header_fields(format, 1, 24))?;
     disk.write_at(image_of(0), &EMPTY_IMAGE)

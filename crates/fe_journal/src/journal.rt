@@ -1,6 +1,7 @@
 ghost use Rattle.std.specs.Prelude.{◌≡◌, ◌+◌, ◌≤◌, ◌<◌, length, Option, Some, None, false, vec_len, IsSome, IfSome, OnOk};
 ghost use Rattle.std.specs.Option.{ForSome};
-ghost use Rattle.fe_disk.specs.Disk.{LeavesOnly, MakesJust};
+ghost use Rattle.fe_disk.specs.Disk.{MakesJust};
+ghost use Rattle.fe_disk.specs.Runs.{LeavesOnly};
 ghost use Rattle.fe_journal.specs.Layout.{device_bytes, area_bytes, slice_bytes, other_than, gate_of};
 ghost use Rattle.fe_format.specs.Layout.{IsPayloadLength, IsImageLength};
 ghost use Rattle.fe_journal.specs.Groups.{room_at, end_of_groups};
@@ -59,7 +60,7 @@ impl<D: Disk> Model for Journal<D> {
 
     ghost view = { state_of };
 
-    ghost invariant = { IsJournal D.size };
+    ghost invariant = { IsJournal D.Disk };
 }
 
 impl<D: Disk> Journal<D> {
@@ -176,16 +177,16 @@ impl<D: Disk> Journal<D> {
 
         // A stop at any moment of the call leaves the contents of before, or those with the new group at the end.
         ensures any_moment { D.honest self.old.disk
-            → (c : Contents) (draft : Option Draft) → KeepsContents D.seen D.may_leave self.old c draft
-            → LeavesOnly D.moment D.left_since self.old.disk self.new.disk (HoldsEither c (with_group c payload.now)) }
+            → (c : Contents) (draft : Option Draft) → KeepsContents D.Disk self.old c draft
+            → LeavesOnly D.Disk self.old.disk self.new.disk (HoldsEither c (with_group c payload.now)) }
         ensures appended { D.honest self.old.disk
-            → (c : Contents) (draft : Option Draft) → KeepsContents D.seen D.may_leave self.old c draft
-            → OnOk result (KeepsContents D.seen D.may_leave self.new (with_group c payload.now) draft) }
+            → (c : Contents) (draft : Option Draft) → KeepsContents D.Disk self.old c draft
+            → OnOk result (KeepsContents D.Disk self.new (with_group c payload.now) draft) }
 
         ensures value { OnOk result
             (self.new ≡ record self.old { disk = self.new.disk; used = self.old.used + (5 + length payload.now) }) }
         ensures made { OnOk result (MakesJust 0 2 2 (D.calls self.old.disk) (D.calls self.new.disk)) }
-        ensures ends { CallEnds D.failures D.calls D.honest 0 2 2 result self.old self.new }
+        ensures ends { CallEnds D.Disk 0 2 2 result self.old self.new }
     {
         if self.has_failed {
             return Err(JournalFault::Failed);
@@ -214,11 +215,11 @@ impl<D: Disk> Journal<D> {
         requires allowed { IsImageLength format image_length }
 
         // A stop at any moment of the call leaves the contents of before.
-        ensures any_moment { D.honest self.old.disk → (c : Contents) → KeepsContents D.seen D.may_leave self.old c None
-            → LeavesOnly D.moment D.left_since self.old.disk self.new.disk (Holds c) }
-        ensures closed { D.honest self.old.disk → (c : Contents) → KeepsContents D.seen D.may_leave self.old c None
+        ensures any_moment { D.honest self.old.disk → (c : Contents) → KeepsContents D.Disk self.old c None
+            → LeavesOnly D.Disk self.old.disk self.new.disk (Holds c) }
+        ensures closed { D.honest self.old.disk → (c : Contents) → KeepsContents D.Disk self.old c None
             → OnOk result
-            (KeepsContents D.seen D.may_leave self.new c (Some (new_draft format generation image_length))) }
+            (KeepsContents D.Disk self.new c (Some (new_draft format generation image_length))) }
 
         ensures value { OnOk result (self.new ≡ record self.old {
           disk = self.new.disk;
@@ -227,7 +228,7 @@ impl<D: Disk> Journal<D> {
         ensures made { D.honest self.old.disk
             → OnOk result (Shuts (D.seen self.old.disk) (gate_of (other_than self.old.slot)) 1
             (D.calls self.old.disk) (D.calls self.new.disk)) }
-        ensures ends { CallEnds D.failures D.calls D.honest 1 2 1 result self.old self.new }
+        ensures ends { CallEnds D.Disk 1 2 1 result self.old self.new }
     {
         if self.has_failed {
             return Err(JournalFault::Failed);
@@ -255,18 +256,18 @@ impl<D: Disk> Journal<D> {
 
         // A stop at any moment of the call leaves the contents of before.
         ensures any_moment { D.honest self.old.disk
-            → (c : Contents) (d : Draft) → KeepsContents D.seen D.may_leave self.old c (Some d)
-            → LeavesOnly D.moment D.left_since self.old.disk self.new.disk (Holds c) }
+            → (c : Contents) (d : Draft) → KeepsContents D.Disk self.old c (Some d)
+            → LeavesOnly D.Disk self.old.disk self.new.disk (Holds c) }
         ensures written { D.honest self.old.disk
-            → (c : Contents) (d : Draft) → KeepsContents D.seen D.may_leave self.old c (Some d)
-            → OnOk result (KeepsContents D.seen D.may_leave self.new c (Some (with_slice d slice.now))) }
+            → (c : Contents) (d : Draft) → KeepsContents D.Disk self.old c (Some d)
+            → OnOk result (KeepsContents D.Disk self.new c (Some (with_slice d slice.now))) }
 
         ensures value { OnOk result (IfSome self.old.begun (λ b. self.new ≡ record self.old {
           disk = self.new.disk;
           begun = Some (record b { written = b.written + length slice.now });
         })) }
         ensures made { OnOk result (MakesJust 0 1 0 (D.calls self.old.disk) (D.calls self.new.disk)) }
-        ensures ends { CallEnds D.failures D.calls D.honest 0 1 0 result self.old self.new }
+        ensures ends { CallEnds D.Disk 0 1 0 result self.old self.new }
     {
         if self.has_failed {
             return Err(JournalFault::Failed);
@@ -295,12 +296,12 @@ impl<D: Disk> Journal<D> {
 
         // A stop at any moment of the call leaves the contents of before or those of the new slot.
         ensures any_moment { D.honest self.old.disk
-            → (c : Contents) (d : Draft) → KeepsContents D.seen D.may_leave self.old c (Some d)
-            → LeavesOnly D.moment D.left_since self.old.disk self.new.disk
+            → (c : Contents) (d : Draft) → KeepsContents D.Disk self.old c (Some d)
+            → LeavesOnly D.Disk self.old.disk self.new.disk
             (HoldsEither c (with_draft c d catch_up.now)) }
         ensures finished { D.honest self.old.disk
-            → (c : Contents) (d : Draft) → KeepsContents D.seen D.may_leave self.old c (Some d)
-            → OnOk result (KeepsContents D.seen D.may_leave self.new (with_draft c d catch_up.now) None) }
+            → (c : Contents) (d : Draft) → KeepsContents D.Disk self.old c (Some d)
+            → OnOk result (KeepsContents D.Disk self.new (with_draft c d catch_up.now) None) }
 
         ensures value { OnOk result (IfSome self.old.begun (λ b. self.new ≡ record self.old {
           disk = self.new.disk;
@@ -311,7 +312,7 @@ impl<D: Disk> Journal<D> {
           begun = None;
         })) }
         ensures made { OnOk result (MakesJust 0 2 2 (D.calls self.old.disk) (D.calls self.new.disk)) }
-        ensures ends { CallEnds D.failures D.calls D.honest 0 2 2 result self.old self.new }
+        ensures ends { CallEnds D.Disk 0 2 2 result self.old self.new }
     {
         if self.has_failed {
             return Err(JournalFault::Failed);

@@ -1,6 +1,6 @@
 ghost use Rattle.std.specs.Prelude.{◌≡◌, ◌⊎◌, IfOk, IfErr, IsErrAnd};
 ghost use Rattle.fe_disk.specs.Disk.{LeavesJust};
-ghost use Rattle.fe_disk.specs.Outcome.{told};
+ghost use Rattle.fe_disk.specs.Runs.{told};
 ghost use Rattle.fe_journal.specs.Damage.{IsUnformatted};
 ghost use Rattle.fe_journal.specs.Layout.{device_bytes};
 ghost use Rattle.fe_journal.specs.Journal.{IsIdle};
@@ -31,7 +31,7 @@ impl<D: Disk> Journal<D> {
     /// The fault of a damaged store is the first thing wrong in the slot that counts: its generation,
     /// its image's length, the lengths of its groups (`docs/formats.md`, "Device").
     pub fn find(alloc: Global, disk: D) -> Result<Found<D>, (StoreFault, D)>
-        ensures found { D.honest disk → IfOk result (IsFound D.seen D.may_leave (D.seen disk)) }
+        ensures found { D.honest disk → IfOk result (IsFound D.Disk (D.seen disk)) }
         // A reported fault is the store's. A store that holds contents is refused only if the device fails or memory
         // runs out, and memory runs out only after a sound header, before all of the store was read.
         ensures refused { D.honest disk → IfErr result (λ e. IsReason (D.seen disk) (D.calls disk) (D.calls e.1) e.0) }
@@ -41,12 +41,12 @@ impl<D: Disk> Journal<D> {
             → IsErrAnd result (λ e. (e.0 ≡ Unformatted) ⊎ (e.0 ≡ Device)) }
 
         // No stop leaves what could not be left before, and what is read stays the same.
-        ensures reads { D.honest disk → OnlyReads D.seen D.may_leave D.moment D.left_since disk (disk_after result) }
+        ensures reads { D.honest disk → OnlyReads D.Disk disk (disk_after result) }
 
         // Over any disk: a journal with no slot begun that has not failed.
         ensures ready { IfOk result (λ found. IsIdle found.journal) }
         ensures listed { IfOk result AreListed }
-        ensures device { AsksToOpen D.size D.failures D.calls D.honest Device (told result) disk (disk_after result) }
+        ensures device { AsksToOpen D.Disk Device (told result) disk (disk_after result) }
         ensures sized { IfOk result (λ found. D.size disk ≡ device_bytes) }
     {
         let mut disk = disk;
@@ -64,7 +64,7 @@ fn found_in<D: Disk>(store: Store, disk: D) -> Found<D>
     ensures ready { IsIdle result.journal }
     ensures listed { AreListed result }
     ensures found { D.honest disk → IsStore (D.seen disk) store → LeavesJust (D.seen disk) (D.may_leave disk)
-        → IsFound D.seen D.may_leave (D.seen disk) result }
+        → IsFound D.Disk (D.seen disk) result }
 {
     let Store {
         buffer,

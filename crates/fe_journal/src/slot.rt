@@ -1,7 +1,7 @@
 // The beginning of a slot that does not count.
 ghost use Rattle.std.specs.Prelude.{◌≡◌, ◌<◌, ◌^◌, ℕ, List, OnOk};
-ghost use Rattle.fe_disk.specs.Disk.{LeavesJust, LeavesOnly};
-ghost use Rattle.fe_disk.specs.Outcome.{AsksAtMost};
+ghost use Rattle.fe_disk.specs.Disk.{LeavesJust};
+ghost use Rattle.fe_disk.specs.Runs.{LeavesOnly, AsksAtMost};
 ghost use Rattle.fe_journal.specs.Layout.{device_bytes, gate_of};
 ghost use Rattle.fe_journal.specs.Steps.{header_fields, IsHeaderTorn, IsLeftInBeginning, IsSlotBegun, Shuts};
 
@@ -25,7 +25,7 @@ pub fn begin_slot<D: Disk>(
 
     // From a disk on which all that was written is synced.
     ensures any_moment { D.honest disk.old → LeavesJust (D.seen disk.old) (D.may_leave disk.old)
-        → LeavesOnly D.moment D.left_since disk.old disk.new (IsLeftInBeginning (D.seen disk.old) slot) }
+        → LeavesOnly D.Disk disk.old disk.new (IsLeftInBeginning (D.seen disk.old) slot) }
     ensures begun { D.honest disk.old → OnOk result
         (IsSlotBegun (D.seen disk.old) slot (header_fields format generation image_length) (D.seen disk.new)) }
     ensures left { D.honest disk.old → LeavesJust (D.seen disk.old) (D.may_leave disk.old)
@@ -33,7 +33,7 @@ pub fn begin_slot<D: Disk>(
 
     ensures made { D.honest disk.old
         → OnOk result (Shuts (D.seen disk.old) (gate_of slot) 1 (D.calls disk.old) (D.calls disk.new)) }
-    ensures device { AsksAtMost D.size D.failures D.calls D.honest 1 2 1 result disk.old disk.new }
+    ensures device { AsksAtMost D.Disk 1 2 1 result disk.old disk.new }
 {
     shut(disk, gate_of(slot))?;
     let fields = header_fields(format, generation, image_length);

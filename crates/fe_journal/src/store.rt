@@ -1,7 +1,7 @@
 // A store as it is read from its device.
 ghost use Rattle.std.specs.Prelude.{◌≡◌, ◌⊎◌, ◌+◌, ◌≤◌, ◌<◌, length, Some, IfSome, IfOk, IfErr, IsErrOf, OnOk, vec_len};
 ghost use Rattle.fe_disk.specs.Disk.{LeavesJust, bytes_at};
-ghost use Rattle.fe_disk.specs.Outcome.{Asks, Runs};
+ghost use Rattle.fe_disk.specs.Runs.{Asks, Runs};
 ghost use Rattle.fe_journal.specs.Layout.{device_bytes, header_bytes, area_bytes, header_of};
 ghost use Rattle.fe_format.specs.Layout.{IsImageLength};
 ghost use Rattle.fe_journal.specs.Damage.{TellsFound};
@@ -41,11 +41,11 @@ pub fn read_store<D: Disk>(alloc: Global, disk: &mut D) -> Result<Store, StoreFa
     ensures faults { D.honest disk.old → IfErr result (λ fault. TellsFound fault (D.seen disk.old)) }
     ensures memory { IsErrOf result NoMemory → ReadsInPart (D.calls disk.old) (D.calls disk.new) }
     ensures settled { D.honest disk.old → OnOk result (LeavesJust (D.seen disk.new) (D.may_leave disk.new)) }
-    ensures reads { D.honest disk.old → OnlyReads D.seen D.may_leave D.moment D.left_since disk.old disk.new }
+    ensures reads { D.honest disk.old → OnlyReads D.Disk disk.old disk.new }
 
     ensures whole { IfOk result IsWholeStore }
     ensures sized { OnOk result (D.size disk.new ≡ device_bytes) }
-    ensures device { AsksToOpen D.size D.failures D.calls D.honest Device result disk.old disk.new }
+    ensures device { AsksToOpen D.Disk Device result disk.old disk.new }
 {
     disk.sync()?;
     if disk.size() != DEVICE_BYTES {
@@ -62,9 +62,9 @@ fn read_synced<D: Disk>(alloc: Global, disk: &mut D) -> Result<Store, StoreFault
     ensures faults { D.honest disk.old → IfErr result (λ fault. TellsFound fault (D.seen disk.old)) }
     ensures memory { IsErrOf result NoMemory → ReadsInPart (D.calls disk.old) (D.calls disk.new) }
     ensures whole { IfOk result IsWholeStore }
-    ensures reads { D.honest disk.old → OnlyReads D.seen D.may_leave D.moment D.left_since disk.old disk.new }
+    ensures reads { D.honest disk.old → OnlyReads D.Disk disk.old disk.new }
 
-    ensures device { Runs D.size D.failures D.calls D.honest 4 0 0 Device result disk.old disk.new }
+    ensures device { Runs D.Disk 4 0 0 Device result disk.old disk.new }
 {
     let (slot, header) = read_sound(disk)?;
     let buffer = vec![in alloc; 0; AREA_BYTES]?;
@@ -83,9 +83,9 @@ fn read_sound<D: Disk>(disk: &mut D) -> Result<(usize, Header), StoreFault>
     ensures counts { D.honest disk.old → IfOk result (λ found. CountsAs (D.seen disk.old) (Some found)) }
     ensures sound { IfOk result IsReadable }
     ensures faults { D.honest disk.old → IfErr result (λ fault. TellsFound fault (D.seen disk.old)) }
-    ensures reads { D.honest disk.old → OnlyReads D.seen D.may_leave D.moment D.left_since disk.old disk.new }
+    ensures reads { D.honest disk.old → OnlyReads D.Disk disk.old disk.new }
 
-    ensures device { Runs D.size D.failures D.calls D.honest 2 0 0 Device result disk.old disk.new }
+    ensures device { Runs D.Disk 2 0 0 Device result disk.old disk.new }
 {
     let Some((slot, header)) = read_counting(disk)? else {
         return Err(StoreFault::Unformatted);
@@ -104,9 +104,9 @@ fn read_header<D: Disk>(
     requires device { D.size disk.old ≡ device_bytes }
     requires header { length bytes.old ≡ header_bytes }
     ensures header { D.honest disk.old → IfOk result (IsHeader (D.seen disk.old) (header_of slot)) }
-    ensures reads { D.honest disk.old → OnlyReads D.seen D.may_leave D.moment D.left_since disk.old disk.new }
+    ensures reads { D.honest disk.old → OnlyReads D.Disk disk.old disk.new }
 
-    ensures device { Asks D.size D.failures D.calls D.honest 1 0 0 result disk.old disk.new }
+    ensures device { Asks D.Disk 1 0 0 result disk.old disk.new }
     ensures same { length bytes.new ≡ length bytes.old }
 {
     disk.read_at(header_of(slot), bytes)?;
@@ -119,9 +119,9 @@ fn read_counting<D: Disk>(disk: &mut D) -> Result<Option<(usize, Header)>, Devic
     requires device { D.size disk.old ≡ device_bytes }
     ensures counts { D.honest disk.old → IfOk result (CountsAs (D.seen disk.old)) }
     ensures is_slot { IfOk result (λ found. IfSome found (λ s. s.0 < 2)) }
-    ensures reads { D.honest disk.old → OnlyReads D.seen D.may_leave D.moment D.left_since disk.old disk.new }
+    ensures reads { D.honest disk.old → OnlyReads D.Disk disk.old disk.new }
 
-    ensures device { Asks D.size D.failures D.calls D.honest 2 0 0 result disk.old disk.new }
+    ensures device { Asks D.Disk 2 0 0 result disk.old disk.new }
 {
     let mut bytes = [0; HEADER_BYTES];
     let first = read_header(disk, 0, &mut bytes)?;
@@ -160,9 +160,9 @@ fn read_bytes<D: Disk>(
     ensures whole { IfOk result (λ bytes. vec_len bytes ≡ length) }
     ensures refused { IfErr result (λ fault. (fault ≡ Device) ⊎ (fault ≡ NoMemory)) }
     ensures memory { IsErrOf result NoMemory → D.calls disk.new ≡ D.calls disk.old }
-    ensures reads { D.honest disk.old → OnlyReads D.seen D.may_leave D.moment D.left_since disk.old disk.new }
+    ensures reads { D.honest disk.old → OnlyReads D.Disk disk.old disk.new }
 
-    ensures device { Runs D.size D.failures D.calls D.honest 1 0 0 Device result disk.old disk.new }
+    ensures device { Runs D.Disk 1 0 0 Device result disk.old disk.new }
 {
     let mut bytes = vec![in alloc; 0; length]?;
     disk.read_at(at, &mut bytes)?;
@@ -202,9 +202,9 @@ fn read_slot<D: Disk>(
     ensures memory { IsErrOf result NoMemory → (D.calls disk.new).reads ≤ (D.calls disk.old).reads + 1 }
     ensures whole { IfOk result AreParts }
     ensures ends { IfOk result (λ parts. GroupsEndAt header.now.format parts.area.items parts.used) }
-    ensures reads { D.honest disk.old → OnlyReads D.seen D.may_leave D.moment D.left_since disk.old disk.new }
+    ensures reads { D.honest disk.old → OnlyReads D.Disk disk.old disk.new }
 
-    ensures device { Runs D.size D.failures D.calls D.honest 2 0 0 Device result disk.old disk.new }
+    ensures device { Runs D.Disk 2 0 0 Device result disk.old disk.new }
 {
     let area = read_bytes(alloc, disk, area_of(slot), AREA_BYTES)?;
     let image = read_bytes(alloc, disk, image_of(slot), header.image_length as usize)?;

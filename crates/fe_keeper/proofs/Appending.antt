@@ -6,7 +6,7 @@ use Rattle.std.proofs.lemmas.List.{length-append}
 use Rattle.std.proofs.lemmas.Bool.{leb-true}
 use Rattle.std.proofs.Math.Nat.{add-mul}
 use Rattle.std.specs.Prelude.{Result, Ok, Err, IsOk, OnOk}
-use Rattle.fe_disk.specs.Disk.{LeavesOnly}
+use Rattle.fe_disk.specs.Runs.{LeavesOnly}
 use Rattle.fe_disk.proofs.Moments.{weaker}
 use Rattle.fe_state.specs.State.{ServerState, after_all}
 use Rattle.fe_state.specs.Format.{entry_fits_format_1}
@@ -30,6 +30,7 @@ use Rattle.std.specs.Option.{option_map}
 use Rattle.std.specs.Prelude.{vec_len, vec_capacity}
 use Rattle.fe_keeper.specs.declared.checkpoint.Checkpoint.{Checkpoint}
 use Rattle.fe_keeper.specs.declared.store.Store.{Store}
+use Rattle.fe_disk.specs.declared.disk.Disk.{Ghosts}
 
 -- ---- groups after groups
 
@@ -93,26 +94,26 @@ drafted_then (Some old) (Some new) (Some d) s entries h more legal = draft_then 
 
 -- ---- over the moments of a call
 
-module _ {D : Type 0} (moment : D → ℕ) (left_since : D → ℕ → List ℕ → Type 0) (seen : D → List ℕ) (may_leave : D → List ℕ → Type 0) where
+module _ {D : Type 0} (model : Ghosts D) where
   -- the group is of the format of the contents
-  group_there : (old : Store D) (s : ServerState) (entries : List Entry) (payload : List ℕ) → (u : Upholds seen may_leave old s) → IsGroupOf old.journal.format entries payload → IsGroupOf u.contents.format entries payload
+  group_there : (old : Store D) (s : ServerState) (entries : List Entry) (payload : List ℕ) → (u : Upholds model old s) → IsGroupOf old.journal.format entries payload → IsGroupOf u.contents.format entries payload
   group_there old s entries payload u is = subst (λ (f : Format). IsGroupOf f entries payload) u.keeps.format_is is
 
   -- a stop leaves the state before, or that with the whole group
-  pub append_leaves : (old : Store D) (new : D) (s : ServerState) (entries : List Entry) (payload : List ℕ) → Upholds seen may_leave old s → IsGroupOf old.journal.format entries payload → AreLegal s entries
-      → ((c : Contents) (draft : Option Draft) → KeepsContents seen may_leave old.journal c draft → LeavesOnly moment left_since old.journal.disk new (HoldsEither c (with_group c payload)))
-      → LeavesOnly moment left_since old.journal.disk new (StandsForEither s (after_all s entries))
+  pub append_leaves : (old : Store D) (new : D) (s : ServerState) (entries : List Entry) (payload : List ℕ) → Upholds model old s → IsGroupOf old.journal.format entries payload → AreLegal s entries
+      → ((c : Contents) (draft : Option Draft) → KeepsContents model old.journal c draft → LeavesOnly model old.journal.disk new (HoldsEither c (with_group c payload)))
+      → LeavesOnly model old.journal.disk new (StandsForEither s (after_all s entries))
   append_leaves old new s entries payload u is legal run =
       let stands = stands_then u.contents s entries payload u.stands (group_there old s entries payload u is) legal in
-      weaker moment left_since old.journal.disk new (HoldsEither u.contents (with_group u.contents payload)) (StandsForEither s (after_all s entries))
+      weaker model old.journal.disk new (HoldsEither u.contents (with_group u.contents payload)) (StandsForEither s (after_all s entries))
       (λ image. ⊎_elim (λ (h : Holds u.contents image). inl (record { contents = u.contents; holds = h; stands = u.stands }))
       (λ (h : Holds (with_group u.contents payload) image). inr (record { contents = with_group u.contents payload; holds = h; stands = stands })))
       (run u.contents u.draft u.keeps)
 
   -- and after it the store upholds the state after the batch
-  pub append_upholds : (old new : Store D) (s : ServerState) (entries : List Entry) (payload : List ℕ) → Upholds seen may_leave old s → IsGroupOf old.journal.format entries payload → AreLegal s entries
-      → ((c : Contents) (draft : Option Draft) → KeepsContents seen may_leave old.journal c draft → KeepsContents seen may_leave new.journal (with_group c payload) draft)
-      → CatchesUp entries old.checkpoint new.checkpoint → Upholds seen may_leave new (after_all s entries)
+  pub append_upholds : (old new : Store D) (s : ServerState) (entries : List Entry) (payload : List ℕ) → Upholds model old s → IsGroupOf old.journal.format entries payload → AreLegal s entries
+      → ((c : Contents) (draft : Option Draft) → KeepsContents model old.journal c draft → KeepsContents model new.journal (with_group c payload) draft)
+      → CatchesUp entries old.checkpoint new.checkpoint → Upholds model new (after_all s entries)
   append_upholds old new s entries payload u is legal kept caught = record {
     contents = with_group u.contents payload;
     draft = u.draft;

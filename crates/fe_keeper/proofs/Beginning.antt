@@ -17,11 +17,12 @@ use Rattle.fe_codec.specs.Image.{image_spelling, ArrayOfFormat, SessionOfFormat,
 use Rattle.fe_format.specs.declared.format.Format.TheVariants.{Two}
 use Rattle.fe_journal.specs.Contents.{empty_image, first_contents}
 use Rattle.fe_keeper.specs.Stands.{Stands}
+use Rattle.fe_disk.specs.declared.disk.Disk.{Ghosts}
 
 -- what formatting did to the disk, as a keeper tells its fault
-pub formats_as : {D T U : Type 0} (size failures : D → ℕ) (calls : D → Calls) (honest : D → Type 0) (fault : StoreFault) (old new : D)
-    → Formats {T = T} size failures calls honest store.Unformatted store.Device store.NoMemory (Err fault) old new → Formats {T = U} size failures calls honest Unformatted Device NoMemory (Err (fault_of_store fault)) old new
-formats_as size failures calls honest store.Unformatted old new h = record {
+pub formats_as : {D T U : Type 0} (model : Ghosts D) (fault : StoreFault) (old new : D)
+    → Formats {T = T} model store.Unformatted store.Device store.NoMemory (Err fault) old new → Formats {T = U} model Unformatted Device NoMemory (Err (fault_of_store fault)) old new
+formats_as model store.Unformatted old new h = record {
   wrong_size = (λ _. h.wrong_size.0 refl, λ _. refl);
   faults = inr (inl refl);
   fault = λ is. cc;
@@ -32,7 +33,7 @@ formats_as size failures calls honest store.Unformatted old new h = record {
   honesty = h.honesty;
   same_size = h.same_size;
 }
-formats_as size failures calls honest store.Device old new h = record {
+formats_as model store.Device old new h = record {
   wrong_size = (λ is. cc, λ odd. let e = h.wrong_size.1 odd in cc);
   faults = inl refl;
   fault = λ _. h.fault refl;
@@ -43,7 +44,7 @@ formats_as size failures calls honest store.Device old new h = record {
   honesty = h.honesty;
   same_size = h.same_size;
 }
-formats_as size failures calls honest store.NoMemory old new h = record {
+formats_as model store.NoMemory old new h = record {
   wrong_size = (λ is. cc, λ odd. let e = h.wrong_size.1 odd in cc);
   faults = inr (inr refl);
   fault = λ is. cc;
@@ -54,7 +55,7 @@ formats_as size failures calls honest store.NoMemory old new h = record {
   honesty = h.honesty;
   same_size = h.same_size;
 }
-formats_as size failures calls honest (store.Damaged offset) old new h = absurd (never h.faults)
+formats_as model (store.Damaged offset) old new h = absurd (never h.faults)
   where
     never : (store.Damaged offset ≡ store.Device) ⊎ ((store.Damaged offset ≡ store.Unformatted) ⊎ (store.Damaged offset ≡ store.NoMemory)) → ⊥
     never (inl is) = cc

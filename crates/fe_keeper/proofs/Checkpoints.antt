@@ -2,7 +2,7 @@
 use Rattle.std.proofs.Common.{◌≡◌, ℕ, ◌+◌, ◌-◌, ◌≤◌, List, [], ◌++◌, take, drop, Option, Some, None, Result, Ok, Err, OnOk, Bool, IsTrue, is_none, ◌&&◌, sym, ◌∙◌, ap, subst, refl, arith}
 use Rattle.std.proofs.Math.Seq.{take-add}
 use Rattle.std.specs.Option.{option_map}
-use Rattle.fe_disk.specs.Disk.{LeavesOnly}
+use Rattle.fe_disk.specs.Runs.{LeavesOnly}
 use Rattle.fe_disk.proofs.Moments.{started, weaker}
 use Rattle.fe_state.specs.State.{ServerState}
 use Rattle.fe_codec.specs.Image.{image_spelling, FitsImage}
@@ -14,6 +14,7 @@ use Rattle.fe_keeper.specs.within.Upholds.{IsDraftOf, IsDrafted, Upholds, progre
 use Rattle.fe_keeper.specs.within.Slices.{KeepsDraft}
 use Rattle.fe_keeper.specs.declared.checkpoint.Checkpoint.{Checkpoint}
 use Rattle.fe_keeper.specs.declared.store.Store.{Store}
+use Rattle.fe_disk.specs.declared.disk.Disk.{Ghosts}
 
 -- an image that holds what stands for a state stands for it
 pub holds_stand : (c : Contents) (s : ServerState) → Stands c s → (image : List ℕ) → Holds c image → StandsFor image s
@@ -69,28 +70,28 @@ slice_is_draft c d s end slice more slice_is is =
       state_is = is.state_is;
     }
 
-module _ {D : Type 0} (moment : D → ℕ) (left_since : D → ℕ → List ℕ → Type 0) (seen : D → List ℕ) (may_leave : D → List ℕ → Type 0) where
-  settled : (store : Store D) (s : ServerState) → store.checkpoint ≡ None → (u : Upholds seen may_leave store s) → KeepsContents seen may_leave store.journal u.contents None
+module _ {D : Type 0} (model : Ghosts D) where
+  settled : (store : Store D) (s : ServerState) → store.checkpoint ≡ None → (u : Upholds model store s) → KeepsContents model store.journal u.contents None
   settled store s none u =
       let drafted : IsDrafted None u.draft s = subst (λ (o : Option Checkpoint). IsDrafted o u.draft s) none u.drafted in
-      subst (λ (o : Option Draft). KeepsContents seen may_leave store.journal u.contents o) (drafted_none u.draft s drafted) u.keeps
+      subst (λ (o : Option Draft). KeepsContents model store.journal u.contents o) (drafted_none u.draft s drafted) u.keeps
 
   -- a store that does nothing
-  pub stays : (store : Store D) (s : ServerState) → ((image : List ℕ) → left_since store.journal.disk (moment store.journal.disk) image → may_leave store.journal.disk image) → Upholds seen may_leave store s
-      → LeavesOnly moment left_since store.journal.disk store.journal.disk (λ image. StandsFor image s)
+  pub stays : (store : Store D) (s : ServerState) → ((image : List ℕ) → model.left_since store.journal.disk (model.moment store.journal.disk) image → model.may_leave store.journal.disk image) → Upholds model store s
+      → LeavesOnly model store.journal.disk store.journal.disk (λ image. StandsFor image s)
   stays store s only_now u =
-      started moment left_since store.journal.disk (λ image. StandsFor image s) (λ image left. holds_stand u.contents s u.stands image (u.keeps.left image (only_now image left)).holds)
+      started model store.journal.disk (λ image. StandsFor image s) (λ image left. holds_stand u.contents s u.stands image (u.keeps.left image (only_now image left)).holds)
 
-  pub begin_moments : (store : Store D) (s : ServerState) (new : D) → store.checkpoint ≡ None → Upholds seen may_leave store s
-      → ((c : Contents) → KeepsContents seen may_leave store.journal c None → LeavesOnly moment left_since store.journal.disk new (Holds c))
-      → LeavesOnly moment left_since store.journal.disk new (λ image. StandsFor image s)
+  pub begin_moments : (store : Store D) (s : ServerState) (new : D) → store.checkpoint ≡ None → Upholds model store s
+      → ((c : Contents) → KeepsContents model store.journal c None → LeavesOnly model store.journal.disk new (Holds c))
+      → LeavesOnly model store.journal.disk new (λ image. StandsFor image s)
   begin_moments store s new none u run =
-      weaker moment left_since store.journal.disk new (Holds u.contents) (λ image. StandsFor image s) (holds_stand u.contents s u.stands) (run u.contents (settled store s none u))
+      weaker model store.journal.disk new (Holds u.contents) (λ image. StandsFor image s) (holds_stand u.contents s u.stands) (run u.contents (settled store s none u))
 
-  pub begin_upheld : (store : Store D) (s : ServerState) (j : JournalState D) (c : Checkpoint) (generation n : ℕ) → store.checkpoint ≡ None → Upholds seen may_leave store s
-      → ((k : Contents) → KeepsContents seen may_leave store.journal k None → KeepsContents seen may_leave j k (Some (new_draft Two generation n)))
+  pub begin_upheld : (store : Store D) (s : ServerState) (j : JournalState D) (c : Checkpoint) (generation n : ℕ) → store.checkpoint ≡ None → Upholds model store s
+      → ((k : Contents) → KeepsContents model store.journal k None → KeepsContents model j k (Some (new_draft Two generation n)))
       → FitsImage Two s → c.image.items ≡ image_spelling Two s → c.written ≡ 0 → c.place ≡ s.place → c.catch_up.items ≡ []
-      → Upholds seen may_leave (record { journal = j; group = store.group; place = store.place; checkpoint = Some c }) s
+      → Upholds model (record { journal = j; group = store.group; place = store.place; checkpoint = Some c }) s
   begin_upheld store s j c generation n none u closed fits image_is written place empty =
       record {
         contents = u.contents;
@@ -101,33 +102,33 @@ module _ {D : Type 0} (moment : D → ℕ) (left_since : D → ℕ → List ℕ 
       }
 
   -- the draft of the checkpoint under way
-  pub draft_kept : (store : Store D) (s : ServerState) (c : Checkpoint) → store.checkpoint ≡ Some c → (u : Upholds seen may_leave store s) → KeepsDraft seen may_leave store.journal u.contents c s
+  pub draft_kept : (store : Store D) (s : ServerState) (c : Checkpoint) → store.checkpoint ≡ Some c → (u : Upholds model store s) → KeepsDraft model store.journal u.contents c s
   draft_kept store s c some u =
       let drafted : IsDrafted (Some c) u.draft s = subst (λ (o : Option Checkpoint). IsDrafted o u.draft s) some u.drafted in
       let found = drafted_some c u.draft s drafted in
-      record { draft = found.0; keeps = subst (λ (o : Option Draft). KeepsContents seen may_leave store.journal u.contents o) found.1 u.keeps; is_draft = found.2 }
+      record { draft = found.0; keeps = subst (λ (o : Option Draft). KeepsContents model store.journal u.contents o) found.1 u.keeps; is_draft = found.2 }
 
-  pub step_moments : (store : Store D) (s : ServerState) (c : Checkpoint) (new : D) → store.checkpoint ≡ Some c → Upholds seen may_leave store s
-      → ((k : Contents) → KeepsDraft seen may_leave store.journal k c s → LeavesOnly moment left_since store.journal.disk new (Holds k))
-      → LeavesOnly moment left_since store.journal.disk new (λ image. StandsFor image s)
+  pub step_moments : (store : Store D) (s : ServerState) (c : Checkpoint) (new : D) → store.checkpoint ≡ Some c → Upholds model store s
+      → ((k : Contents) → KeepsDraft model store.journal k c s → LeavesOnly model store.journal.disk new (Holds k))
+      → LeavesOnly model store.journal.disk new (λ image. StandsFor image s)
   step_moments store s c new some u run =
-      weaker moment left_since store.journal.disk new (Holds u.contents) (λ image. StandsFor image s) (holds_stand u.contents s u.stands) (run u.contents (draft_kept store s c some u))
+      weaker model store.journal.disk new (Holds u.contents) (λ image. StandsFor image s) (holds_stand u.contents s u.stands) (run u.contents (draft_kept store s c some u))
 
-  pub step_upheld : {T E : Type 0} (result : Result T E) (store : Store D) (s : ServerState) (c made : Checkpoint) (j : JournalState D) → store.checkpoint ≡ Some c → Upholds seen may_leave store s
-      → ((k : Contents) → KeepsDraft seen may_leave store.journal k c s → OnOk result (KeepsDraft seen may_leave j k made s))
-      → OnOk result (Upholds seen may_leave (record { journal = j; group = store.group; place = store.place; checkpoint = Some made }) s)
+  pub step_upheld : {T E : Type 0} (result : Result T E) (store : Store D) (s : ServerState) (c made : Checkpoint) (j : JournalState D) → store.checkpoint ≡ Some c → Upholds model store s
+      → ((k : Contents) → KeepsDraft model store.journal k c s → OnOk result (KeepsDraft model j k made s))
+      → OnOk result (Upholds model (record { journal = j; group = store.group; place = store.place; checkpoint = Some made }) s)
   step_upheld (Ok x) store s c made j some u goes =
       let kept = goes u.contents (draft_kept store s c some u) in
       record { contents = u.contents; draft = Some kept.draft; keeps = kept.keeps; stands = u.stands; drafted = kept.is_draft }
   step_upheld (Err e) store s c made j some u goes = tt
 
   -- where no slice is left
-  pub none_written : (j : JournalState D) (k : Contents) (c : Checkpoint) (s : ServerState) → ((image : List ℕ) → left_since j.disk (moment j.disk) image → may_leave j.disk image) → KeepsDraft seen may_leave j k c s
-      → LeavesOnly moment left_since j.disk j.disk (Holds k)
-  none_written j k c s only_now kept = started moment left_since j.disk (Holds k) (λ image left. (kept.keeps.left image (only_now image left)).holds)
+  pub none_written : (j : JournalState D) (k : Contents) (c : Checkpoint) (s : ServerState) → ((image : List ℕ) → model.left_since j.disk (model.moment j.disk) image → model.may_leave j.disk image) → KeepsDraft model j k c s
+      → LeavesOnly model j.disk j.disk (Holds k)
+  none_written j k c s only_now kept = started model j.disk (Holds k) (λ image left. (kept.keeps.left image (only_now image left)).holds)
 
   pub slice_kept : (j new : JournalState D) (k : Contents) (c : Checkpoint) (s : ServerState) (end : ℕ) (slice : List ℕ) → c.written ≤ end → slice ≡ take (end - c.written) (drop c.written c.image.items)
-      → KeepsDraft seen may_leave j k c s → ((d : Draft) → KeepsContents seen may_leave j k (Some d) → KeepsContents seen may_leave new k (Some (with_slice d slice)))
-      → KeepsDraft seen may_leave new k (record c { written = end }) s
+      → KeepsDraft model j k c s → ((d : Draft) → KeepsContents model j k (Some d) → KeepsContents model new k (Some (with_slice d slice)))
+      → KeepsDraft model new k (record c { written = end }) s
   slice_kept j new k c s end slice more slice_is kept wrote =
       record { draft = with_slice kept.draft slice; keeps = wrote kept.draft kept.keeps; is_draft = slice_is_draft c kept.draft s end slice more slice_is kept.is_draft }

@@ -1,7 +1,8 @@
 -- How calls of a store end, one after the other, and what a keeper tells of their faults.
 use Rattle.std.proofs.Common.{◌≡◌, ◌↔◌, inl, ℕ, ◌+◌, List, true, false, Bool, IsTrue, refl, sym, ap, subst, ◌∙◌}
 use Rattle.std.specs.Prelude.{Result, Ok, Err, MatchResult, IsErrAnd}
-use Rattle.fe_disk.specs.Disk.{LeavesOnly, Rises}
+use Rattle.fe_disk.specs.Disk.{Rises}
+use Rattle.fe_disk.specs.Runs.{LeavesOnly}
 use Rattle.fe_disk.proofs.Moments.{joined}
 use Rattle.fe_state.specs.State.{ServerState}
 use Rattle.fe_state.specs.declared.entry.Entry.{Entry}
@@ -24,26 +25,27 @@ use Rattle.fe_keeper.specs.declared.fault.Fault.TheVariants.{Device, NoMemory}
 use Rattle.fe_keeper.specs.declared.keeper.Keeper.TheInside.{Inside}
 use Rattle.fe_keeper.specs.declared.store.Store.{Store}
 use Rattle.fe_keeper.specs.declared.store.Store.{Store}
+use Rattle.fe_disk.specs.declared.disk.Disk.{Ghosts}
 
 -- ---- calls one after the other
 
 -- a call after one in which the device worked
-pub then_ends : {T D : Type 0} (honest : D → Type 0) (failures : D → ℕ) (result : Result T JournalFault) (old mid new : JournalState D) → WorksOn failures old mid → (honest mid.disk ↔ honest old.disk)
-    → StoreEnds honest failures result mid new → StoreEnds honest failures result old new
-then_ends honest failures (Ok x) old mid new first honesty second = record {
+pub then_ends : {T D : Type 0} (model : Ghosts D) (result : Result T JournalFault) (old mid new : JournalState D) → WorksOn model old mid → (model.honest mid.disk ↔ model.honest old.disk)
+    → StoreEnds model result mid new → StoreEnds model result old new
+then_ends model (Ok x) old mid new first honesty second = record {
   outcome = record { works = second.outcome.works; still = second.outcome.still ∙ first.still };
   honesty = (λ h. honesty.0 (second.honesty.0 h), λ h. second.honesty.1 (honesty.1 h));
 }
-then_ends honest failures (Err fault) old mid new first honesty second = record {
-  outcome = (second.outcome.0, record { failed = second.outcome.1.failed; rises = subst (λ (n : ℕ). Rises n (failures new.disk)) first.still second.outcome.1.rises });
+then_ends model (Err fault) old mid new first honesty second = record {
+  outcome = (second.outcome.0, record { failed = second.outcome.1.failed; rises = subst (λ (n : ℕ). Rises n (model.failures new.disk)) first.still second.outcome.1.rises });
   honesty = (λ h. honesty.0 (second.honesty.0 h), λ h. second.honesty.1 (honesty.1 h));
 }
 
 -- it carries over what the first carried
-pub then_carries : {T D : Type 0} (moment : D → ℕ) (left_since : D → ℕ → List ℕ → Type 0) (seen : D → List ℕ) (may_leave : D → List ℕ → Type 0) (result : Result T JournalFault) (old mid new : Store D) (s : ServerState)
-    → LeavesOnly moment left_since old.journal.disk mid.journal.disk (λ image. StandsFor image s) → Carries moment left_since seen may_leave result mid new s → Carries moment left_since seen may_leave result old new s
-then_carries moment left_since seen may_leave result old mid new s first second =
-    record { any_moment = joined moment left_since old.journal.disk mid.journal.disk new.journal.disk (λ image. StandsFor image s) first second.any_moment; upheld = second.upheld }
+pub then_carries : {T D : Type 0} (model : Ghosts D) (result : Result T JournalFault) (old mid new : Store D) (s : ServerState)
+    → LeavesOnly model old.journal.disk mid.journal.disk (λ image. StandsFor image s) → Carries model result mid new s → Carries model result old new s
+then_carries model result old mid new s first second =
+    record { any_moment = joined model old.journal.disk mid.journal.disk new.journal.disk (λ image. StandsFor image s) first second.any_moment; upheld = second.upheld }
 
 -- a batch that is stored once there is room for it
 pub then_counts : {T D : Type 0} (result : Result T JournalFault) (old mid new : Store D) (n : ℕ) → mid.place ≡ old.place → CountsBatch result mid new n → CountsBatch result old new n
@@ -58,20 +60,20 @@ told (Ok x) fault Q P is p = absurd is
 told (Err f) fault Q P is p = subst P (sym is) p
 
 -- a batch that is not taken
-pub take_fails : {D : Type 0} (failures : D → ℕ) (refused : Refused) (old new : KeeperState D) (first : ℕ) (entries : List Entry) → ((place : ℕ) → refused ≡ replica.Mismatch place → IsMismatch old.state first entries place)
-    → (refused ≡ replica.NoMemory → MakesSomeArray entries) → Refuses old new → Fails failures (ForBatch old first entries) old new (fault_of_refused refused)
-take_fails failures (replica.Mismatch place) old new first entries mismatch memory none = (mismatch place refl, none)
-take_fails failures replica.NoMemory old new first entries mismatch memory none = (inl (memory refl), none)
+pub take_fails : {D : Type 0} (model : Ghosts D) (refused : Refused) (old new : KeeperState D) (first : ℕ) (entries : List Entry) → ((place : ℕ) → refused ≡ replica.Mismatch place → IsMismatch old.state first entries place)
+    → (refused ≡ replica.NoMemory → MakesSomeArray entries) → Refuses old new → Fails model (ForBatch old first entries) old new (fault_of_refused refused)
+take_fails model (replica.Mismatch place) old new first entries mismatch memory none = (mismatch place refl, none)
+take_fails model replica.NoMemory old new first entries mismatch memory none = (inl (memory refl), none)
 
 -- a fault of the device
-pub device_fails : {D : Type 0} (failures : D → ℕ) (Cause : Fault → Type 0) (fault : JournalFault) (old new : KeeperState D) → fault ≡ journal.Device → Cause Device → Breaks failures old new
-    → Fails failures Cause old new (fault_of_journal fault)
-device_fails failures Cause journal.Device old new is cause breaks = (cause, breaks)
-device_fails failures Cause journal.Failed old new is cause breaks = absurd (cc is)
+pub device_fails : {D : Type 0} (model : Ghosts D) (Cause : Fault → Type 0) (fault : JournalFault) (old new : KeeperState D) → fault ≡ journal.Device → Cause Device → Breaks model old new
+    → Fails model Cause old new (fault_of_journal fault)
+device_fails model Cause journal.Device old new is cause breaks = (cause, breaks)
+device_fails model Cause journal.Failed old new is cause breaks = absurd (cc is)
 
 -- no memory
-pub memory_fails : {D : Type 0} (failures : D → ℕ) (Cause : Fault → Type 0) (fault : Fault) (old new : KeeperState D) → fault ≡ NoMemory → Cause NoMemory → Refuses old new → Fails failures Cause old new fault
-memory_fails failures Cause fault old new is cause none = subst (Fails failures Cause old new) (sym is) (cause, none)
+pub memory_fails : {D : Type 0} (model : Ghosts D) (Cause : Fault → Type 0) (fault : Fault) (old new : KeeperState D) → fault ≡ NoMemory → Cause NoMemory → Refuses old new → Fails model Cause old new fault
+memory_fails model Cause fault old new is cause none = subst (Fails model Cause old new) (sym is) (cause, none)
 
 -- a test that does not fail holds
 pub must_be : (b : Bool) → (b ≡ false → ⊥) → IsTrue b
@@ -79,19 +81,19 @@ must_be true none = refl
 must_be false none = absurd (none refl)
 
 -- an append that fails, seen from outside
-pub append_fails : {D : Type 0} (failures : D → ℕ) (was old new : KeeperState D) (batch back : Batch) (told fault : Fault) (entries : List Entry) → told ≡ fault → was ≡ old → entries ≡ batch.entries
-    → Fails failures (ForBatch was batch.first entries) was new fault → AppendEnds failures (Err (told, back)) old new batch
-append_fails {D} failures was old new batch back told fault entries is same spelled fails =
-    subst (λ (k : KeeperState D). Fails failures (ForBatch k batch.first batch.entries) k new told) same
-    (subst (λ (es : List Entry). Fails failures (ForBatch was batch.first es) was new told) spelled
-    (subst (λ (f : Fault). Fails failures (ForBatch was batch.first entries) was new f) (sym is) fails))
+pub append_fails : {D : Type 0} (model : Ghosts D) (was old new : KeeperState D) (batch back : Batch) (told fault : Fault) (entries : List Entry) → told ≡ fault → was ≡ old → entries ≡ batch.entries
+    → Fails model (ForBatch was batch.first entries) was new fault → AppendEnds model (Err (told, back)) old new batch
+append_fails {D} model was old new batch back told fault entries is same spelled fails =
+    subst (λ (k : KeeperState D). Fails model (ForBatch k batch.first batch.entries) k new told) same
+    (subst (λ (es : List Entry). Fails model (ForBatch was batch.first es) was new told) spelled
+    (subst (λ (f : Fault). Fails model (ForBatch was batch.first entries) was new f) (sym is) fails))
 
 -- a call of the store in which the device fails, as the keeper tells it
-pub device_told : {T D : Type 0} (failures : D → ℕ) (Cause : Fault → Type 0) (result : Result T Fault) (fault : JournalFault) (inside : Inside D) (new : Store D) (old : KeeperState D) → kept_of inside ≡ old
-    → IsErrAnd result (λ f. f ≡ fault_of_journal fault) → inside.store.journal.has_failed ≡ false → (fault ≡ journal.Device) × BreaksOff failures inside.store.journal new.journal → Cause Device
-    → Ends failures Cause result old (record { state = inside.state; store = store_of new })
-device_told {D = D} failures Cause result fault inside new old same is works failed cause =
+pub device_told : {T D : Type 0} (model : Ghosts D) (Cause : Fault → Type 0) (result : Result T Fault) (fault : JournalFault) (inside : Inside D) (new : Store D) (old : KeeperState D) → kept_of inside ≡ old
+    → IsErrAnd result (λ f. f ≡ fault_of_journal fault) → inside.store.journal.has_failed ≡ false → (fault ≡ journal.Device) × BreaksOff model inside.store.journal new.journal → Cause Device
+    → Ends model Cause result old (record { state = inside.state; store = store_of new })
+device_told {D = D} model Cause result fault inside new old same is works failed cause =
     let after : KeeperState D = record { state = inside.state; store = store_of new } in
-    let breaks : Breaks failures (kept_of inside) after = record { before = works; failed = failed.1.failed; rises = failed.1.rises } in
-    told result (fault_of_journal fault) (Works failures old after) (Fails failures Cause old after) is
-    (device_fails failures Cause fault old after failed.0 cause (subst (λ (k : KeeperState D). Breaks failures k after) same breaks))
+    let breaks : Breaks model (kept_of inside) after = record { before = works; failed = failed.1.failed; rises = failed.1.rises } in
+    told result (fault_of_journal fault) (Works model old after) (Fails model Cause old after) is
+    (device_fails model Cause fault old after failed.0 cause (subst (λ (k : KeeperState D). Breaks model k after) same breaks))

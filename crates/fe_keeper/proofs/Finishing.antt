@@ -3,7 +3,7 @@ use Rattle.std.proofs.Common.{◌≡◌, ⊎_elim, ℕ, ◌+◌, ◌*◌, ◌≤
 use Rattle.std.proofs.lemmas.List.{take_all}
 use Rattle.std.proofs.lemmas.Bool.Decides.{nat_tests}
 use Rattle.std.specs.Option.{option_map}
-use Rattle.fe_disk.specs.Disk.{LeavesOnly}
+use Rattle.fe_disk.specs.Runs.{LeavesOnly}
 use Rattle.fe_disk.proofs.Moments.{weaker}
 use Rattle.fe_state.specs.State.{ServerState, after_all}
 use Rattle.fe_state.specs.History.{AreLegal, IsHistory, after_groups}
@@ -25,6 +25,7 @@ use Rattle.fe_keeper.specs.declared.checkpoint.Checkpoint.{Checkpoint}
 use Rattle.fe_keeper.specs.declared.store.Store.{Store}
 use Rattle.fe_keeper.proofs.Appending.{length-group}
 use Rattle.fe_keeper.proofs.Checkpoints.{holds_stand, draft_kept}
+use Rattle.fe_disk.specs.declared.disk.Disk.{Ghosts}
 
 -- where no slices are left, the whole image is written
 pub whole_there : (checkpoint : Option Checkpoint) (c : Checkpoint) → checkpoint ≡ Some c → has_slices (option_map progress_of checkpoint) ≡ false → vec_len c.image ≤ c.written
@@ -90,7 +91,7 @@ begun_format j d generation n written of_draft of_checkpoint =
     let same : mine ≡ theirs = cc in
     (ap (λ (b : Begun). b.format) same, ap (λ (b : Begun). b.generation) same)
 
-module _ {D : Type 0} (moment : D → ℕ) (left_since : D → ℕ → List ℕ → Type 0) (seen : D → List ℕ) (may_leave : D → List ℕ → Type 0) where
+module _ {D : Type 0} (model : Ghosts D) where
   module _ (store : Store D) (s : ServerState) (c : Checkpoint) (bytes : List ℕ) (bytes_are : bytes ≡ c.catch_up.items) (some : store.checkpoint ≡ Some c) (sound : IsStore store)
       (none_left : has_slices (option_map progress_of store.checkpoint) ≡ false) where
     under_way : IsUnderWay store.place store.journal c
@@ -99,25 +100,25 @@ module _ {D : Type 0} (moment : D → ℕ) (left_since : D → ℕ → List ℕ 
     whole : vec_len c.image ≤ c.written
     whole = whole_there store.checkpoint c some none_left
 
-    new_stands : (contents : Contents) (kept : KeepsDraft seen may_leave store.journal contents c s) → Stands (with_draft contents kept.draft bytes) s
+    new_stands : (contents : Contents) (kept : KeepsDraft model store.journal contents c s) → Stands (with_draft contents kept.draft bytes) s
     new_stands contents kept =
         let begun = begun_format store.journal kept.draft (store.journal.generation + 1) (vec_len c.image) c.written kept.keeps.begun_is under_way.begun in
         finished_stands contents kept.draft c s bytes bytes_are kept.is_draft begun.0 (omega (arith, begun.1, under_way.numbered)) whole (omega (arith, ap length bytes_are, c.catch_up.ok.0, under_way.caught_up, under_way.few))
 
-    pub finish_moments : (new : D) → Upholds seen may_leave store s
-        → ((k : Contents) (d : Draft) → KeepsContents seen may_leave store.journal k (Some d) → LeavesOnly moment left_since store.journal.disk new (HoldsEither k (with_draft k d bytes)))
-        → LeavesOnly moment left_since store.journal.disk new (λ image. StandsFor image s)
+    pub finish_moments : (new : D) → Upholds model store s
+        → ((k : Contents) (d : Draft) → KeepsContents model store.journal k (Some d) → LeavesOnly model store.journal.disk new (HoldsEither k (with_draft k d bytes)))
+        → LeavesOnly model store.journal.disk new (λ image. StandsFor image s)
     finish_moments new u run =
-        let kept = draft_kept moment left_since seen may_leave store s c some u in
+        let kept = draft_kept model store s c some u in
         let next = with_draft u.contents kept.draft bytes in
-        weaker moment left_since store.journal.disk new (HoldsEither u.contents next) (λ image. StandsFor image s)
+        weaker model store.journal.disk new (HoldsEither u.contents next) (λ image. StandsFor image s)
         (λ image either. ⊎_elim (holds_stand u.contents s u.stands image) (holds_stand next s (new_stands u.contents kept) image) either) (run u.contents kept.draft kept.keeps)
 
-    pub finish_upheld : (j : JournalState D) → Upholds seen may_leave store s
-        → ((k : Contents) (d : Draft) → KeepsContents seen may_leave store.journal k (Some d) → KeepsContents seen may_leave j (with_draft k d bytes) None)
-        → Upholds seen may_leave (record { journal = j; group = store.group; place = store.place; checkpoint = None }) s
+    pub finish_upheld : (j : JournalState D) → Upholds model store s
+        → ((k : Contents) (d : Draft) → KeepsContents model store.journal k (Some d) → KeepsContents model j (with_draft k d bytes) None)
+        → Upholds model (record { journal = j; group = store.group; place = store.place; checkpoint = None }) s
     finish_upheld j u goes =
-        let kept = draft_kept moment left_since seen may_leave store s c some u in
+        let kept = draft_kept model store s c some u in
         record {
           contents = with_draft u.contents kept.draft bytes;
           draft = None;

@@ -1,7 +1,7 @@
 -- What was found of a store, and recovered of it.
 use Rattle.std.proofs.Common.{◌≡◌, ◌∙◌, ℕ, List, Result, Ok, Err, sym, subst}
 use Rattle.std.specs.Prelude.{IfOk, IfErr}
-use Rattle.fe_disk.specs.Outcome.{told}
+use Rattle.fe_disk.specs.Runs.{told}
 use Rattle.fe_disk.specs.declared.calls.Calls.{Calls}
 use Rattle.fe_state.specs.State.{ServerState}
 use Rattle.fe_format.specs.declared.format.Format.{Format}
@@ -19,6 +19,7 @@ use Rattle.fe_keeper.specs.Opened.{IsRecovered, ArePartsOf, KeepsState, disk_aft
 use Rattle.fe_keeper.specs.declared.fault.Fault.{Fault}
 use Rattle.fe_keeper.specs.declared.fault.Fault.TheVariants.{Device, NoMemory}
 use Rattle.fe_keeper.proofs.Going.{recovered_stands}
+use Rattle.fe_disk.specs.declared.disk.Disk.{Ghosts}
 
 recovered_as : (c : Contents) (format : Format) (generation : ℕ) (image : List ℕ) (payloads : List (List ℕ)) (s : ServerState) → format ≡ c.format → generation ≡ c.generation → image ≡ c.image → IsRecovered format generation image payloads s → IsRecovered c.format c.generation c.image payloads s
 recovered_as c format generation image payloads s f g i h =
@@ -40,7 +41,7 @@ pub stands_by : (c : Contents) (seen : List ℕ) (s : ServerState) → Holds c s
 stands_by c seen s holds stands = subst (λ (d : Contents). Stands d s) (sym (one_contents c stands.contents seen holds stands.holds)) stands.stands
 
 -- what is read of a store that was found are parts of its contents, which stand for what is recovered of them
-module _ {D : Type 0} (seen : D → List ℕ) (may_leave : D → List ℕ → Type 0) (image : List ℕ) (found : Found D) (is : IsFound seen may_leave image found) (format : Format) (generation : ℕ) (bytes : List ℕ)
+module _ {D : Type 0} (model : Ghosts D) (image : List ℕ) (found : Found D) (is : IsFound model image found) (format : Format) (generation : ℕ) (bytes : List ℕ)
     (format_is : format ≡ found.journal.format) (generation_is : generation ≡ found.journal.generation) (bytes_are : bytes ≡ found.image.items) where
   pub parts_found : ArePartsOf is.contents format generation bytes found.groups
   parts_found = record { format_is = format_is ∙ is.keeps.format_is; generation_is = generation_is ∙ is.keeps.generation_is; image_is = bytes_are ∙ is.image_is; groups_are = is.groups_are }
@@ -49,19 +50,19 @@ module _ {D : Type 0} (seen : D → List ℕ) (may_leave : D → List ℕ → Ty
   stands_found s recovered = stands_there is.contents image format generation bytes found.groups s is.holds parts_found (recovered is.contents.groups is.groups_are)
 
 -- each image that is left stands for the state that is kept
-pub each_stands : {D : Type 0} (seen : D → List ℕ) (may_leave : D → List ℕ → Type 0) (j : JournalState D) (s : ServerState) → KeepsState seen may_leave j s → EachStandsFor may_leave j.disk s
-each_stands seen may_leave j s keeps = λ image left. record { contents = keeps.contents; holds = (keeps.keeps.left image left).holds; stands = keeps.stands }
+pub each_stands : {D : Type 0} (model : Ghosts D) (j : JournalState D) (s : ServerState) → KeepsState model j s → EachStandsFor model j.disk s
+each_stands model j s keeps = λ image left. record { contents = keeps.contents; holds = (keeps.keeps.left image left).holds; stands = keeps.stands }
 
 -- what opening did to the disk, where the keeper of what was found is made or memory runs out
-pub opens_keeper : {D T : Type 0} (size failures : D → ℕ) (calls : D → Calls) (honest : D → Type 0) (found : T) (disk : D) (j : JournalState D) (s : ServerState) (result : Result (KeeperState D) (Fault × D))
-    → AsksToOpen size failures calls honest store.Device (Ok found) disk j.disk → IfOk result (λ keeper. keeper ≡ keeper_over j s) → IfErr result (λ e. (e.0 ≡ NoMemory) × (e.1 ≡ j.disk))
-    → AsksToOpen size failures calls honest Device (told result) disk (disk_after result)
-opens_keeper {D} {T} size failures calls honest found disk j s (Ok keeper) asks made refused =
+pub opens_keeper : {D T : Type 0} (model : Ghosts D) (found : T) (disk : D) (j : JournalState D) (s : ServerState) (result : Result (KeeperState D) (Fault × D))
+    → AsksToOpen model store.Device (Ok found) disk j.disk → IfOk result (λ keeper. keeper ≡ keeper_over j s) → IfErr result (λ e. (e.0 ≡ NoMemory) × (e.1 ≡ j.disk))
+    → AsksToOpen model Device (told result) disk (disk_after result)
+opens_keeper {D} {T} model found disk j s (Ok keeper) asks made refused =
     let result : Result (KeeperState D) Fault = Ok keeper in
-    subst (λ (k : KeeperState D). AsksToOpen size failures calls honest Device result disk k.store.disk) (sym made)
-    (opens_as size failures calls honest store.Device Device (Ok found) result disk j.disk asks (λ is. cc) (λ is. cc))
-opens_keeper {D} {T} size failures calls honest found disk j s (Err e) asks made refused =
+    subst (λ (k : KeeperState D). AsksToOpen model Device result disk k.store.disk) (sym made)
+    (opens_as model store.Device Device (Ok found) result disk j.disk asks (λ is. cc) (λ is. cc))
+opens_keeper {D} {T} model found disk j s (Err e) asks made refused =
     let result : Result (KeeperState D) Fault = Err e.0 in
     let none = refused.0 in
-    subst (λ (d : D). AsksToOpen size failures calls honest Device result disk d) (sym refused.1)
-    (opens_as size failures calls honest store.Device Device (Ok found) result disk j.disk asks (λ is. cc) (λ is. cc))
+    subst (λ (d : D). AsksToOpen model Device result disk d) (sym refused.1)
+    (opens_as model store.Device Device (Ok found) result disk j.disk asks (λ is. cc) (λ is. cc))

@@ -6,7 +6,8 @@ use Rattle.std.specs.Option.{option_map_or}
 use Rattle.std.specs.Prelude.{Result, Ok}
 use Rattle.fe_journal.specs.Layout.{slice_bytes}
 use Rattle.fe_journal.specs.declared.fault.JournalFault.{JournalFault}
-use Rattle.fe_disk.specs.Disk.{LeavesOnly, Rises, MakesAtMost}
+use Rattle.fe_disk.specs.Disk.{Rises, MakesAtMost}
+use Rattle.fe_disk.specs.Runs.{LeavesOnly}
 use Rattle.fe_disk.specs.declared.calls.Calls.{Calls}
 use Rattle.fe_disk.proofs.Moments.{joined}
 use Rattle.fe_state.specs.State.{ServerState}
@@ -18,28 +19,29 @@ use Rattle.fe_keeper.specs.within.Ready.{HasCheckpoint}
 use Rattle.fe_keeper.specs.within.Upholds.{Upholds, store_of}
 use Rattle.fe_keeper.specs.declared.store.Store.{Store}
 use Rattle.fe_keeper.proofs.Checkpoints.{stays}
+use Rattle.fe_disk.specs.declared.disk.Disk.{Ghosts}
 
 -- how many bytes of the image are left
 abbrev pub bytes_left : Option Progress → ℕ
 bytes_left checkpoint = option_map_or (λ p. p.size - p.written) checkpoint 0
 
 -- Over an honest disk: what stops leave stands for the state, and the store upholds it still.
-pub record GoesOn {D : Type 0} (moment : D → ℕ) (left_since : D → ℕ → List ℕ → Type 0) (seen : D → List ℕ) (may_leave : D → List ℕ → Type 0) (old now : Store D) (s : ServerState) : Type 0 where
-  pub run : LeavesOnly moment left_since old.journal.disk now.journal.disk (λ image. StandsFor image s)
-  pub upheld : Upholds seen may_leave now s
+pub record GoesOn {D : Type 0} (model : Ghosts D) (old now : Store D) (s : ServerState) : Type 0 where
+  pub run : LeavesOnly model old.journal.disk now.journal.disk (λ image. StandsFor image s)
+  pub upheld : Upholds model now s
 
 -- What slices leave of a store: nothing that a finish takes is changed.
-pub record IsWriting {D : Type 0} (moment : D → ℕ) (left_since : D → ℕ → List ℕ → Type 0) (seen : D → List ℕ) (may_leave : D → List ℕ → Type 0) (honest : D → Type 0) (failures : D → ℕ) (calls : D → Calls) (old now : Store D) : Type 0 where
+pub record IsWriting {D : Type 0} (model : Ghosts D) (old now : Store D) : Type 0 where
   pub ready : HasCheckpoint now
-  pub goes_on : honest old.journal.disk → (s : ServerState) → Upholds seen may_leave old s → GoesOn moment left_since seen may_leave old now s
+  pub goes_on : model.honest old.journal.disk → (s : ServerState) → Upholds model old s → GoesOn model old now s
   pub value : finished (store_of now) ≡ record (finished (store_of old)) { disk = now.journal.disk }
-  pub still : failures now.journal.disk ≡ failures old.journal.disk
+  pub still : model.failures now.journal.disk ≡ model.failures old.journal.disk
   pub place : now.place ≡ old.place
-  pub reads : (calls now.journal.disk).reads ≡ (calls old.journal.disk).reads
-  pub more : (calls old.journal.disk).writes ≤ (calls now.journal.disk).writes
-  pub writes : (calls now.journal.disk).writes + slices_left (store_of now).checkpoint ≤ (calls old.journal.disk).writes + slices_left (store_of old).checkpoint
-  pub syncs : (calls now.journal.disk).syncs ≡ (calls old.journal.disk).syncs
-  pub honesty : honest now.journal.disk ↔ honest old.journal.disk
+  pub reads : (model.calls now.journal.disk).reads ≡ (model.calls old.journal.disk).reads
+  pub more : (model.calls old.journal.disk).writes ≤ (model.calls now.journal.disk).writes
+  pub writes : (model.calls now.journal.disk).writes + slices_left (store_of now).checkpoint ≤ (model.calls old.journal.disk).writes + slices_left (store_of old).checkpoint
+  pub syncs : (model.calls now.journal.disk).syncs ≡ (model.calls old.journal.disk).syncs
+  pub honesty : model.honest now.journal.disk ↔ model.honest old.journal.disk
 
 -- what a store has of each of its parts
 abbrev of_parts : {D : Type 0} → D → ℕ → Format → ℕ → Bool → Option Progress → StoreState D
@@ -107,14 +109,14 @@ some_left : (checkpoint : Option Progress) → has_slices checkpoint ≡ true �
 some_left None is = cc
 some_left (Some p) is = let far = above p.size p.written is in omega (arith, far)
 
-module _ {D : Type 0} (moment : D → ℕ) (left_since : D → ℕ → List ℕ → Type 0) (seen : D → List ℕ) (may_leave : D → List ℕ → Type 0) (honest : D → Type 0) (failures : D → ℕ) (calls : D → Calls) where
+module _ {D : Type 0} (model : Ghosts D) where
   -- before the first slice
-  pub none_yet : (old : Store D) → ((image : List ℕ) → honest old.journal.disk → left_since old.journal.disk (moment old.journal.disk) image → may_leave old.journal.disk image) → HasCheckpoint old
-      → IsWriting moment left_since seen may_leave honest failures calls old old
+  pub none_yet : (old : Store D) → ((image : List ℕ) → model.honest old.journal.disk → model.left_since old.journal.disk (model.moment old.journal.disk) image → model.may_leave old.journal.disk image) → HasCheckpoint old
+      → IsWriting model old old
   none_yet old only_now ready =
       record {
         ready = ready;
-        goes_on = λ is s upholds. record { run = stays moment left_since seen may_leave old s (λ image left. only_now image is left) upholds; upheld = upholds };
+        goes_on = λ is s upholds. record { run = stays model old s (λ image left. only_now image is left) upholds; upheld = upholds };
         value = finished_parts old.journal.disk old.place old.journal.format old.journal.used old.journal.has_failed (store_of old).checkpoint;
         still = refl;
         place = refl;
@@ -126,25 +128,25 @@ module _ {D : Type 0} (moment : D → ℕ) (left_since : D → ℕ → List ℕ 
       }
 
   -- a run that went on by one call
-  pub moments_more : {T : Type 0} (result : Result T JournalFault) (old now new : Store D) → IsWriting moment left_since seen may_leave honest failures calls old now
-      → (honest now.journal.disk → (s : ServerState) → Upholds seen may_leave now s → Carries moment left_since seen may_leave result now new s)
-      → honest old.journal.disk → (s : ServerState) → Upholds seen may_leave old s → LeavesOnly moment left_since old.journal.disk new.journal.disk (λ image. StandsFor image s)
+  pub moments_more : {T : Type 0} (result : Result T JournalFault) (old now new : Store D) → IsWriting model old now
+      → (model.honest now.journal.disk → (s : ServerState) → Upholds model now s → Carries model result now new s)
+      → model.honest old.journal.disk → (s : ServerState) → Upholds model old s → LeavesOnly model old.journal.disk new.journal.disk (λ image. StandsFor image s)
   moments_more result old now new so_far carries is s upholds =
       let on = so_far.goes_on is s upholds in
-      joined moment left_since old.journal.disk now.journal.disk new.journal.disk (λ image. StandsFor image s) on.run (carries (so_far.honesty.1 is) s on.upheld).any_moment
+      joined model old.journal.disk now.journal.disk new.journal.disk (λ image. StandsFor image s) on.run (carries (so_far.honesty.1 is) s on.upheld).any_moment
 
   -- a slice more
-  pub one_more : (more : Bool) (old now new : Store D) → IsWriting moment left_since seen may_leave honest failures calls old now → StaysSound now new → HasCheckpoint new
-      → (honest now.journal.disk → (s : ServerState) → Upholds seen may_leave now s → Carries moment left_since seen may_leave (Ok more) now new s)
-      → store_of new ≡ record (stepped (store_of now)) { disk = new.journal.disk } → StoreEnds honest failures (Ok more) now.journal new.journal
-      → MakesAtMost 0 1 0 (calls now.journal.disk) (calls new.journal.disk) → (has_slices (store_of now).checkpoint ≡ false → new ≡ now)
-      → IsWriting moment left_since seen may_leave honest failures calls old new
+  pub one_more : (more : Bool) (old now new : Store D) → IsWriting model old now → StaysSound now new → HasCheckpoint new
+      → (model.honest now.journal.disk → (s : ServerState) → Upholds model now s → Carries model (Ok more) now new s)
+      → store_of new ≡ record (stepped (store_of now)) { disk = new.journal.disk } → StoreEnds model (Ok more) now.journal new.journal
+      → MakesAtMost 0 1 0 (model.calls now.journal.disk) (model.calls new.journal.disk) → (has_slices (store_of now).checkpoint ≡ false → new ≡ now)
+      → IsWriting model old new
   one_more more old now new so_far stays ready carries value ends made rests =
       let finishes = ap (λ (t : StoreState D). finished t) value ∙ stepped_parts now.journal.disk new.journal.disk now.place now.journal.format now.journal.used now.journal.has_failed (store_of now).checkpoint in
       let taken : StoreState D → StoreState D = λ t. record t { disk = new.journal.disk } in
       let again = ap taken so_far.value in
-      let fewer = counted (store_of now) (store_of new) new.journal.disk (calls now.journal.disk).writes (calls new.journal.disk).writes value made.1.1
-      (λ none. ap (λ (t : Store D). (calls t.journal.disk).writes) (rests none)) in
+      let fewer = counted (store_of now) (store_of new) new.journal.disk (model.calls now.journal.disk).writes (model.calls new.journal.disk).writes value made.1.1
+      (λ none. ap (λ (t : Store D). (model.calls t.journal.disk).writes) (rests none)) in
       record {
         ready = ready;
         goes_on = λ is s upholds. record {
@@ -162,12 +164,12 @@ module _ {D : Type 0} (moment : D → ℕ) (left_since : D → ℕ → List ℕ 
       }
 
   -- a fault in a later call is one since the first
-  pub rises_since : (old now new : D) → failures now ≡ failures old → Rises (failures now) (failures new) → Rises (failures old) (failures new)
-  rises_since old now new still rises = subst (λ (n : ℕ). Rises n (failures new)) still rises
+  pub rises_since : (old now new : D) → model.failures now ≡ model.failures old → Rises (model.failures now) (model.failures new) → Rises (model.failures old) (model.failures new)
+  rises_since old now new still rises = subst (λ (n : ℕ). Rises n (model.failures new)) still rises
 
   -- the calls of a run that a slice ended
-  pub calls_more : (old now new : Store D) → IsWriting moment left_since seen may_leave honest failures calls old now → MakesAtMost 0 1 0 (calls now.journal.disk) (calls new.journal.disk)
-      → has_slices (store_of now).checkpoint ≡ true → MakesAtMost 0 (slices_left (store_of old).checkpoint) 0 (calls old.journal.disk) (calls new.journal.disk)
+  pub calls_more : (old now new : Store D) → IsWriting model old now → MakesAtMost 0 1 0 (model.calls now.journal.disk) (model.calls new.journal.disk)
+      → has_slices (store_of now).checkpoint ≡ true → MakesAtMost 0 (slices_left (store_of old).checkpoint) 0 (model.calls old.journal.disk) (model.calls new.journal.disk)
   calls_more old now new so_far made is =
       let some = some_left (store_of now).checkpoint is in
       let reads = so_far.reads in

@@ -1,7 +1,7 @@
 -- A batch that is taken, and the moments of calls that leave the state as it is.
 use Rattle.std.proofs.Common.{◌≡◌, ◌↔◌, ◌≤◌, inl, false, ℕ, List, length, Option, Some, None, refl, ap, subst, ◌∙◌, arith}
 use Rattle.std.specs.Prelude.{Result, Ok, Err, IfErr, IfSome, IsErrAnd, vec_len}
-use Rattle.fe_disk.specs.Disk.{LeavesOnly}
+use Rattle.fe_disk.specs.Runs.{LeavesOnly}
 use Rattle.fe_disk.specs.declared.calls.Calls.{Calls}
 use Rattle.fe_disk.proofs.Moments.{started, joined, weaker}
 use Rattle.fe_state.specs.State.{ServerState, after_all}
@@ -24,6 +24,7 @@ use Rattle.fe_keeper.specs.within.Upholds.{Upholds, store_of}
 use Rattle.fe_keeper.specs.declared.checkpoint.Checkpoint.{Checkpoint}
 use Rattle.fe_keeper.specs.declared.store.Store.{Store}
 use Rattle.fe_keeper.specs.declared.keeper.Keeper.TheInside.{Inside}
+use Rattle.fe_disk.specs.declared.disk.Disk.{Ghosts}
 
 -- ---- what is refused
 
@@ -54,45 +55,45 @@ same_kept {D} old new state store =
 
 -- ---- over the moments of a call
 
-module _ {D : Type 0} (moment : D → ℕ) (left_since : D → ℕ → List ℕ → Type 0) (seen : D → List ℕ) (may_leave : D → List ℕ → Type 0) where
-  pub each_stands : (store : Store D) (s : ServerState) → Upholds seen may_leave store s → EachStandsFor may_leave store.journal.disk s
+module _ {D : Type 0} (model : Ghosts D) where
+  pub each_stands : (store : Store D) (s : ServerState) → Upholds model store s → EachStandsFor model store.journal.disk s
   each_stands store s u = λ image left. record { contents = u.contents; holds = (u.keeps.left image left).holds; stands = u.stands }
 
   -- a call that does nothing
-  pub none_left : (store : Store D) (s : ServerState) → ((image : List ℕ) → left_since store.journal.disk (moment store.journal.disk) image → may_leave store.journal.disk image) → Upholds seen may_leave store s
-      → LeavesOnly moment left_since store.journal.disk store.journal.disk (λ image. StandsFor image s)
-  none_left store s only_now u = started moment left_since store.journal.disk (λ image. StandsFor image s) (λ image left. each_stands store s u image (only_now image left))
+  pub none_left : (store : Store D) (s : ServerState) → ((image : List ℕ) → model.left_since store.journal.disk (model.moment store.journal.disk) image → model.may_leave store.journal.disk image) → Upholds model store s
+      → LeavesOnly model store.journal.disk store.journal.disk (λ image. StandsFor image s)
+  none_left store s only_now u = started model store.journal.disk (λ image. StandsFor image s) (λ image left. each_stands store s u image (only_now image left))
 
   -- a call of the store that carries the state over leaves the keeper's state as it is
-  pub carries_rest : {T : Type 0} (honest : D → Type 0) (result : Result T JournalFault) (inside : Inside D) (new : Store D) (old : KeeperState D) → IsKept honest seen may_leave inside → kept_of inside ≡ old
-      → (honest inside.store.journal.disk → Upholds seen may_leave inside.store inside.state → Carries moment left_since seen may_leave result inside.store new inside.state)
-      → (honest new.journal.disk ↔ honest inside.store.journal.disk) → Rests honest moment left_since old (record { state = inside.state; store = store_of new })
-  carries_rest honest result inside new old kept same carries honesty =
-      subst (λ (k : KeeperState D). Rests honest moment left_since k (record { state = inside.state; store = store_of new })) same
+  pub carries_rest : {T : Type 0} (result : Result T JournalFault) (inside : Inside D) (new : Store D) (old : KeeperState D) → IsKept model inside → kept_of inside ≡ old
+      → (model.honest inside.store.journal.disk → Upholds model inside.store inside.state → Carries model result inside.store new inside.state)
+      → (model.honest new.journal.disk ↔ model.honest inside.store.journal.disk) → Rests model old (record { state = inside.state; store = store_of new })
+  carries_rest result inside new old kept same carries honesty =
+      subst (λ (k : KeeperState D). Rests model k (record { state = inside.state; store = store_of new })) same
       (record { state = refl; any_moment = λ h works. (carries h (kept.upheld h works)).any_moment; honesty = honesty })
 
   -- and what it leaves is durable
-  pub carries_durable : (honest : D → Type 0) (inside : Inside D) (new : Store D) → IsKept honest seen may_leave inside → inside.store.journal.has_failed ≡ false → (honest new.journal.disk ↔ honest inside.store.journal.disk)
-      → (honest inside.store.journal.disk → Upholds seen may_leave inside.store inside.state → Upholds seen may_leave new inside.state)
-      → IsDurable honest may_leave (record { state = inside.state; store = store_of new })
-  carries_durable honest inside new kept works honesty upholds =
+  pub carries_durable : (inside : Inside D) (new : Store D) → IsKept model inside → inside.store.journal.has_failed ≡ false → (model.honest new.journal.disk ↔ model.honest inside.store.journal.disk)
+      → (model.honest inside.store.journal.disk → Upholds model inside.store inside.state → Upholds model new inside.state)
+      → IsDurable model (record { state = inside.state; store = store_of new })
+  carries_durable inside new kept works honesty upholds =
       λ h _. let before = honesty.0 h in each_stands new inside.state (upholds before (kept.upheld before works))
 
   -- a state that stays is one of the two
-  pub stays : (old new : D) (s : ServerState) (entries : List Entry) → LeavesOnly moment left_since old new (λ image. StandsFor image s) → LeavesOnly moment left_since old new (StandsForEither s (after_all s entries))
-  stays old new s entries run = weaker moment left_since old new (λ image. StandsFor image s) (StandsForEither s (after_all s entries)) (λ image (h : StandsFor image s). inl h) run
+  pub stays : (old new : D) (s : ServerState) (entries : List Entry) → LeavesOnly model old new (λ image. StandsFor image s) → LeavesOnly model old new (StandsForEither s (after_all s entries))
+  stays old new s entries run = weaker model old new (λ image. StandsFor image s) (StandsForEither s (after_all s entries)) (λ image (h : StandsFor image s). inl h) run
 
   -- room is made, and then the batch is stored
-  pub then_stored : (old mid new : D) (s : ServerState) (entries : List Entry) → LeavesOnly moment left_since old mid (λ image. StandsFor image s)
-      → LeavesOnly moment left_since mid new (StandsForEither s (after_all s entries)) → LeavesOnly moment left_since old new (StandsForEither s (after_all s entries))
-  then_stored old mid new s entries room run = joined moment left_since old mid new (StandsForEither s (after_all s entries)) (stays old mid s entries room) run
+  pub then_stored : (old mid new : D) (s : ServerState) (entries : List Entry) → LeavesOnly model old mid (λ image. StandsFor image s)
+      → LeavesOnly model mid new (StandsForEither s (after_all s entries)) → LeavesOnly model old new (StandsForEither s (after_all s entries))
+  then_stored old mid new s entries room run = joined model old mid new (StandsForEither s (after_all s entries)) (stays old mid s entries room) run
 
   -- a batch that is not put leaves what was left
-  pub none_put : (honest : D → Type 0) (inside : Inside D) (state : ServerState) (old : KeeperState D) (entries : List Entry) → IsKept honest seen may_leave inside → kept_of inside ≡ old
-      → ((image : List ℕ) → honest inside.store.journal.disk → left_since inside.store.journal.disk (moment inside.store.journal.disk) image → may_leave inside.store.journal.disk image)
-      → StopsLeave honest moment left_since old (record { state = state; store = store_of inside.store }) (StandsForEither old.state (after_all old.state entries))
-  none_put honest inside state old entries kept same only_now =
-      subst (λ (k : KeeperState D). StopsLeave honest moment left_since k (record { state = state; store = store_of inside.store }) (StandsForEither k.state (after_all k.state entries))) same
+  pub none_put : (inside : Inside D) (state : ServerState) (old : KeeperState D) (entries : List Entry) → IsKept model inside → kept_of inside ≡ old
+      → ((image : List ℕ) → model.honest inside.store.journal.disk → model.left_since inside.store.journal.disk (model.moment inside.store.journal.disk) image → model.may_leave inside.store.journal.disk image)
+      → StopsLeave model old (record { state = state; store = store_of inside.store }) (StandsForEither old.state (after_all old.state entries))
+  none_put inside state old entries kept same only_now =
+      subst (λ (k : KeeperState D). StopsLeave model k (record { state = state; store = store_of inside.store }) (StandsForEither k.state (after_all k.state entries))) same
       (λ h works. stays inside.store.journal.disk inside.store.journal.disk inside.state entries (none_left inside.store inside.state (λ image left. only_now image h left) (kept.upheld h works)))
 
 -- ---- the calls of an append
@@ -109,11 +110,11 @@ more_slices : {D : Type 0} (store : StoreState D) (entries : List Entry) (n m : 
 more_slices store entries n m before after le made = record { to_append = made.to_append; to_finish = made.to_finish; most = (made.most.0, (made.most.1.0, omega (arith, le, made.most.1.1)), made.most.2) }
 
 -- the calls of a put, as the keeper's callers count them
-pub calls_there : {D : Type 0} (calls : D → Calls) (inside : Inside D) (old : KeeperState D) (new : D) (entries spelled : List Entry) (whole : Option Checkpoint) → kept_of inside ≡ old → entries ≡ spelled
-    → IfSome whole (λ made. IsImageOf made inside.state) → MakesToAppend (store_of inside.store) entries (whole_slices whole) (calls inside.store.journal.disk) (calls new)
-    → MakesToAppend old.store spelled (slices_of (length (image_spelling Two old.state))) (calls old.store.disk) (calls new)
-calls_there {D} calls inside old new entries spelled whole same is image made =
+pub calls_there : {D : Type 0} (model : Ghosts D) (inside : Inside D) (old : KeeperState D) (new : D) (entries spelled : List Entry) (whole : Option Checkpoint) → kept_of inside ≡ old → entries ≡ spelled
+    → IfSome whole (λ made. IsImageOf made inside.state) → MakesToAppend (store_of inside.store) entries (whole_slices whole) (model.calls inside.store.journal.disk) (model.calls new)
+    → MakesToAppend old.store spelled (slices_of (length (image_spelling Two old.state))) (model.calls old.store.disk) (model.calls new)
+calls_there {D} model inside old new entries spelled whole same is image made =
     let slices : ℕ = slices_of (length (image_spelling Two inside.state)) in
-    let there = more_slices (store_of inside.store) entries (whole_slices whole) slices (calls inside.store.journal.disk) (calls new) (made_slices whole inside.state image) made in
-    subst (λ (k : KeeperState D). MakesToAppend k.store spelled (slices_of (length (image_spelling Two k.state))) (calls k.store.disk) (calls new)) same
-    (subst (λ (es : List Entry). MakesToAppend (store_of inside.store) es slices (calls inside.store.journal.disk) (calls new)) is there)
+    let there = more_slices (store_of inside.store) entries (whole_slices whole) slices (model.calls inside.store.journal.disk) (model.calls new) (made_slices whole inside.state image) made in
+    subst (λ (k : KeeperState D). MakesToAppend k.store spelled (slices_of (length (image_spelling Two k.state))) (model.calls k.store.disk) (model.calls new)) same
+    (subst (λ (es : List Entry). MakesToAppend (store_of inside.store) es slices (model.calls inside.store.journal.disk) (model.calls new)) is there)

@@ -1,6 +1,7 @@
 -- How a call of a keeper ends, and what it leaves.
 use Rattle.std.specs.Prelude.{◌≡◌, ◌⊎◌, ◌↔◌, ℕ, ◌+◌, true, false, IsTrue, List, MatchBool, Result, Ok, Err, MatchResult}
-use Rattle.fe_disk.specs.Disk.{LeavesOnly, Rises, MakesAtMost}
+use Rattle.fe_disk.specs.Disk.{Rises, MakesAtMost}
+use Rattle.fe_disk.specs.Runs.{LeavesOnly}
 use Rattle.fe_disk.specs.declared.calls.Calls.{Calls}
 use Rattle.fe_state.specs.State.{after_all}
 use Rattle.fe_state.specs.declared.batch.Batch.{Batch}
@@ -10,39 +11,45 @@ use Rattle.fe_keeper.specs.Keeper.{KeeperState, StoreState, appended, begun, can
 use Rattle.fe_keeper.specs.Stands.{StandsFor, EachStandsFor}
 use Rattle.fe_keeper.specs.declared.fault.Fault.{Fault}
 use Rattle.fe_keeper.specs.declared.fault.Fault.TheVariants.{Device, Failed, NoMemory, Mismatch, Damaged, Unformatted}
+use Rattle.fe_disk.specs.declared.disk.Disk.{Ghosts}
 
 -- ---- what stops leave
 
 -- Over an honest disk that had not failed, each image that a stop at any moment of the call leaves has P.
-abbrev pub StopsLeave : {D : Type 0} → (D → Type 0) → (D → ℕ) → (D → ℕ → List ℕ → Type 0) → KeeperState D → KeeperState D
+abbrev pub StopsLeave : {D : Type 0} → Ghosts D → KeeperState D → KeeperState D
     → (List ℕ → Type 0) → Type 0
-StopsLeave honest moment left_since old new P =
-    honest old.store.disk → old.store.has_failed ≡ false → LeavesOnly moment left_since old.store.disk new.store.disk P
+StopsLeave model old new P =
+    model.honest old.store.disk → old.store.has_failed ≡ false → LeavesOnly model old.store.disk new.store.disk P
 
 -- Over an honest disk that has not failed, each image that a stop may leave now stands for the keeper's state.
-abbrev pub IsDurable : {D : Type 0} → (D → Type 0) → (D → List ℕ → Type 0) → KeeperState D → Type 0
-IsDurable honest may_leave keeper =
-    honest keeper.store.disk → keeper.store.has_failed ≡ false → EachStandsFor may_leave keeper.store.disk keeper.state
+abbrev pub IsDurable : {D : Type 0} → Ghosts D → KeeperState D → Type 0
+IsDurable model keeper =
+    model.honest keeper.store.disk → keeper.store.has_failed ≡ false → EachStandsFor model keeper.store.disk keeper.state
 
 -- The keeper's state is as it was, and at every moment each image that a stop leaves stands for it.
-pub record Rests {D : Type 0} (honest : D → Type 0) (moment : D → ℕ) (left_since : D → ℕ → List ℕ → Type 0) (old new : KeeperState D) : Type 0 where
+pub record Rests {D : Type 0} (model : Ghosts D) (old new : KeeperState D) : Type 0 where
   pub state : new.state ≡ old.state
-  pub any_moment : StopsLeave honest moment left_since old new (λ image. StandsFor image old.state)
-  pub honesty : honest new.store.disk ↔ honest old.store.disk
+  pub any_moment : StopsLeave model old new (λ image. StandsFor image old.state)
+  pub honesty : model.honest new.store.disk ↔ model.honest old.store.disk
 
 -- ---- how a call ends
 
 -- The device works: no call of it failed, in this call or before.
-pub record Works {D : Type 0} (failures : D → ℕ) (old new : KeeperState D) : Type 0 where
+pub record Works {D : Type 0} (model : Ghosts D) (old new : KeeperState D) : Type 0 where
   pub before : old.store.has_failed ≡ false
   pub after : new.store.has_failed ≡ false
-  pub still : failures new.store.disk ≡ failures old.store.disk
+  pub still : model.failures new.store.disk ≡ model.failures old.store.disk
+
+-- No call of the device failed in this call.
+pub record IsStill {D : Type 0} (model : Ghosts D) (old new : KeeperState D) : Type 0 where
+  pub works : new.store.has_failed ≡ old.store.has_failed
+  pub still : model.failures new.store.disk ≡ model.failures old.store.disk
 
 -- A call of the device failed in this call, and none before.
-pub record Breaks {D : Type 0} (failures : D → ℕ) (old new : KeeperState D) : Type 0 where
+pub record Breaks {D : Type 0} (model : Ghosts D) (old new : KeeperState D) : Type 0 where
   pub before : old.store.has_failed ≡ false
   pub failed : new.store.has_failed ≡ true
-  pub rises : Rises (failures old.store.disk) (failures new.store.disk)
+  pub rises : Rises (model.failures old.store.disk) (model.failures new.store.disk)
 
 -- The call did nothing, and the device had not failed.
 pub record Refuses {D : Type 0} (old new : KeeperState D) : Type 0 where
@@ -50,16 +57,16 @@ pub record Refuses {D : Type 0} (old new : KeeperState D) : Type 0 where
   pub same : new ≡ old
 
 -- Why a call failed, and what it left then. `Cause` is what each fault needs besides.
-abbrev pub Fails : {D : Type 0} → (D → ℕ) → (Fault → Type 0) → KeeperState D → KeeperState D → Fault → Type 0
-Fails failures Cause old new Device = Cause Device × Breaks failures old new
-Fails failures Cause old new Failed = (old.store.has_failed ≡ true) × (new ≡ old)
-Fails failures Cause old new NoMemory = Cause NoMemory × Refuses old new
-Fails failures Cause old new (Mismatch place) = Cause (Mismatch place) × Refuses old new
-Fails failures Cause old new (Damaged offset) = ⊥
-Fails failures Cause old new Unformatted = ⊥
+abbrev pub Fails : {D : Type 0} → Ghosts D → (Fault → Type 0) → KeeperState D → KeeperState D → Fault → Type 0
+Fails model Cause old new Device = Cause Device × Breaks model old new
+Fails model Cause old new Failed = (old.store.has_failed ≡ true) × (new ≡ old)
+Fails model Cause old new NoMemory = Cause NoMemory × Refuses old new
+Fails model Cause old new (Mismatch place) = Cause (Mismatch place) × Refuses old new
+Fails model Cause old new (Damaged offset) = ⊥
+Fails model Cause old new Unformatted = ⊥
 
-abbrev pub Ends : {T D : Type 0} → (D → ℕ) → (Fault → Type 0) → Result T Fault → KeeperState D → KeeperState D → Type 0
-Ends failures Cause result old new = MatchResult result (λ _. Works failures old new) (Fails failures Cause old new)
+abbrev pub Ends : {T D : Type 0} → Ghosts D → (Fault → Type 0) → Result T Fault → KeeperState D → KeeperState D → Type 0
+Ends model Cause result old new = MatchResult result (λ _. Works model old new) (Fails model Cause old new)
 
 -- the device is called only where this holds, and nothing else is refused
 abbrev pub ForDevice : Type 0 → Fault → Type 0
@@ -102,9 +109,9 @@ batch_of (Ok batch) = batch
 batch_of (Err refused) = refused.1
 
 -- How an append ended.
-abbrev pub AppendEnds : {D : Type 0} → (D → ℕ) → Result Batch (Fault × Batch) → KeeperState D → KeeperState D → Batch → Type 0
-AppendEnds failures result old new batch =
-    MatchResult result (λ _. Works failures old new) (λ e. Fails failures (ForBatch old batch.first batch.entries) old new e.0)
+abbrev pub AppendEnds : {D : Type 0} → Ghosts D → Result Batch (Fault × Batch) → KeeperState D → KeeperState D → Batch → Type 0
+AppendEnds model result old new batch =
+    MatchResult result (λ _. Works model old new) (λ e. Fails model (ForBatch old batch.first batch.entries) old new e.0)
 
 -- How many device calls an append makes at most, where a whole checkpoint would have this many slices.
 pub record MakesToAppend {D : Type 0} (store : StoreState D) (entries : List Entry) (whole : ℕ) (before after : Calls) : Type 0 where

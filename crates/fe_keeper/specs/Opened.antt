@@ -12,6 +12,7 @@ use Rattle.fe_keeper.specs.Stands.{Stands, StandsFor, EachStandsFor, greatest_ge
 use Rattle.fe_keeper.specs.Keeper.{KeeperState, StoreState}
 use Rattle.fe_keeper.specs.declared.fault.Fault.{Fault}
 use Rattle.fe_keeper.specs.declared.fault.Fault.TheVariants.{Device, NoMemory, Damaged, Unformatted}
+use Rattle.fe_disk.specs.declared.disk.Disk.{Ghosts}
 
 -- the disk, after it was opened or not
 abbrev pub disk_after : {D : Type 0} → Result (KeeperState D) (Fault × D) → D
@@ -35,9 +36,9 @@ keeper_over journal state =
     }
 
 -- each image that a stop may leave holds contents that the journal knows, which stand for the state
-pub record KeepsState {D : Type 0} (seen : D → List ℕ) (may_leave : D → List ℕ → Type 0) (journal : JournalState D) (state : ServerState) : Type 0 where
+pub record KeepsState {D : Type 0} (model : Ghosts D) (journal : JournalState D) (state : ServerState) : Type 0 where
   pub contents : Contents
-  pub keeps : KeepsContents seen may_leave journal contents None
+  pub keeps : KeepsContents model journal contents None
   pub stands : Stands contents state
 
 -- The store of the slot that counts in the image: its format, and the bytes of its open groups.
@@ -48,9 +49,9 @@ pub record IsStoreIn {D : Type 0} (image : List ℕ) (store : StoreState D) : Ty
   pub used_is : store.used ≡ end_of_groups contents.groups
 
 -- The image stands for the keeper's state, and so does each image that a stop may leave. The store is that of the slot that counts in the image.
-pub record IsOpenedFrom {D : Type 0} (may_leave : D → List ℕ → Type 0) (image : List ℕ) (keeper : KeeperState D) : Type 0 where
+pub record IsOpenedFrom {D : Type 0} (model : Ghosts D) (image : List ℕ) (keeper : KeeperState D) : Type 0 where
   pub state : StandsFor image keeper.state
-  pub durable : EachStandsFor may_leave keeper.store.disk keeper.state
+  pub durable : EachStandsFor model keeper.store.disk keeper.state
   pub store : IsStoreIn image keeper.store
 
 -- The device works, and no checkpoint is under way.

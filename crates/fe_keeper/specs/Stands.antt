@@ -8,6 +8,7 @@ use Rattle.fe_codec.specs.Image.{image_spelling, FitsImage}
 use Rattle.fe_journal.specs.Contents.{Contents, Holds}
 use Rattle.fe_format.specs.declared.format.Format.{Format}
 use Rattle.fe_format.specs.declared.format.Format.TheVariants.{One, Two}
+use Rattle.fe_disk.specs.declared.disk.Disk.{Ghosts}
 
 -- the greatest generation of a slot whose image is of a state at this place
 abbrev pub greatest_generation : Format → ℕ → ℕ
@@ -44,5 +45,5 @@ abbrev pub StandsForEither : ServerState → ServerState → List ℕ → Type 0
 StandsForEither before after image = StandsFor image before ⊎ StandsFor image after
 
 -- each image that a stop may leave now stands for the state
-abbrev pub EachStandsFor : {D : Type 0} → (D → List ℕ → Type 0) → D → ServerState → Type 0
-EachStandsFor may_leave disk s = (image : List ℕ) → may_leave disk image → StandsFor image s
+abbrev pub EachStandsFor : {D : Type 0} → Ghosts D → D → ServerState → Type 0
+EachStandsFor model disk s = (image : List ℕ) → model.may_leave disk image → StandsFor image s

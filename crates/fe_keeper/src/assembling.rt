@@ -43,7 +43,7 @@ pub(crate) fn keeper_over<D: Disk>(
     requires rooms { AreRooms rooms }
     requires ready { IsIdle journal }
     requires numbered { IsNumbered state.place journal }
-    requires keeps { D.honest journal.disk → KeepsState D.seen D.may_leave journal state }
+    requires keeps { D.honest journal.disk → KeepsState D.Disk journal state }
     ensures { result ≡ keeper_over journal state }
 {
     let Rooms { group, log } = rooms;
@@ -70,7 +70,7 @@ pub(crate) fn keeper_with_room<D: Disk>(
 ) -> Result<Keeper<D>, (Fault, D)>
     requires ready { IsIdle journal }
     requires numbered { IsNumbered state.place journal }
-    requires keeps { D.honest journal.disk → KeepsState D.seen D.may_leave journal state }
+    requires keeps { D.honest journal.disk → KeepsState D.Disk journal state }
     ensures made { IfOk result (λ keeper. keeper ≡ keeper_over journal state) }
     ensures refused { IfErr result (λ e. (e.0 ≡ NoMemory) × (e.1 ≡ journal.disk)) }
 {

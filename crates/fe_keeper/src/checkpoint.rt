@@ -67,8 +67,8 @@ impl Checkpoint {
     ) -> Result<bool, JournalFault>
         requires can { CanWrite journal.old self.old }
         ensures carries { D.honest journal.old.disk → (c : Contents) (s : ServerState)
-            → KeepsDraft D.seen D.may_leave journal.old c self.old s
-            → CarriesDraft D.moment D.left_since D.seen D.may_leave result journal.old journal.new c self.new s }
+            → KeepsDraft D.Disk journal.old c self.old s
+            → CarriesDraft D.Disk result journal.old journal.new c self.new s }
         ensures written { OnOk result ((self.new ≡ sliced self.old)
             × (journal.new ≡ journal_sliced journal.old journal.new.disk (sliced self.old))) }
         ensures more { IfOk result (λ more. more ≡ not (nat_le (vec_len self.old.image) (sliced self.old).written)) }
@@ -76,7 +76,7 @@ impl Checkpoint {
             → (self.new ≡ self.old) × (journal.new ≡ journal.old) }
         ensures err { OnErr result ((self.new ≡ self.old)
             × (journal.new ≡ record journal.old { disk = journal.new.disk; has_failed = true })) }
-        ensures ends { StoreEnds D.honest D.failures result journal.old journal.new }
+        ensures ends { StoreEnds D.Disk result journal.old journal.new }
         ensures calls { MakesAtMost 0 1 0 (D.calls journal.old.disk) (D.calls journal.new.disk) }
     {
         let end = self.slice_end();

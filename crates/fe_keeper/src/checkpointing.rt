@@ -22,14 +22,14 @@ impl<D: Disk> Store<D> {
     pub(crate) fn begin(&mut self, checkpoint: Checkpoint) -> Result<(), JournalFault>
         requires can { CanTake self.old checkpoint }
         ensures stays { StaysSound self.old self.new }
-        ensures carries { D.honest self.old.journal.disk → (s : ServerState) → Upholds D.seen D.may_leave self.old s
+        ensures carries { D.honest self.old.journal.disk → (s : ServerState) → Upholds D.Disk self.old s
             → IsImageOf checkpoint s
-            → Carries D.moment D.left_since D.seen D.may_leave result self.old self.new s }
+            → Carries D.Disk result self.old self.new s }
         ensures value { OnOk result (store_of self.new
             ≡ record (effect.begun (store_of self.old)
             (vec_len checkpoint.image)) { disk = self.new.journal.disk }) }
         ensures ready { OnOk result (HasCheckpoint self.new) }
-        ensures ends { StoreEnds D.honest D.failures result self.old.journal self.new.journal }
+        ensures ends { StoreEnds D.Disk result self.old.journal self.new.journal }
         ensures calls { MakesAtMost 1 2 1 (D.calls self.old.journal.disk) (D.calls self.new.journal.disk) }
     {
         let generation = self.journal.generation() + 1;
@@ -43,11 +43,11 @@ impl<D: Disk> Store<D> {
     pub(crate) fn step(&mut self) -> Result<bool, JournalFault>
         requires ready { HasCheckpoint self.old }
         ensures stays { StaysSound self.old self.new }
-        ensures carries { D.honest self.old.journal.disk → (s : ServerState) → Upholds D.seen D.may_leave self.old s
-            → Carries D.moment D.left_since D.seen D.may_leave result self.old self.new s }
+        ensures carries { D.honest self.old.journal.disk → (s : ServerState) → Upholds D.Disk self.old s
+            → Carries D.Disk result self.old self.new s }
         ensures stepped { IfOk result (IsStepped self.old self.new) }
         ensures rests { has_slices (store_of self.old).checkpoint ≡ false → self.new ≡ self.old }
-        ensures ends { StoreEnds D.honest D.failures result self.old.journal self.new.journal }
+        ensures ends { StoreEnds D.Disk result self.old.journal self.new.journal }
         ensures calls { MakesAtMost 0 1 0 (D.calls self.old.journal.disk) (D.calls self.new.journal.disk) }
     {
         let Some(checkpoint) = &mut self.checkpoint else {
@@ -61,13 +61,13 @@ impl<D: Disk> Store<D> {
     fn write_rest(&mut self) -> Result<(), JournalFault>
         requires ready { HasCheckpoint self.old }
         ensures stays { StaysSound self.old self.new }
-        ensures carries { D.honest self.old.journal.disk → (s : ServerState) → Upholds D.seen D.may_leave self.old s
-            → Carries D.moment D.left_since D.seen D.may_leave result self.old self.new s }
+        ensures carries { D.honest self.old.journal.disk → (s : ServerState) → Upholds D.Disk self.old s
+            → Carries D.Disk result self.old self.new s }
         ensures value { OnOk result (finished (store_of self.new)
             ≡ record (finished (store_of self.old)) { disk = self.new.journal.disk }) }
         ensures ready { OnOk result (HasCheckpoint self.new) }
         ensures whole { OnOk result (has_slices (store_of self.new).checkpoint ≡ false) }
-        ensures ends { StoreEnds D.honest D.failures result self.old.journal self.new.journal }
+        ensures ends { StoreEnds D.Disk result self.old.journal self.new.journal }
         ensures calls { MakesAtMost 0 (slices_left (store_of self.old).checkpoint) 0 (D.calls self.old.journal.disk)
             (D.calls self.new.journal.disk) }
     {
@@ -80,11 +80,11 @@ impl<D: Disk> Store<D> {
         requires ready { HasCheckpoint self.old }
         requires whole { has_slices (store_of self.old).checkpoint ≡ false }
         ensures stays { StaysSound self.old self.new }
-        ensures carries { D.honest self.old.journal.disk → (s : ServerState) → Upholds D.seen D.may_leave self.old s
-            → Carries D.moment D.left_since D.seen D.may_leave result self.old self.new s }
+        ensures carries { D.honest self.old.journal.disk → (s : ServerState) → Upholds D.Disk self.old s
+            → Carries D.Disk result self.old self.new s }
         ensures value { OnOk result (store_of self.new
             ≡ record (finished (store_of self.old)) { disk = self.new.journal.disk }) }
-        ensures ends { StoreEnds D.honest D.failures result self.old.journal self.new.journal }
+        ensures ends { StoreEnds D.Disk result self.old.journal self.new.journal }
         ensures calls { MakesAtMost 0 2 2 (D.calls self.old.journal.disk) (D.calls self.new.journal.disk) }
     {
         let Some(checkpoint) = &self.checkpoint else {
@@ -99,11 +99,11 @@ impl<D: Disk> Store<D> {
     pub(crate) fn finish(&mut self) -> Result<(), JournalFault>
         requires ready { HasCheckpoint self.old }
         ensures stays { StaysSound self.old self.new }
-        ensures carries { D.honest self.old.journal.disk → (s : ServerState) → Upholds D.seen D.may_leave self.old s
-            → Carries D.moment D.left_since D.seen D.may_leave result self.old self.new s }
+        ensures carries { D.honest self.old.journal.disk → (s : ServerState) → Upholds D.Disk self.old s
+            → Carries D.Disk result self.old self.new s }
         ensures value { OnOk result (store_of self.new
             ≡ record (finished (store_of self.old)) { disk = self.new.journal.disk }) }
-        ensures ends { StoreEnds D.honest D.failures result self.old.journal self.new.journal }
+        ensures ends { StoreEnds D.Disk result self.old.journal self.new.journal }
         ensures calls { MakesAtMost 0 (slices_left (store_of self.old).checkpoint + 2) 2
             (D.calls self.old.journal.disk) (D.calls self.new.journal.disk) }
     {
@@ -115,12 +115,12 @@ impl<D: Disk> Store<D> {
     fn renew(&mut self, whole: Checkpoint) -> Result<(), JournalFault>
         requires can { CanTake self.old whole }
         ensures stays { StaysSound self.old self.new }
-        ensures carries { D.honest self.old.journal.disk → (s : ServerState) → Upholds D.seen D.may_leave self.old s
+        ensures carries { D.honest self.old.journal.disk → (s : ServerState) → Upholds D.Disk self.old s
             → IsImageOf whole s
-            → Carries D.moment D.left_since D.seen D.may_leave result self.old self.new s }
+            → Carries D.Disk result self.old self.new s }
         ensures value { OnOk result (store_of self.new
             ≡ record (renewed (store_of self.old)) { disk = self.new.journal.disk }) }
-        ensures ends { StoreEnds D.honest D.failures result self.old.journal self.new.journal }
+        ensures ends { StoreEnds D.Disk result self.old.journal self.new.journal }
         ensures calls { MakesAtMost 1 (slices_of (vec_len whole.image) + 4) 3 (D.calls self.old.journal.disk)
             (D.calls self.new.journal.disk) }
     {
@@ -138,13 +138,13 @@ impl<D: Disk> Store<D> {
         requires can { CanStore self.old entries.now }
         requires whole { IsWholeFor self.old entries.now whole }
         ensures stays { StaysSound self.old self.new }
-        ensures carries { D.honest self.old.journal.disk → (s : ServerState) → Upholds D.seen D.may_leave self.old s
+        ensures carries { D.honest self.old.journal.disk → (s : ServerState) → Upholds D.Disk self.old s
             → IfSome whole (λ made. IsImageOf made s)
-            → Carries D.moment D.left_since D.seen D.may_leave result self.old self.new s }
+            → Carries D.Disk result self.old self.new s }
         ensures value { OnOk result (store_of self.new
             ≡ record (made_room (store_of self.old) entries.now) { disk = self.new.journal.disk }) }
         ensures fits { OnOk result (IsTrue (fits (store_of self.new) entries.now)) }
-        ensures ends { StoreEnds D.honest D.failures result self.old.journal self.new.journal }
+        ensures ends { StoreEnds D.Disk result self.old.journal self.new.journal }
         ensures calls { MakesRoom (store_of self.old) entries.now (whole_slices whole) (D.calls self.old.journal.disk)
             (D.calls self.new.journal.disk) }
     {

@@ -63,14 +63,14 @@ impl<D: Disk> Model for Keeper<D> {
 
     ghost view = { kept_of };
 
-    ghost invariant = { IsKept D.honest D.seen D.may_leave };
+    ghost invariant = { IsKept D.Disk };
 }
 
 impl<D: Disk> Keeper<D> {
     /// The replica of the state. Each image that a stop may leave stands for it.
     pub fn state(&self) -> &State
         ensures state { result.now ≡ self.now.state }
-        ensures durable { IsDurable D.honest D.may_leave self.now }
+        ensures durable { IsDurable D.Disk self.now }
         ensures place { self.now.store.place ≡ self.now.state.place }
     {
         &self.state
@@ -82,13 +82,13 @@ impl<D: Disk> Keeper<D> {
     /// checkpoint is made.
     pub fn append(&mut self, batch: Batch) -> Result<Batch, (Fault, Batch)>
         // A stop at any moment leaves the replica before, or it with the whole batch.
-        ensures any_moment { StopsLeave D.honest D.moment D.left_since self.old self.new
+        ensures any_moment { StopsLeave D.Disk self.old self.new
             (StandsForEither self.old.state (after_all self.old.state batch.entries)) }
-        ensures durable { IsDurable D.honest D.may_leave self.new }
+        ensures durable { IsDurable D.Disk self.new }
         ensures returned { batch_of result ≡ batch }
         ensures appended { OnOk result (IsAppended self.old self.new batch.first batch.entries) }
         ensures err { OnErr result (self.new.state ≡ self.old.state) }
-        ensures ends { AppendEnds D.failures result self.old self.new batch }
+        ensures ends { AppendEnds D.Disk result self.old self.new batch }
         ensures calls { MakesToAppend self.old.store batch.entries
             (slices_of (length (image_spelling Two self.old.state)))
             (D.calls self.old.store.disk) (D.calls self.new.store.disk) }
@@ -130,11 +130,11 @@ impl<D: Disk> Keeper<D> {
     /// if the slot that counts is of format 2 and no entry came since its image. It takes memory for the image
     /// and for a group of 13,107 entries.
     pub fn checkpoint_begin(&mut self) -> Result<bool, Fault>
-        ensures rests { Rests D.honest D.moment D.left_since self.old self.new }
-        ensures durable { IsDurable D.honest D.may_leave self.new }
+        ensures rests { Rests D.Disk self.old self.new }
+        ensures durable { IsDurable D.Disk self.new }
         ensures value { IfOk result (λ begun. begun ≡ can_begin self.old.store) }
         ensures store { OnOk result (HasBegun self.old self.new (length (image_spelling Two self.old.state))) }
-        ensures ends { Ends D.failures
+        ensures ends { Ends D.Disk
             (ForDeviceAndMemory (IsTrue (can_begin self.old.store))) result self.old self.new }
         ensures calls { MakesAtMost 1 2 1 (D.calls self.old.store.disk) (D.calls self.new.store.disk) }
     {
@@ -152,13 +152,13 @@ impl<D: Disk> Keeper<D> {
     /// Writes the next slice of the checkpoint under way, at most 65,536 bytes. Whether slices are left after
     /// it; `false` also if no checkpoint is under way. It takes no memory.
     pub fn checkpoint_step(&mut self) -> Result<bool, Fault>
-        ensures rests { Rests D.honest D.moment D.left_since self.old self.new }
-        ensures durable { IsDurable D.honest D.may_leave self.new }
+        ensures rests { Rests D.Disk self.old self.new }
+        ensures durable { IsDurable D.Disk self.new }
         ensures value { IfOk result (λ more. more ≡ has_slices self.new.store.checkpoint) }
         ensures store { OnOk result (self.new.store ≡ record (stepped self.old.store) { disk = self.new.store.disk }) }
         // Where no slice is left, it makes no device call.
         ensures idle { has_slices self.old.store.checkpoint ≡ false → self.new ≡ self.old }
-        ensures ends { Ends D.failures
+        ensures ends { Ends D.Disk
             (ForDevice (IsTrue (has_slices self.old.store.checkpoint))) result self.old self.new }
         ensures calls { MakesAtMost 0 1 0 (D.calls self.old.store.disk) (D.calls self.new.store.disk) }
     {
@@ -175,13 +175,13 @@ impl<D: Disk> Keeper<D> {
     /// Finishes the checkpoint under way: writes the slices that are left and the entries since it was begun as
     /// one group, and opens the gate. `false` if none is under way. It takes no memory.
     pub fn checkpoint_finish(&mut self) -> Result<bool, Fault>
-        ensures rests { Rests D.honest D.moment D.left_since self.old self.new }
-        ensures durable { IsDurable D.honest D.may_leave self.new }
+        ensures rests { Rests D.Disk self.old self.new }
+        ensures durable { IsDurable D.Disk self.new }
         ensures value { IfOk result (λ was. was ≡ is_some self.old.store.checkpoint) }
         ensures store { OnOk result (self.new.store ≡ record (finished self.old.store) { disk = self.new.store.disk }) }
         // Where none is under way, it makes no device call.
         ensures idle { is_some self.old.store.checkpoint ≡ false → self.new ≡ self.old }
-        ensures ends { Ends D.failures
+        ensures ends { Ends D.Disk
             (ForDevice (IsTrue (is_some self.old.store.checkpoint))) result self.old self.new }
         ensures calls { MakesAtMost 0 (slices_left self.old.store.checkpoint + 2) 2 (D.calls self.old.store.disk)
             (D.calls self.new.store.disk) }

@@ -1,5 +1,5 @@
 ghost use Rattle.std.specs.Prelude.{◌≡◌, ◌⊎◌, IfOk, IfErr, IsErrAnd};
-ghost use Rattle.fe_disk.specs.Outcome.{told};
+ghost use Rattle.fe_disk.specs.Runs.{told};
 ghost use Rattle.fe_state.specs.State.{first_state};
 ghost use Rattle.fe_journal.specs.Damage.{IsUnformatted};
 ghost use Rattle.fe_journal.specs.Found.{AsksToOpen};
@@ -34,7 +34,7 @@ impl<D: Disk> Keeper<D> {
     /// its records (`docs/formats.md`, "Device").
     pub fn open(alloc: Global, disk: D) -> Result<Keeper<D>, (Fault, D)>
         // What the disk reads stands for the keeper's state, and so does each image that a stop may leave.
-        ensures opened { D.honest disk → IfOk result (IsOpenedFrom D.may_leave (D.seen disk)) }
+        ensures opened { D.honest disk → IfOk result (IsOpenedFrom D.Disk (D.seen disk)) }
         // A reported fault is the store's. A valid store is refused only if the device fails or memory runs out, and memory runs
         // out only where what was read until then is right.
         ensures refused { D.honest disk → IfErr result (λ e. IsReason (D.seen disk) (D.calls disk) (D.calls e.1) e.0) }
@@ -42,12 +42,12 @@ impl<D: Disk> Keeper<D> {
         ensures unformatted { D.honest disk → IsUnformatted (D.seen disk)
             → IsErrAnd result (λ e. (e.0 ≡ Unformatted) ⊎ (e.0 ≡ Device)) }
         // No stop leaves what could not be left before, and what is read stays the same.
-        ensures reads { D.honest disk → OnlyReads D.seen D.may_leave D.moment D.left_since disk (disk_after result) }
+        ensures reads { D.honest disk → OnlyReads D.Disk disk (disk_after result) }
 
         // Of any disk.
         ensures ready { IfOk result IsReady }
         ensures faults { IfErr result (λ e. IsOpenFault e.0) }
-        ensures device { AsksToOpen D.size D.failures D.calls D.honest Device (told result) disk (disk_after result) }
+        ensures device { AsksToOpen D.Disk Device (told result) disk (disk_after result) }
         ensures sized { IfOk result (λ keeper. D.size disk ≡ device_bytes) }
     {
         let Found {
@@ -73,11 +73,11 @@ impl<D: Disk> Keeper<D> {
     /// promised about the device, and it has to be formatted again.
     pub fn format(alloc: Global, disk: D) -> Result<Keeper<D>, (Fault, D)>
         ensures formatted { D.honest disk
-            → IfOk result (λ keeper. EachStandsFor D.may_leave keeper.store.disk first_state) }
+            → IfOk result (λ keeper. EachStandsFor D.Disk keeper.store.disk first_state) }
         ensures state { IfOk result (λ keeper. keeper.state ≡ first_state) }
         ensures store { IfOk result (λ keeper. keeper.store ≡ first_store keeper.store.disk) }
         ensures sized { IfOk result (λ keeper. D.size disk ≡ device_bytes) }
-        ensures ends { Formats D.size D.failures D.calls D.honest Unformatted Device NoMemory (told result) disk
+        ensures ends { Formats D.Disk Unformatted Device NoMemory (told result) disk
             (disk_after result) }
     {
         if disk.size() != DEVICE_BYTES {

@@ -163,12 +163,12 @@ impl<D: Disk> Store<D> {
         requires can { CanStore self.old entries.now }
         requires fits { IsTrue (fits (store_of self.old) entries.now) }
         ensures counts { CountsBatch result self.old self.new (length entries.now) }
-        ensures leads { D.honest self.old.journal.disk → (s : ServerState) → Upholds D.seen D.may_leave self.old s
+        ensures leads { D.honest self.old.journal.disk → (s : ServerState) → Upholds D.Disk self.old s
             → AreLegal s entries.now
-            → Leads D.moment D.left_since D.seen D.may_leave result self.old self.new s (after_all s entries.now) }
+            → Leads D.Disk result self.old self.new s (after_all s entries.now) }
         ensures value { OnOk result (store_of self.new
             ≡ record (appended (store_of self.old) entries.now) { disk = self.new.journal.disk }) }
-        ensures ends { StoreEnds D.honest D.failures result self.old.journal self.new.journal }
+        ensures ends { StoreEnds D.Disk result self.old.journal self.new.journal }
         ensures calls { MakesAtMost 0 2 2 (D.calls self.old.journal.disk) (D.calls self.new.journal.disk) }
     {
         let format = self.journal.store_format();
@@ -189,13 +189,13 @@ impl<D: Disk> Store<D> {
         requires can { CanStore self.old entries.now }
         requires whole { IsWholeFor self.old entries.now whole }
         ensures counts { CountsBatch result self.old self.new (length entries.now) }
-        ensures leads { D.honest self.old.journal.disk → (s : ServerState) → Upholds D.seen D.may_leave self.old s
+        ensures leads { D.honest self.old.journal.disk → (s : ServerState) → Upholds D.Disk self.old s
             → IfSome whole (λ made. IsImageOf made s) → AreLegal s entries.now
-            → Leads D.moment D.left_since D.seen D.may_leave result self.old self.new s (after_all s entries.now) }
+            → Leads D.Disk result self.old self.new s (after_all s entries.now) }
         ensures value { OnOk result (store_of self.new
             ≡ record (appended
             (made_room (store_of self.old) entries.now) entries.now) { disk = self.new.journal.disk }) }
-        ensures ends { StoreEnds D.honest D.failures result self.old.journal self.new.journal }
+        ensures ends { StoreEnds D.Disk result self.old.journal self.new.journal }
         ensures calls { MakesToAppend (store_of self.old) entries.now (whole_slices whole)
             (D.calls self.old.journal.disk) (D.calls self.new.journal.disk) }
     {

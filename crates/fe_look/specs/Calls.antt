@@ -2,17 +2,18 @@
 use Rattle.std.specs.Prelude.{◌≡◌, ◌↔◌, ℕ, Result, IsErr, OnOk}
 use Rattle.fe_disk.specs.Disk.{Rises}
 use Rattle.fe_disk.specs.declared.calls.Calls.{Calls}
+use Rattle.fe_disk.specs.declared.disk.Disk.{Ghosts}
 
 -- no write of the disk was counted; it has its size, and is honest exactly if it was
-pub record KeepsDisk {D : Type 0} (size : D → ℕ) (calls : D → Calls) (honest : D → Type 0) (old new : D) : Type 0 where
-  pub unwritten : (calls new).writes ≡ (calls old).writes
-  pub honesty : honest new ↔ honest old
-  pub same_size : size new ≡ size old
+pub record KeepsDisk {D : Type 0} (model : Ghosts D) (old new : D) : Type 0 where
+  pub unwritten : (model.calls new).writes ≡ (model.calls old).writes
+  pub honesty : model.honest new ↔ model.honest old
+  pub same_size : model.size new ≡ model.size old
 
 -- The same, where it fails exactly if the count of faults rose.
-pub record OnlyAsks {D T E : Type 0} (size failures : D → ℕ) (calls : D → Calls) (honest : D → Type 0) (result : Result T E) (old new : D) : Type 0 where
-  pub fault : IsErr result ↔ Rises (failures old) (failures new)
-  pub still : OnOk result (failures new ≡ failures old)
-  pub unwritten : (calls new).writes ≡ (calls old).writes
-  pub honesty : honest new ↔ honest old
-  pub same_size : size new ≡ size old
+pub record OnlyAsks {D T E : Type 0} (model : Ghosts D) (result : Result T E) (old new : D) : Type 0 where
+  pub fault : IsErr result ↔ Rises (model.failures old) (model.failures new)
+  pub still : OnOk result (model.failures new ≡ model.failures old)
+  pub unwritten : (model.calls new).writes ≡ (model.calls old).writes
+  pub honesty : model.honest new ↔ model.honest old
+  pub same_size : model.size new ≡ model.size old

@@ -51,8 +51,8 @@ pub(crate) fn read_counting<D: Disk>(disk: &mut D) -> Result<Option<(usize, Head
     requires device { D.size disk.old ≡ device_bytes }
     ensures counts { D.honest disk.old → IfOk result (Counts (D.seen disk.old)) }
     ensures is_slot { IfOk result (λ found. IfSome found (λ s. s.0 < 2)) }
-    ensures reads { D.honest disk.old → OnlyReads D.seen D.may_leave D.moment D.left_since disk.old disk.new }
-    ensures device { OnlyAsks D.size D.failures D.calls D.honest result disk.old disk.new }
+    ensures reads { D.honest disk.old → OnlyReads D.Disk disk.old disk.new }
+    ensures device { OnlyAsks D.Disk result disk.old disk.new }
 {
     let first = read_header(disk, 0)?;
     let second = read_header(disk, 1)?;
@@ -82,8 +82,8 @@ pub(crate) fn read_header<D: Disk>(disk: &mut D, slot: usize) -> Result<Header, 
     requires is_slot { slot < 2 }
     requires device { D.size disk.old ≡ device_bytes }
     ensures header { D.honest disk.old → IfOk result (IsHeaderOf (D.seen disk.old) slot) }
-    ensures reads { D.honest disk.old → OnlyReads D.seen D.may_leave D.moment D.left_since disk.old disk.new }
-    ensures device { OnlyAsks D.size D.failures D.calls D.honest result disk.old disk.new }
+    ensures reads { D.honest disk.old → OnlyReads D.Disk disk.old disk.new }
+    ensures device { OnlyAsks D.Disk result disk.old disk.new }
 {
     let mut fields = [0; FIELDS];
     disk.read_at(header_of(slot), &mut fields)?;

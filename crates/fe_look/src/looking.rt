@@ -62,7 +62,7 @@ pub fn look_at<D: Disk, W: Write>(
     ensures opened { D.honest disk → (why : StreamFault) → IsErrOf result.0 (fault.Stream why)
         → (s : ServerState) × StandsFor (D.seen disk) s }
     // A crash leaves nothing that it couldn't leave before, and reads give the same bytes.
-    ensures reads { D.honest disk → OnlyReads D.seen D.may_leave D.moment D.left_since disk result.1 }
+    ensures reads { D.honest disk → OnlyReads D.Disk disk result.1 }
 
     // On any disk: what is written is the text of a state, or after a fault the start of one. Without a store, nothing is.
     ensures written { OnOk result.0 (ShowsSome (W.contents writer.old) (W.contents writer.new)) }
@@ -102,10 +102,10 @@ pub fn look_copy<D: Disk, W: Write>(
     ensures opened { D.honest disk.old → (why : StreamFault) → IsErrOf result (fault.Stream why)
         → (s : ServerState) × StandsFor (D.seen disk.old) s }
     // A crash leaves nothing that it couldn't leave before, and reads give the same bytes.
-    ensures reads { D.honest disk.old → OnlyReads D.seen D.may_leave D.moment D.left_since disk.old disk.new }
+    ensures reads { D.honest disk.old → OnlyReads D.Disk disk.old disk.new }
 
     // On any disk: no write is counted, and each fault of the disk is reported.
-    ensures kept { KeepsDisk D.size D.calls D.honest disk.old disk.new }
+    ensures kept { KeepsDisk D.Disk disk.old disk.new }
     ensures failed { Rises (D.failures disk.old) (D.failures disk.new) → IsErrOf result (fault.Store store.Device) }
     // What is written is the text of a state, or after a fault the start of one. Without a store, nothing is.
     ensures written { OnOk result (ShowsSome (W.contents writer.old) (W.contents writer.new)) }

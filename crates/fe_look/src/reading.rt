@@ -45,10 +45,10 @@ pub(crate) fn copy_of<D: Disk>(alloc: Global, disk: &mut D) -> Result<MemoryDisk
         → IsErrOf result fault.Device → Rises (D.failures disk.old) (D.failures disk.new) }
     ensures failed { Rises (D.failures disk.old) (D.failures disk.new) → IsErrOf result fault.Device }
     // A crash leaves nothing that it couldn't leave before, and reads give the same bytes.
-    ensures reads { D.honest disk.old → OnlyReads D.seen D.may_leave D.moment D.left_since disk.old disk.new }
+    ensures reads { D.honest disk.old → OnlyReads D.Disk disk.old disk.new }
 
     // On any disk: no write is counted.
-    ensures kept { KeepsDisk D.size D.calls D.honest disk.old disk.new }
+    ensures kept { KeepsDisk D.Disk disk.old disk.new }
     ensures sized { (found : ℕ) → IsErrOf result (fault.Size found) → ⊥ }
 {
     disk.sync()?;
@@ -69,8 +69,8 @@ fn read_bytes<D: Disk>(alloc: Global, disk: &mut D) -> Result<Vec<u8>, OpenFault
         → IsErrOf result fault.Device → Rises (D.failures disk.old) (D.failures disk.new) }
     ensures still { (IsErrOf result fault.Device → ⊥) → D.failures disk.new ≡ D.failures disk.old }
     ensures sized { (found : ℕ) → IsErrOf result (fault.Size found) → ⊥ }
-    ensures reads { D.honest disk.old → OnlyReads D.seen D.may_leave D.moment D.left_since disk.old disk.new }
-    ensures kept { KeepsDisk D.size D.calls D.honest disk.old disk.new }
+    ensures reads { D.honest disk.old → OnlyReads D.Disk disk.old disk.new }
+    ensures kept { KeepsDisk D.Disk disk.old disk.new }
 {
     let mut is_formatted = false;
     for _k in 0..TRIES {
@@ -94,8 +94,8 @@ fn read_once<D: Disk>(alloc: Global, disk: &mut D) -> Result<Reading, OpenFault>
     ensures faults { IfErr result IsDeviceOrMemory }
     ensures fault { IsErrOf result fault.Device → Rises (D.failures disk.old) (D.failures disk.new) }
     ensures still { (IsErrOf result fault.Device → ⊥) → D.failures disk.new ≡ D.failures disk.old }
-    ensures reads { D.honest disk.old → OnlyReads D.seen D.may_leave D.moment D.left_since disk.old disk.new }
-    ensures kept { KeepsDisk D.size D.calls D.honest disk.old disk.new }
+    ensures reads { D.honest disk.old → OnlyReads D.Disk disk.old disk.new }
+    ensures kept { KeepsDisk D.Disk disk.old disk.new }
 {
     let Some((slot, header)) = read_counting(disk)? else {
         return Ok(Reading::Unformatted);

@@ -32,8 +32,8 @@ pub(crate) fn read_slot<D: Disk>(
     ensures whole { D.honest disk.old → IsHeaderOf (D.seen disk.old) slot header.now
         → IfOk result (λ same. IsTrue same) }
     ensures same { length bytes.new ≡ length bytes.old }
-    ensures reads { D.honest disk.old → OnlyReads D.seen D.may_leave D.moment D.left_since disk.old disk.new }
-    ensures device { OnlyAsks D.size D.failures D.calls D.honest result disk.old disk.new }
+    ensures reads { D.honest disk.old → OnlyReads D.Disk disk.old disk.new }
+    ensures device { OnlyAsks D.Disk result disk.old disk.new }
 {
     read_parts(disk, bytes, slot)?;
     put_header(bytes, slot, &header.fields);
@@ -48,8 +48,8 @@ fn read_parts<D: Disk>(disk: &mut D, bytes: &mut [u8], slot: usize) -> Result<()
     requires room { length bytes.old ≡ device_bytes }
     ensures parts { D.honest disk.old → OnOk result (HasParts (D.seen disk.old) slot bytes.old bytes.new) }
     ensures same { length bytes.new ≡ length bytes.old }
-    ensures reads { D.honest disk.old → OnlyReads D.seen D.may_leave D.moment D.left_since disk.old disk.new }
-    ensures device { OnlyAsks D.size D.failures D.calls D.honest result disk.old disk.new }
+    ensures reads { D.honest disk.old → OnlyReads D.Disk disk.old disk.new }
+    ensures device { OnlyAsks D.Disk result disk.old disk.new }
 {
     let image = image_of(slot);
     let area = header_of(slot) + AREA_BEGIN;
@@ -88,8 +88,8 @@ fn end_of_groups<D: Disk>(disk: &mut D, area: usize) -> Result<Option<usize>, De
     requires device { D.size disk.old ≡ device_bytes }
     ensures ends { D.honest disk.old → IfOk result (λ found. IfSome found (EndsAt (D.seen disk.old) area)) }
     ensures within { IfOk result (λ found. IfSome found (λ end. end < area_bytes)) }
-    ensures reads { D.honest disk.old → OnlyReads D.seen D.may_leave D.moment D.left_since disk.old disk.new }
-    ensures device { OnlyAsks D.size D.failures D.calls D.honest result disk.old disk.new }
+    ensures reads { D.honest disk.old → OnlyReads D.Disk disk.old disk.new }
+    ensures device { OnlyAsks D.Disk result disk.old disk.new }
 {
     let mut at = 0;
     while at <= AREA_BYTES - 5 {
@@ -106,8 +106,8 @@ fn length_after<D: Disk>(disk: &mut D, gate: usize) -> Result<Option<u32>, Devic
     requires within { gate + 5 ≤ device_bytes }
     requires device { D.size disk.old ≡ device_bytes }
     ensures length { D.honest disk.old → IfOk result (IsLengthAfter (D.seen disk.old) gate) }
-    ensures reads { D.honest disk.old → OnlyReads D.seen D.may_leave D.moment D.left_since disk.old disk.new }
-    ensures device { OnlyAsks D.size D.failures D.calls D.honest result disk.old disk.new }
+    ensures reads { D.honest disk.old → OnlyReads D.Disk disk.old disk.new }
+    ensures device { OnlyAsks D.Disk result disk.old disk.new }
 {
     if read_byte(disk, gate)? != 1 {
         return Ok(None);

@@ -1,6 +1,6 @@
 -- A desk stays ready for the next step.
 use Rattle.std.proofs.Common.{◌≡◌, ◌≢◌, None, Err, ℕ, ◌≤◌, false, List, take, take_all, length, refl, zero, sym, ap, ◌∙◌, ◌⊎◌, inl, inr, subst, arith, Some, Option, suc, ◌<◌, ◌↔◌}
-use Rattle.fe_disk.specs.Memory.{MemoryState, IsHonest, LeavesNow, LeavesSince}
+use Rattle.fe_disk.specs.Memory.{MemoryState, IsHonest, LeavesNow}
 use Rattle.fe_state.specs.State.{ServerState}
 use Rattle.fe_state.specs.History.{after_groups}
 use Rattle.fe_state.specs.declared.entry.Entry.{Entry}
@@ -8,7 +8,7 @@ use Rattle.fe_keeper.specs.Laws.{StandsForOne}
 use Rattle.fe_keeper.specs.Stands.{StandsFor, EachStandsFor}
 use Rattle.fe_keeper.specs.Prefix.{LeavesPrefix}
 use Rattle.fe_keeper.specs.declared.fault.Fault.TheVariants as store
-use Rattle.fe_desk.specs.Crash.{DeskState, Advances, IsFrom, IsFine, disk_of}
+use Rattle.fe_desk.specs.Crash.{DeskState, Advances, IsFrom, disk_of}
 use Rattle.fe_desk.specs.Standing.{Standing, IsFirstStanding}
 use Rattle.fe_desk.specs.Steps.{DeskStep}
 use Rattle.fe_desk.specs.declared.step.Step.{Step}
@@ -22,6 +22,7 @@ use Rattle.std.proofs.lemmas.Option.{none-some}
 use Rattle.fe_disk.specs.Disk.{Rises}
 use Rattle.fe_desk.specs.Crash.{TellsStep}
 use Rattle.fe_desk.specs.Taken.{Ends}
+use Rattle.fe_schedules.specs.MemoryModel.{memory_model}
 use Rattle.fe_schedules.specs.Fault.{of_desk, TellsDisk}
 use Rattle.fe_schedules.specs.declared.fault.MachineFault.{MachineFault}
 use Rattle.fe_schedules.specs.declared.fault.MachineFault.TheVariants as machine
@@ -30,6 +31,8 @@ use Rattle.fe_schedules.specs.Ready.{IsReady}
 use Rattle.fe_schedules.specs.Schedule.{Stage, LeavesStored}
 use Rattle.fe_schedules.specs.Runs.{IsRun, IsAt, last_of, last_disk}
 use Rattle.fe_schedules.specs.declared.run.Run.{Run}
+use Rattle.fe_disk.specs.declared.disk.Disk.{Ghosts}
+use Rattle.fe_keeper.specs.Ends.{Works}
 
 -- what a step of the desk promises of the store
 abbrev pub Stands : DeskState MemoryState → Type 0
@@ -48,24 +51,24 @@ each_stands d begun from synced image left =
     subst (λ (s : ServerState). StandsFor image s) same left.stands
 
 pub ready_after : (old new : DeskState MemoryState) (x : Step) → IsReady old → DeskStep old.standing x new.standing
-    → Advances IsHonest (λ (disk : MemoryState). length disk.events) LeavesSince old new → Stands new
-    → (new.keeper.store.has_failed ≡ false → new.synced ≡ length new.standing.groups) → IsFine (λ (disk : MemoryState). disk.failures) old new → IsReady new
+    → Advances memory_model old new → Stands new
+    → (new.keeper.store.has_failed ≡ false → new.synced ≡ length new.standing.groups) → Works memory_model old.keeper new.keeper → IsReady new
 ready_after old new x ready step more stands synced fine =
     let honest : IsHonest (disk_of new) = more.honesty.1 ready.honest in
     let from : IsFrom ready.begun new = more.from ready.begun ready.from in
     record {
-      works = fine.works;
+      works = fine.after;
       calm = fine.still ∙ ready.calm;
       honest = honest;
       begun = ready.begun;
       from = from;
-      stands = λ image may. each_stands new ready.begun from (synced fine.works) image (stands honest ready.begun from image may);
-      synced = synced fine.works;
+      stands = λ image may. each_stands new ready.begun from (synced fine.after) image (stands honest ready.begun from image may);
+      synced = synced fine.after;
       owes = ap (λ (s : Standing). s.owes) step.after;
       written = subst (λ (s : Standing). AreWritten s.clients) (sym step.after) (none_waits step.last.front step.last.clients);
     }
 
-pub ready_first : (d : DeskState MemoryState) (s : ServerState) → IsHonest (disk_of d) → d.keeper.store.has_failed ≡ false → (disk_of d).failures ≡ 0 → IsFirstStanding s d.standing → d.keeper.state ≡ s → d.synced ≡ 0 → EachStandsFor LeavesNow (disk_of d) s → IsReady d
+pub ready_first : (d : DeskState MemoryState) (s : ServerState) → IsHonest (disk_of d) → d.keeper.store.has_failed ≡ false → (disk_of d).failures ≡ 0 → IsFirstStanding s d.standing → d.keeper.state ≡ s → d.synced ≡ 0 → EachStandsFor memory_model (disk_of d) s → IsReady d
 ready_first d s honest works calm first is synced stands = record {
   works = works;
   calm = calm;
@@ -145,12 +148,12 @@ no_device : (f : DeskFault) → f ≡ desk.NoMemory false → f ≡ desk.Store s
 no_device f e d = none-some 0 (ap store_of (sym e ∙ d))
 
 -- what a step that was at fault tells of the disk
-pub tells_of : {D : Type 0} (failures : D → ℕ) (old : DeskState D) (x : Step) (new : DeskState D) (f : DeskFault) → Ends failures old x (Err f) new → TellsStep failures old new f
-tells_of failures old x new (desk.Store cause) e = (e.0, e.1.failed)
-tells_of failures old x new (desk.NoMemory fed) e = e.sound.fine
-tells_of failures old x new desk.Unwritten e = e.sound.fine
+pub tells_of : {D : Type 0} (model : Ghosts D) (old : DeskState D) (x : Step) (new : DeskState D) (f : DeskFault) → Ends model old x (Err f) new → TellsStep model old new f
+tells_of model old x new (desk.Store cause) e = (e.0, e.1.failed)
+tells_of model old x new (desk.NoMemory fed) e = e.sound.fine
+tells_of model old x new desk.Unwritten e = e.sound.fine
 
-pub step_tells : (old new : DeskState MemoryState) (f : DeskFault) (r : MachineFault) → (disk_of old).failures ≡ 0 → of_desk f ≡ Some r → TellsStep (λ (disk : MemoryState). disk.failures) old new f → TellsDisk (disk_of new) r
+pub step_tells : (old new : DeskState MemoryState) (f : DeskFault) (r : MachineFault) → (disk_of old).failures ≡ 0 → of_desk f ≡ Some r → TellsStep memory_model old new f → TellsDisk (disk_of new) r
 step_tells old new (desk.Store cause) r calm is t = device_tells (desk.Store cause) r (disk_of new) (ap (λ c. desk.Store c) t.0) is (rose (disk_of old).failures (disk_of new).failures calm t.1.rises)
 step_tells old new (desk.NoMemory fed) r calm is t = memory_tells (desk.NoMemory fed) r (disk_of new) refl is (t.still ∙ calm)
 step_tells old new desk.Unwritten r calm is t = memory_tells desk.Unwritten r (disk_of new) refl is (t.still ∙ calm)

@@ -1,5 +1,6 @@
 pub mod Fault
 pub mod Told
+pub mod MemoryModel
 pub mod Ready
 pub mod Schedule
 pub mod Runs

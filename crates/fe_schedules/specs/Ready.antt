@@ -1,12 +1,13 @@
 -- A desk over a store in memory between two steps.
 use Rattle.std.specs.Prelude.{◌≡◌, false, List, [], ◌∷◌, length}
-use Rattle.fe_disk.specs.Memory.{MemoryState, IsHonest, LeavesNow}
+use Rattle.fe_disk.specs.Memory.{MemoryState, IsHonest}
 use Rattle.fe_state.specs.State.{ServerState}
 use Rattle.fe_keeper.specs.Stands.{EachStandsFor}
 use Rattle.fe_desk.specs.Crash.{DeskState, IsFrom, disk_of}
 use Rattle.fe_desk.specs.Checks.{Checks}
 use Rattle.fe_desk.specs.Quiet.{AreWritten}
 use Rattle.fe_desk.specs.Steps.{DeskRun}
+use Rattle.fe_schedules.specs.MemoryModel.{memory_model}
 use Rattle.fe_desk.specs.declared.step.Step.{Step}
 
 -- The store works, no call of its disk failed, and it is that of a run from some state; each image that a stop may leave stands
@@ -17,7 +18,7 @@ pub record IsReady (d : DeskState MemoryState) : Type 0 where
   pub honest : IsHonest (disk_of d)
   pub begun : ServerState
   pub from : IsFrom begun d
-  pub stands : EachStandsFor LeavesNow (disk_of d) d.keeper.state
+  pub stands : EachStandsFor memory_model (disk_of d) d.keeper.state
   pub synced : d.synced ≡ length d.standing.groups
   pub owes : d.standing.owes ≡ false
   pub written : AreWritten d.standing.clients

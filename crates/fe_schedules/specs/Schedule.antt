@@ -1,7 +1,8 @@
 -- What a schedule does, line for line, and what it prints.
 use Rattle.std.specs.Prelude.{◌≡◌, ◌≢◌, ◌⊎◌, ℕ, ◌+◌, ◌-◌, ◌^◌, Bool, true, false, List, [], ◌∷◌, ◌++◌, length, Option, Some, None, IfSome}
 use Rattle.std.specs.Io.KnownBytes.{Appends}
-use Rattle.fe_disk.specs.Memory.{MemoryState, LeavesNow}
+use Rattle.fe_disk.specs.Memory.{MemoryState}
+use Rattle.fe_schedules.specs.MemoryModel.{memory_model}
 use Rattle.fe_state.specs.State.{ServerState, first_state}
 use Rattle.fe_state.specs.History.{after_groups}
 use Rattle.fe_wire.specs.Spelling.{spelling}
@@ -32,7 +33,7 @@ pub record Stage : Type 0 where
 
 -- each image that a stop may leave of the disk stands for that state
 abbrev pub LeavesStored : MemoryState → Stage → Type 0
-LeavesStored disk s = EachStandsFor LeavesNow disk s.stored
+LeavesStored disk s = EachStandsFor memory_model disk s.stored
 
 -- a desk over a new store, and no hold
 pub record IsStart (s : Stage) : Type 0 where

@@ -4,7 +4,7 @@ use Rattle.std.specs.Prelude.{flat_map, slice_get, take, MatchBool, Contains}
 use Rattle.std.specs.List.{AllByRecursion}
 use Rattle.std.proofs.lemmas.Option.{get_or_from_slice_get, slice_get_within}
 use Rattle.std.proofs.lemmas.List.{append-nil, length-append, length-map, length-take-le, take-take}
-use Rattle.fe_disk.specs.Disk.{LeavesOnly}
+use Rattle.fe_disk.specs.Runs.{LeavesOnly}
 use Rattle.fe_state.specs.State.{ServerState, after_all}
 use Rattle.fe_state.specs.declared.batch.Batch.{Batch}
 use Rattle.fe_state.specs.declared.entry.Entry.{Entry}
@@ -24,6 +24,7 @@ use Rattle.fe_hall.specs.declared.commit_end.CommitEnd.{CommitEnd}
 use Rattle.fe_history.specs.declared.receipt.Receipt.{Receipt}
 use Rattle.fe_server.specs.Acknowledged.{IsHeld, IsAcknowledged}
 use Rattle.fe_server.specs.Serving.{HasNoted}
+use Rattle.fe_disk.specs.declared.disk.Disk.{Ghosts}
 
 -- ---- what was told
 
@@ -72,15 +73,15 @@ group_of s (group ∷ groups) (append ∷ appends) (suc n) place are low high =
     (le_or (s.place + length group) place)
 
 -- the entries of the first appends that were noted are those of the first groups
-noted_entries : {D : Type 0} (moment : D → ℕ) (s : ServerState) (groups : List (List Entry)) (appends : List (Append D)) (n : ℕ) → AreAppends s groups appends
-    → entries_in (batches_of (take n (map (noted moment) appends))) ≡ flat (take n groups)
-noted_entries moment s groups appends zero are = refl
-noted_entries moment s [] [] (suc n) are = refl
-noted_entries moment s [] (append ∷ appends) (suc n) are = absurd are
-noted_entries moment s (group ∷ groups) [] (suc n) are = absurd are
-noted_entries moment s (group ∷ groups) (append ∷ appends) (suc n) are =
-    ap (λ (es : List Entry). es ++ entries_in (batches_of (take n (map (noted moment) appends)))) are.2
-    ∙ ap (λ (es : List Entry). group ++ es) (noted_entries moment (after_all s group) groups appends n are.3)
+noted_entries : {D : Type 0} (model : Ghosts D) (s : ServerState) (groups : List (List Entry)) (appends : List (Append D)) (n : ℕ) → AreAppends s groups appends
+    → entries_in (batches_of (take n (map (noted model) appends))) ≡ flat (take n groups)
+noted_entries model s groups appends zero are = refl
+noted_entries model s [] [] (suc n) are = refl
+noted_entries model s [] (append ∷ appends) (suc n) are = absurd are
+noted_entries model s (group ∷ groups) [] (suc n) are = absurd are
+noted_entries model s (group ∷ groups) (append ∷ appends) (suc n) are =
+    ap (λ (es : List Entry). es ++ entries_in (batches_of (take n (map (noted model) appends)))) are.2
+    ∙ ap (λ (es : List Entry). group ++ es) (noted_entries model (after_all s group) groups appends n are.3)
 
 -- a beginning is the first of a list
 front_is : {A : Type 0} (xs ys : List A) → IsPrefix xs ys → xs ≡ take (length xs) ys
@@ -91,54 +92,54 @@ front_is xs ys p = sym (ap (λ t. take (length xs) t) (sym p.1) ∙ first xs p.0
     first (x ∷ xs) rest = ap (λ t. x ∷ t) (first xs rest)
 
 -- what was noted is of the first appends
-notes_front : {D : Type 0} (moment : D → ℕ) (appends : List (Append D)) (end : Option CommitEnd) (notes : List (Batch × ℕ)) → AreNotes moment appends end notes → IsPrefix notes (map (noted moment) appends)
-notes_front moment appends end notes (inl all) = ([], append-nil notes ∙ all)
-notes_front moment appends end notes (inr (strange, last, all)) = (last ∷ [], all)
+notes_front : {D : Type 0} (model : Ghosts D) (appends : List (Append D)) (end : Option CommitEnd) (notes : List (Batch × ℕ)) → AreNotes model appends end notes → IsPrefix notes (map (noted model) appends)
+notes_front model appends end notes (inl all) = ([], append-nil notes ∙ all)
+notes_front model appends end notes (inr (strange, last, all)) = (last ∷ [], all)
 
 -- ---- images
 
-module _ {D : Type 0} (moment : D → ℕ) (left_since : D → ℕ → List ℕ → Type 0) (begun : ServerState) (history : List (List Entry)) (last : D) where
-  first_holds : (n : ℕ) (here : D) (appends : List (Append D)) → HoldsSince moment left_since begun history n here appends last → LeavesOnly moment left_since here last (LeavesPrefix begun history n)
+module _ {D : Type 0} (model : Ghosts D) (begun : ServerState) (history : List (List Entry)) (last : D) where
+  first_holds : (n : ℕ) (here : D) (appends : List (Append D)) → HoldsSince model begun history n here appends last → LeavesOnly model here last (LeavesPrefix begun history n)
   first_holds n here [] holds = holds
   first_holds n here (a ∷ appends) holds = holds.0
 
   -- from the end of an append on, images hold its group
-  append_holds : (n : ℕ) (here : D) (appends : List (Append D)) (k : ℕ) (a : Append D) → slice_get appends k ≡ Some a → HoldsSince moment left_since begun history n here appends last
-      → LeavesOnly moment left_since a.after.store.disk last (LeavesPrefix begun history (n + k + 1))
+  append_holds : (n : ℕ) (here : D) (appends : List (Append D)) (k : ℕ) (a : Append D) → slice_get appends k ≡ Some a → HoldsSince model begun history n here appends last
+      → LeavesOnly model a.after.store.disk last (LeavesPrefix begun history (n + k + 1))
   append_holds n here [] k a is holds = absurd cc
   append_holds n here (b ∷ appends) zero a is holds =
       let same : b ≡ a = cc in
       let count : n + 1 ≡ n + 0 + 1 = omega arith in
-      subst (λ (j : ℕ). LeavesOnly moment left_since a.after.store.disk last (LeavesPrefix begun history j)) count
-      (subst (λ (c : Append D). LeavesOnly moment left_since c.after.store.disk last (LeavesPrefix begun history (n + 1))) same (first_holds (n + 1) b.after.store.disk appends holds.3))
+      subst (λ (j : ℕ). LeavesOnly model a.after.store.disk last (LeavesPrefix begun history j)) count
+      (subst (λ (c : Append D). LeavesOnly model c.after.store.disk last (LeavesPrefix begun history (n + 1))) same (first_holds (n + 1) b.after.store.disk appends holds.3))
   append_holds n here (b ∷ appends) (suc k) a is holds =
       let count : n + 1 + k + 1 ≡ n + suc k + 1 = omega arith in
-      subst (λ (j : ℕ). LeavesOnly moment left_since a.after.store.disk last (LeavesPrefix begun history j)) count (append_holds (n + 1) b.after.store.disk appends k a is holds.3)
+      subst (λ (j : ℕ). LeavesOnly model a.after.store.disk last (LeavesPrefix begun history j)) count (append_holds (n + 1) b.after.store.disk appends k a is holds.3)
 
 -- ---- together
 
-module _ {D : Type 0} (honest : D → Type 0) (moment : D → ℕ) (left_since : D → ℕ → List ℕ → Type 0) (old new : KeeperState D) (end : CommitEnd) (commits : Commits honest moment left_since old new (Some end)) where
+module _ {D : Type 0} (model : Ghosts D) (old new : KeeperState D) (end : CommitEnd) (commits : Commits model old new (Some end)) where
   abbrev stored_groups : List (List Entry)
   stored_groups = take commits.stored commits.groups
 
-  module _ (acts : List Act) (front : IsPrefix (stores_in acts) (map (noted moment) commits.appends)) (goes : GoesOn old.state [] acts) (earlier later : List Act) (r : Receipt) (is : acts ≡ earlier ++ Told r ∷ later) where
+  module _ (acts : List Act) (front : IsPrefix (stores_in acts) (map (noted model) commits.appends)) (goes : GoesOn old.state [] acts) (earlier later : List Act) (r : Receipt) (is : acts ≡ earlier ++ Told r ∷ later) where
     count : ℕ
     count = length (stores_in earlier)
 
     -- what was stored before the answer was told
-    before_it : stores_in earlier ≡ take (length (stores_in earlier)) (map (noted moment) commits.appends)
-    before_it = front_is (stores_in earlier) (map (noted moment) commits.appends)
-        (prefix_trans (stores_in earlier) (stores_in acts) (map (noted moment) commits.appends) (stores_rise earlier acts (Told r ∷ later, sym is)) front)
+    before_it : stores_in earlier ≡ take (length (stores_in earlier)) (map (noted model) commits.appends)
+    before_it = front_is (stores_in earlier) (map (noted model) commits.appends)
+        (prefix_trans (stores_in earlier) (stores_in acts) (map (noted model) commits.appends) (stores_rise earlier acts (Told r ∷ later, sym is)) front)
 
     entries_are : entries_in (batches_of (stores_in earlier)) ≡ flat (take (length (stores_in earlier)) stored_groups)
-    entries_are = ap (λ (s : List (Batch × ℕ)). entries_in (batches_of s)) before_it ∙ noted_entries moment old.state stored_groups commits.appends (length (stores_in earlier)) commits.are_appends
+    entries_are = ap (λ (s : List (Batch × ℕ)). entries_in (batches_of s)) before_it ∙ noted_entries model old.state stored_groups commits.appends (length (stores_in earlier)) commits.are_appends
 
     few : length (stores_in earlier) ≤ commits.stored
     few =
-        let p = prefix_trans (stores_in earlier) (stores_in acts) (map (noted moment) commits.appends) (stores_rise earlier acts (Told r ∷ later, sym is)) front in
+        let p = prefix_trans (stores_in earlier) (stores_in acts) (map (noted model) commits.appends) (stores_rise earlier acts (Told r ∷ later, sym is)) front in
         let all = ap length p.1 in
         let some = length-append (stores_in earlier) p.0 in
-        let each = length-map commits.appends (noted moment) in
+        let each = length-map commits.appends (noted model) in
         let one = appends_length old.state stored_groups commits.appends commits.are_appends in
         let most = length-take-le commits.stored commits.groups in
         omega (arith, all, some, each, one, most)
@@ -152,11 +153,11 @@ module _ {D : Type 0} (honest : D → Type 0) (moment : D → ℕ) (left_since :
     told_right =
         subst (λ (gs : List (List Entry)). IsAnswerIn old.state (flat gs) r.session r.number r.answer r.place) (take-take (length (stores_in earlier)) commits.stored commits.groups few) answer_is
 
-    told_held : honest old.store.disk → old.store.has_failed ≡ false → (r.place < old.state.place) ⊎ IsHeld moment left_since old.state commits.groups commits.appends new.store.disk (length (stores_in earlier)) r.place
+    told_held : model.honest old.store.disk → old.store.has_failed ≡ false → (r.place < old.state.place) ⊎ IsHeld model old.state commits.groups commits.appends new.store.disk (length (stores_in earlier)) r.place
     told_held h fine = by answer_is
       where
         by : IsAnswerIn old.state (flat (take (length (stores_in earlier)) stored_groups)) r.session r.number r.answer r.place
-            → (r.place < old.state.place) ⊎ IsHeld moment left_since old.state commits.groups commits.appends new.store.disk (length (stores_in earlier)) r.place
+            → (r.place < old.state.place) ⊎ IsHeld model old.state commits.groups commits.appends new.store.disk (length (stores_in earlier)) r.place
         by (inl kept) = inl kept.earlier
         by (inr f) =
             let size = ap length f.entries ∙ length-append f.before (Finished r.session r.number f.request r.answer ∷ f.behind) in
@@ -170,11 +171,11 @@ module _ {D : Type 0} (honest : D → Type 0) (moment : D → ℕ) (left_since :
               not_earlier = g.not_earlier;
               has_it = g.has_it;
               every_image =
-                  subst (λ (j : ℕ). LeavesOnly moment left_since g.append.after.store.disk new.store.disk (LeavesPrefix old.state commits.groups j)) count
-                  (append_holds moment left_since old.state commits.groups new.store.disk 0 old.store.disk commits.appends g.at g.append g.is_there (commits.any_moment h fine));
+                  subst (λ (j : ℕ). LeavesOnly model g.append.after.store.disk new.store.disk (LeavesPrefix old.state commits.groups j)) count
+                  (append_holds model old.state commits.groups new.store.disk 0 old.store.disk commits.appends g.at g.append g.is_there (commits.any_moment h fine));
             })
 
-  module _ (acts : List Act) (front : IsPrefix (stores_in acts) (map (noted moment) commits.appends)) (goes : GoesOn old.state [] acts) where
+  module _ (acts : List Act) (front : IsPrefix (stores_in acts) (map (noted model) commits.appends)) (goes : GoesOn old.state [] acts) where
     all_right : (earlier later : List Act) (r : Receipt) → Began old.state ∷ acts ≡ earlier ++ Told r ∷ later
         → IsAnswerIn old.state (flat (take (length (stores_in earlier)) commits.groups)) r.session r.number r.answer r.place
     all_right [] later r is = absurd (cc is)
@@ -183,13 +184,13 @@ module _ {D : Type 0} (honest : D → Type 0) (moment : D → ℕ) (left_since :
         let tail : acts ≡ earlier ++ Told r ∷ later = cc is in
         subst (λ (a : Act). IsAnswerIn old.state (flat (take (length (stores_in (a ∷ earlier))) commits.groups)) r.session r.number r.answer r.place) head (told_right acts front goes earlier later r tail)
 
-    all_held : honest old.store.disk → old.store.has_failed ≡ false → (earlier later : List Act) (r : Receipt) → Began old.state ∷ acts ≡ earlier ++ Told r ∷ later
-        → (r.place < old.state.place) ⊎ IsHeld moment left_since old.state commits.groups commits.appends new.store.disk (length (stores_in earlier)) r.place
+    all_held : model.honest old.store.disk → old.store.has_failed ≡ false → (earlier later : List Act) (r : Receipt) → Began old.state ∷ acts ≡ earlier ++ Told r ∷ later
+        → (r.place < old.state.place) ⊎ IsHeld model old.state commits.groups commits.appends new.store.disk (length (stores_in earlier)) r.place
     all_held h fine [] later r is = absurd (cc is)
     all_held h fine (e ∷ earlier) later r is =
         let head : Began old.state ≡ e = cc is in
         let tail : acts ≡ earlier ++ Told r ∷ later = cc is in
-        subst (λ (a : Act). (r.place < old.state.place) ⊎ IsHeld moment left_since old.state commits.groups commits.appends new.store.disk (length (stores_in (a ∷ earlier))) r.place) head
+        subst (λ (a : Act). (r.place < old.state.place) ⊎ IsHeld model old.state commits.groups commits.appends new.store.disk (length (stores_in (a ∷ earlier))) r.place) head
         (told_held acts front goes earlier later r tail h fine)
 
   all_asked : (acts : List Act) → GoesOn old.state [] acts → (earlier later : List Act) (r : Receipt) → Began old.state ∷ acts ≡ earlier ++ Told r ∷ later → StandsIn earlier (Asked r.conn r.session)
@@ -199,19 +200,19 @@ module _ {D : Type 0} (honest : D → Type 0) (moment : D → ℕ) (left_since :
       let before : StandsIn earlier (Asked r.conn r.session) = told_asked old.state acts earlier later r goes tail in
       (suc before.0, before.1)
 
-  pub acknowledged : (account : Account) (seat : List Act) → AreNoted moment commits.appends (Some end) (Began old.state ∷ []) seat → IsPrefix seat account.history → IsLegal account.history
+  pub acknowledged : (account : Account) (seat : List Act) → AreNoted model commits.appends (Some end) (Began old.state ∷ []) seat → IsPrefix seat account.history → IsLegal account.history
       → MatchBool account.own (stores_in account.history ≡ stores_in seat) (HasMore (stores_in seat) (stores_in account.history)) → EachTold account.receipts account.history
-      → IsAcknowledged honest moment left_since old new end account
+      → IsAcknowledged model old new end account
   acknowledged account seat (p, notes, is, are_notes) this legal own told =
       let whole = prefix_trans (Began old.state ∷ []) seat account.history p this in
       let begins : Began old.state ∷ whole.0 ≡ account.history = whole.1 in
       let goes : GoesOn old.state [] whole.0 = (subst IsLegal (sym begins) legal).1 in
       let stored : MatchBool account.own (stores_in account.history ≡ notes) (HasMore notes (stores_in account.history)) =
       subst (λ (s : List (Batch × ℕ)). MatchBool account.own (stores_in account.history ≡ s) (HasMore s (stores_in account.history))) is own in
-      let front : account.own ≡ true → IsPrefix (stores_in whole.0) (map (noted moment) commits.appends) =
+      let front : account.own ≡ true → IsPrefix (stores_in whole.0) (map (noted model) commits.appends) =
       λ alone.
       let same : stores_in account.history ≡ notes = subst (λ (b : Bool). MatchBool b (stores_in account.history ≡ notes) (HasMore notes (stores_in account.history))) alone stored in
-      subst (λ (s : List (Batch × ℕ)). IsPrefix s (map (noted moment) commits.appends)) (sym (ap stores_in begins ∙ same)) (notes_front moment commits.appends (Some end) notes are_notes) in
+      subst (λ (s : List (Batch × ℕ)). IsPrefix s (map (noted model) commits.appends)) (sym (ap stores_in begins ∙ same)) (notes_front model commits.appends (Some end) notes are_notes) in
       record {
         commits = commits;
         notes = notes;
@@ -224,16 +225,16 @@ module _ {D : Type 0} (honest : D → Type 0) (moment : D → ℕ) (left_since :
       }
 
 -- with what a committing side gave back, and the account of its hall
-pub ended_acknowledged : {D : Type 0} (honest : D → Type 0) (moment : D → ℕ) (left_since : D → ℕ → List ℕ → Type 0) (may_leave : D → List ℕ → Type 0) (failures : D → ℕ) (old new : KeeperState D) (end : CommitEnd) (seat : List Act) (account : Account)
-    (receipts : List Receipt) (seen : List Act) → HasNoted honest moment left_since may_leave failures old new end seat → IsAccountOf seat receipts seen account → EachTold account.receipts account.history → IsAcknowledged honest moment left_since old new end account
-ended_acknowledged honest moment left_since may_leave failures old new end seat account receipts seen (all, notes) of told = acknowledged honest moment left_since old new end all.commits account seat notes of.this of.legal of.own told
+pub ended_acknowledged : {D : Type 0} (model : Ghosts D) (old new : KeeperState D) (end : CommitEnd) (seat : List Act) (account : Account)
+    (receipts : List Receipt) (seen : List Act) → HasNoted model old new end seat → IsAccountOf seat receipts seen account → EachTold account.receipts account.history → IsAcknowledged model old new end account
+ended_acknowledged model old new end seat account receipts (all, notes) of told = acknowledged model old new end all.commits account seat notes of.this of.legal of.own told
 
 -- a hall that did not begin
-pub unbegun_acknowledged : {D : Type 0} (honest : D → Type 0) (moment : D → ℕ) (left_since : D → ℕ → List ℕ → Type 0) (may_leave : D → List ℕ → Type 0) (failures : D → ℕ) (old new : KeeperState D) (end : CommitEnd) (account : Account) (acts : List Act)
-    → HasNoted honest moment left_since may_leave failures old new end (Began old.state ∷ []) → account ≡ record { receipts = []; history = acts; own = true } → acts ≡ Began old.state ∷ [] → IsLegal acts → IsAcknowledged honest moment left_since old new end account
-unbegun_acknowledged honest moment left_since may_leave failures old new end account acts (all, notes) is here legal =
+pub unbegun_acknowledged : {D : Type 0} (model : Ghosts D) (old new : KeeperState D) (end : CommitEnd) (account : Account) (acts : List Act)
+    → HasNoted model old new end (Began old.state ∷ []) → account ≡ record { receipts = []; history = acts; own = true } → acts ≡ Began old.state ∷ [] → IsLegal acts → IsAcknowledged model old new end account
+unbegun_acknowledged model old new end account acts (all, notes) is here legal =
     let began : List Act = Began old.state ∷ [] in
     let none : Account = record { receipts = []; history = began; own = true } in
     let same : none ≡ account = sym (is ∙ ap (λ (a : List Act). record { receipts = []; history = a; own = true }) here) in
-    subst (λ (a : Account). IsAcknowledged honest moment left_since old new end a) same
-    (acknowledged honest moment left_since old new end all.commits none began notes (prefix_self began) (subst IsLegal here legal) refl tt)
+    subst (λ (a : Account). IsAcknowledged model old new end a) same
+    (acknowledged model old new end all.commits none began notes (prefix_self began) (subst IsLegal here legal) refl tt)

@@ -13,15 +13,16 @@ use Rattle.fe_server.specs.declared.stop_fault.StopFault.{StopFault}
 use Rattle.fe_server.specs.declared.stop_fault.StopFault.TheVariants as fault
 use Rattle.fe_server.specs.FinishedConnections.{lacks}
 use Rattle.fe_server.specs.Serving.{HasNoted, IsAnswerAt, fault_of_end}
+use Rattle.fe_disk.specs.declared.disk.Disk.{Ghosts}
 
-module _ {D : Type 0} (honest : D → Type 0) (may_leave : D → List ℕ → Type 0) (moment : D → ℕ) (left_since : D → ℕ → List ℕ → Type 0) (failures : D → ℕ) where
+module _ {D : Type 0} (model : Ghosts D) where
   -- nothing was done
-  pub none_committed : ((disk : D) (image : List ℕ) → honest disk → left_since disk (moment disk) image → may_leave disk image) → (k : KeeperState D)
-      → (honest k.store.disk → k.store.has_failed ≡ false → EachStandsFor may_leave k.store.disk k.state) → HasNoted honest moment left_since may_leave failures k k Stopped (Began k.state ∷ [])
+  pub none_committed : ((disk : D) (image : List ℕ) → model.honest disk → model.left_since disk (model.moment disk) image → model.may_leave disk image) → (k : KeeperState D)
+      → (model.honest k.store.disk → k.store.has_failed ≡ false → EachStandsFor model k.store.disk k.state) → HasNoted model k k Stopped (Began k.state ∷ [])
   none_committed only_now k stands =
-      let rests = rests_itself honest may_leave moment left_since only_now k stands in
-      let kept = kept_noted honest moment left_since k k (Some Stopped) rests (Began k.state ∷ []) in
-      (record { commits = kept.0; stands = stands; tells = still_itself failures k; honesty = rests.honesty }, kept.1)
+      let rests = rests_itself model only_now k stands in
+      let kept = kept_noted model k k (Some Stopped) rests (Began k.state ∷ []) in
+      (record { commits = kept.0; stands = stands; tells = still_itself model k; honesty = rests.honesty }, kept.1)
 
 -- a hall that was stopped is closed
 pub closed_answers : (end : CommitEnd) → fault_of_end end ≡ None → IsAnswerAt end None

@@ -1,7 +1,7 @@
 -- What an account says of the answers in its history, and of the images that a stop may leave after each.
 use Rattle.std.specs.Prelude.{◌≡◌, ◌⊎◌, ℕ, ◌+◌, ◌<◌, ◌≤◌, true, false, List, ◌∷◌, ◌++◌, flat_map, length, slice_get, take, Some, MatchBool, Contains}
 use Rattle.std.specs.List.{AllByRecursion}
-use Rattle.fe_disk.specs.Disk.{LeavesOnly}
+use Rattle.fe_disk.specs.Runs.{LeavesOnly}
 use Rattle.fe_state.specs.State.{ServerState}
 use Rattle.fe_state.specs.declared.batch.Batch.{Batch}
 use Rattle.fe_state.specs.declared.entry.Entry.{Entry}
@@ -14,31 +14,32 @@ use Rattle.fe_history.specs.declared.act.Act.{Act}
 use Rattle.fe_history.specs.declared.act.Act.TheVariants.{Asked, Told}
 use Rattle.fe_hall.specs.declared.commit_end.CommitEnd.{CommitEnd}
 use Rattle.fe_history.specs.declared.receipt.Receipt.{Receipt}
+use Rattle.fe_disk.specs.declared.disk.Disk.{Ghosts}
 
 -- One of the first n groups has the entry of that place. From the end of its append on, up to the last disk, each image that a stop leaves
 -- stands for a prefix of the history with that group.
-pub record IsHeld {D : Type 0} (moment : D → ℕ) (left_since : D → ℕ → List ℕ → Type 0) (begun : ServerState) (groups : List (List Entry)) (appends : List (Append D)) (last : D) (n place : ℕ) : Type 0 where
+pub record IsHeld {D : Type 0} (model : Ghosts D) (begun : ServerState) (groups : List (List Entry)) (appends : List (Append D)) (last : D) (n place : ℕ) : Type 0 where
   pub at : ℕ
   pub append : Append D
   pub is_there : slice_get appends at ≡ Some append
   pub before : at < n
   pub not_earlier : append.before.state.place ≤ place
   pub has_it : place < append.after.state.place
-  pub every_image : LeavesOnly moment left_since append.after.store.disk last (LeavesPrefix begun groups (at + 1))
+  pub every_image : LeavesOnly model append.after.store.disk last (LeavesPrefix begun groups (at + 1))
 
 -- A server ended so. It stored groups and noted these of them; its history has the notes in their order, and the answer of each receipt.
 -- If nobody else noted groups in its hall, then each answer that was told is that of its entry in the groups that were stored before, or
 -- it was kept from the beginning; and every image since its group was stored has that group. Whoever noted groups, each answer was told
 -- to a connection that had asked for its session before.
-pub record IsAcknowledged {D : Type 0} (honest : D → Type 0) (moment : D → ℕ) (left_since : D → ℕ → List ℕ → Type 0) (old new : KeeperState D) (end : CommitEnd) (account : Account) : Type 0 where
-  pub commits : Commits honest moment left_since old new (Some end)
+pub record IsAcknowledged {D : Type 0} (model : Ghosts D) (old new : KeeperState D) (end : CommitEnd) (account : Account) : Type 0 where
+  pub commits : Commits model old new (Some end)
   pub notes : List (Batch × ℕ)
-  pub are_notes : AreNotes moment commits.appends (Some end) notes
+  pub are_notes : AreNotes model commits.appends (Some end) notes
   pub stored : MatchBool account.own (stores_in account.history ≡ notes) (HasMore notes (stores_in account.history))
   pub told : AllByRecursion (λ r. Contains account.history (Told r)) account.receipts
   pub right : account.own ≡ true → (earlier later : List Act) (r : Receipt) → account.history ≡ earlier ++ Told r ∷ later
       → IsAnswerIn old.state (flat_map (λ group. group) (take (length (stores_in earlier)) commits.groups)) r.session r.number r.answer r.place
-  pub held : account.own ≡ true → honest old.store.disk → old.store.has_failed ≡ false → (earlier later : List Act) (r : Receipt) → account.history ≡ earlier ++ Told r ∷ later
-      → (r.place < old.state.place) ⊎ IsHeld moment left_since old.state commits.groups commits.appends new.store.disk (length (stores_in earlier)) r.place
+  pub held : account.own ≡ true → model.honest old.store.disk → old.store.has_failed ≡ false → (earlier later : List Act) (r : Receipt) → account.history ≡ earlier ++ Told r ∷ later
+      → (r.place < old.state.place) ⊎ IsHeld model old.state commits.groups commits.appends new.store.disk (length (stores_in earlier)) r.place
   pub asked : (earlier later : List Act) (r : Receipt) → account.history ≡ earlier ++ Told r ∷ later
       → StandsIn earlier (Asked r.conn r.session)

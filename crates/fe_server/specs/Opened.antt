@@ -6,12 +6,13 @@ use Rattle.fe_server.specs.declared.failed.Failed.{Failed}
 use Rattle.fe_server.specs.declared.served.Served.{Served}
 use Rattle.fe_server.specs.Acknowledged.{IsAcknowledged}
 use Rattle.fe_server.specs.Serving.{HasCommitted, IsAnswerAt, account_in, fault_in, keeper_in}
+use Rattle.fe_disk.specs.declared.disk.Disk.{Ghosts}
 
 -- A keeper was just opened: its disk works, and no checkpoint is under way. It was served, and comes back with what was stored since;
 -- the answer is that of the committing side's end; and the account says what was told.
-pub record WasServed {D : Type 0} (honest : D → Type 0) (moment : D → ℕ) (left_since : D → ℕ → List ℕ → Type 0) (may_leave : D → List ℕ → Type 0) (failures : D → ℕ) (answer : Result (Served D) (Failed D)) : Type 0 where
+pub record WasServed {D : Type 0} (model : Ghosts D) (answer : Result (Served D) (Failed D)) : Type 0 where
   pub opened : KeeperState D
   pub works : opened.store.has_failed ≡ false
   pub none_under_way : opened.store.checkpoint ≡ None
-  pub committed : (end : CommitEnd) × HasCommitted honest moment left_since may_leave failures opened (keeper_in answer) end × IsAnswerAt end (fault_in answer)
-  pub acknowledged : (end : CommitEnd) × IsAnswerAt end (fault_in answer) × IsAcknowledged honest moment left_since opened (keeper_in answer) end (account_in answer)
+  pub committed : (end : CommitEnd) × HasCommitted model opened (keeper_in answer) end × IsAnswerAt end (fault_in answer)
+  pub acknowledged : (end : CommitEnd) × IsAnswerAt end (fault_in answer) × IsAcknowledged model opened (keeper_in answer) end (account_in answer)

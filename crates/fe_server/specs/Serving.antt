@@ -15,6 +15,7 @@ use Rattle.fe_history.specs.declared.act.Act.{Act}
 use Rattle.fe_history.specs.declared.act.Act.TheVariants.{Began}
 use Rattle.fe_hall.specs.declared.commit_end.CommitEnd.{CommitEnd}
 use Rattle.fe_hall.specs.declared.commit_end.CommitEnd.TheVariants.{Stopped, Store, Strange, Spent}
+use Rattle.fe_disk.specs.declared.disk.Disk.{Ghosts}
 
 -- A new ledger, of that name and with so many parts, is a tally's, which has a part for each connection that may ever be made, and one for
 -- the hall.
@@ -24,16 +25,16 @@ IsBlankOf tally_name tally_parts all name parts = (name ≡ tally_name) × (part
 -- A keeper was lent to a committing side, which ended so: it stored a history, of which each image that a stop leaves stands
 -- for a prefix at every moment; what may be left of a disk that works stands for the keeper's state; and the end tells of the
 -- disk's faults.
-pub record HasCommitted {D : Type 0} (honest : D → Type 0) (moment : D → ℕ) (left_since : D → ℕ → List ℕ → Type 0) (may_leave : D → List ℕ → Type 0) (failures : D → ℕ) (old new : KeeperState D) (end : CommitEnd) : Type 0 where
-  pub commits : Commits honest moment left_since old new (Some end)
-  pub stands : honest new.store.disk → new.store.has_failed ≡ false → EachStandsFor may_leave new.store.disk new.state
-  pub tells : TellsEnd failures old new (Some end)
-  pub honesty : honest new.store.disk ↔ honest old.store.disk
+pub record HasCommitted {D : Type 0} (model : Ghosts D) (old new : KeeperState D) (end : CommitEnd) : Type 0 where
+  pub commits : Commits model old new (Some end)
+  pub stands : model.honest new.store.disk → new.store.has_failed ≡ false → EachStandsFor model new.store.disk new.state
+  pub tells : TellsEnd model old new (Some end)
+  pub honesty : model.honest new.store.disk ↔ model.honest old.store.disk
 
 -- The same, and the history of a hall that began with that keeper notes what was stored.
-abbrev pub HasNoted : {D : Type 0} → (D → Type 0) → (D → ℕ) → (D → ℕ → List ℕ → Type 0) → (D → List ℕ → Type 0) → (D → ℕ) → KeeperState D → KeeperState D → CommitEnd → List Act → Type 0
-HasNoted honest moment left_since may_leave failures old new end acts =
-    (all : HasCommitted honest moment left_since may_leave failures old new end) × AreNoted moment all.commits.appends (Some end) (Began old.state ∷ []) acts
+abbrev pub HasNoted : {D : Type 0} → Ghosts D → KeeperState D → KeeperState D → CommitEnd → List Act → Type 0
+HasNoted model old new end acts =
+    (all : HasCommitted model old new end) × AreNoted model all.commits.appends (Some end) (Began old.state ∷ []) acts
 
 -- ---- what a server answers
 

@@ -293,7 +293,7 @@ impl<C: Tally, M: Tally> RunningServer<C, M> {
         seat: StoreSeat<M>,
     ) -> (Keeper<D>, ServerEnded, StoreSeat<M>)
         requires { seat ≡ act.Began keeper.state ∷ [] }
-        ensures { HasNoted D.honest D.moment D.left_since D.may_leave D.failures keeper result.0 result.1.end result.2 }
+        ensures { HasNoted D.Disk keeper result.0 result.1.end result.2 }
     {
         let mut keeper = keeper;
         let mut seat = seat;

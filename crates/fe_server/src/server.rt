@@ -81,7 +81,7 @@ pub fn serve_store<D: Disk + Drop + Send, G: Gate + Sync, R: Clock + Threads + W
     // Whatever the end, the keeper comes back: it is the one before with what was stored since; and the answer is that of the
     // committing side's end.
     ensures committed { (end : Ended)
-        × HasCommitted D.honest D.moment D.left_since D.may_leave D.failures keeper (keeper_in result) end
+        × HasCommitted D.Disk keeper (keeper_in result) end
         × IsAnswerAt end (fault_in result) }
     // The books of a server that ended by itself: each call and each mail is in one column.
     ensures add_up { IfOk result (λ served. AddUp served.audit.books) }
@@ -95,7 +95,7 @@ pub fn serve_store<D: Disk + Drop + Send, G: Gate + Sync, R: Clock + Threads + W
     // true, as after `Ok`, it is also the one of its entry, in a group that was stored before, and each image since the end of that group's
     // append stands for a state with it; or it was kept from the beginning. Each receipt's answer is in that history.
     ensures acknowledged { (end : Ended) × IsAnswerAt end (fault_in result)
-        × IsAcknowledged D.honest D.moment D.left_since keeper (keeper_in result) end (account_in result) }
+        × IsAcknowledged D.Disk keeper (keeper_in result) end (account_in result) }
 {
     let history = NewHistory::new(keeper.state());
     serve_as::<Brand, Brand, D, G, R>(
@@ -133,7 +133,7 @@ fn serve_as<
     requires history { history.book ≡ M.book }
     requires acts { history.acts ≡ act.Began keeper.state ∷ [] }
     ensures committed { (end : Ended)
-        × HasCommitted D.honest D.moment D.left_since D.may_leave D.failures keeper (keeper_in result) end
+        × HasCommitted D.Disk keeper (keeper_in result) end
         × IsAnswerAt end (fault_in result) }
     ensures add_up { IfOk result (λ served. AddUp served.audit.books) }
     ensures unspent { IfOk result (λ served. served.audit.books.spent ≡ false) }
@@ -141,7 +141,7 @@ fn serve_as<
         (λ served. All (IsBorneOut served.keeper.state served.audit.sent) served.audit.receipts) }
     ensures whole { IfOk result (λ served. 0 < settings.now.accepts → IsTrue served.audit.whole) }
     ensures acknowledged { (end : Ended) × IsAnswerAt end (fault_in result)
-        × IsAcknowledged D.honest D.moment D.left_since keeper (keeper_in result) end (account_in result) }
+        × IsAcknowledged D.Disk keeper (keeper_in result) end (account_in result) }
 {
     let nothing = history.account(alloc);
     let Ok((opened, seat, right)) = Opened::<C, M>::new(
@@ -201,7 +201,7 @@ fn closed<C: Tally, M: Tally, D: Disk>(
 
 /// What a server leaves if memory is short before it serves a client.
 fn unserved<D: Disk>(keeper: Keeper<D>, account: Account) -> Failed<D>
-    ensures committed { HasNoted D.honest D.moment D.left_since D.may_leave D.failures keeper result.keeper hall.Stopped
+    ensures committed { HasNoted D.Disk keeper result.keeper hall.Stopped
         (act.Began keeper.state ∷ []) }
     ensures fault { result.fault ≡ fault.Memory }
     ensures account { result.account ≡ account }
@@ -225,7 +225,7 @@ impl<D: Disk + Drop, M: Tally> Promise<(Keeper<D>, ServerEnded, StoreSeat<M>)> f
     ghost use Rattle.fe_server.specs.Serving.{HasNoted};
 
     ghost kept_by = { λ p r.
-        HasNoted D.honest D.moment D.left_since D.may_leave D.failures p.before.value r.0 r.1.end r.2 };
+        HasNoted D.Disk p.before.value r.0 r.1.end r.2 };
 }
 
 /// Serves clients, and stores what they do. The keeper comes back.
@@ -253,7 +253,7 @@ fn run<
     requires turns { opened.now.server.turns ≡ settings.now.turns }
     requires keeps { opened.now.server.keeps ≡ nat_lt 0 settings.now.accepts }
     requires seat { seat ≡ act.Began keeper.state ∷ [] }
-    ensures { HasNoted D.honest D.moment D.left_since D.may_leave D.failures keeper result.0 result.1.end result.2 }
+    ensures { HasNoted D.Disk keeper result.0 result.1.end result.2 }
 {
     let server = opened.server();
     thread::scope(
@@ -261,7 +261,7 @@ fn run<
         rt,
         move |scope| -> (Keeper<D>, ServerEnded, StoreSeat<M>)
             requires { (C.all ≡ C.parts) × (M.all ≡ M.parts) × (seat ≡ act.Began keeper.state ∷ []) }
-            ensures { HasNoted D.honest D.moment D.left_since D.may_leave D.failures keeper
+            ensures { HasNoted D.Disk keeper
                 result.0 result.1.end result.2 }
         {
             run_in(
@@ -295,7 +295,7 @@ fn run_in<
     requires calls { C.all ≡ C.parts }
     requires mails { M.all ≡ M.parts }
     requires seat { seat ≡ act.Began keeper.state ∷ [] }
-    ensures { HasNoted D.honest D.moment D.left_since D.may_leave D.failures keeper result.0 result.1.end result.2 }
+    ensures { HasNoted D.Disk keeper result.0 result.1.end result.2 }
 {
     let promise = Committed {
         before: Snapshot::of(&keeper),
@@ -304,7 +304,7 @@ fn run_in<
         promise,
         move || -> (Keeper<D>, ServerEnded, StoreSeat<M>)
             requires { seat ≡ act.Began keeper.state ∷ [] }
-            ensures { HasNoted D.honest D.moment D.left_since D.may_leave D.failures keeper
+            ensures { HasNoted D.Disk keeper
                 result.0 result.1.end result.2 }
         { server.commit(rt, keeper, seat) },
     );

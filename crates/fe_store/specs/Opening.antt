@@ -7,6 +7,7 @@ use Rattle.fe_keeper.specs.Keeper.{KeeperState}
 use Rattle.fe_keeper.specs.Stands.{StandsFor, EachStandsFor}
 use Rattle.fe_store.specs.declared.fault.OpenFault.{OpenFault}
 use Rattle.fe_store.specs.declared.fault.OpenFault.TheVariants as fault
+use Rattle.fe_disk.specs.declared.disk.Disk.{Ghosts}
 
 -- the image holds no store, and one is to be made then
 abbrev pub IsToFormat : List ℕ → Bool → Type 0
@@ -17,9 +18,9 @@ abbrev pub Opens : List ℕ → Bool → ServerState → Type 0
 Opens image format s = StandsFor image s ⊎ (IsToFormat image format × (s ≡ first_state))
 
 -- The same of the keeper's state, for which each image that a stop may leave stands.
-pub record IsOpenedAs {D : Type 0} (may_leave : D → List ℕ → Type 0) (image : List ℕ) (format : Bool) (keeper : KeeperState D) : Type 0 where
+pub record IsOpenedAs {D : Type 0} (model : Ghosts D) (image : List ℕ) (format : Bool) (keeper : KeeperState D) : Type 0 where
   pub state : Opens image format keeper.state
-  pub durable : EachStandsFor may_leave keeper.store.disk keeper.state
+  pub durable : EachStandsFor model keeper.store.disk keeper.state
 
 -- the disk of the keeper, or the one that came back
 abbrev pub disk_after : {D : Type 0} → Result (KeeperState D) (OpenFault × D) → D

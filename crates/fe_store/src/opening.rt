@@ -1,7 +1,7 @@
 //! The store on a disk is opened, or made.
 
 ghost use Rattle.std.specs.Prelude.{◌≡◌, ◌≢◌, ◌⊎◌, ◌↔◌, ℕ, false, IfOk, IfErr};
-ghost use Rattle.fe_disk.specs.Outcome.{told};
+ghost use Rattle.fe_disk.specs.Runs.{told};
 ghost use Rattle.fe_state.specs.State.{first_state};
 ghost use Rattle.fe_journal.specs.Found.{AsksToOpen};
 ghost use Rattle.fe_journal.specs.Layout.{device_bytes};
@@ -20,17 +20,17 @@ use std::alloc::Global;
 /// Opens the store on a disk: a sync, and then only reads. It never fails with `Size`.
 pub fn open_existing<D: Disk>(alloc: Global, disk: D) -> Result<Keeper<D>, (OpenFault, D)>
     // What the disk reads stands for the keeper's state, and so does each image that a stop may leave.
-    ensures opened { D.honest disk → IfOk result (IsOpenedFrom D.may_leave (D.seen disk)) }
+    ensures opened { D.honest disk → IfOk result (IsOpenedFrom D.Disk (D.seen disk)) }
     // A reported fault is the store's. A valid store is refused only if the device fails or memory runs out.
     ensures refused { D.honest disk → IfErr result (λ e. IsReason (D.seen disk) e.0) }
     // Memory runs out only where what was read until then is right.
     ensures memory { D.honest disk
         → IfErr result (λ e. e.0 ≡ fault.Memory → MayLackMemory (D.seen disk) (D.calls disk) (D.calls e.1)) }
     // No stop leaves what could not be left before, and what is read stays the same.
-    ensures reads { D.honest disk → OnlyReads D.seen D.may_leave D.moment D.left_since disk (disk_after result) }
+    ensures reads { D.honest disk → OnlyReads D.Disk disk (disk_after result) }
 
     ensures ready { IfOk result IsReady }
-    ensures device { AsksToOpen D.size D.failures D.calls D.honest fault.Device (told result) disk
+    ensures device { AsksToOpen D.Disk fault.Device (told result) disk
         (disk_after result) }
     ensures sized { IfErr result (λ e. (found : ℕ) → e.0 ≢ fault.Size found) }
 {
@@ -43,12 +43,12 @@ pub fn open_existing<D: Disk>(alloc: Global, disk: D) -> Result<Keeper<D>, (Open
 /// Opens the store on a disk. An unformatted store is formatted if `format` is set, and refused if not.
 pub fn open_on<D: Disk>(alloc: Global, disk: D, format: bool) -> Result<Keeper<D>, (OpenFault, D)>
     // The keeper has the state that the disk stands for, or that of a new store if there was none and one was asked for.
-    ensures opened { D.honest disk → IfOk result (IsOpenedAs D.may_leave (D.seen disk) format) }
+    ensures opened { D.honest disk → IfOk result (IsOpenedAs D.Disk (D.seen disk) format) }
     // A reported fault is the store's. A valid store is refused only if the device fails or memory runs out.
     ensures refused { D.honest disk → IfErr result (λ e. IsReason (D.seen disk) e.0) }
     // Where no store is made, no stop leaves what could not be left before, and what is read stays the same.
     ensures reads { D.honest disk → (IsToFormat (D.seen disk) format → ⊥)
-        → OnlyReads D.seen D.may_leave D.moment D.left_since disk (disk_after result) }
+        → OnlyReads D.Disk disk (disk_after result) }
 
     ensures ready { IfOk result IsReady }
     ensures sized { IfErr result (λ e. (found : ℕ) → e.0 ≢ fault.Size found) }
@@ -66,7 +66,7 @@ pub fn open_on<D: Disk>(alloc: Global, disk: D, format: bool) -> Result<Keeper<D
 /// Makes a new store on a disk, whatever was there.
 fn made_on<D: Disk>(alloc: Global, disk: D) -> Result<Keeper<D>, (OpenFault, D)>
     ensures state { IfOk result (λ keeper. keeper.state ≡ first_state) }
-    ensures stands { D.honest disk → IfOk result (λ keeper. EachStandsFor D.may_leave keeper.store.disk keeper.state) }
+    ensures stands { D.honest disk → IfOk result (λ keeper. EachStandsFor D.Disk keeper.store.disk keeper.state) }
     ensures ready { IfOk result IsReady }
     ensures faults { IfErr result (λ e. (e.0 ≡ fault.Device) ⊎ ((e.0 ≡ fault.Memory) ⊎ (e.0 ≡ fault.Unformatted))) }
     ensures unformatted { IfErr result (λ e. e.0 ≡ fault.Unformatted → D.size disk ≢ device_bytes) }

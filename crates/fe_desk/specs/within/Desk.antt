@@ -15,6 +15,7 @@ use Rattle.fe_desk.specs.Acknowledged.{cut_entries}
 use Rattle.fe_desk.specs.Standing.{Client, Standing}
 use Rattle.fe_desk.specs.Steps.{find}
 use Rattle.fe_desk.specs.Crash.{DeskState, IsFrom, disk_of}
+use Rattle.fe_disk.specs.declared.disk.Disk.{Ghosts}
 
 -- ---- how the fields give what callers see
 
@@ -55,10 +56,10 @@ pub record IsAhead (s : Standing) (replica : ServerState) : Type 0 where
 
 -- Each connection has a client; all groups are stored but perhaps the last, where the disk failed; and each image that a
 -- stop may leave stands for a prefix of the history that holds the groups that are stored.
-pub record IsDesk {D : Type 0} (honest : D → Type 0) (may_leave : D → List ℕ → Type 0) (d : DeskState D) : Type 0 where
+pub record IsDesk {D : Type 0} (model : Ghosts D) (d : DeskState D) : Type 0 where
   pub tied : IsAhead d.standing d.keeper.state
   pub known : (conn : ℕ) → is_connected d.standing.front conn ≡ true → is_some (find conn d.standing.clients) ≡ true
   pub few : d.synced ≤ length d.standing.groups
   pub all : d.keeper.store.has_failed ≡ false → d.synced ≡ length d.standing.groups
-  pub upheld : honest (disk_of d) → (begun : ServerState) → IsFrom begun d → (image : List ℕ) → may_leave (disk_of d) image
+  pub upheld : model.honest (disk_of d) → (begun : ServerState) → IsFrom begun d → (image : List ℕ) → model.may_leave (disk_of d) image
       → LeavesPrefix begun d.standing.groups d.synced image

@@ -1,4 +1,4 @@
--- How a call goes: one relation for each kind of call, by cases of what it answers. `device` is `D.Disk`, the ghost members of the disk.
+-- How a call goes: one relation for each kind of call, by cases of what it answers. `model` is `D.Disk`, the members of the disk model.
 -- Calls go one after the other by `then` (`proofs/Goes`).
 use Rattle.std.specs.Prelude.{◌≡◌, ◌⊎◌, ℕ, ◌<◌, Bool, true, List, [], length, if◌then◌else◌, Result, Ok, Err, MatchBool, MatchResult}
 use Rattle.std.specs.declared.alloc.AllocError.{AllocError}
@@ -12,55 +12,56 @@ use Rattle.fe_desk.specs.Standing.{Standing, emptied, discharged}
 use Rattle.fe_desk.specs.Quiet.{HasNoMail}
 use Rattle.fe_desk.specs.Writing.{WritesSome}
 use Rattle.fe_desk.specs.Storing.{is_making}
-use Rattle.fe_desk.specs.Crash.{DeskState, Advances, IsFine, HasFailed}
+use Rattle.fe_desk.specs.Crash.{DeskState, Advances}
 use Rattle.fe_desk.specs.Checks.{StoresMore, Checks}
-use Rattle.fe_desk.specs.Ends.{Lacks, Tears, Breaks}
+use Rattle.fe_desk.specs.Ends.{Lacks, Tears, TearsStep}
 use Rattle.fe_desk.specs.Taking.{TakesAll}
 use Rattle.fe_desk.specs.Steps.{Acts, IsAgain, TakesBytes, find, with_left}
 use Rattle.fe_desk.specs.Messages.{left_of, outputs, ReadsNone, ReadsPiece, TellsFed}
 use Rattle.fe_desk.specs.Stopping.{HasCut, StopsBefore, StopsBehind, StopsShort}
+use Rattle.fe_keeper.specs.Ends.{Works, Breaks}
 
 -- ---- calls that may store batches
 
 -- the device works: the groups that came are stored, and nothing else was done to the store
-pub record Stores {D : Type 0} (device : Ghosts D) (old new : DeskState D) : Type 0 where
-  pub fine : IsFine device.failures old new
+pub record Stores {D : Type 0} (model : Ghosts D) (old new : DeskState D) : Type 0 where
+  pub fine : Works model old.keeper new.keeper
   pub grows : StoresMore old new
 
 -- the device failed the batch that was at hand where this holds
-pub record Loses {D : Type 0} (device : Ghosts D) (Until : Standing → Type 0) (old new : DeskState D) : Type 0 where
+pub record Loses {D : Type 0} (model : Ghosts D) (Until : Standing → Type 0) (old new : DeskState D) : Type 0 where
   pub last : Standing
   pub until : Until last
   pub tears : Tears last new
-  pub failed : HasFailed device.failures old new
+  pub failed : Breaks model old.keeper new.keeper
 
 -- the faults of such a call: memory is short where it stops (`Short`), or the device failed it where it stopped (`Until`)
 abbrev pub Faults : {D : Type 0} → Ghosts D → (DeskState D → Type 0) → (Standing → Type 0) → DeskState D → DeskState D → Fault → Type 0
-Faults device Short Until old new Device = Loses device Until old new
-Faults device Short Until old new Failed = ⊥
-Faults device Short Until old new NoMemory = Stores device old new × Short new
-Faults device Short Until old new (Mismatch place) = ⊥
-Faults device Short Until old new (Damaged offset) = ⊥
-Faults device Short Until old new Unformatted = ⊥
+Faults model Short Until old new Device = Loses model Until old new
+Faults model Short Until old new Failed = ⊥
+Faults model Short Until old new NoMemory = Stores model old new × Short new
+Faults model Short Until old new (Mismatch place) = ⊥
+Faults model Short Until old new (Damaged offset) = ⊥
+Faults model Short Until old new Unformatted = ⊥
 
 -- A call goes on with the store, and leaves the mails that are owed as they were. It is done (`Done`), or it has a fault.
-pub record Goes {D : Type 0} (device : Ghosts D) (Done : Standing → Type 0) (Short : DeskState D → Type 0) (Until : Standing → Type 0)
+pub record Goes {D : Type 0} (model : Ghosts D) (Done : Standing → Type 0) (Short : DeskState D → Type 0) (Until : Standing → Type 0)
     (result : Result (Unit {0}) Fault) (old new : DeskState D) : Type 0 where
   pub owes : new.standing.owes ≡ old.standing.owes
-  pub advances : Advances device.honest device.moment device.left_since old new
-  pub ends : MatchResult result (λ _. Stores device old new × Done new.standing) (Faults device Short Until old new)
+  pub advances : Advances model old new
+  pub ends : MatchResult result (λ _. Stores model old new × Done new.standing) (Faults model Short Until old new)
 
 -- the faults of such a call that reads a piece: memory is short before the piece is read, or after it (`fed`)
 abbrev pub PieceFaults : {D : Type 0} → Ghosts D → (Bool → Standing → Type 0) → (Standing → Type 0) → DeskState D → DeskState D → DeskFault → Type 0
-PieceFaults device Short Until old new (desk.Store cause) = (cause ≡ Device) × Loses device Until old new
-PieceFaults device Short Until old new (desk.NoMemory fed) = Stores device old new × Short fed new.standing
-PieceFaults device Short Until old new desk.Unwritten = ⊥
+PieceFaults model Short Until old new (desk.Store cause) = (cause ≡ Device) × Loses model Until old new
+PieceFaults model Short Until old new (desk.NoMemory fed) = Stores model old new × Short fed new.standing
+PieceFaults model Short Until old new desk.Unwritten = ⊥
 
-pub record GoesPiece {D : Type 0} (device : Ghosts D) (Done : Standing → Type 0) (Short : Bool → Standing → Type 0) (Until : Standing → Type 0)
+pub record GoesPiece {D : Type 0} (model : Ghosts D) (Done : Standing → Type 0) (Short : Bool → Standing → Type 0) (Until : Standing → Type 0)
     (result : Result (Unit {0}) DeskFault) (old new : DeskState D) : Type 0 where
   pub owes : new.standing.owes ≡ old.standing.owes
-  pub advances : Advances device.honest device.moment device.left_since old new
-  pub ends : MatchResult result (λ _. Stores device old new × Done new.standing) (PieceFaults device Short Until old new)
+  pub advances : Advances model old new
+  pub ends : MatchResult result (λ _. Stores model old new × Done new.standing) (PieceFaults model Short Until old new)
 
 -- ---- where such calls come to, and where they stop
 
@@ -80,7 +81,7 @@ pub record IsShort {D : Type 0} (Until : Standing → Type 0) (new : DeskState D
 
 -- A call comes to a standing, or stops where this holds, for whichever fault.
 abbrev pub GoesTo : {D : Type 0} → Ghosts D → Standing → (Standing → Type 0) → Result (Unit {0}) Fault → DeskState D → DeskState D → Type 0
-GoesTo device there Until result old new = Goes device (Is there) (IsShort Until) Until result old new
+GoesTo model there Until result old new = Goes model (Is there) (IsShort Until) Until result old new
 
 -- room was begun for a message of this connection
 abbrev pub WasBegun : Standing → ℕ → Standing → Type 0
@@ -113,36 +114,36 @@ StopsStream s conn piece last = StopsBefore s conn last ⊎ StopsBehind s conn p
 -- ---- what a step does before the boxes are emptied
 
 -- it is done
-pub record HasActed {D : Type 0} (device : Ghosts D) (old : DeskState D) (step : Step) (new : DeskState D) : Type 0 where
+pub record HasActed {D : Type 0} (model : Ghosts D) (old : DeskState D) (step : Step) (new : DeskState D) : Type 0 where
   pub acts : Acts old.standing step new.standing
   pub checked : Checks step old new
-  pub fine : IsFine device.failures old new
+  pub fine : Works model old.keeper new.keeper
 
 -- memory was short for it
-pub record IsLacking {D : Type 0} (device : Ghosts D) (fed : Bool) (old : DeskState D) (step : Step) (new : DeskState D) : Type 0 where
+pub record IsLacking {D : Type 0} (model : Ghosts D) (fed : Bool) (old : DeskState D) (step : Step) (new : DeskState D) : Type 0 where
   pub lacks : Lacks fed step old new
   pub read : TellsFed fed old.standing step new.standing
   pub again : (next : Step) (t : Standing) → IsAgain fed step next → Acts new.standing next t → Acts old.standing step t
   pub silent : outputs new.standing ≡ outputs old.standing
-  pub fine : IsFine device.failures old new
+  pub fine : Works model old.keeper new.keeper
 
 -- the device failed in it
-pub record IsBroken {D : Type 0} (device : Ghosts D) (old : DeskState D) (step : Step) (new : DeskState D) : Type 0 where
-  pub breaks : Breaks step old new
+pub record IsBroken {D : Type 0} (model : Ghosts D) (old : DeskState D) (step : Step) (new : DeskState D) : Type 0 where
+  pub breaks : TearsStep step old new
   pub silent : outputs new.standing ≡ outputs old.standing
-  pub failed : HasFailed device.failures old new
+  pub failed : Breaks model old.keeper new.keeper
 
 abbrev pub ActEnds : {D : Type 0} → Ghosts D → DeskState D → Step → DeskState D → Result (Unit {0}) DeskFault → Type 0
-ActEnds device old step new (Ok done) = HasActed device old step new
-ActEnds device old step new (Err (desk.Store cause)) = (cause ≡ Device) × IsBroken device old step new
-ActEnds device old step new (Err (desk.NoMemory fed)) = IsLacking device fed old step new
-ActEnds device old step new (Err desk.Unwritten) = ⊥
+ActEnds model old step new (Ok done) = HasActed model old step new
+ActEnds model old step new (Err (desk.Store cause)) = (cause ≡ Device) × IsBroken model old step new
+ActEnds model old step new (Err (desk.NoMemory fed)) = IsLacking model fed old step new
+ActEnds model old step new (Err desk.Unwritten) = ⊥
 
 -- A step acts, and leaves the mails that are owed as they were.
-pub record GoesAct {D : Type 0} (device : Ghosts D) (old : DeskState D) (step : Step) (result : Result (Unit {0}) DeskFault) (new : DeskState D) : Type 0 where
+pub record GoesAct {D : Type 0} (model : Ghosts D) (old : DeskState D) (step : Step) (result : Result (Unit {0}) DeskFault) (new : DeskState D) : Type 0 where
   pub owes : new.standing.owes ≡ old.standing.owes
-  pub advances : Advances device.honest device.moment device.left_since old new
-  pub ends : ActEnds device old step new result
+  pub advances : Advances model old new
+  pub ends : ActEnds model old step new result
 
 -- ---- the boxes are emptied
 

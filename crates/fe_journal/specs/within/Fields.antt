@@ -5,13 +5,14 @@ use Rattle.fe_journal.specs.Journal.{JournalState}
 use Rattle.fe_journal.specs.Layout.{device_bytes, area_bytes}
 use Rattle.fe_format.specs.Layout.{IsImageLength}
 use Rattle.fe_journal.specs.declared.journal.Journal.TheInside.{Inside}
+use Rattle.fe_disk.specs.declared.disk.Disk.{Ghosts}
 
 abbrev pub state_of : {D : Type 0} → Inside D → JournalState D
 state_of j = record { disk = j.disk; slot = j.slot; format = j.format; generation = j.generation; used = j.used; begun = j.begun; has_failed = j.has_failed }
 
 -- the disk has a store's size, the buffer an area's, and the gate after the groups lies in the area
-pub record IsJournal {D : Type 0} (size : D → ℕ) (j : Inside D) : Type 0 where
-  pub device : size j.disk ≡ device_bytes
+pub record IsJournal {D : Type 0} (model : Ghosts D) (j : Inside D) : Type 0 where
+  pub device : model.size j.disk ≡ device_bytes
   pub buffer : vec_len j.buffer ≡ area_bytes
   pub is_slot : j.slot < 2
   pub within : j.used < area_bytes

@@ -1,6 +1,7 @@
 -- How a call of a store ends, and what it carries over.
 use Rattle.std.specs.Prelude.{◌≡◌, ◌↔◌, ℕ, ◌+◌, Bool, true, false, IsTrue, List, Result, MatchResult, OnOk}
-use Rattle.fe_disk.specs.Disk.{LeavesOnly, Rises, MakesAtMost}
+use Rattle.fe_disk.specs.Disk.{Rises, MakesAtMost}
+use Rattle.fe_disk.specs.Runs.{LeavesOnly}
 use Rattle.fe_disk.specs.declared.calls.Calls.{Calls}
 use Rattle.fe_state.specs.State.{ServerState}
 use Rattle.fe_state.specs.declared.entry.Entry.{Entry}
@@ -15,23 +16,24 @@ use Rattle.fe_keeper.specs.within.Slices.{KeepsDraft}
 use Rattle.fe_keeper.specs.within.Upholds.{IsStore, Upholds, store_of}
 use Rattle.fe_keeper.specs.declared.checkpoint.Checkpoint.{Checkpoint}
 use Rattle.fe_keeper.specs.declared.store.Store.{Store}
+use Rattle.fe_disk.specs.declared.disk.Disk.{Ghosts}
 
 -- ---- how a call ends, where the device worked before it
 
 -- no call of the device failed
-pub record WorksOn {D : Type 0} (failures : D → ℕ) (old new : JournalState D) : Type 0 where
+pub record WorksOn {D : Type 0} (model : Ghosts D) (old new : JournalState D) : Type 0 where
   pub works : new.has_failed ≡ false
-  pub still : failures new.disk ≡ failures old.disk
+  pub still : model.failures new.disk ≡ model.failures old.disk
 
 -- a call of the device failed
-pub record BreaksOff {D : Type 0} (failures : D → ℕ) (old new : JournalState D) : Type 0 where
+pub record BreaksOff {D : Type 0} (model : Ghosts D) (old new : JournalState D) : Type 0 where
   pub failed : new.has_failed ≡ true
-  pub rises : Rises (failures old.disk) (failures new.disk)
+  pub rises : Rises (model.failures old.disk) (model.failures new.disk)
 
 -- Only the device fails, and the disk is as honest as it was.
-pub record StoreEnds {T D : Type 0} (honest : D → Type 0) (failures : D → ℕ) (result : Result T JournalFault) (old new : JournalState D) : Type 0 where
-  pub outcome : MatchResult result (λ _. WorksOn failures old new) (λ fault. (fault ≡ Device) × BreaksOff failures old new)
-  pub honesty : honest new.disk ↔ honest old.disk
+pub record StoreEnds {T D : Type 0} (model : Ghosts D) (result : Result T JournalFault) (old new : JournalState D) : Type 0 where
+  pub outcome : MatchResult result (λ _. WorksOn model old new) (λ fault. (fault ≡ Device) × BreaksOff model old new)
+  pub honesty : model.honest new.disk ↔ model.honest old.disk
 
 -- ---- what it carries over
 
@@ -52,19 +54,19 @@ pub record IsStepped {D : Type 0} (old new : Store D) (more : Bool) : Type 0 whe
   pub ready : HasCheckpoint new
 
 -- Each image that a stop leaves stands for the state, and the store upholds it then, if the call succeeds.
-pub record Carries {T D : Type 0} (moment : D → ℕ) (left_since : D → ℕ → List ℕ → Type 0) (seen : D → List ℕ) (may_leave : D → List ℕ → Type 0) (result : Result T JournalFault) (old new : Store D) (s : ServerState) : Type 0 where
-  pub any_moment : LeavesOnly moment left_since old.journal.disk new.journal.disk (λ image. StandsFor image s)
-  pub upheld : OnOk result (Upholds seen may_leave new s)
+pub record Carries {T D : Type 0} (model : Ghosts D) (result : Result T JournalFault) (old new : Store D) (s : ServerState) : Type 0 where
+  pub any_moment : LeavesOnly model old.journal.disk new.journal.disk (λ image. StandsFor image s)
+  pub upheld : OnOk result (Upholds model new s)
 
 -- Each image that a stop leaves stands for one of two states, and the store upholds the second, if the call succeeds.
-pub record Leads {T D : Type 0} (moment : D → ℕ) (left_since : D → ℕ → List ℕ → Type 0) (seen : D → List ℕ) (may_leave : D → List ℕ → Type 0) (result : Result T JournalFault) (old new : Store D) (s t : ServerState) : Type 0 where
-  pub any_moment : LeavesOnly moment left_since old.journal.disk new.journal.disk (StandsForEither s t)
-  pub upheld : OnOk result (Upholds seen may_leave new t)
+pub record Leads {T D : Type 0} (model : Ghosts D) (result : Result T JournalFault) (old new : Store D) (s t : ServerState) : Type 0 where
+  pub any_moment : LeavesOnly model old.journal.disk new.journal.disk (StandsForEither s t)
+  pub upheld : OnOk result (Upholds model new t)
 
 -- The same of a journal's contents, and the draft of a checkpoint beside them.
-pub record CarriesDraft {T D : Type 0} (moment : D → ℕ) (left_since : D → ℕ → List ℕ → Type 0) (seen : D → List ℕ) (may_leave : D → List ℕ → Type 0) (result : Result T JournalFault) (old new : JournalState D) (contents : Contents) (c : Checkpoint) (s : ServerState) : Type 0 where
-  pub any_moment : LeavesOnly moment left_since old.disk new.disk (Holds contents)
-  pub drafted : OnOk result (KeepsDraft seen may_leave new contents c s)
+pub record CarriesDraft {T D : Type 0} (model : Ghosts D) (result : Result T JournalFault) (old new : JournalState D) (contents : Contents) (c : Checkpoint) (s : ServerState) : Type 0 where
+  pub any_moment : LeavesOnly model old.disk new.disk (Holds contents)
+  pub drafted : OnOk result (KeepsDraft model new contents c s)
 
 -- ---- calls of the device
 

@@ -5,14 +5,15 @@ use Rattle.fe_state.specs.UndoLog.{empty_log}
 use Rattle.fe_keeper.specs.Keeper.{KeeperState}
 use Rattle.fe_keeper.specs.within.Upholds.{IsStore, Upholds, store_of}
 use Rattle.fe_keeper.specs.declared.keeper.Keeper.TheInside.{Inside}
+use Rattle.fe_disk.specs.declared.disk.Disk.{Ghosts}
 
 abbrev pub kept_of : {D : Type 0} → Inside D → KeeperState D
 kept_of k = record { state = k.state; store = store_of k.store }
 
 -- The log is empty and has room for a batch, and a disk that is honest and has not failed upholds the state.
-pub record IsKept {D : Type 0} (honest : D → Type 0) (seen : D → List ℕ) (may_leave : D → List ℕ → Type 0) (k : Inside D) : Type 0 where
+pub record IsKept {D : Type 0} (model : Ghosts D) (k : Inside D) : Type 0 where
   pub store : IsStore k.store
   pub place : k.store.place ≡ k.state.place
   pub log : k.log ≡ empty_log k.log.room
   pub room : most_batch_entries ≤ k.log.room
-  pub upheld : honest k.store.journal.disk → k.store.journal.has_failed ≡ false → Upholds seen may_leave k.store k.state
+  pub upheld : model.honest k.store.journal.disk → k.store.journal.has_failed ≡ false → Upholds model k.store k.state

@@ -7,6 +7,7 @@ use Rattle.fe_journal.specs.Journal.{JournalState, Draft, KeepsContents}
 use Rattle.fe_keeper.specs.Keeper.{slice_size}
 use Rattle.fe_keeper.specs.within.Upholds.{IsDraftOf, progress_of}
 use Rattle.fe_keeper.specs.declared.checkpoint.Checkpoint.{Checkpoint}
+use Rattle.fe_disk.specs.declared.disk.Disk.{Ghosts}
 
 -- the slot begun is the checkpoint's
 abbrev pub IsBegunFor : {D : Type 0} → JournalState D → Checkpoint → Type 0
@@ -25,7 +26,7 @@ journal_sliced j disk c =
     }
 
 -- The journal keeps contents, and beside them a draft of the checkpoint that leads to the state.
-pub record KeepsDraft {D : Type 0} (seen : D → List ℕ) (may_leave : D → List ℕ → Type 0) (j : JournalState D) (contents : Contents) (c : Checkpoint) (s : ServerState) : Type 0 where
+pub record KeepsDraft {D : Type 0} (model : Ghosts D) (j : JournalState D) (contents : Contents) (c : Checkpoint) (s : ServerState) : Type 0 where
   pub draft : Draft
-  pub keeps : KeepsContents seen may_leave j contents (Some draft)
+  pub keeps : KeepsContents model j contents (Some draft)
   pub is_draft : IsDraftOf c draft s

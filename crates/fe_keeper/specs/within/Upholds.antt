@@ -16,6 +16,7 @@ use Rattle.fe_keeper.specs.Stands.{Stands}
 use Rattle.fe_keeper.specs.within.CatchUp.{batch_bytes}
 use Rattle.fe_keeper.specs.declared.checkpoint.Checkpoint.{Checkpoint}
 use Rattle.fe_keeper.specs.declared.store.Store.{Store}
+use Rattle.fe_disk.specs.declared.disk.Disk.{Ghosts}
 
 -- ---- over any disk
 
@@ -83,9 +84,9 @@ IsDrafted (Some c) None s = ⊥
 IsDrafted (Some c) (Some d) s = IsDraftOf c d s
 
 -- The journal keeps contents that stand for the state, and a checkpoint under way leads to it too.
-pub record Upholds {D : Type 0} (seen : D → List ℕ) (may_leave : D → List ℕ → Type 0) (store : Store D) (s : ServerState) : Type 0 where
+pub record Upholds {D : Type 0} (model : Ghosts D) (store : Store D) (s : ServerState) : Type 0 where
   pub contents : Contents
   pub draft : Option Draft
-  pub keeps : KeepsContents seen may_leave store.journal contents draft
+  pub keeps : KeepsContents model store.journal contents draft
   pub stands : Stands contents s
   pub drafted : IsDrafted store.checkpoint draft s

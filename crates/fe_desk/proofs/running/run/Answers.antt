@@ -1,5 +1,5 @@
 use Rattle.std.proofs.Common.{◌≡◌, ℕ, List, map, refl, sym, ap, subst, ◌∙◌, ◌≤◌, length, arith}
-use Rattle.fe_disk.specs.Disk.{LeavesOnly}
+use Rattle.fe_disk.specs.Runs.{LeavesOnly}
 use Rattle.fe_disk.proofs.Moments.{weaker}
 use Rattle.fe_state.specs.History.{IsHistory}
 use Rattle.fe_state.specs.declared.entry.Entry.{Entry}
@@ -13,7 +13,7 @@ use Rattle.fe_desk.proofs.running.run.Goals as goal
 pub returns-in-Err-clause-any_moment : goal.returns-in-Err-clause-any_moment
 returns-in-Err-clause-any_moment g c = λ honest s each.
     let groups = groups_of c.new.result in
-    weaker g.D.Disk.moment g.D.Disk.left_since c.args.disk c.in-Err.disk (g.D.Disk.may_leave c.args.disk) (LeavesPrefix s groups 0)
+    weaker g.D.Disk c.args.disk c.in-Err.disk (g.D.Disk.may_leave c.args.disk) (LeavesPrefix s groups 0)
     (λ image may. stands_begun s groups image (each image may)) (c.in-Err.ensures.reads honest).run
 
 pub returns-in-Err-clause-stands : goal.returns-in-Err-clause-stands
@@ -50,7 +50,7 @@ returns-clause-ran g c =
     let parts = c.into_parts-trace in
     let fault = c.take_steps-fault.result in
     let opened = c.in-Ok.ensures in
-    run_of g.D.Disk.honest g.D.Disk.seen g.D.Disk.failures g.D.Disk.calls g.D.Disk.may_leave g.D.Disk.moment g.D.Disk.left_since c.args.disk c.args.steps.now parts.result.0 parts.result.1 fault
+    run_of g.D.Disk c.args.disk c.args.steps.now parts.result.0 parts.result.1 fault
     (record {
       first = first;
       last = last;
@@ -79,9 +79,9 @@ returns-clause-any_moment g c = λ honest s each.
     let seen = g.D.Disk.seen c.args.disk in
     let same : first.keeper.state ≡ s = c.images_stand_for_one.ensures seen first.keeper.state s (c.in-Ok.ensures.opened honest) (each seen (g.met.D.Disk.seen_may_stay c.args.disk honest)) in
     let from : IsFrom s first = first_from s first same c.in-Ok.ensures.first.0.groups c.in-Ok.ensures.first.1 in
-    subst (λ d. LeavesOnly g.D.Disk.moment g.D.Disk.left_since c.args.disk d (LeavesPrefix s (groups_of c.into_parts-trace.result.0) 0)) (sym c.into_parts-trace.ensures.disk)
-    (subst (λ (gs : List (List Entry)). LeavesOnly g.D.Disk.moment g.D.Disk.left_since c.args.disk (disk_of last) (LeavesPrefix s gs 0)) (sym c.into_parts-trace.ensures.trace.groups)
-    (run_moments g.D.Disk.honest g.D.Disk.may_leave g.D.Disk.moment g.D.Disk.left_since c.args.disk first last s each (c.in-Ok.ensures.reads honest).run (c.in-Ok.ensures.device.honesty.1 honest) c.in-Ok.ensures.works from c.take_steps-fault.ensures.advances))
+    subst (λ d. LeavesOnly g.D.Disk c.args.disk d (LeavesPrefix s (groups_of c.into_parts-trace.result.0) 0)) (sym c.into_parts-trace.ensures.disk)
+    (subst (λ (gs : List (List Entry)). LeavesOnly g.D.Disk c.args.disk (disk_of last) (LeavesPrefix s gs 0)) (sym c.into_parts-trace.ensures.trace.groups)
+    (run_moments g.D.Disk c.args.disk first last s each (c.in-Ok.ensures.reads honest).run (c.in-Ok.ensures.device.honesty.1 honest) c.in-Ok.ensures.works from c.take_steps-fault.ensures.advances))
 
 pub returns-clause-stands : goal.returns-clause-stands
 returns-clause-stands g c = λ honest s stands _ image may.

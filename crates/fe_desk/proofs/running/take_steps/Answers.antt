@@ -10,7 +10,7 @@ pub loop-k-init : goal.loop-k-init
 loop-k-init g c = record {
   run = refl;
   works = c.requires.works;
-  advances = no_step g.D.Disk.honest g.D.Disk.may_leave g.D.Disk.moment g.D.Disk.left_since g.met.D.Disk.only_now c.args.desk.now c.requires.stands;
+  advances = no_step g.D.Disk g.met.D.Disk.only_now c.args.desk.now c.requires.stands;
 }
 
 pub loop-k-preserved : goal.loop-k-preserved
@@ -20,22 +20,21 @@ loop-k-preserved g c =
     let d = c.loop-k.desk in
     let e = c.step.new.self in
     let step = c.index-steps-k.result in
-    let failures = g.D.Disk.failures in
-    let taken : IsStep failures d step (Ok tt) e = c.in_default.ensures.is_step in
-    let whole : Ends failures d step (Ok tt) e = ends_of failures d step e (Ok tt) here.works taken in
+    let taken : IsStep g.D.Disk d step (Ok tt) e = c.in_default.ensures.is_step in
+    let whole : Ends g.D.Disk d step (Ok tt) e = ends_of g.D.Disk d step e (Ok tt) here.works taken in
     record {
-      run = steps_next failures c.args.desk.now d e c.args.steps.now c.loop-k.k step (Ok tt) refl lt c.index-steps-k.is here.run taken;
-      works = whole.sound.fine.works;
-      advances = advances_both g.D.Disk.honest g.D.Disk.may_leave g.D.Disk.moment g.D.Disk.left_since c.args.desk.now d e here.works here.advances c.step.ensures.advances;
+      run = steps_next g.D.Disk c.args.desk.now d e c.args.steps.now c.loop-k.k step (Ok tt) refl lt c.index-steps-k.is here.run taken;
+      works = whole.sound.fine.after;
+      advances = advances_both g.D.Disk c.args.desk.now d e here.works here.advances c.step.ensures.advances;
     }
 
 pub returns-in-Err-clause-advances : goal.returns-in-Err-clause-advances
 returns-in-Err-clause-advances g c =
-    advances_both g.D.Disk.honest g.D.Disk.may_leave g.D.Disk.moment g.D.Disk.left_since c.args.desk.now c.loop-k.desk c.step.new.self c.loop-k.invariant.works c.loop-k.invariant.advances c.step.ensures.advances
+    advances_both g.D.Disk c.args.desk.now c.loop-k.desk c.step.new.self c.loop-k.invariant.works c.loop-k.invariant.advances c.step.ensures.advances
 
 pub returns-in-Err-clause-goes : goal.returns-in-Err-clause-goes
 returns-in-Err-clause-goes g c =
     let lt : c.loop-k.k < length c.args.steps.now = search rules in
     let step = c.index-steps-k.result in
-    goes_to g.D.Disk.failures c.args.desk.now c.loop-k.desk c.step.new.self c.args.steps.now c.loop-k.k step c.step.result c.in-Err.fault c.in-Err.is
+    goes_to g.D.Disk c.args.desk.now c.loop-k.desk c.step.new.self c.args.steps.now c.loop-k.k step c.step.result c.in-Err.fault c.in-Err.is
     (slice_get_read c.args.steps.now (length c.args.steps.now) c.loop-k.k step refl lt c.index-steps-k.is) c.loop-k.invariant.run c.step.ensures.is_step

@@ -7,7 +7,7 @@ use Rattle.fe_desk.proofs.running.take_steps.Given as goal
 abbrev pub invariant-loop-k : goal.invariant-loop-k
 invariant-loop-k g l =
     record {
-      run : AreSteps g.D.Disk.failures l.initial.desk (whole (take l.k l.steps)) l.desk;
+      run : AreSteps g.D.Disk l.initial.desk (whole (take l.k l.steps)) l.desk;
       works : l.desk.keeper.store.has_failed ≡ false;
-      advances : Advances g.D.Disk.honest g.D.Disk.moment g.D.Disk.left_since l.initial.desk l.desk;
+      advances : Advances g.D.Disk l.initial.desk l.desk;
     }

@@ -23,9 +23,9 @@ returns-in-Ok-post-clause-commits g c =
     let batch : Batch = c.into_batch-batch.result.0 in
     let moment : ℕ = g.D.Disk.moment new.store.disk in
     let noted : stores_in c.note.new.self ≡ stores_in c.args.seat.now ++ (c.in-Ok.batch, moment) ∷ [] = search rules in
-    group_noted g.D.Disk.honest g.D.Disk.moment g.D.Disk.left_since g.D.Disk.may_leave g.met.D.Disk.only_now old new None batch c.args.seat.now c.note.new.self e.continues.some e.continues.legal e.state
+    group_noted g.D.Disk g.met.D.Disk.only_now old new None batch c.args.seat.now c.note.new.self e.continues.some e.continues.legal e.state
     (appended_works old.store new.store batch.entries new.store.disk e.store) c.append.ensures.honesty c.append.ensures.durable c.append.ensures.any_moment
-    (one_noted g.D.Disk.moment (record { batch = batch; before = old; after = new }) _ c.args.seat.now c.note.new.self c.note.ensures.this
+    (one_noted g.D.Disk (record { batch = batch; before = old; after = new }) _ c.args.seat.now c.note.new.self c.note.ensures.this
     (subst (λ (b : Batch). stores_in c.note.new.self ≡ stores_in c.args.seat.now ++ (b, moment) ∷ []) c.in-Ok.ensures.returned noted))
 
 pub returns-in-Ok-clause-commits : goal.returns-in-Ok-clause-commits
@@ -36,9 +36,9 @@ returns-in-Ok-clause-commits g c =
     let batch : Batch = c.into_batch-batch.result.0 in
     let moment : ℕ = g.D.Disk.moment new.store.disk in
     let noted : stores_in c.note.new.self ≡ stores_in c.args.seat.now ++ (c.in-Ok.batch, moment) ∷ [] = search rules in
-    group_noted g.D.Disk.honest g.D.Disk.moment g.D.Disk.left_since g.D.Disk.may_leave g.met.D.Disk.only_now old new (Some c.of_post.result) batch c.args.seat.now c.note.new.self e.continues.some e.continues.legal e.state
+    group_noted g.D.Disk g.met.D.Disk.only_now old new (Some c.of_post.result) batch c.args.seat.now c.note.new.self e.continues.some e.continues.legal e.state
     (appended_works old.store new.store batch.entries new.store.disk e.store) c.append.ensures.honesty c.append.ensures.durable c.append.ensures.any_moment
-    (one_noted g.D.Disk.moment (record { batch = batch; before = old; after = new }) _ c.args.seat.now c.note.new.self c.note.ensures.this
+    (one_noted g.D.Disk (record { batch = batch; before = old; after = new }) _ c.args.seat.now c.note.new.self c.note.ensures.this
     (subst (λ (b : Batch). stores_in c.note.new.self ≡ stores_in c.args.seat.now ++ (b, moment) ∷ []) c.in-Ok.ensures.returned noted))
 
 pub returns-in-Err-note-clause-commits : goal.returns-in-Err-note-clause-commits
@@ -48,28 +48,28 @@ returns-in-Err-note-clause-commits g c =
     let new = c.append.new.self in
     let seat = c.args.seat.now in
     let batch : Batch = c.into_batch-batch.result.0 in
-    subst (λ (end : CommitEnd). (all : Commits g.D.Disk.honest g.D.Disk.moment g.D.Disk.left_since old new (Some end)) × AreNoted g.D.Disk.moment all.appends (Some end) seat c.note.new.self)
+    subst (λ (end : CommitEnd). (all : Commits g.D.Disk old new (Some end)) × AreNoted g.D.Disk all.appends (Some end) seat c.note.new.self)
     (sym c.of_note.ensures)
-    (group_noted g.D.Disk.honest g.D.Disk.moment g.D.Disk.left_since g.D.Disk.may_leave g.met.D.Disk.only_now old new (Some Strange) batch c.args.seat.now c.note.new.self e.continues.some e.continues.legal e.state
+    (group_noted g.D.Disk g.met.D.Disk.only_now old new (Some Strange) batch c.args.seat.now c.note.new.self e.continues.some e.continues.legal e.state
     (appended_works old.store new.store batch.entries new.store.disk e.store) c.append.ensures.honesty c.append.ensures.durable c.append.ensures.any_moment
-    (one_unnoted g.D.Disk.moment (record { batch = batch; before = old; after = new }) c.args.seat.now c.note.new.self c.in-Err-note.ensures.unnoted))
+    (one_unnoted g.D.Disk (record { batch = batch; before = old; after = new }) c.args.seat.now c.note.new.self c.in-Err-note.ensures.unnoted))
 
 pub returns-clause-commits : goal.returns-clause-commits
 returns-clause-commits g c =
     let e = c.in-Err.ensures in
     let batch : Batch = c.into_batch-batch.result.0 in
     let all =
-    commits_fault g.D.Disk.honest g.D.Disk.may_leave g.D.Disk.moment g.D.Disk.left_since g.met.D.Disk.only_now c.args.keeper.now c.append.new.self c.append.ensures.durable g.D.Disk.failures c.in-Err.fault
+    commits_fault g.D.Disk g.met.D.Disk.only_now c.args.keeper.now c.append.new.self c.append.ensures.durable c.in-Err.fault
     batch.first batch.entries e.ends e.err c.append.ensures.any_moment in
     let seat = c.args.seat.now in
-    subst (λ (end : CommitEnd). (all : Commits g.D.Disk.honest g.D.Disk.moment g.D.Disk.left_since c.args.keeper.now c.append.new.self (Some end)) × AreNoted g.D.Disk.moment all.appends (Some end) seat seat)
-    (sym c.of_store.ensures.end) (all.0, none_noted g.D.Disk.moment all.0.appends (Some (end_of c.in-Err.fault)) seat all.1)
+    subst (λ (end : CommitEnd). (all : Commits g.D.Disk c.args.keeper.now c.append.new.self (Some end)) × AreNoted g.D.Disk all.appends (Some end) seat seat)
+    (sym c.of_store.ensures.end) (all.0, none_noted g.D.Disk all.0.appends (Some (end_of c.in-Err.fault)) seat all.1)
 
 pub returns-clause-tells : goal.returns-clause-tells
 returns-clause-tells g c =
     let batch : Batch = c.into_batch-batch.result.0 in
-    subst (λ (end : CommitEnd). TellsEnd g.D.Disk.failures c.args.keeper.now c.append.new.self (Some end)) (sym c.of_store.ensures.end)
-    (fault_tells g.D.Disk.failures c.args.keeper.now c.append.new.self c.in-Err.fault batch.first batch.entries c.in-Err.ensures.ends)
+    subst (λ (end : CommitEnd). TellsEnd g.D.Disk c.args.keeper.now c.append.new.self (Some end)) (sym c.of_store.ensures.end)
+    (fault_tells g.D.Disk c.args.keeper.now c.append.new.self c.in-Err.fault batch.first batch.entries c.in-Err.ensures.ends)
 
 pub returns-in-Ok-post-clause-stored : goal.returns-in-Ok-post-clause-stored
 returns-in-Ok-post-clause-stored g c =

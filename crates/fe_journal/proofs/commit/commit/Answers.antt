@@ -10,28 +10,28 @@ pub returns-in_err-write_at-clause-any_moment : goal.returns-in_err-write_at-cla
 returns-in_err-write_at-clause-any_moment g c = λ honest.
     let start = c.args.disk.now in
     let P : List ℕ → Type 0 = IsLeftInCommit (g.D.Disk.may_leave start) (g.D.Disk.seen start) c.args.at c.args.bytes.now c.args.gate in
-    let run_0 = started g.D.Disk.moment g.D.Disk.left_since start P (λ image left. not_begun _ _ _ _ _ image (g.met.D.Disk.only_now start image honest left)) in
-    goes_on g.D.Disk.moment g.D.Disk.left_since g.D.Disk.may_leave start start c.write_at.new.self P run_0 (c.write_at.ensures.time honest) (bytes_torn _ _ _ _ _ _ (c.write_at.ensures.stop honest))
+    let run_0 = started g.D.Disk start P (λ image left. not_begun _ _ _ _ _ image (g.met.D.Disk.only_now start image honest left)) in
+    goes_on g.D.Disk start start c.write_at.new.self P run_0 (c.write_at.ensures.time honest) (bytes_torn _ _ _ _ _ _ (c.write_at.ensures.stop honest))
 
 pub returns-in_err-sync-clause-any_moment : goal.returns-in_err-sync-clause-any_moment
 returns-in_err-sync-clause-any_moment g c = λ honest.
     let start = c.args.disk.now in
     let P : List ℕ → Type 0 = IsLeftInCommit (g.D.Disk.may_leave start) (g.D.Disk.seen start) c.args.at c.args.bytes.now c.args.gate in
-    let run_0 = started g.D.Disk.moment g.D.Disk.left_since start P (λ image left. not_begun _ _ _ _ _ image (g.met.D.Disk.only_now start image honest left)) in
-    let run_1 = goes_on g.D.Disk.moment g.D.Disk.left_since g.D.Disk.may_leave start start c.write_at.new.self P run_0 (c.write_at.ensures.time honest) (bytes_torn _ _ _ _ _ _ (c.write_at.ensures.stop honest)) in
+    let run_0 = started g.D.Disk start P (λ image left. not_begun _ _ _ _ _ image (g.met.D.Disk.only_now start image honest left)) in
+    let run_1 = goes_on g.D.Disk start start c.write_at.new.self P run_0 (c.write_at.ensures.time honest) (bytes_torn _ _ _ _ _ _ (c.write_at.ensures.stop honest)) in
     let honest_1 = c.write_at.ensures.device.honesty.1 honest in
-    goes_on g.D.Disk.moment g.D.Disk.left_since g.D.Disk.may_leave start c.write_at.new.self c.sync.new.self P run_1 (c.sync.ensures.time honest_1) (λ image now. bytes_torn _ _ _ _ _ _ (c.write_at.ensures.stop honest) image (c.sync.ensures.stop honest_1 image now))
+    goes_on g.D.Disk start c.write_at.new.self c.sync.new.self P run_1 (c.sync.ensures.time honest_1) (λ image now. bytes_torn _ _ _ _ _ _ (c.write_at.ensures.stop honest) image (c.sync.ensures.stop honest_1 image now))
 
 pub returns-clause-any_moment : goal.returns-clause-any_moment
 returns-clause-any_moment g c = λ honest.
     let start = c.args.disk.now in
     let P : List ℕ → Type 0 = IsLeftInCommit (g.D.Disk.may_leave start) (g.D.Disk.seen start) c.args.at c.args.bytes.now c.args.gate in
-    let run_0 = started g.D.Disk.moment g.D.Disk.left_since start P (λ image left. not_begun _ _ _ _ _ image (g.met.D.Disk.only_now start image honest left)) in
-    let run_1 = goes_on g.D.Disk.moment g.D.Disk.left_since g.D.Disk.may_leave start start c.write_at.new.self P run_0 (c.write_at.ensures.time honest) (bytes_torn _ _ _ _ _ _ (c.write_at.ensures.stop honest)) in
+    let run_0 = started g.D.Disk start P (λ image left. not_begun _ _ _ _ _ image (g.met.D.Disk.only_now start image honest left)) in
+    let run_1 = goes_on g.D.Disk start start c.write_at.new.self P run_0 (c.write_at.ensures.time honest) (bytes_torn _ _ _ _ _ _ (c.write_at.ensures.stop honest)) in
     let honest_1 = c.write_at.ensures.device.honesty.1 honest in
-    let run_2 = goes_on g.D.Disk.moment g.D.Disk.left_since g.D.Disk.may_leave start c.write_at.new.self c.sync.new.self P run_1 (c.sync.ensures.time honest_1) (λ image now. bytes_torn _ _ _ _ _ _ (c.write_at.ensures.stop honest) image (c.sync.ensures.stop honest_1 image now)) in
+    let run_2 = goes_on g.D.Disk start c.write_at.new.self c.sync.new.self P run_1 (c.sync.ensures.time honest_1) (λ image now. bytes_torn _ _ _ _ _ _ (c.write_at.ensures.stop honest) image (c.sync.ensures.stop honest_1 image now)) in
     let honest_2 = c.sync.ensures.device.honesty.1 honest_1 in
     let staged = c.sync.ensures.same honest_1 ∙ c.in_ok-write_at.ensures.written honest in
-    let opening = weaker g.D.Disk.moment g.D.Disk.left_since c.sync.new.self c.open_gate.new.disk (IsTorn c.args.gate 1 (g.D.Disk.seen c.sync.new.self)) P
+    let opening = weaker g.D.Disk c.sync.new.self c.open_gate.new.disk (IsTorn c.args.gate 1 (g.D.Disk.seen c.sync.new.self)) P
     (λ image torn. inr (subst (λ (l : List ℕ). IsTorn c.args.gate 1 l image) staged torn)) (c.open_gate.ensures.any_moment honest_2) in
-    joined g.D.Disk.moment g.D.Disk.left_since start c.sync.new.self c.open_gate.new.disk P run_2 opening
+    joined g.D.Disk start c.sync.new.self c.open_gate.new.disk P run_2 opening

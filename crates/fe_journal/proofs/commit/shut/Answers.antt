@@ -10,39 +10,39 @@ pub returns-in_err-read_at-clause-any_moment : goal.returns-in_err-read_at-claus
 returns-in_err-read_at-clause-any_moment g c = λ honest just.
     let start = c.args.disk.now in
     let P : List ℕ → Type 0 = IsLeftInShutting (g.D.Disk.seen start) c.args.gate in
-    let run_0 = started g.D.Disk.moment g.D.Disk.left_since start P (λ image left. shut_still _ _ image (just image (g.met.D.Disk.only_now start image honest left))) in
-    goes_on g.D.Disk.moment g.D.Disk.left_since g.D.Disk.may_leave start start c.read_at.new.self P run_0 (c.read_at.ensures.time honest) (λ image now. shut_still _ _ image (just image (c.read_at.ensures.stop honest image now)))
+    let run_0 = started g.D.Disk start P (λ image left. shut_still _ _ image (just image (g.met.D.Disk.only_now start image honest left))) in
+    goes_on g.D.Disk start start c.read_at.new.self P run_0 (c.read_at.ensures.time honest) (λ image now. shut_still _ _ image (just image (c.read_at.ensures.stop honest image now)))
 
 pub returns-then-byte-ne1-clause-any_moment : goal.returns-then-byte-ne1-clause-any_moment
 returns-then-byte-ne1-clause-any_moment g c = λ honest just.
     let start = c.args.disk.now in
     let P : List ℕ → Type 0 = IsLeftInShutting (g.D.Disk.seen start) c.args.gate in
-    let run_0 = started g.D.Disk.moment g.D.Disk.left_since start P (λ image left. shut_still _ _ image (just image (g.met.D.Disk.only_now start image honest left))) in
-    goes_on g.D.Disk.moment g.D.Disk.left_since g.D.Disk.may_leave start start c.read_at.new.self P run_0 (c.read_at.ensures.time honest) (λ image now. shut_still _ _ image (just image (c.read_at.ensures.stop honest image now)))
+    let run_0 = started g.D.Disk start P (λ image left. shut_still _ _ image (just image (g.met.D.Disk.only_now start image honest left))) in
+    goes_on g.D.Disk start start c.read_at.new.self P run_0 (c.read_at.ensures.time honest) (λ image now. shut_still _ _ image (just image (c.read_at.ensures.stop honest image now)))
 
 pub returns-in_err-write_at-clause-any_moment : goal.returns-in_err-write_at-clause-any_moment
 returns-in_err-write_at-clause-any_moment g c = λ honest just.
     let start = c.args.disk.now in
     let P : List ℕ → Type 0 = IsLeftInShutting (g.D.Disk.seen start) c.args.gate in
-    let run_0 = started g.D.Disk.moment g.D.Disk.left_since start P (λ image left. shut_still _ _ image (just image (g.met.D.Disk.only_now start image honest left))) in
-    let run_1 = goes_on g.D.Disk.moment g.D.Disk.left_since g.D.Disk.may_leave start start c.read_at.new.self P run_0 (c.read_at.ensures.time honest) (λ image now. shut_still _ _ image (just image (c.read_at.ensures.stop honest image now))) in
+    let run_0 = started g.D.Disk start P (λ image left. shut_still _ _ image (just image (g.met.D.Disk.only_now start image honest left))) in
+    let run_1 = goes_on g.D.Disk start start c.read_at.new.self P run_0 (c.read_at.ensures.time honest) (λ image now. shut_still _ _ image (just image (c.read_at.ensures.stop honest image now))) in
     let honest_1 = c.read_at.ensures.device.honesty.1 honest in
     let was_open = byte_read (g.D.Disk.seen start) c.args.gate c.read_at.new.buffer (c.in_ok-read_at.ensures.read honest) ∙ c.if-byte-ne1.false in
-    goes_on g.D.Disk.moment g.D.Disk.left_since g.D.Disk.may_leave start c.read_at.new.self c.write_at.new.self P run_1 (c.write_at.ensures.time honest_1)
+    goes_on g.D.Disk start c.read_at.new.self c.write_at.new.self P run_1 (c.write_at.ensures.time honest_1)
     (shut_torn _ _ was_open (g.D.Disk.may_leave c.read_at.new.self) _ (λ image now. just image (c.read_at.ensures.stop honest image now)) (c.write_at.ensures.stop honest_1))
 
 pub returns-clause-any_moment : goal.returns-clause-any_moment
 returns-clause-any_moment g c = λ honest just.
     let start = c.args.disk.now in
     let P : List ℕ → Type 0 = IsLeftInShutting (g.D.Disk.seen start) c.args.gate in
-    let run_0 = started g.D.Disk.moment g.D.Disk.left_since start P (λ image left. shut_still _ _ image (just image (g.met.D.Disk.only_now start image honest left))) in
-    let run_1 = goes_on g.D.Disk.moment g.D.Disk.left_since g.D.Disk.may_leave start start c.read_at.new.self P run_0 (c.read_at.ensures.time honest) (λ image now. shut_still _ _ image (just image (c.read_at.ensures.stop honest image now))) in
+    let run_0 = started g.D.Disk start P (λ image left. shut_still _ _ image (just image (g.met.D.Disk.only_now start image honest left))) in
+    let run_1 = goes_on g.D.Disk start start c.read_at.new.self P run_0 (c.read_at.ensures.time honest) (λ image now. shut_still _ _ image (just image (c.read_at.ensures.stop honest image now))) in
     let honest_1 = c.read_at.ensures.device.honesty.1 honest in
     let was_open = byte_read (g.D.Disk.seen start) c.args.gate c.read_at.new.buffer (c.in_ok-read_at.ensures.read honest) ∙ c.if-byte-ne1.false in
     let torn = shut_torn _ _ was_open (g.D.Disk.may_leave c.read_at.new.self) _ (λ image now. just image (c.read_at.ensures.stop honest image now)) (c.write_at.ensures.stop honest_1) in
-    let run_2 = goes_on g.D.Disk.moment g.D.Disk.left_since g.D.Disk.may_leave start c.read_at.new.self c.write_at.new.self P run_1 (c.write_at.ensures.time honest_1) torn in
+    let run_2 = goes_on g.D.Disk start c.read_at.new.self c.write_at.new.self P run_1 (c.write_at.ensures.time honest_1) torn in
     let honest_2 = c.write_at.ensures.device.honesty.1 honest_1 in
-    goes_on g.D.Disk.moment g.D.Disk.left_since g.D.Disk.may_leave start c.write_at.new.self c.sync.new.self P run_2 (c.sync.ensures.time honest_2) (λ image now. torn image (c.sync.ensures.stop honest_2 image now))
+    goes_on g.D.Disk start c.write_at.new.self c.sync.new.self P run_2 (c.sync.ensures.time honest_2) (λ image now. torn image (c.sync.ensures.stop honest_2 image now))
 
 pub returns-then-byte-ne1-clause-made : goal.returns-then-byte-ne1-clause-made
 returns-then-byte-ne1-clause-made g c = λ honest.

@@ -10,7 +10,7 @@ returns-clause-found g c = λ honest is just.
     let store = c.args.store in
     let whole : length (g.D.Disk.seen disk) ≡ g.D.Disk.size disk = (g.met.D.Disk.seen_is_image disk honest).whole in
     let from : ℕ → Cursor = λ n. record { bytes = store.parts.area.items; start = n; at = 0 } in
-    is_found g.D.Disk.seen g.D.Disk.may_leave disk store (whole ∙ c.requires.device) c.requires.whole is just
+    is_found g.D.Disk disk store (whole ∙ c.requires.device) c.requires.whole is just
     (record { journal = c.opened-journal.result; image = store.parts.image; groups = c.new.result })
     c.opened-journal.ensures refl (c.new.ensures ∙ ap from c.area_of.ensures)
 

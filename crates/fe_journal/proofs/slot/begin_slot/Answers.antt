@@ -1,6 +1,7 @@
 use Rattle.std.proofs.Common.{◌≡◌, ℕ, ◌+◌, ◌≤◌, List, length, inl, inr, ◌∙◌, ap, subst, arith}
 use Rattle.std.proofs.lemmas.Result.{on_ok_weaker}
-use Rattle.fe_disk.specs.Disk.{IsTorn, Follows, LeavesOnly, bytes_at, after_write}
+use Rattle.fe_disk.specs.Disk.{IsTorn, Follows, bytes_at, after_write}
+use Rattle.fe_disk.specs.Runs.{LeavesOnly}
 use Rattle.fe_disk.proofs.Images.{bytes_at-after_write}
 use Rattle.fe_disk.proofs.Moments.{goes_on, weaker}
 use Rattle.fe_journal.specs.Layout.{header_of, gate_of, IsGateShut}
@@ -13,8 +14,8 @@ returns-in_err-shut-clause-any_moment g c = λ honest synced.
     let start = c.args.disk.now in
     let slot = c.args.slot in
     let seen = g.D.Disk.seen start in
-    let shutting = weaker g.D.Disk.moment g.D.Disk.left_since start c.shut.new.disk (IsLeftInShutting seen (gate_of slot)) (IsLeftInBeginning seen slot) (λ image left. inl left)
-    (subst (λ (k : ℕ). LeavesOnly g.D.Disk.moment g.D.Disk.left_since start c.shut.new.disk (IsLeftInShutting seen k)) c.gate_of.ensures (c.shut.ensures.any_moment honest synced)) in
+    let shutting = weaker g.D.Disk start c.shut.new.disk (IsLeftInShutting seen (gate_of slot)) (IsLeftInBeginning seen slot) (λ image left. inl left)
+    (subst (λ (k : ℕ). LeavesOnly g.D.Disk start c.shut.new.disk (IsLeftInShutting seen k)) c.gate_of.ensures (c.shut.ensures.any_moment honest synced)) in
     shutting
 
 pub returns-clause-any_moment : goal.returns-clause-any_moment
@@ -22,8 +23,8 @@ returns-clause-any_moment g c = λ honest synced.
     let start = c.args.disk.now in
     let slot = c.args.slot in
     let seen = g.D.Disk.seen start in
-    let shutting = weaker g.D.Disk.moment g.D.Disk.left_since start c.shut.new.disk (IsLeftInShutting seen (gate_of slot)) (IsLeftInBeginning seen slot) (λ image left. inl left)
-    (subst (λ (k : ℕ). LeavesOnly g.D.Disk.moment g.D.Disk.left_since start c.shut.new.disk (IsLeftInShutting seen k)) c.gate_of.ensures (c.shut.ensures.any_moment honest synced)) in
+    let shutting = weaker g.D.Disk start c.shut.new.disk (IsLeftInShutting seen (gate_of slot)) (IsLeftInBeginning seen slot) (λ image left. inl left)
+    (subst (λ (k : ℕ). LeavesOnly g.D.Disk start c.shut.new.disk (IsLeftInShutting seen k)) c.gate_of.ensures (c.shut.ensures.any_moment honest synced)) in
     let honest_1 = c.shut.ensures.device.honesty.1 honest in
     let torn = subst (λ (k : ℕ). IsTorn k 1 seen (g.D.Disk.seen c.shut.new.disk)) c.gate_of.ensures (c.shut.ensures.torn honest) in
     let shut = subst (λ (k : ℕ). IsGateShut (g.D.Disk.seen c.shut.new.disk) k) c.gate_of.ensures (c.in_ok-shut.ensures.closed honest) in
@@ -31,7 +32,7 @@ returns-clause-any_moment g c = λ honest synced.
     let follows = subst (λ (k : ℕ). Follows (IsTorn k (length c.header_fields-fields.result)) (g.D.Disk.may_leave c.shut.new.disk) (g.D.Disk.may_leave c.write_at.new.self)) c.header_of.ensures (c.write_at.ensures.stop honest_1) in
     let twenty : length c.header_fields-fields.result ≡ 20 = ap (λ (l : List ℕ). length l) c.header_fields-fields.ensures in
     let lefts = header_left seen (g.D.Disk.seen c.shut.new.disk) slot c.header_fields-fields.result (g.D.Disk.may_leave c.shut.new.disk) (g.D.Disk.may_leave c.write_at.new.self) twenty torn shut just follows in
-    goes_on g.D.Disk.moment g.D.Disk.left_since g.D.Disk.may_leave start c.shut.new.disk c.write_at.new.self (IsLeftInBeginning seen slot) shutting (c.write_at.ensures.time honest_1) (λ image may. inr (lefts image may))
+    goes_on g.D.Disk start c.shut.new.disk c.write_at.new.self (IsLeftInBeginning seen slot) shutting (c.write_at.ensures.time honest_1) (λ image may. inr (lefts image may))
 
 pub returns-clause-left : goal.returns-clause-left
 returns-clause-left g c = λ honest synced.

@@ -2,7 +2,7 @@ use Rattle.std.proofs.Common.{◌≡◌, ℕ, List, Result, Ok, Err, sym, ◌∙
 use Rattle.std.proofs.lemmas.Result.{IfOk-weaker}
 use Rattle.std.specs.Prelude.{IfOk, IfErr}
 use Rattle.fe_disk.specs.Disk.{LeavesJust}
-use Rattle.fe_disk.specs.Outcome.{Asks, Runs}
+use Rattle.fe_disk.specs.Runs.{Asks, Runs}
 use Rattle.fe_disk.specs.declared.calls.Calls.{Calls}
 use Rattle.fe_disk.proofs.Outcomes.{asks_run, runs_joined}
 use Rattle.fe_journal.specs.declared.fault.StoreFault.TheVariants.{Device}
@@ -10,13 +10,14 @@ use Rattle.fe_journal.specs.Damage.{TellsFound}
 use Rattle.fe_journal.specs.Store.{IsStore, IsWholeStore}
 use Rattle.fe_journal.proofs.Readings.{counted}
 use Rattle.fe_journal.proofs.store.read_store.Goals as goal
+use Rattle.fe_disk.specs.declared.disk.Disk.{Ghosts}
 
 -- the sync, and then the reads
-after_sync : {D T U E F : Type 0} (size failures : D → ℕ) (calls : D → Calls) (honest : D → Type 0) (device : E) (x : T) (second : Result U E) (old mid new : D)
-    → Asks {E = F} size failures calls honest 0 0 1 (Ok x) old mid → Runs size failures calls honest 4 0 0 device second mid new → Runs size failures calls honest 4 0 1 device second old new
-after_sync {T = T} {E = E} size failures calls honest device x second old mid new asks run =
+after_sync : {D T U E F : Type 0} (model : Ghosts D) (device : E) (x : T) (second : Result U E) (old mid new : D)
+    → Asks {E = F} model 0 0 1 (Ok x) old mid → Runs model 4 0 0 device second mid new → Runs model 4 0 1 device second old new
+after_sync {T = T} {E = E} model device x second old mid new asks run =
     let first : Result T E = Ok x in
-    runs_joined size failures calls honest 0 0 1 4 0 0 device first second old mid new (asks_run size failures calls honest 0 0 1 device x x old mid asks) (λ (e : first ≡ Err device). cc) run
+    runs_joined model 0 0 1 4 0 0 device first second old mid new (asks_run model 0 0 1 device x x old mid asks) (λ (e : first ≡ Err device). cc) run
 
 pub returns-clause-store : goal.returns-clause-store
 returns-clause-store g c = λ honest.
@@ -37,5 +38,5 @@ returns-clause-settled g c = λ honest.
 pub returns-clause-device : goal.returns-clause-device
 returns-clause-device g c =
     let fault = counted c.read_synced.result (g.D.Disk.failures c.args.disk.now) (g.D.Disk.failures c.sync.new.self) (g.D.Disk.failures c.read_synced.new.disk) c.in_ok-sync.ensures.device.still (λ rises. let e = c.in_ok-sync.ensures.device.fault.1 rises in cc) c.read_synced.ensures.device.fault c.read_synced.ensures.device.still in
-    let run = after_sync g.D.Disk.size g.D.Disk.failures g.D.Disk.calls g.D.Disk.honest Device tt c.read_synced.result c.args.disk.now c.sync.new.self c.read_synced.new.disk c.in_ok-sync.ensures.device c.read_synced.ensures.device in
+    let run = after_sync g.D.Disk Device tt c.read_synced.result c.args.disk.now c.sync.new.self c.read_synced.new.disk c.in_ok-sync.ensures.device c.read_synced.ensures.device in
     record { fault = fault; still = run.still; most = run.most; honesty = run.honesty; same_size = run.same_size }

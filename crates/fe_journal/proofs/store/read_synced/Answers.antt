@@ -25,7 +25,7 @@ returns-clause-whole g c = let sound = c.in_ok-slot.ensures.sound in record { is
 
 pub returns-clause-reads : goal.returns-clause-reads
 returns-clause-reads g c = λ honest.
-    reads_again g.D.Disk.seen g.D.Disk.may_leave g.D.Disk.moment g.D.Disk.left_since c.args.disk.now c.read_sound.new.disk c.read_slot.new.disk (c.read_sound.ensures.reads honest) (c.read_slot.ensures.reads (c.read_sound.ensures.device.honesty.1 honest))
+    reads_again g.D.Disk c.args.disk.now c.read_sound.new.disk c.read_slot.new.disk (c.read_sound.ensures.reads honest) (c.read_slot.ensures.reads (c.read_sound.ensures.device.honesty.1 honest))
 
 pub returns-in_err-parts-clause-faults : goal.returns-in_err-parts-clause-faults
 returns-in_err-parts-clause-faults g c = λ honest.
@@ -38,7 +38,7 @@ returns-in_err-parts-clause-faults g c = λ honest.
 
 pub returns-in_err-parts-clause-reads : goal.returns-in_err-parts-clause-reads
 returns-in_err-parts-clause-reads g c = λ honest.
-    reads_again g.D.Disk.seen g.D.Disk.may_leave g.D.Disk.moment g.D.Disk.left_since c.args.disk.now c.read_sound.new.disk c.read_slot.new.disk (c.read_sound.ensures.reads honest) (c.read_slot.ensures.reads (c.read_sound.ensures.device.honesty.1 honest))
+    reads_again g.D.Disk c.args.disk.now c.read_sound.new.disk c.read_slot.new.disk (c.read_sound.ensures.reads honest) (c.read_slot.ensures.reads (c.read_sound.ensures.device.honesty.1 honest))
 
 pub returns-in_err-slot-clause-faults : goal.returns-in_err-slot-clause-faults
 returns-in_err-slot-clause-faults g c = λ honest. let p = err_from_is_err_and c.from_residual.result c.from_residual.ensures.1 in rw (p.1, p.2) (c.in_err-slot.ensures.faults honest)
@@ -57,21 +57,21 @@ returns-in_err-buffer-clause-faults g c = λ honest.
 
 pub returns-clause-device : goal.returns-clause-device
 returns-clause-device g c =
-    runs_as g.D.Disk.size g.D.Disk.failures g.D.Disk.calls g.D.Disk.honest 4 0 0 Device _ _ c.args.disk.now c.read_slot.new.disk
-    (runs_joined g.D.Disk.size g.D.Disk.failures g.D.Disk.calls g.D.Disk.honest 2 0 0 2 0 0 Device _ _ c.args.disk.now c.read_sound.new.disk c.read_slot.new.disk c.in_ok-slot.ensures.device (λ e. cc) c.in_ok-parts.ensures.device) (λ e. cc) (λ e. cc)
+    runs_as g.D.Disk 4 0 0 Device _ _ c.args.disk.now c.read_slot.new.disk
+    (runs_joined g.D.Disk 2 0 0 2 0 0 Device _ _ c.args.disk.now c.read_sound.new.disk c.read_slot.new.disk c.in_ok-slot.ensures.device (λ e. cc) c.in_ok-parts.ensures.device) (λ e. cc) (λ e. cc)
 
 pub returns-in_err-parts-clause-device : goal.returns-in_err-parts-clause-device
 returns-in_err-parts-clause-device g c =
     let p = err_from_is_err_and c.from_residual-in_err-parts.result c.from_residual-in_err-parts.ensures.1 in
-    runs_as g.D.Disk.size g.D.Disk.failures g.D.Disk.calls g.D.Disk.honest 4 0 0 Device _ _ c.args.disk.now c.read_slot.new.disk
-    (runs_joined g.D.Disk.size g.D.Disk.failures g.D.Disk.calls g.D.Disk.honest 2 0 0 2 0 0 Device _ _ c.args.disk.now c.read_sound.new.disk c.read_slot.new.disk c.in_ok-slot.ensures.device (λ e. cc) c.in_err-parts.ensures.device)
+    runs_as g.D.Disk 4 0 0 Device _ _ c.args.disk.now c.read_slot.new.disk
+    (runs_joined g.D.Disk 2 0 0 2 0 0 Device _ _ c.args.disk.now c.read_sound.new.disk c.read_slot.new.disk c.in_ok-slot.ensures.device (λ e. cc) c.in_err-parts.ensures.device)
     (λ e. ap (λ (f : StoreFault). Err f) (same_fault c.from_residual-in_err-parts.result p.0 c.in_err-parts.field-0.0 p.1 p.2 e)) (fault_back c.from_residual-in_err-parts.result p.0 c.in_err-parts.field-0.0 p.1 p.2)
 
 pub returns-in_err-slot-clause-device : goal.returns-in_err-slot-clause-device
 returns-in_err-slot-clause-device g c =
     let p = err_from_is_err_and c.from_residual.result c.from_residual.ensures.1 in
-    runs_as g.D.Disk.size g.D.Disk.failures g.D.Disk.calls g.D.Disk.honest 4 0 0 Device _ _ c.args.disk.now c.read_sound.new.disk
-    (runs_within g.D.Disk.size g.D.Disk.failures g.D.Disk.calls g.D.Disk.honest 2 0 0 4 0 0 Device _ c.args.disk.now c.read_sound.new.disk (omega arith) (omega arith) (omega arith) c.in_err-slot.ensures.device)
+    runs_as g.D.Disk 4 0 0 Device _ _ c.args.disk.now c.read_sound.new.disk
+    (runs_within g.D.Disk 2 0 0 4 0 0 Device _ c.args.disk.now c.read_sound.new.disk (omega arith) (omega arith) (omega arith) c.in_err-slot.ensures.device)
     (λ e. ap (λ (f : StoreFault). Err f) (same_fault c.from_residual.result p.0 c.in_err-slot.field-0.0 p.1 p.2 e)) (fault_back c.from_residual.result p.0 c.in_err-slot.field-0.0 p.1 p.2)
 
 pub returns-in_err-parts-clause-memory : goal.returns-in_err-parts-clause-memory

@@ -8,7 +8,7 @@ abbrev pub invariant-loop-k : goal.invariant-loop-k
 invariant-loop-k g l = record {
   never : g.D.Disk.honest l.fn.disk → l.is_formatted ≡ true → ⊥;
   tells : g.D.Disk.honest l.fn.disk → 0 < l._k → IsUnformatted (g.D.Disk.seen l.fn.disk);
-  reads : g.D.Disk.honest l.fn.disk → OnlyReads g.D.Disk.seen g.D.Disk.may_leave g.D.Disk.moment g.D.Disk.left_since l.fn.disk l.disk;
+  reads : g.D.Disk.honest l.fn.disk → OnlyReads g.D.Disk l.fn.disk l.disk;
   still : g.D.Disk.failures l.disk ≡ g.D.Disk.failures l.fn.disk;
-  kept : KeepsDisk g.D.Disk.size g.D.Disk.calls g.D.Disk.honest l.fn.disk l.disk;
+  kept : KeepsDisk g.D.Disk l.fn.disk l.disk;
 }

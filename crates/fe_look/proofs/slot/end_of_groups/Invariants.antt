@@ -8,10 +8,10 @@ use Rattle.fe_look.proofs.slot.end_of_groups.Given as goal
 abbrev pub invariant-loop-at : goal.invariant-loop-at
 invariant-loop-at g l = record {
   leads : g.D.Disk.honest l.fn.disk → (ns : List ℕ) (end : ℕ) → GatesEnd (g.D.Disk.seen l.fn.disk) l.area l.at ns end → EndsAt (g.D.Disk.seen l.fn.disk) l.area end;
-  reads : g.D.Disk.honest l.fn.disk → OnlyReads g.D.Disk.seen g.D.Disk.may_leave g.D.Disk.moment g.D.Disk.left_since l.fn.disk l.disk;
+  reads : g.D.Disk.honest l.fn.disk → OnlyReads g.D.Disk l.fn.disk l.disk;
   still : g.D.Disk.failures l.disk ≡ g.D.Disk.failures l.fn.disk;
   works : 0 < l.at → Rises (g.D.Disk.failures l.fn.disk) (g.D.Disk.failures l.disk) → ⊥;
-  kept : KeepsDisk g.D.Disk.size g.D.Disk.calls g.D.Disk.honest l.fn.disk l.disk;
+  kept : KeepsDisk g.D.Disk l.fn.disk l.disk;
 }
 
 abbrev pub decreases-loop-at : goal.decreases-loop-at

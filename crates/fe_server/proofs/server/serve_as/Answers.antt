@@ -15,7 +15,7 @@ returns-in_default-clause-acknowledged g c =
     let u = c.unserved.result in (
       Stopped,
       inl c.unserved.ensures.fault,
-      unbegun_acknowledged g.D.Disk.honest g.D.Disk.moment g.D.Disk.left_since g.D.Disk.may_leave g.D.Disk.failures c.args.keeper u.keeper Stopped u.account c.args.history.acts c.unserved.ensures.committed
+      unbegun_acknowledged g.D.Disk c.args.keeper u.keeper Stopped u.account c.args.history.acts c.unserved.ensures.committed
           (c.unserved.ensures.account ∙ c.account-nothing.ensures.account) c.requires.acts c.account-nothing.ensures.legal,
     )
 
@@ -24,7 +24,7 @@ returns-clause-committed g c =
     let r = c.run-keeper.result in
     let e = c.closed.ensures in (
       r.1.end,
-      subst (λ (k : KeeperState g.row.D.Denot). HasCommitted g.D.Disk.honest g.D.Disk.moment g.D.Disk.left_since g.D.Disk.may_leave g.D.Disk.failures c.args.keeper k r.1.end) (sym e.keeper) c.run-keeper.ensures.0,
+      subst (λ (k : KeeperState g.row.D.Denot). HasCommitted g.D.Disk c.args.keeper k r.1.end) (sym e.keeper) c.run-keeper.ensures.0,
       e.answer,
     )
 
@@ -35,8 +35,8 @@ returns-clause-acknowledged g c =
     let account = account_in c.closed.result in (
       r.1.end,
       e.answer,
-      subst (λ (k : KeeperState g.row.D.Denot). IsAcknowledged g.D.Disk.honest g.D.Disk.moment g.D.Disk.left_since c.args.keeper k r.1.end account) (sym e.keeper)
-          (ended_acknowledged g.D.Disk.honest g.D.Disk.moment g.D.Disk.left_since g.D.Disk.may_leave g.D.Disk.failures c.args.keeper r.0 r.1.end r.2 account e.leaves.0.items e.leaves.0.history c.run-keeper.ensures e.leaves.1 e.told),
+      subst (λ (k : KeeperState g.row.D.Denot). IsAcknowledged g.D.Disk c.args.keeper k r.1.end account) (sym e.keeper)
+          (ended_acknowledged g.D.Disk c.args.keeper r.0 r.1.end r.2 account e.leaves.0.items e.leaves.0.history c.run-keeper.ensures e.leaves.1 e.told),
     )
 
 pub returns-clause-whole : goal.returns-clause-whole

@@ -2,4 +2,4 @@ use Rattle.fe_server.proofs.Ends.{none_committed}
 use Rattle.fe_server.proofs.server.unserved.Goals as goal
 
 pub returns-clause-committed : goal.returns-clause-committed
-returns-clause-committed g c = none_committed g.D.Disk.honest g.D.Disk.may_leave g.D.Disk.moment g.D.Disk.left_since g.D.Disk.failures g.met.D.Disk.only_now c.args.keeper c.state.ensures.durable
+returns-clause-committed g c = none_committed g.D.Disk g.met.D.Disk.only_now c.args.keeper c.state.ensures.durable

@@ -53,10 +53,10 @@ returns-in-Err-clause-refused g c honest =
 
 pub returns-in-Err-clause-device : goal.returns-in-Err-clause-device
 returns-in-Err-clause-device g c =
-    opens_as g.D.Disk.size g.D.Disk.failures g.D.Disk.calls g.D.Disk.honest store.Device fault.Device _ _ c.args.disk c.in-Err.disk c.in-Err.ensures.device
+    opens_as g.D.Disk store.Device fault.Device _ _ c.args.disk c.in-Err.disk c.in-Err.ensures.device
     (λ is. ap (λ (f : keeper.Fault). Err f) (device_of _ _ c.told_as.ensures (cc is)))
     (λ is. let same : c.in-Err.fault ≡ store.Device = cc is in ap (λ (f : OpenFault). Err f) (subst (λ (e : keeper.Fault). IsToldAs e c.told_as.result) same c.told_as.ensures))
 
 pub returns-in-Ok-clause-device : goal.returns-in-Ok-clause-device
 returns-in-Ok-clause-device g c =
-    opens_as g.D.Disk.size g.D.Disk.failures g.D.Disk.calls g.D.Disk.honest store.Device fault.Device _ _ c.args.disk c.in-Ok.keeper.store.disk c.in-Ok.ensures.device (λ is. cc) (λ is. cc)
+    opens_as g.D.Disk store.Device fault.Device _ _ c.args.disk c.in-Ok.keeper.store.disk c.in-Ok.ensures.device (λ is. cc) (λ is. cc)

@@ -9,5 +9,5 @@ invariant_of-self g c =
     let p = c.self.inside.parts in
     let t = c.clear.new.self in
     let e = c.clear.ensures in
-    let stands = subst (λ (d : DeskState g.row.D.Denot). g.D.Disk.honest (disk_of d) → EachStandsFor g.D.Disk.may_leave (disk_of d) d.keeper.state) (sym c.self.view_is) c.requires in
-    (still_desk g.D.Disk.honest g.D.Disk.may_leave p t e.groups e.synced e.ports c.self.invariant.0 stands, λ quiet. still_quiet p t e.ports (c.self.invariant.1 quiet))
+    let stands = subst (λ (d : DeskState g.row.D.Denot). g.D.Disk.honest (disk_of d) → EachStandsFor g.D.Disk (disk_of d) d.keeper.state) (sym c.self.view_is) c.requires in
+    (still_desk g.D.Disk p t e.groups e.synced e.ports c.self.invariant.0 stands, λ quiet. still_quiet p t e.ports (c.self.invariant.1 quiet))

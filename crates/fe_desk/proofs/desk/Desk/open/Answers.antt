@@ -22,13 +22,13 @@ returns-in-Ok-clause-opened g c = λ honest.
 pub returns-in-Ok-clause-stands : goal.returns-in-Ok-clause-stands
 returns-in-Ok-clause-stands g c = λ honest.
     let k = c.in-Ok.keeper in
-    IfOk-weaker c.desk_over.result (λ desk. desk.keeper ≡ k) (λ desk. EachStandsFor g.D.Disk.may_leave (disk_of desk) desk.keeper.state)
-    (λ desk is. subst (λ (x : KeeperState g.row.D.Denot). EachStandsFor g.D.Disk.may_leave x.store.disk x.state) (sym is) (c.in-Ok.ensures.opened honest).durable) c.desk_over.ensures.keeper
+    IfOk-weaker c.desk_over.result (λ desk. desk.keeper ≡ k) (λ desk. EachStandsFor g.D.Disk (disk_of desk) desk.keeper.state)
+    (λ desk is. subst (λ (x : KeeperState g.row.D.Denot). EachStandsFor g.D.Disk x.store.disk x.state) (sym is) (c.in-Ok.ensures.opened honest).durable) c.desk_over.ensures.keeper
 
 pub returns-in-Ok-clause-reads : goal.returns-in-Ok-clause-reads
 returns-in-Ok-clause-reads g c = λ honest.
     let k = c.in-Ok.keeper in
-    subst (λ d. OnlyReads g.D.Disk.seen g.D.Disk.may_leave g.D.Disk.moment g.D.Disk.left_since c.args.disk d) (sym (disk_is c.desk_over.result k c.desk_over.ensures.keeper c.desk_over.ensures.disk))
+    subst (λ d. OnlyReads g.D.Disk c.args.disk d) (sym (disk_is c.desk_over.result k c.desk_over.ensures.keeper c.desk_over.ensures.disk))
     (c.in-Ok.ensures.reads honest)
 
 pub returns-in-Ok-clause-device : goal.returns-in-Ok-clause-device
@@ -48,7 +48,7 @@ returns-in-Err-clause-refused g c = λ honest s stands.
 
 pub returns-in-Ok-clause-told : goal.returns-in-Ok-clause-told
 returns-in-Ok-clause-told g c = λ honest.
-    short_opening g.D.Disk.calls (g.D.Disk.calls c.args.disk) c.desk_over.result (g.D.Disk.seen c.args.disk) c.in-Ok.keeper.state (c.in-Ok.ensures.opened honest).state c.desk_over.ensures.fault
+    short_opening g.D.Disk (g.D.Disk.calls c.args.disk) c.desk_over.result (g.D.Disk.seen c.args.disk) c.in-Ok.keeper.state (c.in-Ok.ensures.opened honest).state c.desk_over.ensures.fault
 
 pub returns-in-Ok-clause-unformatted : goal.returns-in-Ok-clause-unformatted
 returns-in-Ok-clause-unformatted g c = λ honest odd. absurd (c.in-Ok.ensures.unformatted honest odd)

@@ -9,7 +9,7 @@ use Rattle.fe_desk.proofs.desk.Desk.over.Goals as goal
 pub invariant_of-result : goal.invariant_of-result
 invariant_of-result g c =
     let p : Parts g.row.D.Denot = record { front = c.args.front; keeper = c.args.keeper; trace = c.new.result; handed = Nothing; making = None; owes = false; alloc = c.args.alloc } in (
-      first_desk g.D.Disk.honest g.D.Disk.may_leave (desk_of p)
+      first_desk g.D.Disk (desk_of p)
           (record {
             front = c.requires.first;
             clients = ap (λ ports. map client_of ports) c.new.ensures.ports;

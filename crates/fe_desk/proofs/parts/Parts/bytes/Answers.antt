@@ -54,7 +54,7 @@ returns-in_default-feed g c =
     let completes : CompletesMessage is.client.decoder piece =
     subst (λ (d : Decoding). CompletesMessage d piece) (port_reads piece is ports c.in-Some.at p refl c.take_left.ensures.place c.index_mut.ensures.value) c.in_default-feed.ensures.memory in
     record {
-      desk = subst (λ (cs : List Client). IsDesk g.D.Disk.honest g.D.Disk.may_leave (record b { standing = record b.standing { clients = cs } })) same c.take_left.ensures.desk;
+      desk = subst (λ (cs : List Client). IsDesk g.D.Disk (record b { standing = record b.standing { clients = cs } })) same c.take_left.ensures.desk;
       outputs = subst (λ (cs : List Client). outputs (record b.standing { clients = cs }) ≡ outputs s) same (left_outputs conn s b.standing c.take_left.ensures.clients);
       goes =
           subst
@@ -68,7 +68,7 @@ take_left-requires-2-clause-desk g c =
     let ports = c.take_left.new.self.trace.ports.items in
     let q = c.feed.new.self in
     let change = reading q.decoder (client_of q).left in
-    desk_reads g.D.Disk.honest g.D.Disk.may_leave (desk_of c.take_left.new.self) c.args.conn change (map client_of (slice_set ports c.in-Some.at q)) (λ d. refl)
+    desk_reads g.D.Disk (desk_of c.take_left.new.self) c.args.conn change (map client_of (slice_set ports c.in-Some.at q)) (λ d. refl)
     (port_changed ports c.args.conn c.in-Some.at c.index_mut.result.now q change c.take_left.ensures.place c.index_mut.ensures.value c.in-Ok.ensures.client) c.take_left.ensures.desk
 
 pub take_left-requires-2-clause-place : goal.take_left-requires-2-clause-place
@@ -76,7 +76,7 @@ take_left-requires-2-clause-place g c =
     fed_place c.take_left.new.self.trace.ports.items c.args.conn c.in-Some.at c.index_mut.result.now c.feed.new.self c.take_left.ensures.place c.index_mut.ensures.value c.in-Ok.ensures.client
 
 pub take_left-requires-2-clause-works : goal.take_left-requires-2-clause-works
-take_left-requires-2-clause-works g c = c.in_default-take_left.ensures.goes.ends.0.fine.works
+take_left-requires-2-clause-works g c = c.in_default-take_left.ensures.goes.ends.0.fine.after
 
 pub returns-in-Err-take_left : goal.returns-in-Err-take_left
 returns-in-Err-take_left g c =
@@ -94,7 +94,7 @@ returns-in-Err-take_left g c =
       outputs = left_outputs c.args.conn m n c.take_left-2.ensures.clients ∙ fed_outputs fed;
       goes =
           piece_told true c.told-in-Err-take_left.ensures (λ some. stream_more fed n c.take_left-2.ensures.clients c.take_left-2.ensures.rest some) (λ last stops. inr (fed_stops fed last stops))
-          (then goes (before goes.ends.0.fine.works (record { keeper = refl; groups = refl; synced = refl }) refl c.in-Err-take_left.ensures.goes));
+          (then goes (before goes.ends.0.fine.after (record { keeper = refl; groups = refl; synced = refl }) refl c.in-Err-take_left.ensures.goes));
     }
 
 pub returns-then-bad : goal.returns-then-bad
@@ -116,7 +116,7 @@ returns-then-bad g c =
       desk = c.leave.ensures.desk;
       outputs = ap (λ (t : Standing). outputs t) c.leave.ensures.gone ∙ stays.outputs_are ∙ left_outputs c.args.conn m n c.take_left-2.ensures.clients ∙ fed_outputs fed;
       goes =
-          piece_done (then goes (before goes.ends.0.fine.works (record { keeper = refl; groups = refl; synced = refl }) refl rest))
+          piece_done (then goes (before goes.ends.0.fine.after (record { keeper = refl; groups = refl; synced = refl }) refl rest))
           (record { keeper = c.leave.ensures.keeper; groups = ap (λ (t : Standing). t.groups) c.leave.ensures.gone ∙ gone_groups n c.args.conn; synced = c.leave.ensures.synced })
           (ap (λ (t : Standing). t.owes) c.leave.ensures.gone ∙ stays.owes) (stream_all fed n (standing_of c.leave.new.self) rest.ends.1 gone);
     }
@@ -138,6 +138,6 @@ returns-else-bad g c =
       desk = c.take_left-2.ensures.desk;
       outputs = left_outputs c.args.conn m n c.take_left-2.ensures.clients ∙ fed_outputs fed;
       goes =
-          piece_done (then goes (before goes.ends.0.fine.works (record { keeper = refl; groups = refl; synced = refl }) refl rest)) (store_itself _) refl
+          piece_done (then goes (before goes.ends.0.fine.after (record { keeper = refl; groups = refl; synced = refl }) refl rest)) (store_itself _) refl
           (stream_all fed n n rest.ends.1 (ap (λ (x : Bool). after_frame x n c.args.conn) (sym bad)));
     }

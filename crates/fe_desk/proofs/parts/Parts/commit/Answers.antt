@@ -12,7 +12,7 @@ pub returns-in_err-clear-clause-goes : goal.returns-in_err-clear-clause-goes
 returns-in_err-clear-clause-goes g c = passed_on c.from_residual.ensures.1 (λ last is. inl is) c.in_err-clear.ensures.goes
 
 pub clear-requires-2-clause-works : goal.clear-requires-2-clause-works
-clear-requires-2-clause-works g c = ap (λ (k : _). k.store.has_failed) c.cut.ensures.keeper ∙ c.in_ok-clear.ensures.goes.ends.0.fine.works
+clear-requires-2-clause-works g c = ap (λ (k : _). k.store.has_failed) c.cut.ensures.keeper ∙ c.in_ok-clear.ensures.goes.ends.0.fine.after
 
 pub returns-in_err-clear-2-clause-goes : goal.returns-in_err-clear-2-clause-goes
 returns-in_err-clear-2-clause-goes g c =
@@ -20,7 +20,7 @@ returns-in_err-clear-2-clause-goes g c =
     let begun : record (standing_of c.cut.new.self) { making = Some c.args.conn } ≡ room_begun (standing_of c.args.self.now) c.args.conn =
     ap (λ (s : Standing). record s { making = Some c.args.conn }) (c.cut.ensures.cut ∙ ap (λ (s : Standing). way.cut s) goes.ends.1) in
     then goes
-    (before goes.ends.0.fine.works (record { keeper = c.cut.ensures.keeper; groups = ap (λ t. map (λ g. g.items) t.groups.items) c.cut.ensures.trace; synced = ap (λ t. t.synced) c.cut.ensures.trace }) (ap (λ (s : Standing). s.owes) c.cut.ensures.cut)
+    (before goes.ends.0.fine.after (record { keeper = c.cut.ensures.keeper; groups = ap (λ t. map (λ g. g.items) t.groups.items) c.cut.ensures.trace; synced = ap (λ t. t.synced) c.cut.ensures.trace }) (ap (λ (s : Standing). s.owes) c.cut.ensures.cut)
     (passed_on c.from_residual-in_err-clear-2.ensures.1 (λ last is. inr (is ∙ begun)) c.in_err-clear-2.ensures.goes))
 
 pub returns-clause-goes : goal.returns-clause-goes
@@ -30,6 +30,6 @@ returns-clause-goes g c =
     let begun : record (standing_of c.cut.new.self) { making = Some c.args.conn } ≡ room_begun (standing_of c.args.self.now) c.args.conn =
     ap (λ (s : Standing). record s { making = Some c.args.conn }) (c.cut.ensures.cut ∙ ap (λ (s : Standing). way.cut s) goes.ends.1) in
     then goes
-    (before goes.ends.0.fine.works (record { keeper = c.cut.ensures.keeper; groups = ap (λ t. map (λ g. g.items) t.groups.items) c.cut.ensures.trace; synced = ap (λ t. t.synced) c.cut.ensures.trace }) (ap (λ (s : Standing). s.owes) c.cut.ensures.cut)
+    (before goes.ends.0.fine.after (record { keeper = c.cut.ensures.keeper; groups = ap (λ t. map (λ g. g.items) t.groups.items) c.cut.ensures.trace; synced = ap (λ t. t.synced) c.cut.ensures.trace }) (ap (λ (s : Standing). s.owes) c.cut.ensures.cut)
     (after second (record { keeper = refl; groups = refl; synced = refl }) refl
     (ap (λ (s : Standing). made s) second.ends.1 ∙ ap (λ (s : Standing). made (cleared s)) begun ∙ made_alike (way.cut (cleared (standing_of c.args.self.now))) (Some c.args.conn))))

@@ -9,5 +9,5 @@ returns-clause-desk g c =
     let old = c.args.self.now in
     let new = c.unmake.new.self in
     let came = connects (standing_of old) (standing_of c.join.new.self) (standing_of new) c.args.conn c.in_ok-join.ensures.joined c.unmake.ensures.unmade in
-    connects_desk g.D.Disk.honest g.D.Disk.may_leave (standing_of old) (standing_of new) old.keeper new.keeper old.trace.synced new.trace.synced c.args.conn came
+    connects_desk g.D.Disk (standing_of old) (standing_of new) old.keeper new.keeper old.trace.synced new.trace.synced c.args.conn came
     (c.unmake.ensures.keeper ∙ c.join.ensures.keeper) (ap (λ (t : Trace). t.synced) c.unmake.ensures.trace ∙ c.join.ensures.synced) c.requires.desk

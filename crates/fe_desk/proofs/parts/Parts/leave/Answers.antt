@@ -11,5 +11,5 @@ returns-clause-desk g c =
     let old = c.args.self.now in
     let new = c.unmake.new.self in
     let is = goes (standing_of old) (standing_of new) c.gone.new.self c.args.conn c.gone.ensures.dropped (c.unmake.ensures.unmade ∙ ap (λ (s : Standing). unmade s c.args.conn) c.forget.ensures.left) in
-    gone_desk g.D.Disk.honest g.D.Disk.may_leave (standing_of old) (standing_of new) old.keeper new.keeper old.trace.synced new.trace.synced c.args.conn is
+    gone_desk g.D.Disk (standing_of old) (standing_of new) old.keeper new.keeper old.trace.synced new.trace.synced c.args.conn is
     (c.unmake.ensures.keeper ∙ c.forget.ensures.keeper) (ap (λ (t : Trace). t.synced) c.unmake.ensures.trace ∙ c.forget.ensures.synced) c.requires.desk

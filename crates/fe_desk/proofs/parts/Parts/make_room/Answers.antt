@@ -16,7 +16,7 @@ returns-then-room-clause-goes g c =
     done (λ is. sym (room_by (standing_of c.go_on.new.self) true (sym c.room.ensures ∙ c.if-room.true)) ∙ ap (λ (s : Standing). with_room s) is) c.in_ok-go_on.ensures.goes
 
 pub commit-requires-clause-works : goal.commit-requires-clause-works
-commit-requires-clause-works g c = c.in_ok-go_on.ensures.goes.ends.0.fine.works
+commit-requires-clause-works g c = c.in_ok-go_on.ensures.goes.ends.0.fine.after
 
 pub returns-clause-room : goal.returns-clause-room
 returns-clause-room g c =

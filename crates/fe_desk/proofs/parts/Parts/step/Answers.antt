@@ -18,7 +18,7 @@ returns-then-has_failed g c = record {
   is_step = refused g.D.Disk c.args.step.now (desk_of c.args.self.now) (sym c.has_failed.ensures ∙ c.if-has_failed.true);
   quiet = tt;
   extends = extends_itself (outputs (standing_of c.args.self.now));
-  advances = advances_itself g.D.Disk.honest g.D.Disk.may_leave g.D.Disk.moment g.D.Disk.left_since g.met.D.Disk.only_now (desk_of c.args.self.now) c.requires.desk;
+  advances = advances_itself g.D.Disk g.met.D.Disk.only_now (desk_of c.args.self.now) c.requires.desk;
 }
 
 pub returns-then-is_err : goal.returns-then-is_err
@@ -30,7 +30,7 @@ returns-then-is_err g c = record {
   quiet = tt;
   extends = c.settle.ensures.extends;
   advances =
-      advances_as g.D.Disk.honest g.D.Disk.may_leave g.D.Disk.moment g.D.Disk.left_since g.met.D.Disk.only_now (desk_of c.args.self.now) (desk_of c.settle.new.self) c.requires.desk c.settle.ensures.store;
+      advances_as g.D.Disk g.met.D.Disk.only_now (desk_of c.args.self.now) (desk_of c.settle.new.self) c.requires.desk c.settle.ensures.store;
 }
 
 pub act-requires-clause-works : goal.act-requires-clause-works
@@ -48,7 +48,7 @@ returns-in_err-act g c =
           step_fault g.D.Disk c.args.step.now (desk_of old) c.from_residual.result c.from_residual.ensures.1 (sym c.has_failed.ensures ∙ c.if-has_failed.false) (settled (desk_of old) (desk_of mid) settles c.settle.ensures.store) c.act.ensures.desk c.in_err-act.ensures.goes;
       quiet = of_fault (HasNoMail (standing_of new)) c.from_residual.result _ c.from_residual.ensures.1;
       extends = extends_both (outputs (standing_of old)) (outputs (standing_of mid)) (outputs (standing_of new)) c.settle.ensures.extends (extends_as (outputs (standing_of mid)) (outputs (standing_of new)) (act_silent g.D.Disk c.args.step.now (desk_of mid) c.in_err-act.ensures.goes));
-      advances = advances_after g.D.Disk.honest g.D.Disk.may_leave g.D.Disk.moment g.D.Disk.left_since (desk_of old) (desk_of mid) (desk_of new) c.settle.ensures.store c.in_err-act.ensures.goes.advances;
+      advances = advances_after g.D.Disk (desk_of old) (desk_of mid) (desk_of new) c.settle.ensures.store c.in_err-act.ensures.goes.advances;
     }
 
 -- where no box had a mail, the settling changed nothing
@@ -85,8 +85,8 @@ returns-then-is_err-2 g c =
           (extends_both (outputs (standing_of old)) (outputs (standing_of mid)) (outputs (standing_of last)) c.settle.ensures.extends (acts_extends (standing_of mid) c.args.step.now (standing_of last) goes.ends.acts))
           c.finish.ensures.extends;
       advances =
-          advances_then g.D.Disk.honest g.D.Disk.may_leave g.D.Disk.moment g.D.Disk.left_since (desk_of old) (desk_of last) (desk_of new)
-          (advances_after g.D.Disk.honest g.D.Disk.may_leave g.D.Disk.moment g.D.Disk.left_since (desk_of old) (desk_of mid) (desk_of last) c.settle.ensures.store goes.advances) c.finish.ensures.store;
+          advances_then g.D.Disk (desk_of old) (desk_of last) (desk_of new)
+          (advances_after g.D.Disk (desk_of old) (desk_of mid) (desk_of last) c.settle.ensures.store goes.advances) c.finish.ensures.store;
     }
 
 pub returns : goal.returns
@@ -107,6 +107,6 @@ returns g c =
           (extends_both (outputs (standing_of old)) (outputs (standing_of mid)) (outputs (standing_of last)) c.settle.ensures.extends (acts_extends (standing_of mid) c.args.step.now (standing_of last) goes.ends.acts))
           c.finish.ensures.extends;
       advances =
-          advances_then g.D.Disk.honest g.D.Disk.may_leave g.D.Disk.moment g.D.Disk.left_since (desk_of old) (desk_of last) (desk_of new)
-          (advances_after g.D.Disk.honest g.D.Disk.may_leave g.D.Disk.moment g.D.Disk.left_since (desk_of old) (desk_of mid) (desk_of last) c.settle.ensures.store goes.advances) c.finish.ensures.store;
+          advances_then g.D.Disk (desk_of old) (desk_of last) (desk_of new)
+          (advances_after g.D.Disk (desk_of old) (desk_of mid) (desk_of last) c.settle.ensures.store goes.advances) c.finish.ensures.store;
     }

@@ -13,7 +13,7 @@ returns-in_default g c =
     let old = c.args.self.now in
     let value : c.replace.result ≡ old.handed = c.replace.ensures.value in
     record {
-      desk = subst (λ (d : DeskState g.row.D.Denot). IsDesk g.D.Disk.honest g.D.Disk.may_leave d) (sym (ap (λ (h : Handed). with_handed (desk_of old) h) value)) c.requires.desk;
+      desk = subst (λ (d : DeskState g.row.D.Denot). IsDesk g.D.Disk d) (sym (ap (λ (h : Handed). with_handed (desk_of old) h) value)) c.requires.desk;
       clients = refl;
       goes =
           stays {k = g.D.Disk} g.met.D.Disk.only_now c.requires.desk c.requires.works (record { keeper = refl; groups = refl; synced = refl }) refl

@@ -43,7 +43,7 @@ returns-in-Ok-append-clause-desk g c =
     let tied = subst (λ (b : Batch). IsAhead (handing (standing_of old) (Cut b)) old.keeper.state) (sym back) c.requires.desk.tied in
     let works : new.store.has_failed ≡ false =
     ap (λ (s : StoreState g.row.D.Denot). s.has_failed) c.in-Ok-append.ensures.appended.store ∙ appends_working old.keeper.store batch.entries ∙ c.requires.works in
-    desk_stored g.D.Disk.honest g.D.Disk.may_leave g.D.Disk.moment g.D.Disk.left_since _
+    desk_stored g.D.Disk _
     (tied_stored (standing_of old) (map (λ g. g.items) c.push.new.self.items) old.keeper.state new.state c.in-Ok-append.batch next tied)
     c.requires.desk.known (c.len.ensures ∙ omega (arith, c.push.new.self.ok.0, length-map c.push.new.self.items (λ g. g.items))) (λ honest. c.append.ensures.durable honest works)
 
@@ -61,11 +61,11 @@ returns-in-Ok-append-clause-goes g c =
     record {
       owes = refl;
       advances =
-          advances_group g.D.Disk.honest g.D.Disk.may_leave g.D.Disk.moment g.D.Disk.left_since (with_handed (desk_of old) (Cut batch)) _ batch.entries groups
+          advances_group g.D.Disk (with_handed (desk_of old) (Cut batch)) _ batch.entries groups
           (c.requires.desk.all c.requires.works) c.requires.desk.tied.handed.1 (legal_both old.keeper.state batch.entries old.front.service.pending c.requires.desk.tied.legal).0
           (inr (stored, replica)) c.append.ensures.any_moment c.append.ensures.honesty;
       ends = (
-        record { fine = record { works = e.ends.after; still = e.ends.still }; grows = stores_one (with_handed (desk_of old) (Cut batch)) _ batch.entries groups e.appended.state e.appended.store },
+        record { fine = record { before = e.ends.before; after = e.ends.after; still = e.ends.still }; grows = stores_one (with_handed (desk_of old) (Cut batch)) _ batch.entries groups e.appended.state e.appended.store },
         ap (λ (b : Batch). record (handing (standing_of old) (Stored b)) { groups = map (λ g. g.items) c.push.new.self.items }) e.returned ∙ ap (λ gs. record (handing (standing_of old) (Stored batch)) { groups = gs }) groups,
       );
     }
@@ -76,14 +76,14 @@ returns-in-NoMemory g c =
     let batch = c.args.batch in
     let new = c.append.new.self in
     let back : c.in-Err.batch ≡ batch = c.in-Err.ensures.returned in
-    let kept : new ≡ old.keeper = (short_told g.D.Disk.failures (ForBatch old.keeper batch.first batch.entries) c.in-Err.fault old.keeper new c.in-NoMemory.is c.in-Err.ensures.ends).1.same in
+    let kept : new ≡ old.keeper = (short_told g.D.Disk (ForBatch old.keeper batch.first batch.entries) c.in-Err.fault old.keeper new c.in-NoMemory.is c.in-Err.ensures.ends).1.same in
     let replica : new.state ≡ old.keeper.state = c.in-Err.ensures.err in
     let groups : map (λ g. g.items) c.pop.new.self.items ≡ map (λ g. g.items) old.trace.groups.items =
     popped (λ g. g.items) old.trace.groups.items c.push.new.self.items c.pop.new.self.items _ _ c.push.result c.is_err.result c.push.ensures.items c.is_err.ensures.value c.if-is_err.false
     c.push.new.self.ok.0 c.pop.ensures.rest in
     record {
       desk =
-          desk_as g.D.Disk.honest g.D.Disk.may_leave (with_handed (desk_of old) (Cut batch)) _ c.requires.desk (record { keeper = kept; groups = groups; synced = refl })
+          desk_as g.D.Disk (with_handed (desk_of old) (Cut batch)) _ c.requires.desk (record { keeper = kept; groups = groups; synced = refl })
           (tied_cut (standing_of old) (map (λ g. g.items) c.pop.new.self.items) old.keeper.state new.state batch c.in-Err.batch back replica c.requires.desk.tied) c.requires.desk.known;
       clients = refl;
       goes =
@@ -107,19 +107,19 @@ returns-in_default-fault g c =
     let begins : batch.first ≡ old.keeper.state.place = begins_there old.front old.keeper.state batch c.state.ensures.front.tied tied.handed.0 tied.state in
     let Cause : Fault → Type 0 = ForBatch old.keeper batch.first batch.entries in
     let device : c.in-Err.fault ≡ Device =
-    only_device g.D.Disk.failures Cause c.in-Err.fault old.keeper new c.requires.works (λ is. c.in_default-fault.not-NoMemory is)
+    only_device g.D.Disk Cause c.in-Err.fault old.keeper new c.requires.works (λ is. c.in_default-fault.not-NoMemory is)
     (λ place is. no_mismatch old.keeper.state batch.first batch.entries place begins tied.handed.1 legal is) c.in-Err.ensures.ends in
-    let breaks = (device_told g.D.Disk.failures Cause c.in-Err.fault old.keeper new device c.in-Err.ensures.ends).1 in
+    let breaks = (device_told g.D.Disk Cause c.in-Err.fault old.keeper new device c.in-Err.ensures.ends).1 in
     record {
       desk =
-          desk_torn g.D.Disk.honest g.D.Disk.may_leave g.D.Disk.moment g.D.Disk.left_since g.met.D.Disk.counts_now (with_handed (desk_of old) (Cut batch)) _ batch.entries c.requires.works
+          desk_torn g.D.Disk g.met.D.Disk.counts_now (with_handed (desk_of old) (Cut batch)) _ batch.entries c.requires.works
           groups all refl replica breaks.failed c.append.ensures.any_moment c.append.ensures.honesty
           (tied_cut (standing_of old) (map (λ g. g.items) c.push.new.self.items) old.keeper.state new.state batch c.in-Err.batch back replica tied) c.requires.desk.known;
       clients = refl;
       goes = record {
         owes = refl;
         advances =
-            advances_group g.D.Disk.honest g.D.Disk.may_leave g.D.Disk.moment g.D.Disk.left_since (with_handed (desk_of old) (Cut batch)) _ batch.entries groups all tied.handed.1 legal
+            advances_group g.D.Disk (with_handed (desk_of old) (Cut batch)) _ batch.entries groups all tied.handed.1 legal
             (inl (refl, replica)) c.append.ensures.any_moment c.append.ensures.honesty;
         ends =
             subst
@@ -133,7 +133,7 @@ returns-in_default-fault g c =
                 standing = ap (λ (b : Batch). record (handing (standing_of old) (Cut b)) { groups = map (λ g. g.items) c.push.new.self.items }) back ∙ ap (λ gs. record (handing (standing_of old) (Cut batch)) { groups = gs }) groups;
                 synced = all;
               };
-              failed = record { failed = breaks.failed; rises = breaks.rises };
+              failed = record { before = breaks.before; failed = breaks.failed; rises = breaks.rises };
             });
       };
     }

@@ -21,7 +21,7 @@ pub make_room-requires-clause-desk : goal.make_room-requires-clause-desk
 make_room-requires-clause-desk g c = c.loop-self.invariant.desk
 
 pub make_room-requires-clause-works : goal.make_room-requires-clause-works
-make_room-requires-clause-works g c = c.loop-self.invariant.goes.ends.0.fine.works
+make_room-requires-clause-works g c = c.loop-self.invariant.goes.ends.0.fine.after
 
 pub returns-in_err-make_room-clause-clients : goal.returns-in_err-make_room-clause-clients
 returns-in_err-make_room-clause-clients g c =

@@ -16,7 +16,7 @@ returns-clause-desk g c =
     let ports = c.args.self.now.trace.ports.items in
     let q = c.first_left-message.new.port in
     let taken = c.take_message.ensures.taken in
-    desk_enters g.D.Disk.honest g.D.Disk.may_leave (desk_of c.args.self.now) _ taken.0 c.args.conn (relieved (client_of q).left)
+    desk_enters g.D.Disk (desk_of c.args.self.now) _ taken.0 c.args.conn (relieved (client_of q).left)
     (record { keeper = refl; groups = refl; synced = refl }) refl taken.2
     (port_changed ports c.args.conn c.args.at c.index_mut.result.now q (relieved (client_of q).left) c.requires.place c.index_mut.ensures.value c.first_left-message.ensures.client)
     (λ d. refl) c.requires.desk

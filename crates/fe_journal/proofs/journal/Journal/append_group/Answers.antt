@@ -13,7 +13,7 @@ returns-clause-any_moment g c =
     let size : 6 + length payload ≤ length buffer = omega (arith, long, c.self.invariant.buffer, c.requires.allowed.within, c.requires.fits) in
     let bytes_are = group_read c.deref.result.now buffer c.self.inside.buffer.items payload c.self.inside.buffer.len c.put_group-count.result c.deref.ensures.value long size c.put_group-count.ensures.bytes c.put_group-count.ensures.size in
     let fits : GroupFits c.args.self.now.format c.args.self.now.used (length payload) = record { allowed = c.requires.allowed; within = omega (arith, c.requires.fits, c.requires.allowed.some) } in
-    append_run g.D.Disk.moment g.D.Disk.left_since g.D.Disk.seen g.D.Disk.may_leave g.D.Disk.honest c.self.inside c.args.self.now payload _ c.area_of.result c.self.view_is (g.met.D.Disk.seen_may_stay c.self.inside.disk) c.area_of.ensures fits bytes_are c.commit-outcome.new.disk c.commit-outcome.ensures.any_moment
+    append_run g.D.Disk c.self.inside c.args.self.now payload _ c.area_of.result c.self.view_is (g.met.D.Disk.seen_may_stay c.self.inside.disk) c.area_of.ensures fits bytes_are c.commit-outcome.new.disk c.commit-outcome.ensures.any_moment
 
 pub returns-then-is_err-clause-any_moment : goal.returns-then-is_err-clause-any_moment
 returns-then-is_err-clause-any_moment g c =
@@ -23,7 +23,7 @@ returns-then-is_err-clause-any_moment g c =
     let size : 6 + length payload ≤ length buffer = omega (arith, long, c.self.invariant.buffer, c.requires.allowed.within, c.requires.fits) in
     let bytes_are = group_read c.deref.result.now buffer c.self.inside.buffer.items payload c.self.inside.buffer.len c.put_group-count.result c.deref.ensures.value long size c.put_group-count.ensures.bytes c.put_group-count.ensures.size in
     let fits : GroupFits c.args.self.now.format c.args.self.now.used (length payload) = record { allowed = c.requires.allowed; within = omega (arith, c.requires.fits, c.requires.allowed.some) } in
-    append_run g.D.Disk.moment g.D.Disk.left_since g.D.Disk.seen g.D.Disk.may_leave g.D.Disk.honest c.self.inside c.args.self.now payload _ c.area_of.result c.self.view_is (g.met.D.Disk.seen_may_stay c.self.inside.disk) c.area_of.ensures fits bytes_are c.commit-outcome.new.disk c.commit-outcome.ensures.any_moment
+    append_run g.D.Disk c.self.inside c.args.self.now payload _ c.area_of.result c.self.view_is (g.met.D.Disk.seen_may_stay c.self.inside.disk) c.area_of.ensures fits bytes_are c.commit-outcome.new.disk c.commit-outcome.ensures.any_moment
 
 pub returns-clause-appended : goal.returns-clause-appended
 returns-clause-appended g c =
@@ -34,4 +34,4 @@ returns-clause-appended g c =
     let bytes_are = group_read c.deref.result.now buffer c.self.inside.buffer.items payload c.self.inside.buffer.len c.put_group-count.result c.deref.ensures.value long size c.put_group-count.ensures.bytes c.put_group-count.ensures.size in
     let fits : GroupFits c.args.self.now.format c.args.self.now.used (length payload) = record { allowed = c.requires.allowed; within = omega (arith, c.requires.fits, c.requires.allowed.some) } in
     let works = sym c.is_err.ensures.value ∙ c.if-is_err.false in
-    append_kept g.D.Disk.moment g.D.Disk.left_since g.D.Disk.seen g.D.Disk.may_leave g.D.Disk.honest c.self.inside c.args.self.now payload _ c.area_of.result c.self.view_is (g.met.D.Disk.seen_may_stay c.self.inside.disk) c.area_of.ensures fits bytes_are c.commit-outcome.new.disk (λ honest. at_ok c.commit-outcome.result works (c.commit-outcome.ensures.committed honest)) (λ honest. at_ok c.commit-outcome.result works (c.commit-outcome.ensures.durable honest))
+    append_kept g.D.Disk c.self.inside c.args.self.now payload _ c.area_of.result c.self.view_is (g.met.D.Disk.seen_may_stay c.self.inside.disk) c.area_of.ensures fits bytes_are c.commit-outcome.new.disk (λ honest. at_ok c.commit-outcome.result works (c.commit-outcome.ensures.committed honest)) (λ honest. at_ok c.commit-outcome.result works (c.commit-outcome.ensures.durable honest))

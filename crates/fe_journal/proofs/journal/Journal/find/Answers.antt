@@ -11,7 +11,7 @@ pub returns-in-Ok-clause-found : goal.returns-in-Ok-clause-found
 returns-in-Ok-clause-found g c = λ honest.
     let same = (c.read_store.ensures.reads honest).same in
     let store = subst (λ (l : List ℕ). IsStore l c.in-Ok.store) (sym same) (c.in-Ok.ensures.store honest) in
-    subst (λ (l : List ℕ). IsFound g.D.Disk.seen g.D.Disk.may_leave l c.found_in.result) same (c.found_in.ensures.found (c.read_store.ensures.device.honesty.1 honest) store (c.in-Ok.ensures.settled honest))
+    subst (λ (l : List ℕ). IsFound g.D.Disk l c.found_in.result) same (c.found_in.ensures.found (c.read_store.ensures.device.honesty.1 honest) store (c.in-Ok.ensures.settled honest))
 
 pub returns-in-Err-clause-refused : goal.returns-in-Err-clause-refused
 returns-in-Err-clause-refused g c = λ honest.
@@ -24,7 +24,7 @@ returns-in-Err-clause-refused g c = λ honest.
 
 pub returns-in-Ok-clause-reads : goal.returns-in-Ok-clause-reads
 returns-in-Ok-clause-reads g c = λ honest.
-    subst (λ (d : g.row.D.Denot). OnlyReads g.D.Disk.seen g.D.Disk.may_leave g.D.Disk.moment g.D.Disk.left_since c.args.disk d) (sym c.found_in.ensures.disk) (c.read_store.ensures.reads honest)
+    subst (λ (d : g.row.D.Denot). OnlyReads g.D.Disk c.args.disk d) (sym c.found_in.ensures.disk) (c.read_store.ensures.reads honest)
 
 pub returns-in-Err-clause-reads : goal.returns-in-Err-clause-reads
 returns-in-Err-clause-reads g c = c.read_store.ensures.reads
@@ -36,13 +36,13 @@ pub returns-in-Ok-clause-unformatted : goal.returns-in-Ok-clause-unformatted
 returns-in-Ok-clause-unformatted g c = λ honest odd.
     let same = (c.read_store.ensures.reads honest).same in
     let store = subst (λ (l : List ℕ). IsStore l c.in-Ok.store) (sym same) (c.in-Ok.ensures.store honest) in
-    let found = subst (λ (l : List ℕ). IsFound g.D.Disk.seen g.D.Disk.may_leave l c.found_in.result) same (c.found_in.ensures.found (c.read_store.ensures.device.honesty.1 honest) store (c.in-Ok.ensures.settled honest)) in
+    let found = subst (λ (l : List ℕ). IsFound g.D.Disk l c.found_in.result) same (c.found_in.ensures.found (c.read_store.ensures.device.honesty.1 honest) store (c.in-Ok.ensures.settled honest)) in
     absurd (formatted found.contents (g.D.Disk.seen c.args.disk) found.holds odd)
 
 pub returns-in-Err-clause-device : goal.returns-in-Err-clause-device
-returns-in-Err-clause-device g c = opens_as g.D.Disk.size g.D.Disk.failures g.D.Disk.calls g.D.Disk.honest Device Device _ _ c.args.disk c.read_store.new.disk c.in-Err.ensures.device (λ e. cc) (λ e. cc)
+returns-in-Err-clause-device g c = opens_as g.D.Disk Device Device _ _ c.args.disk c.read_store.new.disk c.in-Err.ensures.device (λ e. cc) (λ e. cc)
 
 pub returns-in-Ok-clause-device : goal.returns-in-Ok-clause-device
 returns-in-Ok-clause-device g c =
-    subst (λ (d : g.row.D.Denot). AsksToOpen g.D.Disk.size g.D.Disk.failures g.D.Disk.calls g.D.Disk.honest Device (Ok c.found_in.result) c.args.disk d) (sym c.found_in.ensures.disk)
-    (opens_as g.D.Disk.size g.D.Disk.failures g.D.Disk.calls g.D.Disk.honest Device Device _ _ c.args.disk c.read_store.new.disk c.in-Ok.ensures.device (λ e. cc) (λ e. cc))
+    subst (λ (d : g.row.D.Denot). AsksToOpen g.D.Disk Device (Ok c.found_in.result) c.args.disk d) (sym c.found_in.ensures.disk)
+    (opens_as g.D.Disk Device Device _ _ c.args.disk c.read_store.new.disk c.in-Ok.ensures.device (λ e. cc) (λ e. cc))

@@ -2,4 +2,4 @@ use Rattle.fe_journal.proofs.FirstStore.{first_keeps}
 use Rattle.fe_journal.proofs.journal.Journal.format_in.Goals as goal
 
 pub returns-in-Ok-clause-formatted : goal.returns-in-Ok-clause-formatted
-returns-in-Ok-clause-formatted g c = λ honest. first_keeps g.D.Disk.seen g.D.Disk.may_leave c.opened.result c.write_store.new.disk c.args.format c.opened.ensures (c.in-Ok.ensures.holds honest) (c.in-Ok.ensures.settled honest)
+returns-in-Ok-clause-formatted g c = λ honest. first_keeps g.D.Disk c.opened.result c.write_store.new.disk c.args.format c.opened.ensures (c.in-Ok.ensures.holds honest) (c.in-Ok.ensures.settled honest)

@@ -8,16 +8,16 @@ use Rattle.fe_journal.proofs.journal.Journal.slot_close.Goals as goal
 
 pub returns-clause-any_moment : goal.returns-clause-any_moment
 returns-clause-any_moment g c =
-    begin_run g.D.Disk.moment g.D.Disk.left_since g.D.Disk.seen g.D.Disk.may_leave g.D.Disk.honest c.self.inside c.args.self.now c.self.view_is (g.met.D.Disk.seen_may_stay c.self.inside.disk) c.args.format c.args.generation c.args.image_length (1 - c.self.inside.slot) refl c.requires.next (omega (arith, c.ranges.generation.fits)) c.requires.allowed c.begin_slot-outcome.new.disk c.begin_slot-outcome.ensures.any_moment
+    begin_run g.D.Disk c.self.inside c.args.self.now c.self.view_is (g.met.D.Disk.seen_may_stay c.self.inside.disk) c.args.format c.args.generation c.args.image_length (1 - c.self.inside.slot) refl c.requires.next (omega (arith, c.ranges.generation.fits)) c.requires.allowed c.begin_slot-outcome.new.disk c.begin_slot-outcome.ensures.any_moment
 
 pub returns-then-is_err-clause-any_moment : goal.returns-then-is_err-clause-any_moment
 returns-then-is_err-clause-any_moment g c =
-    begin_run g.D.Disk.moment g.D.Disk.left_since g.D.Disk.seen g.D.Disk.may_leave g.D.Disk.honest c.self.inside c.args.self.now c.self.view_is (g.met.D.Disk.seen_may_stay c.self.inside.disk) c.args.format c.args.generation c.args.image_length (1 - c.self.inside.slot) refl c.requires.next (omega (arith, c.ranges.generation.fits)) c.requires.allowed c.begin_slot-outcome.new.disk c.begin_slot-outcome.ensures.any_moment
+    begin_run g.D.Disk c.self.inside c.args.self.now c.self.view_is (g.met.D.Disk.seen_may_stay c.self.inside.disk) c.args.format c.args.generation c.args.image_length (1 - c.self.inside.slot) refl c.requires.next (omega (arith, c.ranges.generation.fits)) c.requires.allowed c.begin_slot-outcome.new.disk c.begin_slot-outcome.ensures.any_moment
 
 pub returns-clause-closed : goal.returns-clause-closed
 returns-clause-closed g c =
     let works = sym c.is_err.ensures.value ∙ c.if-is_err.false in
-    begin_kept g.D.Disk.moment g.D.Disk.left_since g.D.Disk.seen g.D.Disk.may_leave g.D.Disk.honest c.self.inside c.args.self.now c.self.view_is (g.met.D.Disk.seen_may_stay c.self.inside.disk) c.args.format c.args.generation c.args.image_length (1 - c.self.inside.slot) refl c.requires.next (omega (arith, c.ranges.generation.fits)) c.requires.allowed c.begin_slot-outcome.new.disk
+    begin_kept g.D.Disk c.self.inside c.args.self.now c.self.view_is (g.met.D.Disk.seen_may_stay c.self.inside.disk) c.args.format c.args.generation c.args.image_length (1 - c.self.inside.slot) refl c.requires.next (omega (arith, c.ranges.generation.fits)) c.requires.allowed c.begin_slot-outcome.new.disk
     (λ honest synced. at_ok c.begin_slot-outcome.result works (c.begin_slot-outcome.ensures.left honest synced)) (λ honest. at_ok c.begin_slot-outcome.result works (c.begin_slot-outcome.ensures.begun honest))
 
 pub returns-clause-made : goal.returns-clause-made

@@ -14,7 +14,7 @@ returns-clause-any_moment g c =
     let count = c.put_area_start-count.result in
     let whole : c.deref.result.now ≡ buffer = c.deref.ensures.value ∙ buffer_whole buffer c.self.inside.buffer.items c.self.inside.buffer.len (omega (arith, c.put_area_start-count.ensures.same, c.deref_mut.ensures.len)) in
     let bytes_are : take count c.deref.result.now ≡ area_start c.args.catch_up.now = ap (λ (l : List ℕ). take count l) whole ∙ c.put_area_start-count.ensures.bytes in
-    finish_run g.D.Disk.moment g.D.Disk.left_since g.D.Disk.seen g.D.Disk.may_leave g.D.Disk.honest c.self.inside c.args.self.now c.self.view_is (g.met.D.Disk.seen_may_stay c.self.inside.disk) c.args.catch_up.now _ c.area_of.result c.gate_of.result c.area_of.ensures c.gate_of.ensures bytes_are c.requires.begun c.commit-outcome.new.disk c.commit-outcome.ensures.any_moment
+    finish_run g.D.Disk c.self.inside c.args.self.now c.self.view_is (g.met.D.Disk.seen_may_stay c.self.inside.disk) c.args.catch_up.now _ c.area_of.result c.gate_of.result c.area_of.ensures c.gate_of.ensures bytes_are c.requires.begun c.commit-outcome.new.disk c.commit-outcome.ensures.any_moment
 
 pub returns-then-is_err-clause-any_moment : goal.returns-then-is_err-clause-any_moment
 returns-then-is_err-clause-any_moment g c =
@@ -22,7 +22,7 @@ returns-then-is_err-clause-any_moment g c =
     let count = c.put_area_start-count.result in
     let whole : c.deref.result.now ≡ buffer = c.deref.ensures.value ∙ buffer_whole buffer c.self.inside.buffer.items c.self.inside.buffer.len (omega (arith, c.put_area_start-count.ensures.same, c.deref_mut.ensures.len)) in
     let bytes_are : take count c.deref.result.now ≡ area_start c.args.catch_up.now = ap (λ (l : List ℕ). take count l) whole ∙ c.put_area_start-count.ensures.bytes in
-    finish_run g.D.Disk.moment g.D.Disk.left_since g.D.Disk.seen g.D.Disk.may_leave g.D.Disk.honest c.self.inside c.args.self.now c.self.view_is (g.met.D.Disk.seen_may_stay c.self.inside.disk) c.args.catch_up.now _ c.area_of.result c.gate_of.result c.area_of.ensures c.gate_of.ensures bytes_are c.requires.begun c.commit-outcome.new.disk c.commit-outcome.ensures.any_moment
+    finish_run g.D.Disk c.self.inside c.args.self.now c.self.view_is (g.met.D.Disk.seen_may_stay c.self.inside.disk) c.args.catch_up.now _ c.area_of.result c.gate_of.result c.area_of.ensures c.gate_of.ensures bytes_are c.requires.begun c.commit-outcome.new.disk c.commit-outcome.ensures.any_moment
 
 pub returns-clause-finished : goal.returns-clause-finished
 returns-clause-finished g c =
@@ -32,7 +32,7 @@ returns-clause-finished g c =
     let bytes_are : take count c.deref.result.now ≡ area_start c.args.catch_up.now = ap (λ (l : List ℕ). take count l) whole ∙ c.put_area_start-count.ensures.bytes in
     let works = sym c.is_err.ensures.value ∙ c.if-is_err.false in
     let end = start_end buffer c.args.catch_up.now count (omega (arith, c.put_area_start-count.ensures.within, c.put_area_start-count.ensures.same)) c.put_area_start-count.ensures.bytes in
-    finish_kept g.D.Disk.moment g.D.Disk.left_since g.D.Disk.seen g.D.Disk.may_leave g.D.Disk.honest c.self.inside c.args.self.now c.self.view_is (g.met.D.Disk.seen_may_stay c.self.inside.disk) c.args.catch_up.now _ c.area_of.result c.gate_of.result c.area_of.ensures c.gate_of.ensures bytes_are c.requires.begun c.commit-outcome.new.disk c.in-Some.begun (count - 1) c.in-Some.is end
+    finish_kept g.D.Disk c.self.inside c.args.self.now c.self.view_is (g.met.D.Disk.seen_may_stay c.self.inside.disk) c.args.catch_up.now _ c.area_of.result c.gate_of.result c.area_of.ensures c.gate_of.ensures bytes_are c.requires.begun c.commit-outcome.new.disk c.in-Some.begun (count - 1) c.in-Some.is end
     (λ honest. at_ok c.commit-outcome.result works (c.commit-outcome.ensures.committed honest)) (λ honest. at_ok c.commit-outcome.result works (c.commit-outcome.ensures.durable honest))
 
 pub returns-clause-value : goal.returns-clause-value

@@ -12,25 +12,25 @@ returns-clause-any_moment g c =
     let b = c.in-Some.begun in
     let at_is = ap (λ (k : ℕ). k + b.written) c.image_of.ensures in
     let fits = c.requires.begun b (sym (ap (λ (s : JournalState g.row.D.Denot). s.begun) c.self.view_is) ∙ c.in-Some.is) in
-    write_run g.D.Disk.moment g.D.Disk.left_since g.D.Disk.seen g.D.Disk.may_leave g.D.Disk.honest c.self.inside c.args.self.now c.self.view_is (g.met.D.Disk.seen_may_stay c.self.inside.disk) c.args.slice.now _ b c.in-Some.is at_is fits c.write_at-outcome.new.self (λ honest image left. g.met.D.Disk.only_now c.self.inside.disk image honest left) c.write_at-outcome.ensures.stop c.write_at-outcome.ensures.time
+    write_run g.D.Disk c.self.inside c.args.self.now c.self.view_is (g.met.D.Disk.seen_may_stay c.self.inside.disk) c.args.slice.now _ b c.in-Some.is at_is fits c.write_at-outcome.new.self (λ honest image left. g.met.D.Disk.only_now c.self.inside.disk image honest left) c.write_at-outcome.ensures.stop c.write_at-outcome.ensures.time
 
 pub returns-then-is_err-clause-any_moment : goal.returns-then-is_err-clause-any_moment
 returns-then-is_err-clause-any_moment g c =
     let b = c.in-Some.begun in
     let at_is = ap (λ (k : ℕ). k + b.written) c.image_of.ensures in
     let fits = c.requires.begun b (sym (ap (λ (s : JournalState g.row.D.Denot). s.begun) c.self.view_is) ∙ c.in-Some.is) in
-    write_run g.D.Disk.moment g.D.Disk.left_since g.D.Disk.seen g.D.Disk.may_leave g.D.Disk.honest c.self.inside c.args.self.now c.self.view_is (g.met.D.Disk.seen_may_stay c.self.inside.disk) c.args.slice.now _ b c.in-Some.is at_is fits c.write_at-outcome.new.self (λ honest image left. g.met.D.Disk.only_now c.self.inside.disk image honest left) c.write_at-outcome.ensures.stop c.write_at-outcome.ensures.time
+    write_run g.D.Disk c.self.inside c.args.self.now c.self.view_is (g.met.D.Disk.seen_may_stay c.self.inside.disk) c.args.slice.now _ b c.in-Some.is at_is fits c.write_at-outcome.new.self (λ honest image left. g.met.D.Disk.only_now c.self.inside.disk image honest left) c.write_at-outcome.ensures.stop c.write_at-outcome.ensures.time
 
 pub returns-clause-written : goal.returns-clause-written
 returns-clause-written g c =
     let b = c.in-Some.begun in
     let at_is = ap (λ (k : ℕ). k + b.written) c.image_of.ensures in
     let fits = c.requires.begun b (sym (ap (λ (s : JournalState g.row.D.Denot). s.begun) c.self.view_is) ∙ c.in-Some.is) in
-    write_kept g.D.Disk.moment g.D.Disk.left_since g.D.Disk.seen g.D.Disk.may_leave g.D.Disk.honest c.self.inside c.args.self.now c.self.view_is (g.met.D.Disk.seen_may_stay c.self.inside.disk) c.args.slice.now _ b c.in-Some.is at_is fits c.write_at-outcome.new.self c.write_at-outcome.ensures.stop (λ honest. at_ok c.write_at-outcome.result (sym c.is_err.ensures.value ∙ c.if-is_err.false) (c.write_at-outcome.ensures.written honest))
+    write_kept g.D.Disk c.self.inside c.args.self.now c.self.view_is (g.met.D.Disk.seen_may_stay c.self.inside.disk) c.args.slice.now _ b c.in-Some.is at_is fits c.write_at-outcome.new.self c.write_at-outcome.ensures.stop (λ honest. at_ok c.write_at-outcome.result (sym c.is_err.ensures.value ∙ c.if-is_err.false) (c.write_at-outcome.ensures.written honest))
 
 pub returns-then-self-clause-any_moment : goal.returns-then-self-clause-any_moment
 returns-then-self-clause-any_moment g c = λ honest contents d keeps.
-    nothing_done g.D.Disk.moment g.D.Disk.left_since g.D.Disk.seen g.D.Disk.may_leave c.args.self.now contents (Some d) (Holds contents) keeps (λ image left. g.met.D.Disk.only_now c.args.self.now.disk image honest left) (λ image holds. holds)
+    nothing_done g.D.Disk c.args.self.now contents (Some d) (Holds contents) keeps (λ image left. g.met.D.Disk.only_now c.args.self.now.disk image honest left) (λ image holds. holds)
 
 pub overflow_add-at : goal.overflow_add-at
 overflow_add-at g c =

@@ -5,7 +5,7 @@ use Rattle.fe_keeper.proofs.checkpoint.Checkpoint.write_slice.Goals as goal
 pub returns-then-end-self-clause-carries : goal.returns-then-end-self-clause-carries
 returns-then-end-self-clause-carries g c = λ honest k s kept. record {
   any_moment =
-      none_written g.D.Disk.moment g.D.Disk.left_since g.D.Disk.seen g.D.Disk.may_leave c.args.journal.now k c.args.self.now s (λ image left. g.met.D.Disk.only_now c.args.journal.now.disk image honest left) kept;
+      none_written g.D.Disk c.args.journal.now k c.args.self.now s (λ image left. g.met.D.Disk.only_now c.args.journal.now.disk image honest left) kept;
   drafted = kept;
 }
 
@@ -25,5 +25,5 @@ returns-clause-carries g c = λ honest k s kept.
     record {
       any_moment = c.slot_write.ensures.any_moment honest k kept.draft kept.keeps;
       drafted =
-          slice_kept g.D.Disk.moment g.D.Disk.left_since g.D.Disk.seen g.D.Disk.may_leave c.args.journal.now c.slot_write.new.self k old s end slice more slice_is kept (λ d keeps. c.in_ok-slot_write.ensures.written honest k d keeps);
+          slice_kept g.D.Disk c.args.journal.now c.slot_write.new.self k old s end slice more slice_is kept (λ d keeps. c.in_ok-slot_write.ensures.written honest k d keeps);
     }

@@ -39,8 +39,8 @@ returns-in-Err-clause-ends g c =
     let entries = c.as_slice-entries.result.now in
     let works : old.store.journal.has_failed ≡ false = sym c.has_failed.ensures ∙ c.if-has_failed.false in
     let none : Refuses (kept_of old) (kept_of new) = record { before = works; same = same_kept old new c.in-Err.ensures.err.0 refl } in
-    append_fails g.D.Disk.failures (kept_of old) c.args.self.now (kept_of new) batch batch c.from.result (fault_of_refused c.in-Err.refused) entries c.from.ensures c.self.view_is c.as_slice-entries.ensures.entries
-    (take_fails g.D.Disk.failures c.in-Err.refused (kept_of old) (kept_of new) batch.first entries (λ place is. c.in-Err.ensures.mismatch place (ap Err is)) (λ is. c.in-Err.ensures.memory (ap Err is)) none)
+    append_fails g.D.Disk (kept_of old) c.args.self.now (kept_of new) batch batch c.from.result (fault_of_refused c.in-Err.refused) entries c.from.ensures c.self.view_is c.as_slice-entries.ensures.entries
+    (take_fails g.D.Disk c.in-Err.refused (kept_of old) (kept_of new) batch.first entries (λ place is. c.in-Err.ensures.mismatch place (ap Err is)) (λ is. c.in-Err.ensures.memory (ap Err is)) none)
 
 pub returns-in-Err-whole_before-clause-ends : goal.returns-in-Err-whole_before-clause-ends
 returns-in-Err-whole_before-clause-ends g c =
@@ -52,8 +52,8 @@ returns-in-Err-whole_before-clause-ends g c =
     let memory = c.in-Err-whole_before.ensures.memory in
     let works : old.store.journal.has_failed ≡ false = sym c.has_failed.ensures ∙ c.if-has_failed.false in
     let none : Refuses (kept_of old) (kept_of new) = record { before = works; same = same_kept old new (c.in-Err-whole_before.ensures.err.0 ∙ c.in_default.ensures.beginning) refl } in
-    append_fails g.D.Disk.failures (kept_of old) c.args.self.now (kept_of new) batch batch fault fault entries refl c.self.view_is c.as_slice-entries.ensures.entries
-    (memory_fails g.D.Disk.failures (ForBatch (kept_of old) batch.first entries) fault (kept_of old) (kept_of new) memory.0 (inr memory.1) none)
+    append_fails g.D.Disk (kept_of old) c.args.self.now (kept_of new) batch batch fault fault entries refl c.self.view_is c.as_slice-entries.ensures.entries
+    (memory_fails g.D.Disk (ForBatch (kept_of old) batch.first entries) fault (kept_of old) (kept_of new) memory.0 (inr memory.1) none)
 
 pub returns-in-Err-put-clause-ends : goal.returns-in-Err-put-clause-ends
 returns-in-Err-put-clause-ends g c =
@@ -64,21 +64,21 @@ returns-in-Err-put-clause-ends g c =
     let fault = c.in-Err-put.fault in
     let failed = c.in-Err-put.ensures.ends.outcome in
     let works : old.store.journal.has_failed ≡ false = sym c.has_failed.ensures ∙ c.if-has_failed.false in
-    let breaks : Breaks g.D.Disk.failures (kept_of old) (kept_of new) = record { before = works; failed = failed.1.failed; rises = failed.1.rises } in
-    append_fails g.D.Disk.failures (kept_of old) c.args.self.now (kept_of new) batch batch c.from-in-Err-put.result (fault_of_journal fault) entries c.from-in-Err-put.ensures c.self.view_is c.as_slice-entries.ensures.entries
-    (device_fails g.D.Disk.failures (ForBatch (kept_of old) batch.first entries) fault (kept_of old) (kept_of new) failed.0 c.in_default.ensures.continues breaks)
+    let breaks : Breaks g.D.Disk (kept_of old) (kept_of new) = record { before = works; failed = failed.1.failed; rises = failed.1.rises } in
+    append_fails g.D.Disk (kept_of old) c.args.self.now (kept_of new) batch batch c.from-in-Err-put.result (fault_of_journal fault) entries c.from-in-Err-put.ensures c.self.view_is c.as_slice-entries.ensures.entries
+    (device_fails g.D.Disk (ForBatch (kept_of old) batch.first entries) fault (kept_of old) (kept_of new) failed.0 c.in_default.ensures.continues breaks)
 
 pub returns-in-Err-whole_before-clause-any_moment : goal.returns-in-Err-whole_before-clause-any_moment
 returns-in-Err-whole_before-clause-any_moment g c =
-    none_put g.D.Disk.moment g.D.Disk.left_since g.D.Disk.seen g.D.Disk.may_leave g.D.Disk.honest c.self.inside c.whole_before.new.state c.args.self.now c.args.batch.entries c.self.invariant c.self.view_is
+    none_put g.D.Disk c.self.inside c.whole_before.new.state c.args.self.now c.args.batch.entries c.self.invariant c.self.view_is
     (λ image honest left. g.met.D.Disk.only_now c.self.inside.store.journal.disk image honest left)
 
 pub returns-in-Err-whole_before-clause-durable : goal.returns-in-Err-whole_before-clause-durable
 returns-in-Err-whole_before-clause-durable g c = λ honest works.
     let old = c.self.inside in
     let back : c.whole_before.new.state ≡ old.state = c.in-Err-whole_before.ensures.err.0 ∙ c.in_default.ensures.beginning in
-    subst (λ (s : ServerState). EachStandsFor g.D.Disk.may_leave old.store.journal.disk s) (sym back)
-    (each_stands g.D.Disk.moment g.D.Disk.left_since g.D.Disk.seen g.D.Disk.may_leave old.store old.state (c.self.invariant.upheld honest works))
+    subst (λ (s : ServerState). EachStandsFor g.D.Disk old.store.journal.disk s) (sym back)
+    (each_stands g.D.Disk old.store old.state (c.self.invariant.upheld honest works))
 
 pub invariant_of-self-in-Ok-put : goal.invariant_of-self-in-Ok-put
 invariant_of-self-in-Ok-put g c =
@@ -96,7 +96,7 @@ invariant_of-self-in-Ok-put g c =
       room = search rules;
       upheld = λ honest still.
           let before = c.put.ensures.ends.honesty.0 honest in
-          subst (λ (s : ServerState). Upholds g.D.Disk.seen g.D.Disk.may_leave c.put.new.self s) (sym stored)
+          subst (λ (s : ServerState). Upholds g.D.Disk c.put.new.self s) (sym stored)
           (c.in-Ok-put.ensures.leads before old.state (c.self.invariant.upheld before works) image c.in_default.ensures.continues.legal).upheld;
     }
 
@@ -108,16 +108,16 @@ returns-in-Ok-put-clause-durable g c = λ honest still.
     let image : IfSome c.in-Ok.whole (λ made. IsImageOf made old.state) = subst (λ (s : ServerState). IfSome c.in-Ok.whole (λ made. IsImageOf made s)) c.in_default.ensures.beginning c.in-Ok.ensures.made.image in
     let stored : c.whole_before.new.state ≡ after_all old.state entries = c.in-Ok.ensures.taken.state_is ∙ ap (λ (s : ServerState). after_all s entries) c.in_default.ensures.beginning in
     let before = c.put.ensures.ends.honesty.0 honest in
-    subst (λ (s : ServerState). EachStandsFor g.D.Disk.may_leave c.put.new.self.journal.disk s) (sym stored)
-    (each_stands g.D.Disk.moment g.D.Disk.left_since g.D.Disk.seen g.D.Disk.may_leave c.put.new.self (after_all old.state entries)
+    subst (λ (s : ServerState). EachStandsFor g.D.Disk c.put.new.self.journal.disk s) (sym stored)
+    (each_stands g.D.Disk c.put.new.self (after_all old.state entries)
     (c.in-Ok-put.ensures.leads before old.state (c.self.invariant.upheld before works) image c.in_default.ensures.continues.legal).upheld)
 
 pub returns-in-Ok-put-clause-calls : goal.returns-in-Ok-put-clause-calls
 returns-in-Ok-put-clause-calls g c =
     let image : IfSome c.in-Ok.whole (λ made. IsImageOf made c.self.inside.state) = subst (λ (s : ServerState). IfSome c.in-Ok.whole (λ made. IsImageOf made s)) c.in_default.ensures.beginning c.in-Ok.ensures.made.image in
-    calls_there g.D.Disk.calls c.self.inside c.args.self.now c.put.new.self.journal.disk c.as_slice-entries.result.now c.args.batch.entries c.in-Ok.whole c.self.view_is c.as_slice-entries.ensures.entries image c.put.ensures.calls
+    calls_there g.D.Disk c.self.inside c.args.self.now c.put.new.self.journal.disk c.as_slice-entries.result.now c.args.batch.entries c.in-Ok.whole c.self.view_is c.as_slice-entries.ensures.entries image c.put.ensures.calls
 
 pub returns-in-Err-put-clause-calls : goal.returns-in-Err-put-clause-calls
 returns-in-Err-put-clause-calls g c =
     let image : IfSome c.in-Ok.whole (λ made. IsImageOf made c.self.inside.state) = subst (λ (s : ServerState). IfSome c.in-Ok.whole (λ made. IsImageOf made s)) c.in_default.ensures.beginning c.in-Ok.ensures.made.image in
-    calls_there g.D.Disk.calls c.self.inside c.args.self.now c.put.new.self.journal.disk c.as_slice-entries.result.now c.args.batch.entries c.in-Ok.whole c.self.view_is c.as_slice-entries.ensures.entries image c.put.ensures.calls
+    calls_there g.D.Disk c.self.inside c.args.self.now c.put.new.self.journal.disk c.as_slice-entries.result.now c.args.batch.entries c.in-Ok.whole c.self.view_is c.as_slice-entries.ensures.entries image c.put.ensures.calls

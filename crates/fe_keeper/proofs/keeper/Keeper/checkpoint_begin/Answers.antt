@@ -11,7 +11,7 @@ pub returns-in_err-begin-clause-ends : goal.returns-in_err-begin-clause-ends
 returns-in_err-begin-clause-ends g c =
     let old = c.args.self.now in
     let cause : IsTrue (can_begin old.store) = search rules in
-    device_told g.D.Disk.failures (ForDeviceAndMemory (IsTrue (can_begin old.store))) c.from_residual-in_err-begin.result c.in_err-begin.field-0.0 c.self.inside c.begin.new.self old c.self.view_is c.from_residual-in_err-begin.ensures.1
+    device_told g.D.Disk (ForDeviceAndMemory (IsTrue (can_begin old.store))) c.from_residual-in_err-begin.result c.in_err-begin.field-0.0 c.self.inside c.begin.new.self old c.self.view_is c.from_residual-in_err-begin.ensures.1
     (sym c.has_failed.ensures ∙ c.if-has_failed.false) c.in_err-begin.ensures.ends.outcome cause
 
 pub returns-in_err-checkpoint-clause-ends : goal.returns-in_err-checkpoint-clause-ends
@@ -23,20 +23,20 @@ returns-in_err-checkpoint-clause-ends g c =
     let works : inside.store.journal.has_failed ≡ false = sym c.has_failed.ensures ∙ c.if-has_failed.false in
     let cause : IsTrue (can_begin old.store) = search rules in
     let none : Refuses old old = record { before = ap (λ (k : KeeperState g.row.D.Denot). k.store.has_failed) (sym c.self.view_is) ∙ works; same = refl } in
-    told c.from_residual.result fault (Works g.D.Disk.failures old old) (Fails g.D.Disk.failures Cause old old) c.from_residual.ensures.1
-    (memory_fails g.D.Disk.failures Cause fault old old c.in_err-checkpoint.ensures.memory cause none)
+    told c.from_residual.result fault (Works g.D.Disk old old) (Fails g.D.Disk Cause old old) c.from_residual.ensures.1
+    (memory_fails g.D.Disk Cause fault old old c.in_err-checkpoint.ensures.memory cause none)
 
 pub returns-in_err-begin-clause-rests : goal.returns-in_err-begin-clause-rests
 returns-in_err-begin-clause-rests g c =
-    carries_rest g.D.Disk.moment g.D.Disk.left_since g.D.Disk.seen g.D.Disk.may_leave g.D.Disk.honest c.begin.result c.self.inside c.begin.new.self c.args.self.now c.self.invariant c.self.view_is
+    carries_rest g.D.Disk c.begin.result c.self.inside c.begin.new.self c.args.self.now c.self.invariant c.self.view_is
     (λ honest kept. c.begin.ensures.carries honest c.self.inside.state kept c.in_ok-checkpoint.ensures.image) c.begin.ensures.ends.honesty
 
 pub returns-clause-rests : goal.returns-clause-rests
 returns-clause-rests g c =
-    carries_rest g.D.Disk.moment g.D.Disk.left_since g.D.Disk.seen g.D.Disk.may_leave g.D.Disk.honest c.begin.result c.self.inside c.begin.new.self c.args.self.now c.self.invariant c.self.view_is
+    carries_rest g.D.Disk c.begin.result c.self.inside c.begin.new.self c.args.self.now c.self.invariant c.self.view_is
     (λ honest kept. c.begin.ensures.carries honest c.self.inside.state kept c.in_ok-checkpoint.ensures.image) c.begin.ensures.ends.honesty
 
 pub returns-clause-durable : goal.returns-clause-durable
 returns-clause-durable g c =
-    carries_durable g.D.Disk.moment g.D.Disk.left_since g.D.Disk.seen g.D.Disk.may_leave g.D.Disk.honest c.self.inside c.begin.new.self c.self.invariant (sym c.has_failed.ensures ∙ c.if-has_failed.false) c.begin.ensures.ends.honesty
+    carries_durable g.D.Disk c.self.inside c.begin.new.self c.self.invariant (sym c.has_failed.ensures ∙ c.if-has_failed.false) c.begin.ensures.ends.honesty
     (λ honest kept. (c.in_ok-begin.ensures.carries honest c.self.inside.state kept c.in_ok-checkpoint.ensures.image).upheld)

@@ -18,19 +18,19 @@ returns-in_err-more-clause-ends g c =
     must_be (has_slices (kept_of inside).store.checkpoint)
     (λ none. let same : c.step.new.self.journal.has_failed ≡ inside.store.journal.has_failed = ap (λ (s : Store g.row.D.Denot). s.journal.has_failed) (c.step.ensures.rests none) in let odd : true ≡ false = sym failed.1.failed ∙ same ∙ works in absurd (cc odd)) in
     let cause : IsTrue (has_slices old.store.checkpoint) = subst (λ (k : KeeperState g.row.D.Denot). IsTrue (has_slices k.store.checkpoint)) c.self.view_is must in
-    device_told g.D.Disk.failures (ForDevice (IsTrue (has_slices old.store.checkpoint))) c.from_residual.result c.in_err-more.field-0.0 inside c.step.new.self old c.self.view_is c.from_residual.ensures.1 works failed cause
+    device_told g.D.Disk (ForDevice (IsTrue (has_slices old.store.checkpoint))) c.from_residual.result c.in_err-more.field-0.0 inside c.step.new.self old c.self.view_is c.from_residual.ensures.1 works failed cause
 
 pub returns-in_err-more-clause-rests : goal.returns-in_err-more-clause-rests
 returns-in_err-more-clause-rests g c =
-    carries_rest g.D.Disk.moment g.D.Disk.left_since g.D.Disk.seen g.D.Disk.may_leave g.D.Disk.honest c.step.result c.self.inside c.step.new.self c.args.self.now c.self.invariant c.self.view_is
+    carries_rest g.D.Disk c.step.result c.self.inside c.step.new.self c.args.self.now c.self.invariant c.self.view_is
     (λ honest kept. c.step.ensures.carries honest c.self.inside.state kept) c.step.ensures.ends.honesty
 
 pub returns-clause-rests : goal.returns-clause-rests
 returns-clause-rests g c =
-    carries_rest g.D.Disk.moment g.D.Disk.left_since g.D.Disk.seen g.D.Disk.may_leave g.D.Disk.honest c.step.result c.self.inside c.step.new.self c.args.self.now c.self.invariant c.self.view_is
+    carries_rest g.D.Disk c.step.result c.self.inside c.step.new.self c.args.self.now c.self.invariant c.self.view_is
     (λ honest kept. c.step.ensures.carries honest c.self.inside.state kept) c.step.ensures.ends.honesty
 
 pub returns-clause-durable : goal.returns-clause-durable
 returns-clause-durable g c =
-    carries_durable g.D.Disk.moment g.D.Disk.left_since g.D.Disk.seen g.D.Disk.may_leave g.D.Disk.honest c.self.inside c.step.new.self c.self.invariant (sym c.has_failed.ensures ∙ c.if-has_failed.false) c.step.ensures.ends.honesty
+    carries_durable g.D.Disk c.self.inside c.step.new.self c.self.invariant (sym c.has_failed.ensures ∙ c.if-has_failed.false) c.step.ensures.ends.honesty
     (λ honest kept. (c.in_ok-more.ensures.carries honest c.self.inside.state kept).upheld)

@@ -21,15 +21,15 @@ keeper_over-requires-clause-keeps g c = λ honest. record {
 
 pub returns-in-Ok-format-clause-formatted : goal.returns-in-Ok-format-clause-formatted
 returns-in-Ok-format-clause-formatted g c = λ honest.
-    let kept : KeepsState g.D.Disk.seen g.D.Disk.may_leave c.in-Ok-format.journal first_state = record {
+    let kept : KeepsState g.D.Disk c.in-Ok-format.journal first_state = record {
       contents = first_contents Two;
       keeps = c.in-Ok-format.ensures.formatted honest;
       stands = first_stands;
     } in
-    let each = each_stands g.D.Disk.seen g.D.Disk.may_leave c.in-Ok-format.journal first_state kept in
-    subst (λ (k : KeeperState g.row.D.Denot). EachStandsFor g.D.Disk.may_leave k.store.disk first_state) (sym c.keeper_over.ensures) each
+    let each = each_stands g.D.Disk c.in-Ok-format.journal first_state kept in
+    subst (λ (k : KeeperState g.row.D.Denot). EachStandsFor g.D.Disk k.store.disk first_state) (sym c.keeper_over.ensures) each
 
 pub returns-in-Err-format-clause-ends : goal.returns-in-Err-format-clause-ends
 returns-in-Err-format-clause-ends g c =
-    subst (λ (f : Fault). Formats g.D.Disk.size g.D.Disk.failures g.D.Disk.calls g.D.Disk.honest Unformatted Device NoMemory (Err f) c.args.disk c.in-Err-format.disk) (sym c.from.ensures)
-    (formats_as g.D.Disk.size g.D.Disk.failures g.D.Disk.calls g.D.Disk.honest c.in-Err-format.fault c.args.disk c.in-Err-format.disk c.in-Err-format.ensures.ends)
+    subst (λ (f : Fault). Formats g.D.Disk Unformatted Device NoMemory (Err f) c.args.disk c.in-Err-format.disk) (sym c.from.ensures)
+    (formats_as g.D.Disk c.in-Err-format.fault c.args.disk c.in-Err-format.disk c.in-Err-format.ensures.ends)

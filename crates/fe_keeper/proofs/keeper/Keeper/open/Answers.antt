@@ -33,7 +33,7 @@ keeper_with_room-requires-clause-keeps g c = λ honest.
     record {
       contents = found.contents;
       keeps = found.keeps;
-      stands = stands_found g.D.Disk.seen g.D.Disk.may_leave seen c.in-Ok.found found c.store_format-format.result c.generation-generation.result c.deref.result.now c.store_format-format.ensures c.generation-generation.ensures c.deref.ensures.value c.in-Ok-recovered.state c.in-Ok-recovered.ensures.state;
+      stands = stands_found g.D.Disk seen c.in-Ok.found found c.store_format-format.result c.generation-generation.result c.deref.result.now c.store_format-format.ensures c.generation-generation.ensures c.deref.ensures.value c.in-Ok-recovered.state c.in-Ok-recovered.ensures.state;
     }
 
 pub returns-in-Err-recovered-clause-unformatted : goal.returns-in-Err-recovered-clause-unformatted
@@ -51,11 +51,11 @@ returns-clause-opened g c = λ honest.
     let seen = g.D.Disk.seen c.args.disk in
     let found = c.in-Ok.ensures.found honest in
     let s = c.in-Ok-recovered.state in
-    let stands = stands_found g.D.Disk.seen g.D.Disk.may_leave seen c.in-Ok.found found c.store_format-format.result c.generation-generation.result c.deref.result.now c.store_format-format.ensures c.generation-generation.ensures c.deref.ensures.value s c.in-Ok-recovered.ensures.state in
-    IfOk-weaker c.keeper_with_room.result (λ keeper. keeper ≡ keeper_over c.in-Ok.found.journal s) (IsOpenedFrom g.D.Disk.may_leave seen)
-    (λ keeper is. subst (λ (k : KeeperState g.row.D.Denot). IsOpenedFrom g.D.Disk.may_leave seen k) (sym is) (record {
+    let stands = stands_found g.D.Disk seen c.in-Ok.found found c.store_format-format.result c.generation-generation.result c.deref.result.now c.store_format-format.ensures c.generation-generation.ensures c.deref.ensures.value s c.in-Ok-recovered.ensures.state in
+    IfOk-weaker c.keeper_with_room.result (λ keeper. keeper ≡ keeper_over c.in-Ok.found.journal s) (IsOpenedFrom g.D.Disk seen)
+    (λ keeper is. subst (λ (k : KeeperState g.row.D.Denot). IsOpenedFrom g.D.Disk seen k) (sym is) (record {
       state = record { contents = found.contents; holds = found.holds; stands = stands };
-      durable = each_stands g.D.Disk.seen g.D.Disk.may_leave c.in-Ok.found.journal s (record { contents = found.contents; keeps = found.keeps; stands = stands });
+      durable = each_stands g.D.Disk c.in-Ok.found.journal s (record { contents = found.contents; keeps = found.keeps; stands = stands });
       store = record { contents = found.contents; holds = found.holds; format_is = found.keeps.format_is; used_is = found.keeps.used_is };
     })) c.keeper_with_room.ensures.made
 
@@ -63,7 +63,7 @@ pub returns-in-Err-recovered-clause-refused : goal.returns-in-Err-recovered-clau
 returns-in-Err-recovered-clause-refused g c = λ honest.
     let seen = g.D.Disk.seen c.args.disk in
     let found = c.in-Ok.ensures.found honest in
-    let parts = parts_found g.D.Disk.seen g.D.Disk.may_leave seen c.in-Ok.found found c.store_format-format.result c.generation-generation.result c.deref.result.now c.store_format-format.ensures c.generation-generation.ensures c.deref.ensures.value in
+    let parts = parts_found g.D.Disk seen c.in-Ok.found found c.store_format-format.result c.generation-generation.result c.deref.result.now c.store_format-format.ensures c.generation-generation.ensures c.deref.ensures.value in
     let wrong : (offset : ℕ) → c.in-Err-recovered.fault ≡ Damaged offset → IsWrongAt found.contents offset = λ offset is.
     wrong_there found.contents c.slot-slot.result c.store_format-format.result c.generation-generation.result c.deref.result.now c.in-Ok.found.groups.start c.in-Ok.found.groups.at offset
     (c.slot-slot.ensures.value ∙ found.keeps.slot_is) parts.format_is parts.generation_is parts.image_is found.start_is found.from_the_first
@@ -90,7 +90,7 @@ pub returns-clause-refused : goal.returns-clause-refused
 returns-clause-refused g c = λ honest.
     let seen = g.D.Disk.seen c.args.disk in
     let found = c.in-Ok.ensures.found honest in
-    let parts = parts_found g.D.Disk.seen g.D.Disk.may_leave seen c.in-Ok.found found c.store_format-format.result c.generation-generation.result c.deref.result.now c.store_format-format.ensures c.generation-generation.ensures c.deref.ensures.value in
+    let parts = parts_found g.D.Disk seen c.in-Ok.found found c.store_format-format.result c.generation-generation.result c.deref.result.now c.store_format-format.ensures c.generation-generation.ensures c.deref.ensures.value in
     let recovered = c.in-Ok-recovered.ensures.state found.contents.groups found.groups_are in
     let fields = subst (λ (l : List ℕ). IsOk (header_at l)) parts.image_is (fields_spelled _ _ c.deref.result.now recovered.base recovered.is_base) in
     let before = g.D.Disk.calls c.args.disk in
@@ -104,17 +104,17 @@ returns-clause-ready g c =
 
 pub returns-in-Err-clause-device : goal.returns-in-Err-clause-device
 returns-in-Err-clause-device g c =
-    opens_as g.D.Disk.size g.D.Disk.failures g.D.Disk.calls g.D.Disk.honest store.Device Device _ _ c.args.disk c.in-Err.disk c.in-Err.ensures.device
+    opens_as g.D.Disk store.Device Device _ _ c.args.disk c.in-Err.disk c.in-Err.ensures.device
     (λ is. ap (λ (f : StoreFault). Err f) (device_back c.in-Err.fault (sym c.from.ensures ∙ (cc is))))
     (λ is. let same : c.in-Err.fault ≡ store.Device = cc is in ap (λ (f : Fault). Err f) (c.from.ensures ∙ ap fault_of_store same))
 
 pub returns-in-Err-recovered-clause-device : goal.returns-in-Err-recovered-clause-device
 returns-in-Err-recovered-clause-device g c =
     let result : Result (KeeperState g.row.D.Denot) Fault = Err c.in-Err-recovered.fault in
-    subst (λ (d : g.row.D.Denot). AsksToOpen g.D.Disk.size g.D.Disk.failures g.D.Disk.calls g.D.Disk.honest Device result c.args.disk d) (sym c.into_disk.ensures.disk)
-    (opens_as g.D.Disk.size g.D.Disk.failures g.D.Disk.calls g.D.Disk.honest store.Device Device _ result c.args.disk c.in-Ok.found.journal.disk c.in-Ok.ensures.device
+    subst (λ (d : g.row.D.Denot). AsksToOpen g.D.Disk Device result c.args.disk d) (sym c.into_disk.ensures.disk)
+    (opens_as g.D.Disk store.Device Device _ result c.args.disk c.in-Ok.found.journal.disk c.in-Ok.ensures.device
     (λ is. absurd (slot_fault c.in-Err-recovered.fault c.in-Err-recovered.ensures.faults (cc is))) (λ is. cc))
 
 pub returns-clause-device : goal.returns-clause-device
 returns-clause-device g c =
-    opens_keeper g.D.Disk.size g.D.Disk.failures g.D.Disk.calls g.D.Disk.honest c.in-Ok.found c.args.disk c.in-Ok.found.journal c.in-Ok-recovered.state c.keeper_with_room.result c.in-Ok.ensures.device c.keeper_with_room.ensures.made c.keeper_with_room.ensures.refused
+    opens_keeper g.D.Disk c.in-Ok.found c.args.disk c.in-Ok.found.journal c.in-Ok-recovered.state c.keeper_with_room.result c.in-Ok.ensures.device c.keeper_with_room.ensures.made c.keeper_with_room.ensures.refused

@@ -42,7 +42,7 @@ returns-in_err-append_group-clause-leads g c = λ honest s upheld legal.
     let entries = c.args.entries.now in
     let is = batch_group c.store_format-format.result old.journal.format entries c.deref.result.now c.spell.new.group.items c.deref.ensures.value c.spell.ensures.spelled c.spell.ensures.fits c.store_format-format.ensures c.requires.can.some c.requires.can.few in
     record {
-      any_moment = append_leaves g.D.Disk.moment g.D.Disk.left_since g.D.Disk.seen g.D.Disk.may_leave old c.append_group.new.self.disk s entries c.deref.result.now upheld is legal (c.append_group.ensures.any_moment honest);
+      any_moment = append_leaves g.D.Disk old c.append_group.new.self.disk s entries c.deref.result.now upheld is legal (c.append_group.ensures.any_moment honest);
       upheld = search rules;
     }
 
@@ -63,8 +63,8 @@ returns-clause-leads g c = λ honest s upheld legal.
     let new : Store g.row.D.Denot = record { journal = c.append_group.new.self; group = c.spell.new.group; place = old.place + length entries; checkpoint = c.catch_up.new.checkpoint } in
     let is = batch_group c.store_format-format.result old.journal.format entries c.deref.result.now c.spell.new.group.items c.deref.ensures.value c.spell.ensures.spelled c.spell.ensures.fits c.store_format-format.ensures c.requires.can.some c.requires.can.few in
     record {
-      any_moment = append_leaves g.D.Disk.moment g.D.Disk.left_since g.D.Disk.seen g.D.Disk.may_leave old c.append_group.new.self.disk s entries c.deref.result.now upheld is legal (c.append_group.ensures.any_moment honest);
-      upheld = append_upholds g.D.Disk.moment g.D.Disk.left_since g.D.Disk.seen g.D.Disk.may_leave old new s entries c.deref.result.now upheld is legal (c.in_ok-append_group.ensures.appended honest) c.catch_up.ensures;
+      any_moment = append_leaves g.D.Disk old c.append_group.new.self.disk s entries c.deref.result.now upheld is legal (c.append_group.ensures.any_moment honest);
+      upheld = append_upholds g.D.Disk old new s entries c.deref.result.now upheld is legal (c.in_ok-append_group.ensures.appended honest) c.catch_up.ensures;
     }
 
 pub returns-clause-value : goal.returns-clause-value

@@ -8,7 +8,7 @@ returns-in_err-slot_close-clause-carries g c = λ honest s upholds image.
     let old = c.args.self.now in
     let none : old.checkpoint ≡ None = none_under_way old.checkpoint (is_behind old.journal.format old.journal.used) c.requires.can.can in
     record {
-      any_moment = begin_moments g.D.Disk.moment g.D.Disk.left_since g.D.Disk.seen g.D.Disk.may_leave old s c.slot_close.new.self.disk none upholds (c.slot_close.ensures.any_moment honest);
+      any_moment = begin_moments g.D.Disk old s c.slot_close.new.self.disk none upholds (c.slot_close.ensures.any_moment honest);
       upheld = search rules;
     }
 
@@ -18,8 +18,8 @@ returns-clause-carries g c = λ honest s upholds image.
     let fresh = c.requires.can.fresh in
     let none : old.checkpoint ≡ None = none_under_way old.checkpoint (is_behind old.journal.format old.journal.used) c.requires.can.can in
     record {
-      any_moment = begin_moments g.D.Disk.moment g.D.Disk.left_since g.D.Disk.seen g.D.Disk.may_leave old s c.slot_close.new.self.disk none upholds (c.slot_close.ensures.any_moment honest);
+      any_moment = begin_moments g.D.Disk old s c.slot_close.new.self.disk none upholds (c.slot_close.ensures.any_moment honest);
       upheld =
-          begin_upheld g.D.Disk.moment g.D.Disk.left_since g.D.Disk.seen g.D.Disk.may_leave old s c.slot_close.new.self c.args.checkpoint _ _ none upholds (c.in_ok-slot_close.ensures.closed honest) image.fits image.image_is
+          begin_upheld g.D.Disk old s c.slot_close.new.self c.args.checkpoint _ _ none upholds (c.in_ok-slot_close.ensures.closed honest) image.fits image.image_is
           fresh.written image.place_is fresh.empty;
     }

@@ -8,10 +8,10 @@ returns-in_err-write_rest-clause-carries g c = λ honest s upholds. record { any
 pub returns-clause-carries : goal.returns-clause-carries
 returns-clause-carries g c = λ honest s upholds.
     let rest = c.in_ok-write_rest.ensures.carries honest s upholds in
-    then_carries g.D.Disk.moment g.D.Disk.left_since g.D.Disk.seen g.D.Disk.may_leave c.open_slot.result c.args.self.now c.write_rest.new.self c.open_slot.new.self s rest.any_moment
+    then_carries g.D.Disk c.open_slot.result c.args.self.now c.write_rest.new.self c.open_slot.new.self s rest.any_moment
     (c.open_slot.ensures.carries (c.write_rest.ensures.ends.honesty.1 honest) s rest.upheld)
 
 pub returns-clause-ends : goal.returns-clause-ends
 returns-clause-ends g c =
     let first = c.in_ok-write_rest.ensures.ends in
-    then_ends g.D.Disk.honest g.D.Disk.failures c.open_slot.result c.args.self.now.journal c.write_rest.new.self.journal c.open_slot.new.self.journal first.outcome first.honesty c.open_slot.ensures.ends
+    then_ends g.D.Disk c.open_slot.result c.args.self.now.journal c.write_rest.new.self.journal c.open_slot.new.self.journal first.outcome first.honesty c.open_slot.ensures.ends

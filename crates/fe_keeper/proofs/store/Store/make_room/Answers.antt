@@ -19,10 +19,10 @@ pub returns-clause-carries : goal.returns-clause-carries
 returns-clause-carries g c = λ honest s upholds image.
     let made : IsImageOf c.in-Some.whole s = subst (λ (o : Option Checkpoint). IfSome o (λ made. IsImageOf made s)) c.in-Some.is image in
     let finished = c.in_ok-finish.ensures.carries honest s upholds in
-    then_carries g.D.Disk.moment g.D.Disk.left_since g.D.Disk.seen g.D.Disk.may_leave c.renew-2.result c.args.self.now c.finish-2.new.self c.renew-2.new.self s finished.any_moment
+    then_carries g.D.Disk c.renew-2.result c.args.self.now c.finish-2.new.self c.renew-2.new.self s finished.any_moment
     (c.renew-2.ensures.carries (c.finish-2.ensures.ends.honesty.1 honest) s finished.upheld made)
 
 pub returns-clause-ends : goal.returns-clause-ends
 returns-clause-ends g c =
     let first = c.in_ok-finish.ensures.ends in
-    then_ends g.D.Disk.honest g.D.Disk.failures c.renew-2.result c.args.self.now.journal c.finish-2.new.self.journal c.renew-2.new.self.journal first.outcome first.honesty c.renew-2.ensures.ends
+    then_ends g.D.Disk c.renew-2.result c.args.self.now.journal c.finish-2.new.self.journal c.renew-2.new.self.journal first.outcome first.honesty c.renew-2.ensures.ends

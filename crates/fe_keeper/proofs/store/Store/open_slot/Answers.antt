@@ -5,7 +5,7 @@ use Rattle.fe_keeper.proofs.store.Store.open_slot.Goals as goal
 pub returns-in_err-slot_finish-clause-carries : goal.returns-in_err-slot_finish-clause-carries
 returns-in_err-slot_finish-clause-carries g c = λ honest s upholds. record {
   any_moment =
-      finish_moments g.D.Disk.moment g.D.Disk.left_since g.D.Disk.seen g.D.Disk.may_leave c.args.self.now s c.in-Some.checkpoint c.deref.result.now c.deref.ensures.value c.in-Some.is c.requires.ready.sound c.requires.whole
+      finish_moments g.D.Disk c.args.self.now s c.in-Some.checkpoint c.deref.result.now c.deref.ensures.value c.in-Some.is c.requires.ready.sound c.requires.whole
       c.slot_finish.new.self.disk upholds (λ k d keeps. c.slot_finish.ensures.any_moment honest k d keeps);
   upheld = search rules;
 }
@@ -13,9 +13,9 @@ returns-in_err-slot_finish-clause-carries g c = λ honest s upholds. record {
 pub returns-clause-carries : goal.returns-clause-carries
 returns-clause-carries g c = λ honest s upholds. record {
   any_moment =
-      finish_moments g.D.Disk.moment g.D.Disk.left_since g.D.Disk.seen g.D.Disk.may_leave c.args.self.now s c.in-Some.checkpoint c.deref.result.now c.deref.ensures.value c.in-Some.is c.requires.ready.sound c.requires.whole
+      finish_moments g.D.Disk c.args.self.now s c.in-Some.checkpoint c.deref.result.now c.deref.ensures.value c.in-Some.is c.requires.ready.sound c.requires.whole
       c.slot_finish.new.self.disk upholds (λ k d keeps. c.slot_finish.ensures.any_moment honest k d keeps);
   upheld =
-      finish_upheld g.D.Disk.moment g.D.Disk.left_since g.D.Disk.seen g.D.Disk.may_leave c.args.self.now s c.in-Some.checkpoint c.deref.result.now c.deref.ensures.value c.in-Some.is c.requires.ready.sound c.requires.whole
+      finish_upheld g.D.Disk c.args.self.now s c.in-Some.checkpoint c.deref.result.now c.deref.ensures.value c.in-Some.is c.requires.ready.sound c.requires.whole
       c.slot_finish.new.self upholds (λ k d keeps. c.in_ok-slot_finish.ensures.finished honest k d keeps);
 }

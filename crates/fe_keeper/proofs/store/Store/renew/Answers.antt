@@ -8,10 +8,10 @@ returns-in_err-begin-clause-carries g c = λ honest s upholds image. record { an
 pub returns-clause-carries : goal.returns-clause-carries
 returns-clause-carries g c = λ honest s upholds image.
     let begun = c.in_ok-begin.ensures.carries honest s upholds image in
-    then_carries g.D.Disk.moment g.D.Disk.left_since g.D.Disk.seen g.D.Disk.may_leave c.finish.result c.args.self.now c.begin.new.self c.finish.new.self s begun.any_moment
+    then_carries g.D.Disk c.finish.result c.args.self.now c.begin.new.self c.finish.new.self s begun.any_moment
     (c.finish.ensures.carries (c.begin.ensures.ends.honesty.1 honest) s begun.upheld)
 
 pub returns-clause-ends : goal.returns-clause-ends
 returns-clause-ends g c =
     let first = c.in_ok-begin.ensures.ends in
-    then_ends g.D.Disk.honest g.D.Disk.failures c.finish.result c.args.self.now.journal c.begin.new.self.journal c.finish.new.self.journal first.outcome first.honesty c.finish.ensures.ends
+    then_ends g.D.Disk c.finish.result c.args.self.now.journal c.begin.new.self.journal c.finish.new.self.journal first.outcome first.honesty c.finish.ensures.ends

@@ -11,8 +11,8 @@ returns g c =
     let keeper = c.commit_side.new.keeper in
     let seat = c.commit_side.new.seat in
     subst
-    (λ (end : CommitEnd). HasNoted g.D.Disk.honest g.D.Disk.moment g.D.Disk.left_since g.D.Disk.may_leave g.D.Disk.failures c.args.keeper keeper end seat)
+    (λ (end : CommitEnd). HasNoted g.D.Disk c.args.keeper keeper end seat)
     (sym (c.end-over.ensures ∙ c.end-end.ensures)) (
       record { commits = e.commits.0; stands = e.stands; tells = e.tells; honesty = e.honesty },
-      subst (λ (h : List Act). AreNoted g.D.Disk.moment e.commits.0.appends (Some c.commit_side.result) h seat) c.requires e.commits.1,
+      subst (λ (h : List Act). AreNoted g.D.Disk e.commits.0.appends (Some c.commit_side.result) h seat) c.requires e.commits.1,
     )

@@ -1,0 +1,39 @@
+-- What a run of device calls leaves: the images of a stop, the count of faults, and how many reads, writes and syncs were made.
+use Rattle.std.specs.Prelude.{◌≡◌, ◌⊎◌, ◌↔◌, ℕ, ◌+◌, ◌≤◌, List, Result, Ok, Err, IsErr, IsErrOf, OnOk}
+use Rattle.fe_disk.specs.Disk.{Rises, MakesAtMost}
+use Rattle.fe_disk.specs.Outcome.{EndsCall}
+use Rattle.fe_disk.specs.declared.calls.Calls.{Calls}
+use Rattle.fe_disk.specs.declared.disk.Disk.{Ghosts}
+
+-- A stop at any moment of a run of calls, from `old` to `new`, leaves an image that has P.
+pub record LeavesOnly {D : Type 0} (model : Ghosts D) (old new : D) (P : List ℕ → Type 0) : Type 0 where
+  pub later : model.moment old ≤ model.moment new
+  pub each : (image : List ℕ) → model.left_since new (model.moment old) image → P image
+  -- for a run that began earlier
+  pub before : (t : ℕ) (image : List ℕ) → t ≤ model.moment old → model.left_since new t image → model.left_since old t image ⊎ P image
+
+-- A run of this many calls ends as one call does.
+abbrev pub Asks : {D T E : Type 0} → Ghosts D → ℕ → ℕ → ℕ → Result T E → D → D → Type 0
+Asks model reads writes syncs result old new = EndsCall model.size model.failures model.calls model.honest reads writes syncs result old new
+
+-- The same, where how many are made depends on what is read.
+pub record AsksAtMost {D T E : Type 0} (model : Ghosts D) (reads writes syncs : ℕ) (result : Result T E) (old new : D) : Type 0 where
+  pub fault : IsErr result ↔ Rises (model.failures old) (model.failures new)
+  pub still : OnOk result (model.failures new ≡ model.failures old)
+  pub one_fault : model.failures new ≤ model.failures old + 1
+  pub most : MakesAtMost reads writes syncs (model.calls old) (model.calls new)
+  pub honesty : model.honest new ↔ model.honest old
+  pub same_size : model.size new ≡ model.size old
+
+-- The same, for a function with other faults beside `device`. Those leave the count of faults as it is.
+pub record Runs {D T E : Type 0} (model : Ghosts D) (reads writes syncs : ℕ) (device : E) (result : Result T E) (old new : D) : Type 0 where
+  pub fault : IsErrOf result device → Rises (model.failures old) (model.failures new)
+  pub still : (IsErrOf result device → ⊥) → model.failures new ≡ model.failures old
+  pub most : MakesAtMost reads writes syncs (model.calls old) (model.calls new)
+  pub honesty : model.honest new ↔ model.honest old
+  pub same_size : model.size new ≡ model.size old
+
+-- a result without the disk that is given back beside the fault
+abbrev pub told : {D T E : Type 0} → Result T (E × D) → Result T E
+told (Ok x) = Ok x
+told (Err refused) = Err refused.0
