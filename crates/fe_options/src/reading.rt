@@ -13,15 +13,15 @@ use std::alloc::Global;
 use toml::{Table, Value};
 
 /// The maximum number of connections served at once, and the default.
-const CONNECTIONS: u64 = 256;
+const MOST_CONNECTIONS: u64 = 256;
 
 const USUAL_CONNECTIONS: u64 = 64;
 
 /// The maximum of `accepts`.
-const ACCEPTS: u64 = 65_536;
+const MOST_ACCEPTS: u64 = 65_536;
 
 /// The maximum of `turns`, and the default.
-const TURNS: u64 = 1 << 40;
+const MOST_TURNS: u64 = 1 << 40;
 
 const USUAL_TURNS: u64 = 1_000_000_000;
 
@@ -111,16 +111,17 @@ fn settings_in(alloc: Global, table: &Table) -> Result<Settings, SettingsFault>
         table,
         Key::Connections,
         1,
-        CONNECTIONS,
+        MOST_CONNECTIONS,
         USUAL_CONNECTIONS,
-    ).ok_or(SettingsFault::Setting(Key::Connections))?;
+    )
+    .ok_or(SettingsFault::Setting(Key::Connections))?;
     let format = flag_under(table, Key::Format).ok_or(SettingsFault::Setting(Key::Format))?;
-    let accepts = number_under(table, Key::Accepts, 0, ACCEPTS, 0).ok_or(SettingsFault::Setting(
-        Key::Accepts,
-    ))?;
-    let turns = number_under(table, Key::Turns, 1, TURNS, USUAL_TURNS).ok_or(SettingsFault::Setting(
-        Key::Turns,
-    ))?;
+    let accepts = number_under(table, Key::Accepts, 0, MOST_ACCEPTS, 0).ok_or(
+        SettingsFault::Setting(Key::Accepts),
+    )?;
+    let turns = number_under(table, Key::Turns, 1, MOST_TURNS, USUAL_TURNS).ok_or(
+        SettingsFault::Setting(Key::Turns),
+    )?;
     if !has_known_keys(table) {
         return Err(SettingsFault::UnknownKey);
     }
