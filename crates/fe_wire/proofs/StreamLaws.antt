@@ -1,7 +1,7 @@
 -- A stream has at most one reading, and how a decoder continues in it.
 use Rattle.std.proofs.Common.{◌≡◌, ℕ, ◌+◌, ◌-◌, ◌^◌, ◌<◌, ◌≤◌, min, Bool, true, false, ◌⊎◌, List, [], ◌∷◌, ◌++◌, length, refl, sym, ap, subst, ◌∙◌, append_assoc, arith, inl, inr, lit≤}
 use Rattle.std.specs.List.{flat_map, AllByRecursion}
-use Rattle.std.proofs.lemmas.Bool.{cases_lt, lt-ltb, le-ltb}
+use Rattle.std.proofs.lemmas.Bool.{cases_lt}
 use Rattle.std.proofs.lemmas.List.{append-nil, length-append, take_all}
 use Rattle.std.proofs.lemmas.List.Concat.{flat_map-cons, flat_map-append}
 use Rattle.fe_wire.specs.declared.client_message.ClientMessage.{ClientMessage}
@@ -10,8 +10,7 @@ use Rattle.fe_wire.specs.declared.version.Version.TheVariants.{One, Two}
 use Rattle.fe_wire.specs.Spelling.{spelling, FitsIn}
 use Rattle.fe_wire.specs.Stream.{Decoding, HasReadFrom, IsStream, StandsAt, longest, length_field, front_frame, IsWhole, IsBad, IsUnfinished}
 use Rattle.fe_wire.specs.Laws.{HasOneReading, HasOneOutcome}
-use Rattle.fe_wire.specs.DecoderState.{wanted_of}
-use Rattle.fe_wire.proofs.FrameLaws.{one_front, front_not_bad, front_not_unfinished, bad_more, length_field-append}
+use Rattle.fe_wire.proofs.FrameLaws.{one_front, front_not_bad, front_not_unfinished, bad_more}
 
 -- bytes that begin with a message's frame are not a rest
 not_rest : (v : Version) (m : ClientMessage) (ms : List ClientMessage) (rest stream : List ℕ) → FitsIn v m → stream ≡ flat_map spelling (m ∷ ms) ++ rest → IsUnfinished v stream ⊎ IsBad v stream → ⊥
@@ -144,30 +143,6 @@ unfinished_long v held h le = (
   elim (cases_lt (length held) (4 + length_field held)) [ inl lt ↦ lt | inr whole ↦ absurd (h.0 whole) ],
   elim (cases_lt (longest v) (length_field held)) [ inl over ↦ absurd (h.1 (inl (le, inr over))) | inr low ↦ low ],
 )
-
-pub unfinished_short : (v : Version) (held : List ℕ) → IsUnfinished v held → (length held < wanted_of held) × (wanted_of held ≤ 51)
-unfinished_short v held h =
-    elim (cases_lt (length held) 4) [
-      | inl lt ↦ rw (lt-ltb (length held) 4 lt) (lt, lit≤ tt)
-      | inr le ↦ let p = unfinished_long v held h le in rw (le-ltb (length held) 4 le) (p.0, omega (arith, p.1, longest_le v))
-    ]
-
-pub unfinished_within : (v : Version) (held : List ℕ) → IsUnfinished v held → length held ≤ 50
-unfinished_within v held h =
-    elim (cases_lt (length held) 4) [
-      | inl lt ↦ omega arith
-      | inr le ↦ let p = unfinished_long v held h le in omega (arith, p.0, p.1, longest_le v)
-    ]
-
--- bytes up to the wanted number include none of the next frame
-pub wanted_frame : (held more : List ℕ) → length held + length more ≤ wanted_of held → length (held ++ more) ≤ 4 + length_field (held ++ more)
-wanted_frame held more le =
-    let long = length-append held more in
-    elim (cases_lt (length held) 4) [
-      | inl lt ↦ let w : wanted_of held ≡ 4 = rw (lt-ltb (length held) 4 lt) refl in omega (arith, w, long)
-      | inr ge ↦ let w : wanted_of held ≡ 4 + length_field held = rw (le-ltb (length held) 4 ge) refl in
-          omega (arith, w, long, length_field-append held more ge)
-    ]
 
 -- a whole frame is all that is stored
 pub whole_is_held : (held : List ℕ) → IsWhole held → length held ≤ 4 + length_field held → front_frame held ≡ held

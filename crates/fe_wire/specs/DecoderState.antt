@@ -1,9 +1,9 @@
 -- The meaning of a decoder's fields.
-use Rattle.std.specs.Prelude.{◌≡◌, ℕ, ◌+◌, ◌≤◌, Bool, true, false, List, [], ◌++◌, length, take, nat_lt, if◌then◌else◌}
+use Rattle.std.specs.Prelude.{◌≡◌, ℕ, ◌≤◌, Bool, true, false, List, [], ◌++◌, length, take}
 use Rattle.fe_wire.specs.declared.client_message.ClientMessage.{ClientMessage}
 use Rattle.fe_wire.specs.declared.decoder_state.DecoderState.{DecoderState}
 use Rattle.fe_wire.specs.declared.version.Version.{Version}
-use Rattle.fe_wire.specs.Stream.{Decoding, HasReadFrom, IsUnfinished, length_field}
+use Rattle.fe_wire.specs.Stream.{Decoding, HasReadFrom, IsUnfinished}
 
 -- the bytes of the current frame that are stored
 abbrev pub held_of : DecoderState → List ℕ
@@ -22,10 +22,6 @@ pub record IsDecoderState (p : DecoderState) : Type 0 where
   pub within : p.len ≤ 50
   pub cells : length p.cells ≡ 51
   pub held : IsHeld p.version p.is_bad (held_of p)
-
--- how many bytes may be stored before they are examined again, so that none of the next frame are stored
-abbrev pub wanted_of : List ℕ → ℕ
-wanted_of held = if nat_lt (length held) 4 then 4 else 4 + length_field held
 
 -- Whatever was read before, these bytes after it lead from the old state to the new one and complete these messages.
 pub record Consumes (old new : DecoderState) (bytes : List ℕ) (messages : List ClientMessage) : Type 0 where

@@ -1,5 +1,5 @@
 -- Worked frames, byte by byte: those of docs/formats.md ("An exchange"), and one of each other kind. Computed by the checker.
-use Rattle.std.specs.Prelude.{◌≡◌, List, [], ◌∷◌, ◌++◌, true, false, codes}
+use Rattle.std.specs.Prelude.{◌≡◌, [], ◌∷◌, ◌++◌, true, false, codes}
 use Rattle.fe_words.specs.declared.word.Tag.TheVariants.{Full, Empty}
 use Rattle.fe_words.specs.declared.op.Op.TheVariants.{ReadFe, ReadXx, WriteEf}
 use Rattle.fe_state.specs.declared.answer.Answer.TheVariants as answer

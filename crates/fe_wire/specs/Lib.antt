@@ -4,3 +4,4 @@ pub mod Reading
 pub mod DecoderState
 pub mod Laws
 pub mod Examples
+pub mod within

@@ -1,4 +1,4 @@
-ghost use Rattle.std.specs.Prelude.{◌≡◌, ◌≤◌, ◌++◌, ℕ, List, [], true, length, IfOk, OnOk, OnErr, IsOkAnd};
+ghost use Rattle.std.specs.Prelude.{◌≡◌, ◌≤◌, ◌++◌, ℕ, List, [], true, length, IfOk, OnErr, IsOkAnd};
 ghost use Rattle.fe_wire.specs.DecoderState.{IsDecoderState, Consumes, decoding};
 ghost use Rattle.fe_wire.specs.Stream.{HasRead, HasReadFrom, CompletesMessage, fault_of};
 ghost use Rattle.fe_wire.specs.declared.client_message.ClientMessage.{ClientMessage as Message};

@@ -1,6 +1,7 @@
-ghost use Rattle.std.specs.Prelude.{◌≡◌, ◌+◌, ◌<◌, ◌≤◌, ◌++◌, ℕ, List, false, length, take, option_to_list};
+ghost use Rattle.std.specs.Prelude.{◌≡◌, ◌+◌, ◌<◌, ◌≤◌, ◌++◌, false, length, take, option_to_list};
 ghost use Rattle.fe_wire.specs.Stream.{length_field, fault_of};
-ghost use Rattle.fe_wire.specs.DecoderState.{IsDecoderState, Consumes, held_of, decoding, wanted_of};
+ghost use Rattle.fe_wire.specs.DecoderState.{IsDecoderState, Consumes, held_of, decoding};
+ghost use Rattle.fe_wire.specs.within.Filling.{wanted_of};
 
 use crate::client_message::ClientMessage;
 use crate::fed::BadFrame;

@@ -4,6 +4,7 @@ ghost use Rattle.std.specs.Prelude.{◌≡◌, ◌≤◌, length};
 ghost use Rattle.fe_wire.specs.Stream.{IsHead, length_field, length_of_kind, longest};
 
 use crate::client_message::ClientMessage;
+use crate::kinds;
 use crate::messages::message_of;
 use crate::version::Version;
 use fe_fields::u32_at;
@@ -46,18 +47,18 @@ fn length_of_kind(version: Version, kind: u8) -> Option<u32>
     ensures { result ≡ length_of_kind version kind }
 {
     match (version, kind) {
-        (Version::Two, 11) => Some(30),
-        (Version::Two, 12) => Some(47),
-        (Version::Two, 13) => Some(42),
-        (_, 1) => Some(9),
-        (_, 2) => Some(31),
-        (_, 3) => Some(26),
-        (_, 4) => Some(17),
-        (_, 5) => Some(30),
-        (_, 6) => Some(9),
-        (_, 7) => Some(9),
-        (_, 8) => Some(1),
-        (_, 9) => Some(1),
+        (Version::Two, kinds::ACCESS_NOW) => Some(30),
+        (Version::Two, kinds::CREATE_LONG) => Some(47),
+        (Version::Two, kinds::FIND_LONG) => Some(42),
+        (_, kinds::ATTACH) => Some(9),
+        (_, kinds::CREATE) => Some(31),
+        (_, kinds::FIND) => Some(26),
+        (_, kinds::REMOVE) => Some(17),
+        (_, kinds::ACCESS) => Some(30),
+        (_, kinds::CANCEL) => Some(9),
+        (_, kinds::SETTLE) => Some(9),
+        (_, kinds::BYE) => Some(1),
+        (_, kinds::ASK_REPORT) => Some(1),
         _ => None,
     }
 }

@@ -6,7 +6,7 @@ ghost use Rattle.fe_wire.specs.Spelling.{spelling, Fits};
 use crate::client_message::ClientMessage;
 use crate::fields::name_room;
 use crate::frame::{Frame, frame_of, is_long, put_name};
-use crate::kinds::{access_kind, create_kind, find_kind};
+use crate::kinds;
 use fe_codes::{op_code, operand_of, tag_code};
 use fe_state::{Name, Request};
 use fe_words::{Op, Tag};
@@ -14,7 +14,7 @@ use fe_words::{Op, Tag};
 fn attach_frame(session: u64) -> Frame
     ensures { result ≡ spelling (ClientMessage.Attach session) }
 {
-    let mut frame = frame_of(9, 1);
+    let mut frame = frame_of(9, kinds::ATTACH);
     frame.put_u64(session);
     frame
 }
@@ -24,7 +24,10 @@ fn create_frame(number: u64, name: &Name, words: u32, tag: Tag) -> Frame
     ensures fits { Fits (ClientMessage.Call number (Request.Create name.now words tag)) }
 {
     let is_long = is_long(name);
-    let mut frame = frame_of(u32::from(name_room(is_long)) + 15, create_kind(is_long));
+    let mut frame = frame_of(
+        u32::from(name_room(is_long)) + 15,
+        kinds::create_kind(is_long),
+    );
     frame.put_u64(number);
     put_name(&mut frame, name);
     frame.put_u32(words);
@@ -37,7 +40,10 @@ fn find_frame(number: u64, name: &Name) -> Frame
     ensures fits { Fits (ClientMessage.Call number (Request.Find name.now)) }
 {
     let is_long = is_long(name);
-    let mut frame = frame_of(u32::from(name_room(is_long)) + 10, find_kind(is_long));
+    let mut frame = frame_of(
+        u32::from(name_room(is_long)) + 10,
+        kinds::find_kind(is_long),
+    );
     frame.put_u64(number);
     put_name(&mut frame, name);
     frame
@@ -46,7 +52,7 @@ fn find_frame(number: u64, name: &Name) -> Frame
 fn remove_frame(number: u64, array: u64) -> Frame
     ensures { result ≡ spelling (ClientMessage.Call number (Request.Remove array)) }
 {
-    let mut frame = frame_of(17, 4);
+    let mut frame = frame_of(17, kinds::REMOVE);
     frame.put_u64(number);
     frame.put_u64(array);
     frame
@@ -56,7 +62,7 @@ fn access_frame(number: u64, array: u64, index: u32, op: Op, no_wait: bool) -> F
     ensures spelled { result ≡ spelling (ClientMessage.Call number (Request.Access array index op no_wait)) }
     ensures fits { Fits (ClientMessage.Call number (Request.Access array index op no_wait)) }
 {
-    let mut frame = frame_of(30, access_kind(no_wait));
+    let mut frame = frame_of(30, kinds::access_kind(no_wait));
     frame.put_u64(number);
     frame.put_u8(op_code(op));
     frame.put_u64(array);
@@ -68,7 +74,7 @@ fn access_frame(number: u64, array: u64, index: u32, op: Op, no_wait: bool) -> F
 fn cancel_frame(number: u64) -> Frame
     ensures { result ≡ spelling (ClientMessage.Cancel number) }
 {
-    let mut frame = frame_of(9, 6);
+    let mut frame = frame_of(9, kinds::CANCEL);
     frame.put_u64(number);
     frame
 }
@@ -76,7 +82,7 @@ fn cancel_frame(number: u64) -> Frame
 fn settle_frame(floor: u64) -> Frame
     ensures { result ≡ spelling (ClientMessage.Settle floor) }
 {
-    let mut frame = frame_of(9, 7);
+    let mut frame = frame_of(9, kinds::SETTLE);
     frame.put_u64(floor);
     frame
 }
@@ -108,7 +114,7 @@ pub fn message_frame(message: &ClientMessage) -> Frame
         ClientMessage::Call { number, request } => call_frame(*number, request),
         ClientMessage::Cancel { number } => cancel_frame(*number),
         ClientMessage::Settle { floor } => settle_frame(*floor),
-        ClientMessage::Bye => frame_of(1, 8),
-        ClientMessage::Report => frame_of(1, 9),
+        ClientMessage::Bye => frame_of(1, kinds::BYE),
+        ClientMessage::Report => frame_of(1, kinds::ASK_REPORT),
     }
 }

@@ -5,6 +5,7 @@ ghost use Rattle.fe_wire.specs.Reading.{create_of, find_of, access_of, plain_of,
 
 use crate::client_message::ClientMessage;
 use crate::fields::{ended, name_of, name_room, number_of, two_numbers_of};
+use crate::kinds;
 use fe_codes::{op_of, tag_of};
 use fe_fields::{next_byte, next_bytes, next_u32, next_u64};
 use fe_state::{Request, named};
@@ -62,25 +63,25 @@ fn plain_of(kind: u8, body: &[u8]) -> Option<ClientMessage>
 {
     named::<Request>();
     match kind {
-        1 => {
+        kinds::ATTACH => {
             let session = number_of(body)?;
             Some(ClientMessage::Attach { session })
         }
-        4 => {
+        kinds::REMOVE => {
             let (number, array) = two_numbers_of(body)?;
             let request = Request::Remove { array };
             Some(ClientMessage::Call { number, request })
         }
-        6 => {
+        kinds::CANCEL => {
             let number = number_of(body)?;
             Some(ClientMessage::Cancel { number })
         }
-        7 => {
+        kinds::SETTLE => {
             let floor = number_of(body)?;
             Some(ClientMessage::Settle { floor })
         }
-        8 => ended(body, ClientMessage::Bye),
-        9 => ended(body, ClientMessage::Report),
+        kinds::BYE => ended(body, ClientMessage::Bye),
+        kinds::ASK_REPORT => ended(body, ClientMessage::Report),
         _ => None,
     }
 }
@@ -91,12 +92,12 @@ pub fn message_of(kind: u8, body: &[u8]) -> Option<ClientMessage>
     ensures { result ≡ message_of kind body.now }
 {
     match kind {
-        2 => create_of(false, body),
-        3 => find_of(false, body),
-        5 => access_of(false, body),
-        11 => access_of(true, body),
-        12 => create_of(true, body),
-        13 => find_of(true, body),
+        kinds::CREATE => create_of(false, body),
+        kinds::FIND => find_of(false, body),
+        kinds::ACCESS => access_of(false, body),
+        kinds::ACCESS_NOW => access_of(true, body),
+        kinds::CREATE_LONG => create_of(true, body),
+        kinds::FIND_LONG => find_of(true, body),
         _ => plain_of(kind, body),
     }
 }

@@ -5,6 +5,7 @@ ghost use Rattle.fe_wire.specs.Spelling.{spelling, reply_spelling, Fits, ReplyFi
 
 use crate::client_message::ClientMessage;
 use crate::frame::{Frame, frame_of};
+use crate::kinds;
 use crate::message_frames::message_frame;
 use crate::server_message::ServerMessage;
 use fe_codes::{answer_code, answer_length, answer_number};
@@ -27,7 +28,7 @@ pub fn put_message(out: &mut Vec<u8>, message: &ClientMessage) -> Result<(), All
 fn welcome_frame(session: u64, floor: u64) -> Frame
     ensures { result ≡ reply_spelling (ServerMessage.Welcome session floor) }
 {
-    let mut frame = frame_of(17, 65);
+    let mut frame = frame_of(17, kinds::WELCOME);
     frame.put_u64(session);
     frame.put_u64(floor);
     frame
@@ -37,7 +38,7 @@ fn answer_frame(number: u64, answer: Answer) -> Frame
     ensures spelled { result ≡ reply_spelling (ServerMessage.Answer number answer) }
     ensures fits { ReplyFits (ServerMessage.Answer number answer) }
 {
-    let mut frame = frame_of(22, 66);
+    let mut frame = frame_of(22, kinds::ANSWER);
     frame.put_u64(number);
     frame.put_u8(answer_code(answer));
     frame.put_u64(answer_number(answer));
@@ -48,7 +49,7 @@ fn answer_frame(number: u64, answer: Answer) -> Frame
 fn withdrawn_frame(number: u64) -> Frame
     ensures { result ≡ reply_spelling (ServerMessage.Withdrawn number) }
 {
-    let mut frame = frame_of(9, 67);
+    let mut frame = frame_of(9, kinds::WITHDRAWN);
     frame.put_u64(number);
     frame
 }
@@ -56,7 +57,7 @@ fn withdrawn_frame(number: u64) -> Frame
 fn settled_frame(floor: u64) -> Frame
     ensures { result ≡ reply_spelling (ServerMessage.Settled floor) }
 {
-    let mut frame = frame_of(9, 68);
+    let mut frame = frame_of(9, kinds::SETTLED);
     frame.put_u64(floor);
     frame
 }
@@ -64,7 +65,7 @@ fn settled_frame(floor: u64) -> Frame
 fn goodbye_frame(session: u64) -> Frame
     ensures { result ≡ reply_spelling (ServerMessage.Goodbye session) }
 {
-    let mut frame = frame_of(9, 69);
+    let mut frame = frame_of(9, kinds::GOODBYE);
     frame.put_u64(session);
     frame
 }
@@ -72,7 +73,7 @@ fn goodbye_frame(session: u64) -> Frame
 fn refused_frame(number: u64, code: u8) -> Frame
     ensures { result ≡ reply_spelling (ServerMessage.Refused number code) }
 {
-    let mut frame = frame_of(10, 70);
+    let mut frame = frame_of(10, kinds::REFUSED);
     frame.put_u64(number);
     frame.put_u8(code);
     frame
@@ -87,7 +88,7 @@ fn put_report(out: &mut Vec<u8>, report: &ReportText) -> Result<(), AllocError>
     ensures fits { ReplyFits (ServerMessage.Report report.now) }
 {
     let text = report.as_str().as_bytes();
-    let head = frame_of(text.len() as u32 + 1, 71);
+    let head = frame_of(text.len() as u32 + 1, kinds::REPORT);
     let head = head.bytes();
     out.reserve(head.len() + text.len())?;
     out.extend_from_slice(head)?;

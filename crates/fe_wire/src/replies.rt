@@ -2,20 +2,19 @@
 
 ghost use Rattle.std.specs.Prelude.{◌≡◌, Some, IfOk, IfSome, OnErr};
 ghost use Rattle.fe_wire.specs.Spelling.{reply_spelling, ReplyFits, IsReport};
-ghost use Rattle.fe_wire.specs.Reading.{ReadsAs, answered_of, refused_of, report_of, reply_of_kind, parts_of};
+ghost use Rattle.fe_wire.specs.Reading.{ReadsAs};
+ghost use Rattle.fe_wire.specs.within.Replies.{answered_of, refused_of, report_of, reply_of_kind, parts_of};
 ghost use Rattle.fe_wire.specs.declared.server_message.ServerMessage.{ServerMessage as Reply};
 
 use crate::fields::{ended, number_of, two_numbers_of};
+use crate::kinds;
 use crate::server_message::ServerMessage;
 use fe_codes::answer_of;
 use fe_fields::{next_byte, next_u32, next_u64};
 use fe_mail::{REPORT_BYTES, ReportText};
 use std::alloc::{AllocError, Global};
 
-/// The kind of a report.
-const REPORT: u8 = 71;
-
-#[tactic(auto, unfolding(crate::specs::Reading::answered_of))]
+#[tactic(auto, unfolding(crate::specs::within::Replies::answered_of))]
 fn answered_of(body: &[u8]) -> Option<ServerMessage>
     ensures { result ≡ answered_of body.now }
 {
@@ -27,7 +26,7 @@ fn answered_of(body: &[u8]) -> Option<ServerMessage>
     ended(rest, ServerMessage::Answer { number, answer })
 }
 
-#[tactic(auto, unfolding(crate::specs::Reading::refused_of))]
+#[tactic(auto, unfolding(crate::specs::within::Replies::refused_of))]
 fn refused_of(body: &[u8]) -> Option<ServerMessage>
     ensures { result ≡ refused_of body.now }
 {
@@ -40,29 +39,29 @@ fn refused_of(body: &[u8]) -> Option<ServerMessage>
 }
 
 /// The reply that a frame with this kind and body spells, unless it is a report.
-#[tactic(auto, unfolding(crate::specs::Reading::reply_of_kind))]
+#[tactic(auto, unfolding(crate::specs::within::Replies::reply_of_kind))]
 fn reply_of_kind(kind: u8, body: &[u8]) -> Option<ServerMessage>
     ensures { result ≡ reply_of_kind kind body.now }
 {
     match kind {
-        65 => {
+        kinds::WELCOME => {
             let (session, floor) = two_numbers_of(body)?;
             Some(ServerMessage::Welcome { session, floor })
         }
-        66 => answered_of(body),
-        67 => {
+        kinds::ANSWER => answered_of(body),
+        kinds::WITHDRAWN => {
             let number = number_of(body)?;
             Some(ServerMessage::Withdrawn { number })
         }
-        68 => {
+        kinds::SETTLED => {
             let floor = number_of(body)?;
             Some(ServerMessage::Settled { floor })
         }
-        69 => {
+        kinds::GOODBYE => {
             let session = number_of(body)?;
             Some(ServerMessage::Goodbye { session })
         }
-        70 => refused_of(body),
+        kinds::REFUSED => refused_of(body),
         _ => None,
     }
 }
@@ -83,7 +82,7 @@ fn report_of(alloc: Global, body: &[u8]) -> Result<Option<ServerMessage>, AllocE
 }
 
 /// The kind and the body, if the bytes are exactly one frame.
-#[tactic(auto, unfolding(crate::specs::Reading::parts_of))]
+#[tactic(auto, unfolding(crate::specs::within::Replies::parts_of))]
 fn parts_of(frame: &[u8]) -> Option<(u8, &[u8])>
     ensures { ReadsAs (λ x. (x.0, x.1.now)) result (parts_of frame.now) }
 {
@@ -108,7 +107,7 @@ pub fn read_reply(alloc: Global, frame: &[u8]) -> Result<Option<ServerMessage>, 
     let Some((kind, body)) = parts_of(frame) else {
         return Ok(None);
     };
-    if kind == REPORT {
+    if kind == kinds::REPORT {
         return report_of(alloc, body);
     }
     Ok(reply_of_kind(kind, body))
