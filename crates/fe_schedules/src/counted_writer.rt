@@ -5,11 +5,8 @@ ghost use Rattle.fe_text.specs.declared.fault.StreamFault.{StreamFault as Fault}
 
 use crate::faults::Faults;
 use crate::streams::Sink;
-use fe_text::StreamFault;
+use fe_text::{StreamFault, WRITES};
 use std::io::{ErrorKind, Write};
-
-/// The maximum number of writes for one text.
-const WRITES: u64 = 1 << 40;
 
 /// A writer of `std`. For clauses it counts its writes, notes the faults that its calls came to, and whether all that was
 /// written is flushed.

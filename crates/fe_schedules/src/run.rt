@@ -16,12 +16,12 @@ use crate::streams::Sink;
 use crate::told::Told;
 use fe_disk::MemoryDisk;
 use fe_state::{Request, named};
-use fe_text::{LONGEST, Line, first_line};
+use fe_text::{LONGEST_LINE, Line, first_line};
 use fe_wire::ClientMessage;
 use std::alloc::Global;
 
 /// How many bytes are printed at least before they are written within a piece.
-const FULL: usize = 65536;
+const FULL: usize = 65_536;
 
 /// The state of a run.
 #[derive(Drop)]
@@ -53,7 +53,7 @@ impl Run {
         ensures text { IfOk result (λ run. string_bytes run.text ≡ []) }
         ensures fault { IfErr result (λ e. TellsDisk e.1 e.0) }
     {
-        let Ok(begun) = Vec::with_capacity(alloc, LONGEST) else {
+        let Ok(begun) = Vec::with_capacity(alloc, LONGEST_LINE) else {
             return Err((MachineFault::Memory, disk));
         };
         let machine = Machine::new(alloc, disk)?;
@@ -149,7 +149,7 @@ impl Run {
         ensures begun { OnOk result (self.new.begun.items ≡ self.old.begun.items ++ bytes.now) }
         ensures err { IfErr result (IsTooLong (self.old.lines + 1) (self.old.begun.items ++ bytes.now)) }
     {
-        if bytes.len() > LONGEST - self.begun.len() {
+        if bytes.len() > LONGEST_LINE - self.begun.len() {
             return Err(ScheduleFault::Line(self.lines + 1));
         }
         match self.begun.extend_from_slice(bytes) {

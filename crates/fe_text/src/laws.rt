@@ -1,7 +1,7 @@
 ghost use Rattle.std.specs.Prelude.{◌≡◌};
 ghost use Rattle.fe_text.specs.Limits.{longest_line};
 ghost use Rattle.fe_text.specs.RefusalNames.{PrintsTheirNames};
-ghost use Rattle.fe_text.specs.declared.line.TheConstants.{LONGEST};
+ghost use Rattle.fe_text.specs.declared.line.TheConstants.{LONGEST_LINE};
 
 /// The name printed for a refusal's code is the refusal's name.
 pub fn refusals_print_their_names()
@@ -10,5 +10,5 @@ pub fn refusals_print_their_names()
 
 /// The code's constant is the limit of a line.
 pub fn limits_are()
-    ensures line { LONGEST ≡ longest_line }
+    ensures line { LONGEST_LINE ≡ longest_line }
 {}

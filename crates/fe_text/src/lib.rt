@@ -13,6 +13,6 @@ mod word;
 pub use fault::StreamFault;
 pub use input::first_line;
 pub use laws::{limits_are, refusals_print_their_names};
-pub use line::{LONGEST, Line, message_in, parse};
+pub use line::{LONGEST_LINE, Line, message_in, parse};
 pub use printing::print_reply;
-pub use stream::{PIECE, READS, buffer, read_once, stream_fault, write_out, write_text};
+pub use stream::{PIECE, READS, WRITES, buffer, read_once, stream_fault, write_out, write_text};

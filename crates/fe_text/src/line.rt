@@ -9,10 +9,10 @@ use crate::word::{number_of, says, word_at};
 use fe_wire::ClientMessage;
 
 /// The length of the longest line, in bytes, without its line feed.
-pub const LONGEST: usize = 99;
+pub const LONGEST_LINE: usize = 99;
 
 /// The greatest number of a connection; the least is 1.
-const CONNECTIONS: u64 = 999;
+const GREATEST_CONNECTION: u64 = 999;
 
 /// A line of a schedule.
 #[derive(Clone, Copy, PartialEq, Eq)]
@@ -40,7 +40,7 @@ fn conn_of(word: &[u8]) -> Option<u64>
         return None;
     }
     let conn = number_of(&word[1..])?;
-    if conn < 1 || conn > CONNECTIONS {
+    if conn < 1 || conn > GREATEST_CONNECTION {
         return None;
     }
     Some(conn)
@@ -129,13 +129,13 @@ fn told_in(conn: u64, words: &[u8]) -> Option<Line>
 }
 
 /// The line that the bytes spell, without a line feed, with single spaces between words. `None` if they spell none; no
-/// line has more than `LONGEST` bytes.
+/// line has more than `LONGEST_LINE` bytes.
 #[tactic(auto, unfolding(crate::specs::Line::parsed))]
 pub fn parse(bytes: &[u8]) -> Option<Line>
     ensures line { result ≡ parsed bytes.now }
     ensures fits { IfSome result LineFits }
 {
-    if bytes.len() > LONGEST {
+    if bytes.len() > LONGEST_LINE {
         return None;
     }
     match word_at(bytes) {

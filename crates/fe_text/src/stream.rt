@@ -13,10 +13,10 @@ use std::io::{Error, ErrorKind, Read, Write};
 pub const READS: u64 = 1 << 40;
 
 /// The maximum number of bytes in one read.
-pub const PIECE: usize = 65536;
+pub const PIECE: usize = 65_536;
 
 /// The maximum number of writes for one text.
-const WRITES: u64 = 1 << 40;
+pub const WRITES: u64 = 1 << 40;
 
 /// The fault for a stream's error: `Memory` if memory ran out, otherwise `Input`.
 pub fn stream_fault(error: Error) -> StreamFault
