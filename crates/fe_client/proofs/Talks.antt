@@ -10,7 +10,6 @@ use Rattle.fe_text.specs.Line.{message_in, plain_in}
 use Rattle.fe_text.specs.Words.{words_at}
 use Rattle.fe_text.specs.declared.fault.StreamFault.{StreamFault}
 use Rattle.fe_client.specs.declared.fault.CallFault.{CallFault}
-use Rattle.fe_client.specs.declared.fault.CallFault.TheVariants as fault
 use Rattle.fe_client.specs.Asking.{asked}
 use Rattle.fe_client.specs.Events.{Event, sent, received, written, exchange, reply_text}
 use Rattle.fe_client.specs.Conversation.{Does}
@@ -89,10 +88,6 @@ line_done leads line m reads now s t says e =
 pub line_ends : {S : Type 0} (leads : S → List Event → S → Type 0) (end : CallFault) (over : Type 0) (number earlier : ℕ) (line : List ℕ) (m : ClientMessage) (s t : S) → asked line ≡ Some m → DoesPart leads s t (ExchangeEnds end over earlier m)
     → DoesPart leads s t (LineEnds end over number earlier line)
 line_ends leads end over number earlier line m s t says d = record { part = d.part; ends = LineEnds.Within m says d.ends; happened = d.happened }
-
--- a line outside the syntax
-pub line_strays : {S : Type 0} (leads : S → List Event → S → Type 0) (over : Type 0) (number earlier : ℕ) (line : List ℕ) (s : S) → leads s [] s → line ≢ [] → asked line ≡ None → DoesPart leads s s (LineEnds (fault.Line number) over number earlier line)
-line_strays leads over number earlier line s stays some none = record { part = []; ends = LineEnds.Stray refl some none refl; happened = stays }
 
 pub not_empty : (xs : List ℕ) (b : Bool) → b ≡ nat_eq (length xs) 0 → b ≡ false → xs ≢ []
 not_empty [] b e f none = true≢false (sym e ∙ f)

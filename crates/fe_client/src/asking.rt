@@ -4,11 +4,11 @@ ghost use Rattle.std.specs.Prelude.{◌≡◌, IfSome};
 ghost use Rattle.fe_wire.specs.Spelling.{Fits};
 ghost use Rattle.fe_client.specs.Asking.{asked};
 
-use fe_text::message_in;
+use fe_text::{LONGEST_LINE, message_in};
 use fe_wire::ClientMessage;
 
-/// How many bytes the longest line has.
-pub(crate) const LONGEST: usize = 94;
+/// The length of the longest line to a server, in bytes, without its line feed: a schedule's without its connection, `c999 `.
+pub(crate) const LONGEST_ASKED: usize = LONGEST_LINE - 5;
 
 /// The message that a line says, without its line feed. `None` outside the syntax.
 #[tactic(auto, unfolding(crate::specs::Asking::asked))]
@@ -16,7 +16,7 @@ pub(crate) fn asked(line: &[u8]) -> Option<ClientMessage>
     ensures message { result ≡ asked line.now }
     ensures fits { IfSome result Fits }
 {
-    if line.len() > LONGEST {
+    if line.len() > LONGEST_ASKED {
         return None;
     }
     message_in(line)

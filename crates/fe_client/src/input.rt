@@ -3,7 +3,7 @@
 ghost use Rattle.std.specs.Prelude.{◌≤◌, ◌<◌, ◌≡◌, ◌++◌, length, IfErr, OnOk};
 ghost use Rattle.fe_client.specs.Ends.{IsTooLong};
 
-use crate::asking::LONGEST;
+use crate::asking::LONGEST_ASKED;
 use crate::fault::CallFault;
 use crate::streams::Streams;
 use fe_text::{PIECE, READS, StreamFault, buffer, first_line};
@@ -151,7 +151,7 @@ fn add(line: &mut Vec<u8>, bytes: &[u8], number: u64) -> Result<(), CallFault>
     ensures ok { OnOk result (line.new.items ≡ line.old.items ++ bytes.now) }
     ensures err { IfErr result (λ end. IsTooLong end number (line.old.items ++ bytes.now)) }
 {
-    if bytes.len() > LONGEST - line.len() {
+    if bytes.len() > LONGEST_ASKED - line.len() {
         return Err(CallFault::Line(number));
     }
     match line.extend_from_slice(bytes) {

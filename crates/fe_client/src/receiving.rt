@@ -1,6 +1,6 @@
 //! Bytes over a connection: all of some are sent, and frames of replies are received.
 
-ghost use Rattle.std.specs.Prelude.{◌≡◌, ◌+◌, ◌≤◌, ℕ, List, length, take, IfOk, IfErr, OnOk};
+ghost use Rattle.std.specs.Prelude.{◌≡◌, ◌+◌, ◌≤◌, ℕ, List, length, IfOk, IfErr, OnOk};
 ghost use Rattle.fe_wire.specs.Spelling.{reply_spelling, ReplyFits};
 ghost use Rattle.fe_wire.specs.Stream.{length_field};
 ghost use Rattle.fe_client.specs.Events.{sent, received};
@@ -10,17 +10,14 @@ use crate::fault::CallFault;
 use crate::streams::Streams;
 use byteorder::{BigEndian, ByteOrder};
 use fe_text::READS;
-use fe_wire::{ServerMessage, read_reply};
+use fe_wire::{LENGTH_BYTES, ServerMessage, read_reply};
 use std::alloc::Global;
 
-/// The bytes of a frame's length.
-const LENGTH_BYTES: usize = 4;
-
 /// The greatest length of a frame from the server, which is that of the longest report.
-const LONGEST: usize = 262_145;
+const GREATEST_LENGTH: usize = 262_145;
 
 /// The bytes of the longest frame from the server.
-pub(crate) const FRAME_BYTES: usize = LENGTH_BYTES + LONGEST;
+pub(crate) const REPLY_BYTES: usize = LENGTH_BYTES + GREATEST_LENGTH;
 
 /// Sends all of these bytes.
 pub(crate) fn send_all<E: Streams>(streams: &mut E, bytes: &[u8]) -> Result<(), CallFault>
@@ -82,7 +79,7 @@ fn receive_length<E: Streams>(
 {
     receive_all(streams, head, reads)?;
     let count = BigEndian::read_u32(head) as usize;
-    if count == 0 || count > LONGEST {
+    if count == 0 || count > GREATEST_LENGTH {
         return Err(CallFault::Socket);
     }
     Ok(count)

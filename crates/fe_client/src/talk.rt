@@ -8,7 +8,7 @@ ghost use Rattle.fe_client.specs.Talk.{DoesLine, DoesPart, Exchanged};
 
 use crate::asking::asked;
 use crate::fault::CallFault;
-use crate::receiving::{FRAME_BYTES, receive_reply, send_all};
+use crate::receiving::{REPLY_BYTES, receive_reply, send_all};
 use crate::streams::Streams;
 use fe_text::{StreamFault, buffer, print_reply};
 use fe_wire::{ClientMessage, ServerMessage, put_message};
@@ -35,7 +35,7 @@ impl Talk {
         ensures reads { IfOk result (λ talk. talk.reads ≡ 0) }
         ensures err { IfErr result (λ fault. fault ≡ CallFault.Memory) }
     {
-        let frame = buffer(alloc, FRAME_BYTES)?;
+        let frame = buffer(alloc, REPLY_BYTES)?;
         Ok(Talk {
             alloc,
             message: Vec::new(alloc),

@@ -20,6 +20,7 @@ mod version;
 pub use client_message::ClientMessage;
 pub use decoder::Decoder;
 pub use fed::{BadFrame, Fed};
+pub use head::LENGTH_BYTES;
 pub use laws::{
     frames_are_spelled, has_reading, limits_are, one_outcome, one_reading, one_reply_reading,
     one_reply_spelling, one_spelling,
