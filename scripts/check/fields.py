@@ -274,7 +274,7 @@ def elsewhere(_place):
 # Numbers of the code that pages have: the page's words, the file, how the number stands there, and what the page counts it in.
 IN_CODE = (
     ("docs/operating.md", "two threads each, with N MB of address space", "fe_server/src/connection.rt", r"STACK: usize = 1 << (\d+)", lambda it: 2 * 2**it // 2**20),
-    ("docs/proved.md", "The list has the first N attaches and calls", "fe_hall/src/reading.rt", r"LISTED: usize = (\d+)", int),
+    ("docs/proved.md", "The list has the first N attaches and calls", "fe_history/src/strange.rt", r"LISTED: usize = (\d+)", int),
     ("docs/proved.md", "The receipts are the first N answers", "fe_hall/src/writing.rt", r"KEPT: usize = (\d+)", int),
     ("docs/model.md", "a missing session opens, floor N |", "fe_state/specs/Sessions.antt", r"first_session = record \{ floor = (\d+)", int),
     ("docs/model.md", "it does not exist, the floor is N and", "fe_state/specs/Sessions.antt", r"first_session = record \{ floor = (\d+)", int),

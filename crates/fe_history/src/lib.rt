@@ -24,5 +24,5 @@ pub use receipt::Receipt;
 pub use receipt_list::ReceiptList;
 pub use receipts::Receipts;
 pub use store_seat::{StoreSeat, Unnoted};
-pub use strange::first_strange;
+pub use strange::{LISTED, first_strange};
 pub use tally::Tally;

@@ -9,8 +9,8 @@ use fe_keeper::Keeper;
 use fe_state::Batch;
 use std::marker::Model;
 
-/// How many batches a side stores at most, 2^62.
-const GROUPS: u64 = 4611686018427387904;
+/// How many batches a side stores at most.
+const BATCHES: u64 = 1 << 62;
 
 /// Shows that another side noted a batch in the history, or this one 2^62. Only `StoreSeat::note` makes one.
 #[derive(Clone, Copy)]
@@ -66,7 +66,7 @@ impl<M: Tally> StoreSeat<M> {
             (stores_in self.new ≡ stores_in self.old ++ (batch.now, D.moment keeper.now.store.disk) ∷ []) }
         ensures unnoted { OnErr result (self.new ≡ self.old) }
     {
-        if self.stored >= GROUPS || self.stored != count {
+        if self.stored >= BATCHES || self.stored != count {
             return Err(Unnoted(()));
         }
         let mut history = self.history.again();

@@ -12,8 +12,8 @@ use fe_front::is_same;
 use fe_state::{Kept, KeptAnswers, Request, State};
 use fe_wire::ClientMessage;
 
-/// How many messages of a connection are kept at most.
-const MESSAGES: usize = 1024;
+/// How many messages the list of a connection has at most.
+pub const LISTED: usize = 1024;
 
 /// The place of the first strange receipt, if one is.
 pub fn first_strange(
@@ -98,7 +98,7 @@ fn is_missed(sent: &[Vec<ClientMessage>], receipt: &Receipt, request: &Request) 
         → WasSent (map (λ v. v.items) sent.now) receipt.now.session receipt.now.number request.now) }
 {
     sent.iter()
-        .all(|messages| messages.as_slice().len() < MESSAGES)
+        .all(|messages| messages.as_slice().len() < LISTED)
         && !was_sent(sent, receipt, request)
 }
 
