@@ -71,9 +71,6 @@ pub posted_steps : {E A : Type 0} (f g : FrontState) (batch : Batch) (result : R
 posted_steps {E} f g batch (Ok u) refused ok = post_step f g {E = E} batch (Ok u) refused u refl ok
 posted_steps f g batch (Err e) refused ok = tt
 
-pub gone_goes : (f g : FrontState) (conn count : ℕ) → IsFront f → IsOpen f.books → FrontStep f (event.Gone conn count) [] g → Goes f g 0 0
-gone_goes f g conn count front is_open step = step_goes f g (event.Gone conn count) [] front is_open (omega (arith, is_open.calls)) (omega (arith, is_open.mails)) step
-
 pub take_mail_goes : (f g : FrontState) (conn : ℕ) (m : Option Mail) → IsFront f → IsOpen f.books → FrontStep f (event.TakeMail conn m) [] g → Goes f g 0 (taken_of (event.TakeMail conn m))
 take_mail_goes f g conn m front is_open step = step_goes f g (event.TakeMail conn m) [] front is_open (omega (arith, is_open.calls)) (omega (arith, is_open.mails)) step
 

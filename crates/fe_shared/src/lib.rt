@@ -26,7 +26,7 @@ pub use new_seats::NewSeats;
 pub use seats::Seats;
 pub use shared::{
     AllDurable, AllMade, ConnectRight, CutBatch, Cutting, FullBook, HasStopped, HoldRight, InUse,
-    Made, NotOut, Posted, Rest, SeatMissing, Shared, Uncut, Unposted,
+    Made, NotOut, PARTS, Posted, Rest, SeatMissing, Shared, Uncut, Unposted,
 };
 pub use short::{Short, feed, put, reserve_one, zeros};
 pub use standing::Standing;

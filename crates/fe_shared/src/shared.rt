@@ -37,11 +37,14 @@ use std::alloc::Global;
 use std::marker::Model;
 use std::sync::ledger::{Blank, Book, Share};
 
-/// How many connections a hall makes, 2^62.
-const CONNECTIONS: u64 = 4611686018427387904;
+/// How many connections a hall makes at most.
+const CONNECTIONS: u64 = 1 << 62;
 
-/// The most that a book of a hall counts before its sides end.
-const MOST: u64 = 9223372036854767616;
+/// How many parts each ledger of a hall has: one for each connection that it makes, and that of the book.
+pub const PARTS: u64 = CONNECTIONS + 1;
+
+/// As many as a book of a hall may count before its sides end. One post more stays below 2^63.
+const MOST_COUNTED: u64 = (1 << 63) - 8192;
 
 /// The front and its ledgers, which agree with its books.
 pub struct Shared<C: Tally, M: Tally> {
@@ -270,7 +273,7 @@ impl<C: Tally, M: Tally> Shared<C, M> {
         ensures { result ≡ takes_more self.now.front.books }
     {
         let books = self.front.books();
-        books.calls < MOST && books.mails < MOST
+        books.calls < MOST_COUNTED && books.mails < MOST_COUNTED
     }
 
     /// A message of a connection is its event, or its refusal is mailed.
@@ -512,7 +515,7 @@ impl<C: Tally, M: Tally> Shared<C, M> {
             seat.tell(&self.mails, Standing::Stopped);
             return Some(Taking::Stopped);
         }
-        if self.front.books().taken >= MOST {
+        if self.front.books().taken >= MOST_COUNTED {
             seat.tell(&self.mails, Standing::Spent);
             return Some(Taking::Spent);
         }

@@ -9,7 +9,7 @@ ghost use Rattle.fe_history.specs.Acts.{WasStoredLast};
 ghost use Rattle.fe_shared.specs.Holds.{Cuts, IsCutIn, IsUnposted, MakesEvent, MakesNoEvent};
 ghost use Rattle.fe_shared.specs.Seats.{posts_more};
 
-use super::{MOST, Shared};
+use super::{MOST_COUNTED, Shared};
 use fe_disk::Disk;
 use fe_front::BELLS;
 use fe_history::{History, HistoryWords, StoreSeat, Tally};
@@ -130,7 +130,7 @@ impl<C: Tally, M: Tally> Shared<C, M> {
         ensures { result ≡ posts_more self.now.front.books batch.now }
     {
         let count = batch.entries.as_slice().len() as u64;
-        self.front.books().mails <= MOST - count
+        self.front.books().mails <= MOST_COUNTED - count
     }
 
     /// The batch that is out, which was stored last, is durable now: mails its entries, and marks the bells of the connections whose
