@@ -122,11 +122,6 @@ module _ {D : Type 0} (model : Ghosts D) where
     drafted = drafted_then old.checkpoint new.checkpoint u.draft s entries u.drafted caught legal;
   }
 
--- what a clause says of a call that succeeds
-pub at_is_ok : {T E P : Type 0} (r : Result T E) → IsOk r → OnOk r P → P
-at_is_ok (Ok x) is clause = clause
-at_is_ok (Err e) is clause = absurd cc
-
 -- ---- spellings
 
 -- the records of a group are of one size
@@ -135,10 +130,6 @@ length-group format [] fits = omega arith
 length-group format (e ∷ es) fits =
     let more : (length es + 1) * record_bytes format ≡ length es * record_bytes format + record_bytes format = add-mul (length es) 1 (record_bytes format) ∙ omega arith in
     omega (arith, length-append (entry_spelling format e) (group_spelling format es), length-entry_spelling format e fits.0, length-group format es fits.1, more)
-
-pub record_whole : (format : Format) (n : ℕ) → (n * record_bytes format) % record_bytes format ≡ 0
-record_whole One n = omega arith
-record_whole Two n = omega arith
 
 -- a batch is a payload
 pub batch_is_payload : (format : Format) (n : ℕ) → 1 ≤ n → n ≤ most_batch_entries → IsPayloadLength format (n * record_bytes format)

@@ -52,10 +52,6 @@ device_back store.NoMemory is = cc
 device_back store.Unformatted is = cc
 device_back (store.Damaged offset) is = cc
 
-pub told_found : (fault : StoreFault) → (fault ≡ store.Unformatted) ⊎ (fault ≡ store.Device) → (fault_of_store fault ≡ Unformatted) ⊎ (fault_of_store fault ≡ Device)
-told_found fault (inl is) = inl (ap fault_of_store is)
-told_found fault (inr is) = inr (ap fault_of_store is)
-
 -- what is reported of contents
 pub tells_slot : (image : List ℕ) (before now : Calls) (c : Contents) (fault : Fault) → Holds c image → IsSlotFault fault → ((offset : ℕ) → fault ≡ Damaged offset → IsWrongAt c offset) → (fault ≡ NoMemory → IsOk (header_at c.image))
     → TellsStore fault image before now

@@ -28,11 +28,6 @@ use Rattle.fe_disk.specs.declared.disk.Disk.{Ghosts}
 
 -- ---- what is refused
 
--- a fault that names a place is a mismatch
-pub mismatch_told : (refused : Refused) (place : ℕ) → fault_of_refused refused ≡ Mismatch place → refused ≡ replica.Mismatch place
-mismatch_told (replica.Mismatch at) place is = cc
-mismatch_told replica.NoMemory place is = cc
-
 -- what is no mismatch is lack of memory
 pub memory_told : (refused : Refused) → ((place : ℕ) → refused ≡ replica.Mismatch place → ⊥) → fault_of_refused refused ≡ NoMemory
 memory_told (replica.Mismatch at) none = absurd (none at refl)

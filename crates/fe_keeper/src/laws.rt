@@ -1,9 +1,6 @@
-//! Laws of what images stand for, and of histories over stops; and the size that the code has.
+//! Laws of what images stand for, and of histories over stops.
 
-ghost use Rattle.std.specs.Prelude.{◌≡◌};
 ghost use Rattle.fe_keeper.specs.Laws.{StandsForOne, AreToldApart, StopsJoin};
-ghost use Rattle.fe_journal.specs.Layout.{device_bytes};
-ghost use Rattle.fe_keeper.specs.declared.opening.TheConstants.{DEVICE_BYTES};
 
 /// An image stands for at most one state.
 pub fn images_stand_for_one()
@@ -18,9 +15,4 @@ pub fn stores_are_told_apart()
 /// What a stop left of a history and the history that goes on from there are one history.
 pub fn stops_join()
     ensures { StopsJoin }
-{}
-
-/// The code's constant is the size of a device (`docs/formats.md`, "Device").
-pub fn layout_is()
-    ensures device { DEVICE_BYTES ≡ device_bytes }
 {}

@@ -17,4 +17,4 @@ mod store;
 pub use fault::Fault;
 pub use fe_format::Format;
 pub use keeper::Keeper;
-pub use laws::{images_stand_for_one, layout_is, stops_join, stores_are_told_apart};
+pub use laws::{images_stand_for_one, stops_join, stores_are_told_apart};

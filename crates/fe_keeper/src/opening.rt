@@ -18,12 +18,9 @@ use crate::assembling::{Rooms, keeper_over, keeper_with_room};
 use crate::keeper::Keeper;
 use crate::recovering::recovered;
 use fe_disk::Disk;
-use fe_journal::{Found, Journal};
+use fe_journal::{DEVICE_BYTES, Found, Journal};
 use fe_state::State;
 use std::alloc::{AllocError, Global};
-
-/// The bytes of a device (`docs/formats.md`, "Device").
-const DEVICE_BYTES: usize = 4_202_496;
 
 impl<D: Disk> Keeper<D> {
     /// Opens a store: a sync, and then only reads. The keeper has the state that the disk stands for. It takes about
