@@ -62,7 +62,7 @@ impl Front {
     {
         match self.service.state().kept(session, number) {
             Some(kept) => Some(kept.request),
-            None => match self.service.find(session, number) {
+            None => match self.service.seats().find(session, number) {
                 Some(turn) => Some(Request::Access {
                     array: turn.array,
                     index: turn.index,

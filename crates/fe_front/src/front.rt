@@ -1,8 +1,6 @@
-ghost use Rattle.std.specs.Prelude.{◌≡◌, ◌⊎◌, ◌+◌, ◌↔◌, ◌≤◌, List, not, nat_lt, length, slice_get, Some, None, Ok, Err, IsTrue, IsOk, IsErr, IfOk, IfErr, OnOk, OnErr, MatchResult};
+ghost use Rattle.std.specs.Prelude.{◌≡◌, ◌⊎◌, ◌+◌, ◌↔◌, List, not, nat_lt, length, slice_get, Some, None, Ok, Err, IsTrue, IsOk, IsErr, IfOk, IfErr, OnOk, OnErr, MatchResult};
 ghost use Rattle.std.specs.Option.{option_map};
 ghost use Rattle.std.specs.FinMap.{get, len};
-ghost use Rattle.fe_waits.specs.Waiting.{AreWaitersOf, AreListedOnce};
-ghost use Rattle.fe_seats.specs.Seating.{count_of};
 ghost use Rattle.fe_state.specs.State as states;
 ghost use Rattle.fe_state.specs.declared.entry.Entry.{Entry};
 ghost use Rattle.fe_mail.specs.Books.{Balances};
@@ -17,7 +15,6 @@ ghost use Rattle.fe_front.specs.Refusals.{attaching, settling, leaving, cancelli
 ghost use Rattle.fe_front.specs.Call.{IsCallRefused, WantsMemory, call_refused_by};
 ghost use Rattle.fe_front.specs.Posting.{IsOut, posted};
 ghost use Rattle.fe_front.specs.Ringing.{Rings};
-ghost use Rattle.fe_state.specs.Limits.{most_waiting};
 
 use crate::out::Out;
 use crate::outcome::{Outcome, StrangeBatch};
@@ -327,7 +324,7 @@ impl Front {
         ensures front { IsFront self.now }
         ensures limits { states.IsWithinLimits self.now.service.state }
     {
-        let _ = self.service.waiting_count();
+        let _ = self.service.seats().len();
         let _ = self.service.pending_count();
         self.service.state()
     }
@@ -344,38 +341,17 @@ impl Front {
     pub fn waiting(&self, session: u64, number: u64) -> Option<(u64, u32, Op)>
         ensures { result ≡ option_map (λ w. (w.array, w.index, w.op)) (get self.now.service.waiting (session, number)) }
     {
-        match self.service.find(session, number) {
+        match self.service.seats().find(session, number) {
             Some(turn) => Some((turn.array, turn.index, turn.op)),
             None => None,
         }
     }
 
-    /// The waiting requests of a session, at most `WINDOW`, in no particular order: the number of each, the array and
-    /// index of its word, and its operation. Fails only if memory runs out.
-    pub fn told(
-        &self,
-        alloc: Global,
-        session: u64,
-    ) -> Result<Vec<(u64, (u64, u32, Op))>, AllocError>
-        ensures told { IfOk result (λ told. AreWaitersOf self.now.service.waiting session told.items) }
-        ensures once { IfOk result (λ told. AreListedOnce told.items) }
+    /// The state with the sessions' seats, and the requests that wait.
+    pub fn service(&self) -> &Service
+        ensures { result.now ≡ self.now.service }
     {
-        self.service.told(alloc, session)
-    }
-
-    /// How many requests wait, 0 to `WAITING`.
-    pub fn waiting_count(&self) -> u32
-        ensures count { result ≡ len self.now.service.waiting }
-        ensures few { result ≤ most_waiting }
-    {
-        self.service.waiting_count()
-    }
-
-    /// How many requests of a session wait, 0 to `WINDOW`.
-    pub fn count_of(&self, session: u64) -> u32
-        ensures { result ≡ count_of self.now.service.waiting session }
-    {
-        self.service.count_of(session)
+        &self.service
     }
 
     /// Whether a connection has the session, and it is not closing.

@@ -32,7 +32,7 @@ impl Front {
     pub(crate) fn holder(&self, session: u64) -> Option<u64>
         ensures { result ≡ holder_of self.now.service.seats session }
     {
-        match self.service.seat(session) {
+        match self.service.seats().seat(session) {
             Some(seat) => seat.holder,
             None => None,
         }
@@ -42,7 +42,7 @@ impl Front {
     pub(crate) fn is_closing(&self, session: u64) -> bool
         ensures { result ≡ is_closing self.now.service.seats session }
     {
-        match self.service.seat(session) {
+        match self.service.seats().seat(session) {
             Some(seat) => seat.closing,
             None => false,
         }
@@ -94,11 +94,12 @@ impl Front {
     pub(crate) fn attaching(&self, conn: u64, session: u64) -> Result<u64, Refusal>
         ensures { result ≡ attaching self.now conn session }
     {
+        let seats = self.service.seats();
         if !self.connections.is_connected(conn) {
             Err(Refusal::NotAttached)
         } else if self.is_closing(session) {
             Err(Refusal::Closing)
-        } else if self.service.seat(session).is_none() && self.service.seat_count() >= SESSIONS {
+        } else if seats.seat(session).is_none() && seats.seat_count() >= SESSIONS {
             Err(Refusal::SessionLimit)
         } else {
             self.unspent(session)
@@ -171,7 +172,7 @@ impl Front {
     {
         match self.own(conn) {
             Ok(session) => {
-                if self.service.find(session, number).is_some() {
+                if self.service.seats().find(session, number).is_some() {
                     Ok(session)
                 } else {
                     Err(Refusal::NotWaiting)

@@ -1,19 +1,18 @@
-ghost use Rattle.std.specs.Prelude.{◌≡◌, ◌≢◌, ◌+◌, ◌<◌, ◌≤◌, ◌↔◌, List, [], length, Some, None, IsSome, IfOk, OnErr, is_some, true, false};
+ghost use Rattle.std.specs.Prelude.{◌≡◌, ◌+◌, ◌≤◌, List, [], length, Some, None, IsSome, IfOk, OnErr, is_some, true, false};
 ghost use Rattle.std.specs.FinMap.{get, len, empty};
-ghost use Rattle.fe_waits.specs.Waiting.{AreWaitersOf, AreListedOnce};
 ghost use Rattle.fe_state.specs.State as states;
 ghost use Rattle.fe_state.specs.State.{reply, MakesArray};
 ghost use Rattle.fe_state.specs.declared.entry.Entry.{Entry};
 ghost use Rattle.fe_state.specs.declared.entry.Entry.TheVariants.{Finished};
 ghost use Rattle.fe_state.specs.declared.request.Request.TheVariants as requests;
-ghost use Rattle.fe_seats.specs.Seating.{turn_at, count_of, is_closing};
+ghost use Rattle.fe_seats.specs.Seating.{count_of, is_closing};
 ghost use Rattle.fe_service.specs.ServiceState.{IsService};
 ghost use Rattle.fe_service.specs.Events.{IsFree, HasRoom, MaySettle, MaySit, Completes, IsSeated, floor_of, attached, settled, closed, withdrawn, cancelled, held, left, waited};
-ghost use Rattle.fe_state.specs.Limits.{most_sessions, most_waiting, most_batch_entries};
+ghost use Rattle.fe_state.specs.Limits.{most_batch_entries};
 
 use crate::beginning::{add_arrays, seat_sessions};
 use crate::parts::Parts;
-use fe_seats::{Seat, Seats, Turn};
+use fe_seats::Seats;
 use fe_state::{Answer, Entries, Entry, Request, State};
 use fe_words::Op;
 use std::alloc::{AllocError, Global};
@@ -77,11 +76,12 @@ impl Service {
         &self.parts.state
     }
 
-    /// The seat of a session, if it has one.
-    pub fn seat(&self, session: u64) -> Option<Seat>
-        ensures { result ≡ get self.now.seats session }
+    /// The seats of the sessions, and the requests that wait.
+    pub fn seats(&self) -> &Seats
+        ensures seats { result.now.seats ≡ self.now.seats }
+        ensures waiting { result.now.waiting ≡ self.now.waiting }
     {
-        self.parts.seats.seat(session)
+        &self.parts.seats
     }
 
     /// Looks for a session and the array of a request, so that the look-ups of them that follow take one comparison
@@ -92,49 +92,6 @@ impl Service {
         // Mostly the same sessions are in the state and have seats.
         let guess = self.parts.seats.aim(session);
         self.parts.state.aim(session, guess, request);
-    }
-
-    /// How many sessions have a seat, 0 to `SESSIONS`.
-    pub fn seat_count(&self) -> usize
-        ensures count { result ≡ len self.now.seats }
-        ensures fits { result ≤ most_sessions }
-    {
-        self.parts.seats.seat_count()
-    }
-
-    /// How many requests wait, 0 to `WAITING`.
-    pub fn waiting_count(&self) -> u32
-        ensures count { result ≡ len self.now.waiting }
-        ensures few { result ≤ most_waiting }
-    {
-        self.parts.seats.len()
-    }
-
-    /// How many requests of a session wait, 0 to `WINDOW`. It is 0 for a session without a seat.
-    pub fn count_of(&self, session: u64) -> u32
-        ensures { result ≡ count_of self.now.waiting session }
-    {
-        self.parts.seats.count_of(session)
-    }
-
-    /// The request of a session and a number, if it waits.
-    pub fn find(&self, session: u64, number: u64) -> Option<Turn>
-        ensures { result ≡ turn_at self.now.waiting session number }
-    {
-        self.parts.seats.find(session, number)
-    }
-
-    /// The waiting requests of a session, at most `WINDOW`, in no particular order: the number of each, the array and
-    /// index of its word, and its operation. Fails only if memory runs out.
-    pub fn told(
-        &self,
-        alloc: Global,
-        session: u64,
-    ) -> Result<Vec<(u64, (u64, u32, Op))>, AllocError>
-        ensures told { IfOk result (λ told. AreWaitersOf self.now.waiting session told.items) }
-        ensures once { IfOk result (λ told. AreListedOnce told.items) }
-    {
-        self.parts.seats.told(alloc, session)
     }
 
     /// How many entries were made and not yet taken, 0 to `BATCH_ENTRIES`.
