@@ -9,9 +9,10 @@ pub mod Few
 pub mod First
 pub mod Keeping
 pub mod Leading
+pub mod Noting
 pub mod Posted
+pub mod Remainders
 pub mod Repeating
-pub mod Ringing
 pub mod Rising
 pub mod Sitting
 pub mod Ties

@@ -1,12 +1,13 @@
 pub mod Boxes
 pub mod Call
+pub mod ConnectionSet
 pub mod Event
 pub mod Front
 pub mod Limits
 pub mod Mails
+pub mod Noting
 pub mod Posting
 pub mod Refusals
-pub mod Ringing
 pub mod Rising
 pub mod Step
 pub mod Steps

@@ -1,6 +1,6 @@
--- The number of a front's bells.
+-- How far a set tells connections apart.
 use Rattle.std.specs.Prelude.{ℕ}
 
--- how many bells there are: a connection has the one at the remainder of its number
-abbrev pub bell_count : ℕ
-bell_count = 256
+-- how many remainders there are: a connection has that of its number
+abbrev pub remainder_count : ℕ
+remainder_count = 256

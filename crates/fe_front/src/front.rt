@@ -14,11 +14,11 @@ ghost use Rattle.fe_front.specs.Steps.{connected, attached_to, settled_to, close
 ghost use Rattle.fe_front.specs.Refusals.{attaching, settling, leaving, cancelling};
 ghost use Rattle.fe_front.specs.Call.{IsCallRefused, WantsMemory, call_refused_by};
 ghost use Rattle.fe_front.specs.Posting.{IsOut, posted};
-ghost use Rattle.fe_front.specs.Ringing.{Rings};
+ghost use Rattle.fe_front.specs.Noting.{Notes};
 
+use crate::connection_set::ConnectionSet;
 use crate::out::Out;
 use crate::outcome::{Outcome, StrangeBatch};
-use crate::posting::BELLS;
 use fe_mail::{Books, Connections, Mail, Refusal, ReportText};
 use fe_service::Service;
 use fe_state::{Batch, Entries, Request, State, WAITING};
@@ -240,29 +240,29 @@ impl Front {
         ensures posted { OnOk result (self.new ≡ posted self.old batch) }
         ensures err { OnErr result (self.new ≡ self.old) }
     {
-        self.post_ringing(batch, &mut [false; BELLS as usize])
+        self.post_noting(batch, &mut ConnectionSet::new())
     }
 
-    /// As `post`, and rings the bell of each connection whose box the batch changed: it got a mail, or its box was
-    /// full and the connection was removed. A connection whose bell is not rung has its old box.
-    pub fn post_ringing(
+    /// As `post`, and adds to the set each connection whose box the batch changed: it got a mail, or its box was full
+    /// and the connection was removed. A connection that the set doesn't have has its old box.
+    pub fn post_noting(
         &mut self,
         batch: Batch,
-        bells: &mut [bool; BELLS as usize],
+        changed: &mut ConnectionSet,
     ) -> Result<(), StrangeBatch>
         ensures refused { IsErr result ↔ (¬ IsOut self.old.out batch) }
         ensures returned { IfErr result (λ strange. strange.0 ≡ batch) }
         ensures posted { OnOk result (self.new ≡ posted self.old batch) }
         ensures err { OnErr result (self.new ≡ self.old) }
-        ensures rings { Rings self.old self.new bells.old bells.new }
-        ensures silent { OnErr result (bells.new ≡ bells.old) }
+        ensures notes { Notes self.old self.new changed.old changed.new }
+        ensures none { OnErr result (changed.new ≡ changed.old) }
     {
         if !self.is_out(&batch) {
             return Err(StrangeBatch(batch));
         }
         let Batch { first, mut entries } = batch;
         self.limits();
-        self.post_all(first, entries.as_slice(), bells);
+        self.post_all(first, entries.as_slice(), changed);
         self.durable = first + entries.as_slice().len() as u64;
         self.out = None;
         entries.clear();

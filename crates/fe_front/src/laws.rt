@@ -4,8 +4,8 @@ ghost use Rattle.std.specs.Prelude.{◌≡◌};
 ghost use Rattle.fe_front.specs.Boxes.{MailsStayDurable, BoxesStayShort};
 ghost use Rattle.fe_front.specs.Rising.{BooksRise};
 ghost use Rattle.fe_front.specs.Step.{StepsLead, StepsAreFew};
-ghost use Rattle.fe_front.specs.Limits.{bell_count};
-ghost use Rattle.fe_front.specs.declared.posting.TheConstants.{BELLS};
+ghost use Rattle.fe_front.specs.Limits.{remainder_count};
+ghost use Rattle.fe_front.specs.declared.connection_set.TheConstants.{REMAINDERS};
 
 /// The entries of a step are legal one after the other, and lead to the state after it.
 pub fn steps_are_legal()
@@ -34,7 +34,7 @@ pub fn boxes_stay_short()
     ensures { BoxesStayShort }
 {}
 
-/// The code's constant is the number of bells.
+/// The code's constant is the number of remainders.
 pub fn limits_are()
-    ensures bells { BELLS ≡ bell_count }
+    ensures remainders { REMAINDERS ≡ remainder_count }
 {}

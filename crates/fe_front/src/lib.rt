@@ -4,6 +4,7 @@
 
 mod asked;
 mod calling;
+mod connection_set;
 mod front;
 mod laws;
 mod out;
@@ -13,10 +14,10 @@ mod posting;
 mod sessions;
 
 pub use asked::is_same;
+pub use connection_set::{ConnectionSet, REMAINDERS};
 pub use fe_mail::{Books, Mail, Refusal, ReportText};
 pub use front::Front;
 pub use laws::{
     books_rise, boxes_stay_short, limits_are, mails_stay_durable, steps_are_few, steps_are_legal,
 };
 pub use outcome::{Outcome, StrangeBatch};
-pub use posting::BELLS;

@@ -1,21 +1,11 @@
-ghost use Rattle.std.specs.Prelude.{◌≡◌, ◌+◌, ◌^◌, ◌<◌, ◌≤◌, ◌↔◌, ℕ, length, Some, IsTrue};
+ghost use Rattle.std.specs.Prelude.{◌≡◌, ◌+◌, ◌^◌, ◌<◌, ◌↔◌, length, IsTrue};
 ghost use Rattle.fe_front.specs.Posting.{IsOut, delivered, ended, posted_entry, posted_all};
-ghost use Rattle.fe_front.specs.Ringing.{IsRung, Rings};
+ghost use Rattle.fe_front.specs.Noting.{Notes};
 
+use crate::connection_set::ConnectionSet;
 use crate::front::Front;
 use fe_mail::{Mail, session_of};
 use fe_state::{Batch, Entry};
-
-/// How many bells there are. A connection has the one at the remainder of its number.
-pub const BELLS: u64 = 256;
-
-/// Rings the bell of a connection.
-fn ring(bells: &mut [bool; BELLS as usize], conn: u64)
-    ensures rung { IsRung bells.new conn }
-    ensures still { (other : ℕ) → IsRung bells.old other → IsRung bells.new other }
-{
-    bells[(conn % BELLS) as usize] = true;
-}
 
 impl Front {
     /// Whether a batch begins where the one that is out does, and is as long.
@@ -28,14 +18,14 @@ impl Front {
         }
     }
 
-    /// Mails an entry to the connection that has its session, if one does, and rings its bell.
-    fn deliver(&mut self, entry: &Entry, place: u64, bells: &mut [bool; BELLS as usize])
+    /// Mails an entry to the connection that has its session, if one does, and adds the connection.
+    fn deliver(&mut self, entry: &Entry, place: u64, changed: &mut ConnectionSet)
         ensures delivered { self.new ≡ delivered self.old entry.now place }
-        ensures rings { Rings self.old self.new bells.old bells.new }
+        ensures notes { Notes self.old self.new changed.old changed.new }
     {
         self.limits();
         if let Some(conn) = self.holder(session_of(entry)) {
-            ring(bells, conn);
+            changed.add(conn);
             self.put(conn, Mail::of(entry, place));
         }
     }
@@ -50,29 +40,24 @@ impl Front {
         }
     }
 
-    fn post_entry(&mut self, entry: &Entry, place: u64, bells: &mut [bool; BELLS as usize])
+    fn post_entry(&mut self, entry: &Entry, place: u64, changed: &mut ConnectionSet)
         ensures posted { self.new ≡ posted_entry self.old entry.now place }
-        ensures rings { Rings self.old self.new bells.old bells.new }
+        ensures notes { Notes self.old self.new changed.old changed.new }
     {
-        self.deliver(entry, place, bells);
+        self.deliver(entry, place, changed);
         if let Entry::Closed { session } = *entry {
             self.end(session);
         }
     }
 
     /// Posts entries in order. The first one is at the place `first`.
-    pub(crate) fn post_all(
-        &mut self,
-        first: u64,
-        entries: &[Entry],
-        bells: &mut [bool; BELLS as usize],
-    )
+    pub(crate) fn post_all(&mut self, first: u64, entries: &[Entry], changed: &mut ConnectionSet)
         requires places { first + length entries.now < 2 ^ 64 }
         ensures posted { self.new ≡ posted_all self.old entries.now first }
-        ensures rings { Rings self.old self.new bells.old bells.new }
+        ensures notes { Notes self.old self.new changed.old changed.new }
     {
         for k in 0..entries.len() {
-            self.post_entry(&entries[k], first + k as u64, bells);
+            self.post_entry(&entries[k], first + k as u64, changed);
         }
     }
 }

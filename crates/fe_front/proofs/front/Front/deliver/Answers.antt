@@ -1,10 +1,10 @@
 use Rattle.std.proofs.Common.{sym, ◌∙◌}
 use Rattle.fe_front.proofs.Agreement.{connection_there}
-use Rattle.fe_front.proofs.Ringing.{rings_mailed}
+use Rattle.fe_front.proofs.Noting.{notes_mailed}
 use Rattle.fe_front.proofs.front.Front.deliver.Goals as goal
 
-pub returns-in-Some-clause-rings : goal.returns-in-Some-clause-rings
-returns-in-Some-clause-rings c = rings_mailed _ _ _ _ _ _ c.put.ensures.mailed c.ring.ensures.rung c.ring.ensures.still
+pub returns-in-Some-clause-notes : goal.returns-in-Some-clause-notes
+returns-in-Some-clause-notes c = notes_mailed _ _ _ _ _ _ c.put.ensures.mailed c.add.ensures.added c.add.ensures.still
 
 pub put-requires : goal.put-requires
 put-requires c =

@@ -1,18 +1,18 @@
 use Rattle.std.proofs.Common.{◌≡◌, ◌+◌, drop, sym, ap, ◌∙◌, arith}
 use Rattle.fe_front.specs.Posting.{posted_all}
 use Rattle.fe_front.proofs.Posted.{posted_one, posted_none}
-use Rattle.fe_front.proofs.Ringing.{rings_not, rings_then}
+use Rattle.fe_front.proofs.Noting.{notes_not, notes_then}
 use Rattle.fe_front.proofs.front.Front.post_all.Goals as goal
 
 pub loop-k-init : goal.loop-k-init
 loop-k-init c = record {
-  rings = rings_not _ _;
+  notes = notes_not _ _;
   posted = let same : c.args.first + 0 ≡ c.args.first = omega arith in ap (posted_all c.args.self.now c.args.entries.now) same;
 }
 
 pub loop-k-preserved : goal.loop-k-preserved
 loop-k-preserved c = record {
-  rings = rings_then _ _ _ _ _ _ c.loop-k.invariant.rings c.post_entry.ensures.rings;
+  notes = notes_then _ _ _ _ _ _ c.loop-k.invariant.notes c.post_entry.ensures.notes;
   posted =
       ap (λ f. posted_all f (drop (c.loop-k.k + 1) c.args.entries.now) (c.args.first + (c.loop-k.k + 1))) c.post_entry.ensures.posted
       ∙ posted_one c.loop-k.self c.args.entries.now c.args.first c.loop-k.k c.index-entries-k.result c.loop-k-test.true c.index-entries-k.is

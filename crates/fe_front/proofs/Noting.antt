@@ -1,7 +1,6 @@
 -- Which boxes stay where mails are made, connections go and entries are posted: all but that of the one addressed.
-use Rattle.std.proofs.Common.{◌≡◌, ◌≢◌, ◌⊎◌, ◌<◌, ℕ, Bool, true, false, List, length, get_or, set, Option, Some, None, is_some, inl, inr, refl, sym, ap, subst, ◌∙◌, arith}
-use Rattle.std.specs.Prelude.{nat_lt, if◌then◌else◌, ◌++◌, ◌∷◌, []}
-use Rattle.std.proofs.lemmas.Grind.{common_steps}
+use Rattle.std.proofs.Common.{◌≡◌, ◌≢◌, ◌⊎◌, ℕ, Bool, true, false, length, Option, Some, None, is_some, inl, inr, refl, sym, ap, subst, ◌∙◌}
+use Rattle.std.specs.Prelude.{IsTrue, nat_lt, if◌then◌else◌, ◌++◌, ◌∷◌, []}
 use Rattle.std.specs.Option.{option_map_or}
 use Rattle.std.specs.FinMap.{get}
 use Rattle.fe_state.proofs.Maps.{get_left, same_or_other}
@@ -15,7 +14,9 @@ use Rattle.fe_mail.proofs.Lookups.{is_some-with_mails, mails_on-with_mails-besid
 use Rattle.fe_front.specs.Front.{FrontState, is_connected}
 use Rattle.fe_front.specs.Steps.{parted, freed, departed, withdrawn_from, unboxed, dropped, boxed, overflowed, mailed}
 use Rattle.fe_front.specs.Posting.{vacated, ended}
-use Rattle.fe_front.specs.Ringing.{IsRung, HasItsBox, Rings}
+use Rattle.fe_front.specs.ConnectionSet.{may_have}
+use Rattle.fe_front.specs.Noting.{HasItsBox, Notes}
+use Rattle.fe_front.specs.declared.connection_set.ConnectionSet.{ConnectionSet}
 
 -- ---- one connection
 
@@ -79,18 +80,18 @@ module _ (q : ℕ) where
             let refused : FrontState = record f { books = mail_refused_by_box f.books } in
             both f refused (overflowed f conn) (record { mails = refl; there = refl }) (dropped-box refused)
 
--- ---- bells
+-- ---- sets
 
-pub rings_not : (f : FrontState) (bells : List Bool) → Rings f f bells bells
-rings_not f bells = record { still = λ conn is. is; rung = λ conn. inr (its_own conn f) }
+pub notes_not : (f : FrontState) (set : ConnectionSet) → Notes f f set set
+notes_not f set = record { still = λ conn is. is; noted = λ conn. inr (its_own conn f) }
 
 -- one post after the other
-pub rings_then : (f g h : FrontState) (a b c : List Bool) → Rings f g a b → Rings g h b c → Rings f h a c
-rings_then f g h a b c one two = record {
+pub notes_then : (f g h : FrontState) (a b c : ConnectionSet) → Notes f g a b → Notes g h b c → Notes f h a c
+notes_then f g h a b c one two = record {
   still = λ conn is. two.still conn (one.still conn is);
-  rung = λ conn. elim (two.rung conn) as (λ _. IsRung c conn ⊎ HasItsBox f h conn) [
+  noted = λ conn. elim (two.noted conn) as (λ _. IsTrue (may_have c conn) ⊎ HasItsBox f h conn) [
     | inl is ↦ inl is
-    | inr later ↦ elim (one.rung conn) as (λ _. IsRung c conn ⊎ HasItsBox f h conn) [
+    | inr later ↦ elim (one.noted conn) as (λ _. IsTrue (may_have c conn) ⊎ HasItsBox f h conn) [
       | inl is ↦ inl (two.still conn is)
       | inr first ↦ inr (both conn f g h first later)
     ]
@@ -98,34 +99,23 @@ rings_then f g h a b c one two = record {
 }
 
 -- what the boxes are looked up in is all that counts
-pub rings_alike : (f g h : FrontState) (a b : List Bool) → h.connections ≡ g.connections → Rings f g a b → Rings f h a b
-rings_alike f g h a b same rings = record {
-  still = rings.still;
-  rung = λ conn. elim (rings.rung conn) as (λ _. IsRung b conn ⊎ HasItsBox f h conn) [
+pub notes_alike : (f g h : FrontState) (a b : ConnectionSet) → h.connections ≡ g.connections → Notes f g a b → Notes f h a b
+notes_alike f g h a b same notes = record {
+  still = notes.still;
+  noted = λ conn. elim (notes.noted conn) as (λ _. IsTrue (may_have b conn) ⊎ HasItsBox f h conn) [
     | inl is ↦ inl is
     | inr box ↦ inr (record { mails = ap (λ m. mails_on m conn) same ∙ box.mails; there = ap (λ m. is_some (get m conn)) same ∙ box.there })
   ];
 }
 
-pub rings_mailed : (f g : FrontState) (conn : ℕ) (mail : Mail) (a b : List Bool) → g ≡ mailed f conn mail → IsRung b conn → ((q : ℕ) → IsRung a q → IsRung b q) → Rings f g a b
-rings_mailed f g conn mail a b is here still = record {
+pub notes_mailed : (f g : FrontState) (conn : ℕ) (mail : Mail) (a b : ConnectionSet) → g ≡ mailed f conn mail → IsTrue (may_have b conn) → ((q : ℕ) → IsTrue (may_have a q) → IsTrue (may_have b q)) → Notes f g a b
+notes_mailed f g conn mail a b is here still = record {
   still = still;
-  rung = λ q. elim (same_or_other q conn) as (λ _. IsRung b q ⊎ HasItsBox f g q) [
-    | inl same ↦ inl (subst (IsRung b) (sym same) here)
+  noted = λ q. elim (same_or_other q conn) as (λ _. IsTrue (may_have b q) ⊎ HasItsBox f g q) [
+    | inl same ↦ inl (subst (λ (x : ℕ). IsTrue (may_have b x)) (sym same) here)
     | inr other ↦ inr (subst (λ x. HasItsBox f x q) (sym is) (mailed-box q conn other f mail))
   ];
 }
 
-pub rings_ended : (f g : FrontState) (session : ℕ) (bells : List Bool) → g ≡ ended f session → Rings f g bells bells
-rings_ended f g session bells is = record { still = λ q is. is; rung = λ q. inr (subst (λ x. HasItsBox f x q) (sym is) (ended-box q f session)) }
-
--- ---- a bell that is rung
-
-pub rung_here : (bells : List Bool) (i : ℕ) → i < length bells → get_or (set bells i true) i false ≡ true
-rung_here bells i below = grind (arith, common_steps)
-
-pub rung_still : (bells : List Bool) (i j : ℕ) → i < length bells → get_or bells j false ≡ true → get_or (set bells i true) j false ≡ true
-rung_still bells i j below is = elim (same_or_other j i) as (λ _. get_or (set bells i true) j false ≡ true) [
-  | inl same ↦ ap (λ n. get_or (set bells i true) n false) same ∙ rung_here bells i below
-  | inr other ↦ grind (arith, common_steps)
-]
+pub notes_ended : (f g : FrontState) (session : ℕ) (set : ConnectionSet) → g ≡ ended f session → Notes f g set set
+notes_ended f g session set is = record { still = λ q is. is; noted = λ q. inr (subst (λ x. HasItsBox f x q) (sym is) (ended-box q f session)) }

@@ -5,8 +5,8 @@ use Rattle.fe_front.specs.Front.{FrontState, out_length}
 use Rattle.fe_front.specs.Posting.{IsOut}
 use Rattle.fe_front.specs.declared.out.Out.{Out}
 use Rattle.fe_front.proofs.Keeping.{posted_all-keeps}
-use Rattle.fe_front.proofs.Ringing.{rings_alike}
-use Rattle.fe_front.proofs.front.Front.post_ringing.Goals as goal
+use Rattle.fe_front.proofs.Noting.{notes_alike}
+use Rattle.fe_front.proofs.front.Front.post_noting.Goals as goal
 
 out_first : (o : Option Out) (batch : Batch) (mark : ℕ) → IsOut o batch → IfSome o (λ x. x.first ≡ mark) → batch.first ≡ mark
 out_first None batch mark h e = absurd h
@@ -41,5 +41,5 @@ invariant_of-self c =
       spare = λ _. ap Some c.clear.ensures;
     }
 
-pub returns-clause-rings : goal.returns-clause-rings
-returns-clause-rings c = rings_alike _ c.post_all.new.self _ _ _ (ap (λ (f : FrontState). f.connections) c.self.view_is) c.post_all.ensures.rings
+pub returns-clause-notes : goal.returns-clause-notes
+returns-clause-notes c = notes_alike _ c.post_all.new.self _ _ _ (ap (λ (f : FrontState). f.connections) c.self.view_is) c.post_all.ensures.notes
