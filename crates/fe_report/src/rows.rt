@@ -22,7 +22,7 @@ fn add_session(
 ) -> Result<(), AllocError>
     ensures added { OnOk result (IsAdded front.now.service.waiting session rows.old.items rows.new.items) }
 {
-    let told = front.told(alloc, session)?;
+    let told = front.service().seats().told(alloc, session)?;
     for row in &told {
         let (number, (array, index, op)) = *row;
         rows.push((((array, index), (session, number)), op))?;
@@ -36,7 +36,7 @@ pub(crate) fn rows_by_word(alloc: Global, front: &Front) -> Result<Vec<(Spot, Op
     ensures few { IfOk result (λ rows. vec_len rows ≤ most_waiting) }
 {
     let state = front.state();
-    let mut rows = Vec::with_capacity(alloc, front.waiting_count() as usize)?;
+    let mut rows = Vec::with_capacity(alloc, front.service().seats().len() as usize)?;
     for k in 0..state.session_count() {
         let session = state.session_at(k).unwrap();
         add_session(alloc, front, &mut rows, session)?;
@@ -57,7 +57,7 @@ pub(crate) fn rows_by_session(
     let mut rows = BTreeMap::new(alloc);
     for k in 0..state.session_count() {
         let session = state.session_at(k).unwrap();
-        let count = front.count_of(session);
+        let count = front.service().seats().count_of(session);
         if count > 0 {
             rows.insert(session, count)?;
         }
@@ -75,7 +75,7 @@ pub(crate) fn do_all_wait(front: &Front) -> bool
     for k in 0..state.session_count() {
         let session = state.session_at(k).unwrap();
         let here = front.attached(session);
-        let none = front.count_of(session) == 0;
+        let none = front.service().seats().count_of(session) == 0;
         attached |= here;
         idle |= here & none;
     }

@@ -28,6 +28,7 @@ loop-k-preserved c =
     let entry = got.1 in
     let here = c.attached-here.result in
     let none = c.count_of-none.result == 0 in
+    let count : c.count_of-none.result ≡ count_of f.service.waiting e.0 = c.count_of-none.ensures ∙ ap (λ waiting. count_of waiting e.0) (c.seats.ensures.waiting ∙ ap (λ service. service.waiting) c.service.ensures) in
     let seen = one_more_seen c.state-state.result.now.sessions c.loop-k.k e entry in
     record {
       attached_is = λ h. elim (or_either c.loop-k.attached here h) as (λ _. (s : ℕ) × (is_attached f s ≡ true)) [
@@ -40,10 +41,10 @@ loop-k-preserved c =
       ];
       idle_is = λ h. elim (or_either c.loop-k.idle (here && none) h) as (λ _. (s : ℕ) × (is_attached f s ≡ true) × (count_of f.service.waiting s ≡ 0)) [
         | inl before ↦ c.loop-k.invariant.idle_is before
-        | inr now ↦ (e.0, sym c.attached-here.ensures ∙ and_first here none now, sym c.count_of-none.ensures ∙ same_zero _ (and_second here none now))
+        | inr now ↦ (e.0, sym c.attached-here.ensures ∙ and_first here none now, sym count ∙ same_zero _ (and_second here none now))
       ];
       idle_all = λ s there h z. elim (seen s there) as (λ _. (c.loop-k.idle || (here && none)) ≡ true) [
-        | inl same ↦ or_right c.loop-k.idle (here && none) (and_both here none (c.attached-here.ensures ∙ ap (is_attached f) (sym same) ∙ h) (zero_same _ (c.count_of-none.ensures ∙ ap (count_of f.service.waiting) (sym same) ∙ z)))
+        | inl same ↦ or_right c.loop-k.idle (here && none) (and_both here none (c.attached-here.ensures ∙ ap (is_attached f) (sym same) ∙ h) (zero_same _ (count ∙ ap (count_of f.service.waiting) (sym same) ∙ z)))
         | inr before ↦ or_left c.loop-k.idle (here && none) (c.loop-k.invariant.idle_all s before h z)
       ];
     }

@@ -1,4 +1,4 @@
-use Rattle.std.proofs.Common.{ℕ, ◌<◌, inl, inr, Some, IsSome, is_some, length, sym, ap, subst, ◌∙◌, arith}
+use Rattle.std.proofs.Common.{◌≡◌, ℕ, ◌<◌, inl, inr, Some, IsSome, is_some, length, sym, ap, subst, ◌∙◌, arith}
 use Rattle.std.specs.Cmp.{nat_cmp_total}
 use Rattle.std.specs.Ordering.{nat_cmp}
 use Rattle.std.specs.FinMap.{get, find, nat_cmp-IsAntisymmetric}
@@ -35,10 +35,11 @@ loop-k-preserved c =
     let old = c.loop-k.rows.entries in
     let new = c.if-count-gt0.rows.entries in
     let count = c.count_of-count.result in
+    let counted : count ≡ count_of waiting e.0 = c.count_of-count.ensures ∙ ap (λ w. count_of w e.0) (c.seats.ensures.waiting ∙ ap (λ service. service.waiting) c.service.ensures) in
     elim c.if-count-gt0.branch [
       | then-count-gt0+in_ok-insert w ↦
           let made_now = ap (λ rows. rows.entries) w.rows-is ∙ w.in_ok-insert.ensures.entries in
-          let row = get-by_session waiting e.0 (subst (λ n. 0 < n) c.count_of-count.ensures w.if-count-gt0.true) ∙ ap Some (sym c.count_of-count.ensures) in
+          let row = get-by_session waiting e.0 (subst (λ n. 0 < n) counted w.if-count-gt0.true) ∙ ap Some (sym counted) in
           record {
             part = more nat_cmp_total nat_cmp-IsAntisymmetric (by_session waiting) old new e.0 count made_now c.loop-k.invariant.part row;
             whole = λ q there row. elim (seen q there) as (λ _. IsSome (find nat_cmp q new)) [
@@ -53,7 +54,7 @@ loop-k-preserved c =
             part = subst (λ es. ArePart (by_session waiting) es) (sym kept) c.loop-k.invariant.part;
             whole = λ q there row. elim (seen q there) as (λ _. IsSome (find nat_cmp q new)) [
               | inl same ↦
-                  let some : 0 < count = subst (λ n. 0 < n) (sym (c.count_of-count.ensures ∙ ap (count_of waiting) (sym same))) (count-counted waiting q row) in
+                  let some : 0 < count = subst (λ n. 0 < n) (sym (counted ∙ ap (count_of waiting) (sym same))) (count-counted waiting q row) in
                   absurd (omega (arith, some, w.if-count-gt0.false))
               | inr before ↦ subst (λ es. IsSome (find nat_cmp q es)) (sym kept) (c.loop-k.invariant.whole q before row)
             ];
