@@ -1,5 +1,7 @@
-use fe_front::BELLS;
 use std::alloc::Global;
+
+/// How many paces are kept. A connection's is at the remainder of its number.
+const PACES: u64 = 256;
 
 /// How many mails of a connection may be still to be taken so that its read side goes on without a look at its box. A box of 128 mails
 /// has room for these, for those of 32 messages more, and for the answers that wait, 32 at most.
@@ -23,7 +25,7 @@ impl Paces {
     /// Those of no connection. Without memory for them, no connection gets one.
     pub(crate) fn new(alloc: Global) -> Paces {
         let none = Pace { conn: 0, behind: 0 };
-        match vec![in alloc; none; BELLS as usize] {
+        match vec![in alloc; none; PACES as usize] {
             Ok(rows) => Paces { rows },
             Err(_) => Paces {
                 rows: Vec::new(alloc),
@@ -33,14 +35,14 @@ impl Paces {
 
     /// A connection comes.
     pub(crate) fn begin(&mut self, conn: u64) {
-        if let Some(pace) = self.rows.get_mut((conn % BELLS) as usize) {
+        if let Some(pace) = self.rows.get_mut((conn % PACES) as usize) {
             *pace = Pace { conn, behind: 0 };
         }
     }
 
     /// A message of a connection was handled.
     pub(crate) fn note_message(&mut self, conn: u64) {
-        if let Some(pace) = self.rows.get_mut((conn % BELLS) as usize) {
+        if let Some(pace) = self.rows.get_mut((conn % PACES) as usize) {
             if pace.conn == conn {
                 pace.behind = pace.behind.saturating_add(1);
             }
@@ -49,7 +51,7 @@ impl Paces {
 
     /// A mail was taken out of the box of a connection.
     pub(crate) fn note_mail(&mut self, conn: u64) {
-        if let Some(pace) = self.rows.get_mut((conn % BELLS) as usize) {
+        if let Some(pace) = self.rows.get_mut((conn % PACES) as usize) {
             if pace.conn == conn {
                 pace.behind = pace.behind.saturating_sub(1);
             }
@@ -58,7 +60,7 @@ impl Paces {
 
     /// Whether the write side of a connection is close behind its read side.
     pub(crate) fn is_close(&self, conn: u64) -> bool {
-        match self.rows.get((conn % BELLS) as usize) {
+        match self.rows.get((conn % PACES) as usize) {
             Some(pace) => pace.conn == conn && pace.behind <= CLOSE,
             None => false,
         }

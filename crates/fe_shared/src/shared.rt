@@ -12,7 +12,7 @@ ghost use Rattle.fe_history.specs.Acts.{IsLegal};
 ghost use Rattle.fe_history.specs.Rules.{Hears};
 ghost use Rattle.fe_shared.specs.Marks.{IsBegun, MayBeTold};
 ghost use Rattle.fe_shared.specs.Holds.{Ends, IsDrained, IsOver, IsUnconnected, Leaves, MakesEvent, MakesNoEvent, TakesMail};
-ghost use Rattle.fe_front.specs.Ringing.{IsRung};
+ghost use Rattle.fe_front.specs.ConnectionSet.{may_have};
 ghost use Rattle.fe_shared.specs.Watching.{waits};
 ghost use Rattle.fe_shared.specs.Seats.{HasRested, IsOpen, TookNoMessage, message_taken, message_answered, taking_answered, takes_more, most_connections};
 
@@ -29,7 +29,7 @@ use crate::taking::Taking;
 use crate::unconnected::Unconnected;
 use crate::watchers::Watchers;
 pub use batches::{AllDurable, CutBatch, Cutting, FullBook, NotOut, Posted, Uncut, Unposted};
-use fe_front::{BELLS, Books, Front};
+use fe_front::{Books, ConnectionSet, Front};
 use fe_history::{Account, History, HistoryWords, Tally};
 use fe_messages::take_message;
 use fe_wire::ClientMessage;
@@ -345,12 +345,12 @@ impl<C: Tally, M: Tally> Shared<C, M> {
         Some(Standing::Served)
     }
 
-    /// Marks the bells of the read sides that wait for their boxes.
-    pub fn mark_watched(&self, wakes: &mut [bool; BELLS as usize])
-        ensures marked { (conn : ℕ) → IsTrue (waits self.now.watched conn) → IsRung wakes.new conn }
-        ensures still { (other : ℕ) → IsRung wakes.old other → IsRung wakes.new other }
+    /// Adds the connections whose read sides wait for their boxes.
+    pub fn add_watched(&self, set: &mut ConnectionSet)
+        ensures added { (conn : ℕ) → IsTrue (waits self.now.watched conn) → IsTrue (may_have set.new conn) }
+        ensures still { (other : ℕ) → IsTrue (may_have set.old other) → IsTrue (may_have set.new other) }
     {
-        self.watchers.mark(wakes);
+        self.watchers.add_to(set);
     }
 
     /// The read side of a connection waits for its box. Whether that is noted, for which there may be no memory.

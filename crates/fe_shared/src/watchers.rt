@@ -1,11 +1,11 @@
 //! Which read sides wait for their boxes.
 
 ghost use Rattle.std.specs.Prelude.{◌≡◌, ℕ, IsTrue, OnOk};
-ghost use Rattle.fe_front.specs.Ringing.{IsRung};
+ghost use Rattle.fe_front.specs.ConnectionSet.{may_have};
 ghost use Rattle.fe_shared.specs.Watching.{waits};
 
 use crate::short::{Short, reserve_one};
-use fe_front::BELLS;
+use fe_front::ConnectionSet;
 use std::alloc::Global;
 
 /// A read side that waits for its box.
@@ -70,21 +70,13 @@ impl Watchers {
             .any(|watcher| watcher.conn == conn && !watcher.moved)
     }
 
-    /// Marks their bells.
-    pub(crate) fn mark(&self, wakes: &mut [bool; BELLS as usize])
-        ensures marked { (conn : ℕ) → IsTrue (waits self.now.items.items conn) → IsRung wakes.new conn }
-        ensures still { (other : ℕ) → IsRung wakes.old other → IsRung wakes.new other }
+    /// Adds their connections.
+    pub(crate) fn add_to(&self, set: &mut ConnectionSet)
+        ensures added { (conn : ℕ) → IsTrue (waits self.now.items.items conn) → IsTrue (may_have set.new conn) }
+        ensures still { (other : ℕ) → IsTrue (may_have set.old other) → IsTrue (may_have set.new other) }
     {
         for watcher in &self.items {
-            ring(wakes, watcher.conn);
+            set.add(watcher.conn);
         }
     }
-}
-
-/// Marks the bell of a connection.
-fn ring(wakes: &mut [bool; BELLS as usize], conn: u64)
-    ensures rung { IsRung wakes.new conn }
-    ensures still { (other : ℕ) → IsRung wakes.old other → IsRung wakes.new other }
-{
-    wakes[(conn % BELLS) as usize] = true;
 }

@@ -2,7 +2,7 @@
 
 ghost use Rattle.std.specs.Prelude.{◌≡◌, ◌+◌, ◌≤◌, ℕ, [], Some, None, false, IfErr, IfOk, IfSome, OnOk, OnErr, length};
 ghost use Rattle.fe_front.specs.Event as event;
-ghost use Rattle.fe_front.specs.Ringing.{Rings};
+ghost use Rattle.fe_front.specs.Noting.{Notes};
 ghost use Rattle.fe_front.specs.Step.{FrontStep};
 ghost use Rattle.fe_front.specs.Steps.{has_no_cut};
 ghost use Rattle.fe_history.specs.Acts.{WasStoredLast};
@@ -11,7 +11,7 @@ ghost use Rattle.fe_shared.specs.Seats.{posts_more};
 
 use super::{MOST_COUNTED, Shared};
 use fe_disk::Disk;
-use fe_front::BELLS;
+use fe_front::ConnectionSet;
 use fe_history::{History, HistoryWords, StoreSeat, Tally};
 use fe_keeper::Keeper;
 use fe_state::Batch;
@@ -133,20 +133,20 @@ impl<C: Tally, M: Tally> Shared<C, M> {
         self.front.books().mails <= MOST_COUNTED - count
     }
 
-    /// The batch that is out, which was stored last, is durable now: mails its entries, and marks the bells of the connections whose
-    /// boxes change. It is not posted where a book has no room for its mails.
+    /// The batch that is out, which was stored last, is durable now: mails its entries, and adds the connections whose boxes change.
+    /// It is not posted where a book has no room for its mails.
     pub fn post(
         &mut self,
         batch: Batch,
         seat: &StoreSeat<M>,
-        wakes: &mut [bool; BELLS as usize],
+        changed: &mut ConnectionSet,
     ) -> Result<Posted, Unposted>
         requires fresh { self.old.used ≡ false }
         requires stored { WasStoredLast seat.now batch }
         ensures refused { IfErr result (IsUnposted self.old.front batch) }
         ensures step { OnOk result (FrontStep self.old.front (event.Post batch) [] self.new.front) }
         ensures durable { IfOk result (λ posted. posted ≡ batch.first + length batch.entries) }
-        ensures rings { Rings self.old.front self.new.front wakes.old wakes.new }
+        ensures notes { Notes self.old.front self.new.front changed.old changed.new }
         ensures err { OnErr result (self.new.front ≡ self.old.front) }
         ensures event { MakesEvent self.old self.new }
     {
@@ -156,7 +156,7 @@ impl<C: Tally, M: Tally> Shared<C, M> {
             return Err(Unposted::Full(FullBook(())));
         }
         let _ = self.front.state();
-        match self.front.post_ringing(batch, wakes) {
+        match self.front.post_noting(batch, changed) {
             Ok(()) => {
                 self.history.learn(seat.history());
                 self.posted += 1;
