@@ -2,7 +2,6 @@ pub mod Advancing
 pub mod Connecting
 pub mod Outputs
 pub mod Emptying
-pub mod Bells
 pub mod Anew
 pub mod Writing
 pub mod Quiets
@@ -31,3 +30,4 @@ pub mod Acknowledging
 pub mod Answering
 pub mod Given
 pub mod ManyStops
+pub mod WithMail

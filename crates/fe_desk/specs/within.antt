@@ -1,5 +1,5 @@
-pub mod Bells
 pub mod Keeping
 pub mod Places
 pub mod Desk
 pub mod Goes
+pub mod WithMail

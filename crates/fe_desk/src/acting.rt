@@ -1,13 +1,14 @@
 //! The steps.
 
-ghost use Rattle.std.specs.Prelude.{◌≡◌, ◌⊎◌, ℕ, true, false, OnOk, MatchResult};
+ghost use Rattle.std.specs.Prelude.{◌≡◌, ◌⊎◌, ℕ, true, false, IsTrue, OnOk, MatchResult};
 ghost use Rattle.fe_desk.specs.Output.{Extends};
 ghost use Rattle.fe_desk.specs.Messages.{outputs, told_as};
 ghost use Rattle.fe_desk.specs.Crash.{Advances};
-ghost use Rattle.fe_front.specs.Ringing.{IsRung, HasItsBox};
+ghost use Rattle.fe_front.specs.ConnectionSet.{may_have};
+ghost use Rattle.fe_front.specs.Noting.{HasItsBox};
 ghost use Rattle.fe_desk.specs.Quiet.{HasNoMail};
 ghost use Rattle.fe_desk.specs.Taken.{IsStep};
-ghost use Rattle.fe_desk.specs.within.Bells.{AreRung};
+ghost use Rattle.fe_desk.specs.within.WithMail.{HasAllWithMail};
 ghost use Rattle.fe_desk.specs.within.Desk.{desk_of, standing_of, IsDesk};
 ghost use Rattle.fe_desk.specs.within.Goes.{Empties, GoesAct, Settles};
 ghost use Rattle.fe_desk.specs.within.Keeping.{HasStore};
@@ -16,9 +17,9 @@ use crate::fault::DeskFault;
 use crate::messages::told;
 use crate::parts::Parts;
 use crate::step::Step;
-use crate::telling::{bells_after, empty_boxes};
+use crate::telling::{add_mailed, empty_boxes};
 use fe_disk::Disk;
-use fe_front::BELLS;
+use fe_front::ConnectionSet;
 use fe_keeper::Fault;
 use std::alloc::AllocError;
 
@@ -39,10 +40,10 @@ impl<D: Disk> Parts<D> {
         if self.settle().is_err() {
             return Err(DeskFault::NoMemory { fed: false });
         }
-        let mut rung = [false; BELLS as usize];
-        self.act(step, &mut rung)?;
-        let bells = bells_after(&self.front, step.posts(quiet), rung);
-        if self.finish(step.is_still(quiet), &bells).is_err() {
+        let mut mailed = ConnectionSet::new();
+        self.act(step, &mut mailed)?;
+        add_mailed(&self.front, step.posts(quiet), &mut mailed);
+        if self.finish(step.is_still(quiet), &mailed).is_err() {
             return Err(DeskFault::Unwritten);
         }
         Ok(())
@@ -57,16 +58,18 @@ impl<D: Disk> Parts<D> {
         ensures extends { Extends (outputs (standing_of self.old)) (outputs (standing_of self.new)) }
     {
         if self.owes {
-            return self.empty(&[true; BELLS as usize]);
+            let mut all = ConnectionSet::new();
+            all.add_all();
+            return self.empty(&all);
         }
         Ok(())
     }
 
     /// Ends a step: every box is emptied. With `still`, there is no mail.
-    fn finish(&mut self, still: bool, bells: &[bool; BELLS as usize]) -> Result<(), AllocError>
+    fn finish(&mut self, still: bool, mailed: &ConnectionSet) -> Result<(), AllocError>
         requires desk { IsDesk D.Disk (desk_of self.old) }
         requires still { still ≡ true → HasNoMail (standing_of self.old) }
-        requires rung { AreRung self.old.front bells.now }
+        requires mailed { HasAllWithMail self.old.front mailed.now }
         ensures desk { IsDesk D.Disk (desk_of self.new) }
         ensures empties { Empties result (standing_of self.old) (standing_of self.new) }
         ensures store { HasStore (desk_of self.old) (desk_of self.new) }
@@ -75,31 +78,31 @@ impl<D: Disk> Parts<D> {
         if still {
             return Ok(());
         }
-        self.empty(bells)
+        self.empty(mailed)
     }
 
     /// Empties every box. Where memory is short, the next step begins with it.
-    fn empty(&mut self, bells: &[bool; BELLS as usize]) -> Result<(), AllocError>
+    fn empty(&mut self, mailed: &ConnectionSet) -> Result<(), AllocError>
         requires desk { IsDesk D.Disk (desk_of self.old) }
-        requires rung { AreRung self.old.front bells.now }
+        requires mailed { HasAllWithMail self.old.front mailed.now }
         ensures desk { IsDesk D.Disk (desk_of self.new) }
         ensures empties { Empties result (standing_of self.old) (standing_of self.new) }
         ensures store { HasStore (desk_of self.old) (desk_of self.new) }
         ensures extends { Extends (outputs (standing_of self.old)) (outputs (standing_of self.new)) }
     {
-        let outcome = empty_boxes(&mut self.front, &mut self.trace.ports, bells);
+        let outcome = empty_boxes(&mut self.front, &mut self.trace.ports, mailed);
         self.owes = outcome.is_err();
         outcome
     }
 
-    /// What a step does before the boxes are emptied. A post rings the bells of the boxes that it changed.
-    fn act(&mut self, step: &Step, bells: &mut [bool; BELLS as usize]) -> Result<(), DeskFault>
+    /// What a step does before the boxes are emptied. A post adds the connections whose boxes it changed.
+    fn act(&mut self, step: &Step, changed: &mut ConnectionSet) -> Result<(), DeskFault>
         requires desk { IsDesk D.Disk (desk_of self.old) }
         requires works { self.old.keeper.store.has_failed ≡ false }
         ensures desk { IsDesk D.Disk (desk_of self.new) }
         ensures goes { GoesAct D.Disk (desk_of self.old) step.now result (desk_of self.new) }
-        ensures rung { step.now ≡ Step.Post
-            → (conn : ℕ) → IsRung bells.new conn ⊎ HasItsBox self.old.front self.new.front conn }
+        ensures changed { step.now ≡ Step.Post
+            → (conn : ℕ) → IsTrue (may_have changed.new conn) ⊎ HasItsBox self.old.front self.new.front conn }
     {
         match step {
             Step::Connect { conn } => {
@@ -119,7 +122,7 @@ impl<D: Disk> Parts<D> {
             }
             Step::Append => told_by(self.store()),
             Step::Post => {
-                self.post(bells);
+                self.post(changed);
                 Ok(())
             }
             Step::CheckBegin => told_by(self.keeper.checkpoint_begin()),

@@ -1,9 +1,9 @@
 //! The server's end of the connections of one number.
 
-ghost use Rattle.std.specs.Prelude.{◌≡◌, ◌≢◌, ℕ, [], nat_lt, length, ◌++◌, None, Some, true, false, OnOk, OnErr, IfOk, slice_get};
+ghost use Rattle.std.specs.Prelude.{◌≡◌, ◌≢◌, ℕ, [], nat_lt, length, ◌++◌, None, Some, true, false, IsTrue, OnOk, OnErr, IfOk, slice_get};
 ghost use Rattle.std.specs.Option.{option_map_or};
 ghost use Rattle.fe_mail.specs.Connections.{mails_on};
-ghost use Rattle.fe_front.specs.Ringing.{IsRung};
+ghost use Rattle.fe_front.specs.ConnectionSet.{may_have};
 ghost use Rattle.fe_front.specs.Steps.{taken};
 ghost use Rattle.fe_wire.specs.Spelling.{reply_spelling};
 ghost use Rattle.fe_wire.specs.Stream.{CompletesMessage};
@@ -11,12 +11,12 @@ ghost use Rattle.fe_desk.specs.Mails.{emptied_box};
 ghost use Rattle.fe_desk.specs.Standing.{told};
 ghost use Rattle.fe_desk.specs.Steps.{BeginsStream, Reads, new_client};
 ghost use Rattle.fe_desk.specs.Writing.{StopsWriting};
-ghost use Rattle.fe_desk.specs.within.Bells.{AreRung};
+ghost use Rattle.fe_desk.specs.within.WithMail.{HasAllWithMail};
 ghost use Rattle.fe_desk.specs.within.Desk.{client_of};
 ghost use Rattle.fe_desk.specs.within.Keeping.{KeepsFront, KeepsEmpty, IsToldLater};
 
 use crate::written::Written;
-use fe_front::{BELLS, Front};
+use fe_front::{ConnectionSet, Front};
 use fe_mail::Mail;
 use fe_messages::Reply;
 use fe_wire::{ClientMessage, Decoder, Version};
@@ -94,20 +94,20 @@ impl Port {
         Ok(bad)
     }
 
-    /// Whether something may have to be written to the connection: a reply that waits, or a mail, if its bell is rung.
-    fn may_owe(&self, bells: &[bool; BELLS as usize]) -> bool
-        ensures { result ≡ false → ((client_of self.now).reply ≡ None) × (¬ IsRung bells.now self.now.conn) }
+    /// Whether something may have to be written to the connection: a reply that waits, or a mail, if the set may have it.
+    fn may_owe(&self, mailed: &ConnectionSet) -> bool
+        ensures { result ≡ false → ((client_of self.now).reply ≡ None) × (¬ IsTrue (may_have mailed.now self.now.conn)) }
     {
-        self.reply.is_some() || bells[(self.conn % BELLS) as usize]
+        self.reply.is_some() || mailed.may_have(self.conn)
     }
 
     /// Writes all mails of the connection. Where memory is short, those that are not written stay.
     pub(crate) fn take_mails(
         &mut self,
         front: &mut Front,
-        bells: &[bool; BELLS as usize],
+        mailed: &ConnectionSet,
     ) -> Result<(), AllocError>
-        requires { AreRung front.old bells.now }
+        requires { HasAllWithMail front.old mailed.now }
         ensures told { OnOk result (client_of self.new ≡ told front.old (client_of self.old)) }
         ensures emptied { OnOk result (front.new ≡ emptied_box front.old self.old.conn) }
         // What is not written is written later, to the same effect.
@@ -116,7 +116,7 @@ impl Port {
         ensures front { KeepsFront front.old front.new }
         ensures empty { KeepsEmpty front.old front.new }
     {
-        if !self.may_owe(bells) {
+        if !self.may_owe(mailed) {
             return Ok(());
         }
         self.write_waiting()?;

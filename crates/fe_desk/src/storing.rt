@@ -2,7 +2,8 @@
 
 ghost use Rattle.std.specs.Prelude.{◌≡◌, ◌⊎◌, ℕ, false, IsTrue, IfOk, OnOk};
 ghost use Rattle.fe_front.specs.Front.{has_room};
-ghost use Rattle.fe_front.specs.Ringing.{IsRung, HasItsBox};
+ghost use Rattle.fe_front.specs.ConnectionSet.{may_have};
+ghost use Rattle.fe_front.specs.Noting.{HasItsBox};
 ghost use Rattle.fe_desk.specs.declared.handed.Handed.TheVariants.{Cut};
 ghost use Rattle.fe_desk.specs.Storing as way;
 ghost use Rattle.fe_desk.specs.Storing.{stored, posted, cleared, made, committed, begun_room, roomy};
@@ -14,7 +15,7 @@ ghost use Rattle.fe_desk.specs.within.Goes.{Goes, GoesTo, Is, IsUnstored, WasBeg
 use crate::handed::Handed;
 use crate::parts::Parts;
 use fe_disk::Disk;
-use fe_front::BELLS;
+use fe_front::ConnectionSet;
 use fe_keeper::Fault;
 use fe_state::{Batch, Entry};
 use std::alloc::{AllocError, Global};
@@ -89,20 +90,20 @@ impl<D: Disk> Parts<D> {
         }
     }
 
-    /// Posts the batch that is stored, if there is one, and rings the bell of each connection whose box that changed. Room that
-    /// was begun is made then.
-    pub(crate) fn post(&mut self, bells: &mut [bool; BELLS as usize])
+    /// Posts the batch that is stored, if there is one, and adds each connection whose box that changed. Room that was begun
+    /// is made then.
+    pub(crate) fn post(&mut self, changed: &mut ConnectionSet)
         requires desk { IsDesk D.Disk (desk_of self.old) }
         ensures desk { IsDesk D.Disk (desk_of self.new) }
         ensures posted { standing_of self.new ≡ posted (standing_of self.old) }
-        ensures rung { (conn : ℕ) → IsRung bells.new conn ⊎ HasItsBox self.old.front self.new.front conn }
+        ensures changed { (conn : ℕ) → IsTrue (may_have changed.new conn) ⊎ HasItsBox self.old.front self.new.front conn }
         ensures keeper { self.new.keeper ≡ self.old.keeper }
         ensures trace { self.new.trace ≡ self.old.trace }
     {
         match mem::replace(&mut self.handed, Handed::Nothing) {
             // The batch that was cut is the one that is out.
             Handed::Stored(batch) => {
-                let _ = self.front.post_ringing(batch, bells);
+                let _ = self.front.post_noting(batch, changed);
                 self.making = None;
             }
             handed => self.handed = handed,
@@ -119,7 +120,7 @@ impl<D: Disk> Parts<D> {
             (desk_of self.old) (desk_of self.new) }
     {
         self.store()?;
-        self.post(&mut [false; BELLS as usize]);
+        self.post(&mut ConnectionSet::new());
         Ok(())
     }
 

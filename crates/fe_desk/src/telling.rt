@@ -3,22 +3,22 @@
 ghost use Rattle.std.specs.Prelude.{◌≡◌, true, map, OnOk, OnErr};
 ghost use Rattle.fe_desk.specs.Standing.{all_told, all_emptied};
 ghost use Rattle.fe_desk.specs.Writing.{WritesFirst};
-ghost use Rattle.fe_desk.specs.within.Bells.{AreRung};
+ghost use Rattle.fe_desk.specs.within.WithMail.{HasAllWithMail};
 ghost use Rattle.fe_desk.specs.within.Desk.{client_of};
 ghost use Rattle.fe_desk.specs.within.Keeping.{KeepsFront, AreToldLater};
 
 use crate::port::{Port, has_no_mail};
-use fe_front::{BELLS, Front};
+use fe_front::{ConnectionSet, Front};
 use std::alloc::AllocError;
 
-/// Writes the mails of each connection whose bell is rung: no other has a mail. Where memory is short, those that are not
-/// written stay.
+/// Writes the mails of each connection in the set: no other has a mail. Where memory is short, those that are not written
+/// stay.
 pub(crate) fn empty_boxes(
     front: &mut Front,
     ports: &mut Vec<Port>,
-    bells: &[bool; BELLS as usize],
+    mailed: &ConnectionSet,
 ) -> Result<(), AllocError>
-    requires { AreRung front.old bells.now }
+    requires { HasAllWithMail front.old mailed.now }
     ensures told { OnOk result (map client_of ports.new.items ≡ all_told front.old (map client_of ports.old.items)) }
     ensures emptied { OnOk result (front.new ≡ all_emptied front.old (map client_of ports.old.items)) }
     ensures later { OnErr result
@@ -29,23 +29,21 @@ pub(crate) fn empty_boxes(
     ensures front { KeepsFront front.old front.new }
 {
     for at in 0..ports.len() {
-        ports[at].take_mails(front, bells)?;
+        ports[at].take_mails(front, mailed)?;
     }
     Ok(())
 }
 
-/// The bells of the boxes that may have a mail: those that were rung, if the step was a post and no box had one before; else
-/// none or all, as the books say.
-pub(crate) fn bells_after(
-    front: &Front,
-    posts: bool,
-    rung: [bool; BELLS as usize],
-) -> [bool; BELLS as usize]
-    requires { posts ≡ true → AreRung front.now rung }
-    ensures { AreRung front.now result }
+/// Adds the connections that may have a mail: none or all, as the books say. After a post where no box had one before, the set has
+/// them already.
+pub(crate) fn add_mailed(front: &Front, posts: bool, mailed: &mut ConnectionSet)
+    requires { posts ≡ true → HasAllWithMail front.now mailed.old }
+    ensures { HasAllWithMail front.now mailed.new }
 {
     if posts {
-        return rung;
+        return;
     }
-    [!has_no_mail(front); BELLS as usize]
+    if !has_no_mail(front) {
+        mailed.add_all();
+    }
 }

@@ -1,9 +1,10 @@
--- The bells of boxes that may have a mail.
-use Rattle.std.specs.Prelude.{◌≡◌, ◌⊎◌, ℕ, Bool, List, []}
+-- Sets of the connections that may have a mail.
+use Rattle.std.specs.Prelude.{◌≡◌, ◌⊎◌, ℕ, IsTrue, []}
 use Rattle.fe_mail.specs.Connections.{mails_on}
+use Rattle.fe_front.specs.ConnectionSet.{may_have}
 use Rattle.fe_front.specs.Front.{FrontState}
-use Rattle.fe_front.specs.Ringing.{IsRung}
+use Rattle.fe_front.specs.declared.connection_set.ConnectionSet.{ConnectionSet}
 
--- a connection whose bell is not rung has no mail
-abbrev pub AreRung : FrontState → List Bool → Type 0
-AreRung f bells = (conn : ℕ) → IsRung bells conn ⊎ (mails_on f.connections conn ≡ [])
+-- the set has each connection with a mail
+abbrev pub HasAllWithMail : FrontState → ConnectionSet → Type 0
+HasAllWithMail f set = (conn : ℕ) → IsTrue (may_have set conn) ⊎ (mails_on f.connections conn ≡ [])

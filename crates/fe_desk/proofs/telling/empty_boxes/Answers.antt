@@ -2,13 +2,13 @@ use Rattle.std.proofs.Common.{◌<◌, ◌∙◌, ap, map, length, refl, rules}
 use Rattle.fe_desk.specs.Standing.{Client}
 use Rattle.fe_desk.specs.within.Desk.{client_of}
 use Rattle.fe_desk.specs.declared.port.Port.{Port}
-use Rattle.fe_desk.proofs.Bells.{still_rung}
+use Rattle.fe_desk.proofs.WithMail.{still_all}
 use Rattle.fe_desk.proofs.Emptying.{itself, both, none_told, all_alike, port_told, port_later, on_any_err}
 use Rattle.fe_desk.proofs.Writing.{none_done, port_done, port_stops}
 use Rattle.fe_desk.proofs.telling.empty_boxes.Goals as goal
 
 pub loop-at-init : goal.loop-at-init
-loop-at-init c = record { told = none_told c.args.front.now (map client_of c.args.ports.now.items); written = none_done c.args.front.now (map client_of c.args.ports.now.items); numbers = refl; len = refl; keeps = itself c.args.front.now; rung = c.requires }
+loop-at-init c = record { told = none_told c.args.front.now (map client_of c.args.ports.now.items); written = none_done c.args.front.now (map client_of c.args.ports.now.items); numbers = refl; len = refl; keeps = itself c.args.front.now; mailed = c.requires }
 
 pub loop-at-preserved : goal.loop-at-preserved
 loop-at-preserved c =
@@ -19,7 +19,7 @@ loop-at-preserved c =
       numbers = all_alike (λ (p : Port). p.conn) c.loop-at.ports.items c.loop-at.at c.index_mut.result.now c.take_mails.new.self within c.index_mut.ensures.value (ap (λ (x : Client). x.conn) c.in_ok-take_mails.ensures.told) ∙ c.loop-at.invariant.numbers;
       len = c.loop-at.invariant.len;
       keeps = both c.args.front.now c.loop-at.front c.take_mails.new.front c.loop-at.invariant.keeps c.take_mails.ensures.front;
-      rung = still_rung c.loop-at.front c.take_mails.new.front c.args.bells.now c.take_mails.ensures.empty c.loop-at.invariant.rung;
+      mailed = still_all c.loop-at.front c.take_mails.new.front c.args.mailed.now c.take_mails.ensures.empty c.loop-at.invariant.mailed;
     }
 
 pub returns-in_err-take_mails-clause-later : goal.returns-in_err-take_mails-clause-later

@@ -4,7 +4,7 @@ use Rattle.fe_keeper.specs.Keeper.{can_begin, has_slices}
 use Rattle.fe_desk.specs.declared.step.Step.TheVariants as step
 use Rattle.fe_desk.specs.Standing.{Standing}
 use Rattle.fe_desk.specs.within.Desk.{standing_of, desk_of}
-use Rattle.fe_desk.proofs.Bells.{posts_not}
+use Rattle.fe_desk.proofs.WithMail.{posts_not}
 use Rattle.fe_desk.proofs.Acted.{act_at, act_still, act_short, act_bytes, act_append, act_check, came_stays}
 use Rattle.fe_desk.proofs.Goes.{posted_owes}
 use Rattle.fe_desk.proofs.Pieces.{frame_stays, gone_groups}
@@ -60,7 +60,7 @@ returns-in-CheckBegin g c =
     let (desk, goes) =
     act_check step.CheckBegin (desk_of old) c.checkpoint_begin.new.self c.checkpoint_begin.result (ForDeviceAndMemory (IsTrue (can_begin old.keeper.store))) g.met.D.Disk.counts_now c.requires.desk e.rests
     c.requires.works refl e.store (λ can same. (can, same)) (λ place none. none) (λ breaks. breaks) c.told_by-in-CheckBegin.ensures e.ends in
-    record { desk = desk; goes = act_at c.in-CheckBegin.is goes; rung = λ is. absurd (posts_not step.CheckBegin refl (sym c.in-CheckBegin.is ∙ is)) }
+    record { desk = desk; goes = act_at c.in-CheckBegin.is goes; changed = λ is. absurd (posts_not step.CheckBegin refl (sym c.in-CheckBegin.is ∙ is)) }
 
 pub returns-in-CheckStep : goal.returns-in-CheckStep
 returns-in-CheckStep g c =
@@ -69,7 +69,7 @@ returns-in-CheckStep g c =
     let (desk, goes) =
     act_check step.CheckStep (desk_of old) c.checkpoint_step.new.self c.checkpoint_step.result (ForDevice (IsTrue (has_slices old.keeper.store.checkpoint))) g.met.D.Disk.counts_now c.requires.desk e.rests
     c.requires.works refl e.store (λ none same. absurd none) (λ place none. none) (λ breaks. breaks) c.told_by-in-CheckStep.ensures e.ends in
-    record { desk = desk; goes = act_at c.in-CheckStep.is goes; rung = λ is. absurd (posts_not step.CheckStep refl (sym c.in-CheckStep.is ∙ is)) }
+    record { desk = desk; goes = act_at c.in-CheckStep.is goes; changed = λ is. absurd (posts_not step.CheckStep refl (sym c.in-CheckStep.is ∙ is)) }
 
 pub returns-in-CheckFinish : goal.returns-in-CheckFinish
 returns-in-CheckFinish g c =
@@ -78,4 +78,4 @@ returns-in-CheckFinish g c =
     let (desk, goes) =
     act_check step.CheckFinish (desk_of old) c.checkpoint_finish.new.self c.checkpoint_finish.result (ForDevice (IsTrue (is_some old.keeper.store.checkpoint))) g.met.D.Disk.counts_now c.requires.desk e.rests
     c.requires.works refl e.store (λ none same. absurd none) (λ place none. none) (λ breaks. breaks) c.told_by-in-CheckFinish.ensures e.ends in
-    record { desk = desk; goes = act_at c.in-CheckFinish.is goes; rung = λ is. absurd (posts_not step.CheckFinish refl (sym c.in-CheckFinish.is ∙ is)) }
+    record { desk = desk; goes = act_at c.in-CheckFinish.is goes; changed = λ is. absurd (posts_not step.CheckFinish refl (sym c.in-CheckFinish.is ∙ is)) }

@@ -12,7 +12,7 @@ returns-in-Stored-clause-desk g c =
     let batch = c.in-Stored.batch in
     let tied = c.requires.desk.tied in
     let out = subst (λ (h : Handed). IsHanded h old.front.out) (sym c.in-Stored.ensures.value) tied.handed in
-    let is = posts c.post_ringing.result old.front c.post_ringing.new.self batch c.post_ringing.ensures.refused c.post_ringing.ensures.posted out in
+    let is = posts c.post_noting.result old.front c.post_noting.new.self batch c.post_noting.ensures.refused c.post_noting.ensures.posted out in
     desk_as g.D.Disk (desk_of old) _ c.requires.desk (record { keeper = refl; groups = refl; synced = refl })
     (tied_posted (standing_of old) _ old.keeper.state batch (sym c.in-Stored.ensures.value) c.replace.ensures.after is tied)
-    (λ conn there. c.requires.desk.known conn (none-posted old.front c.post_ringing.new.self batch is conn there))
+    (λ conn there. c.requires.desk.known conn (none-posted old.front c.post_noting.new.self batch is conn there))

@@ -1,13 +1,12 @@
-use Rattle.std.proofs.Common.{refl, sym}
+use Rattle.std.proofs.Common.{inl, refl, sym}
 use Rattle.fe_desk.specs.within.Desk.{standing_of}
 use Rattle.fe_desk.specs.Messages.{outputs}
 use Rattle.fe_desk.proofs.Outputs.{extends_itself}
 use Rattle.fe_desk.proofs.StepParts.{settles_all, discharged_at}
-use Rattle.fe_desk.proofs.Bells.{all_rung}
 use Rattle.fe_desk.proofs.parts.Parts.settle.Goals as goal
 
-pub empty-requires-clause-rung : goal.empty-requires-clause-rung
-empty-requires-clause-rung g c = all_rung c.args.self.now.front
+pub empty-requires-clause-mailed : goal.empty-requires-clause-mailed
+empty-requires-clause-mailed g c = λ conn. inl (c.add_all.ensures conn)
 
 pub returns-then-self-clause-settles : goal.returns-then-self-clause-settles
 returns-then-self-clause-settles g c = settles_all c.empty.result (standing_of c.args.self.now) (standing_of c.empty.new.self) c.if-self.true c.empty.ensures.empties

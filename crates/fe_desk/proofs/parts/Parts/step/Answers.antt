@@ -7,7 +7,7 @@ use Rattle.fe_desk.proofs.Outputs.{extends_itself, extends_both, extends_as, act
 use Rattle.fe_desk.proofs.Advancing.{advances_as, advances_itself, advances_after, advances_then}
 use Rattle.fe_desk.proofs.Quiets.{still_quiet_after}
 use Rattle.fe_desk.specs.Standing.{Standing}
-use Rattle.fe_desk.proofs.Bells.{rung_since}
+use Rattle.fe_desk.proofs.WithMail.{changed_since}
 use Rattle.fe_desk.proofs.StepParts.{discharged_at, settles_ok, settles_err, empties_ok, empties_err}
 use Rattle.fe_desk.proofs.Stepping.{refused, settled, step_settling, step_fault, step_owing, step_whole, act_silent, of_fault}
 use Rattle.fe_desk.proofs.parts.Parts.step.Goals as goal
@@ -52,13 +52,13 @@ returns-in_err-act g c =
     }
 
 -- where no box had a mail, the settling changed nothing
-pub bells_after-bells-requires : goal.bells_after-bells-requires
-bells_after-bells-requires g c = λ posts.
+pub add_mailed-requires : goal.add_mailed-requires
+add_mailed-requires g c = λ posts.
     let e = c.posts.ensures posts in
     let quiet = c.requires.quiet e.0 in
     let settles = settles_ok c.settle.result (standing_of c.args.self.now) (standing_of c.settle.new.self) (sym c.if-is_err.ensures.value) c.settle.ensures.settles in
     let same : standing_of c.settle.new.self ≡ standing_of c.args.self.now = settles ∙ discharged_at (standing_of c.args.self.now) quiet.owes in
-    rung_since c.settle.new.self.front c.act.new.self.front c.act.new.bells (λ conn. ap (λ (s : Standing). mails_on s.front.connections conn) same ∙ quiet.boxes conn) (c.act.ensures.rung e.1)
+    changed_since c.settle.new.self.front c.act.new.self.front c.act.new.changed (λ conn. ap (λ (s : Standing). mails_on s.front.connections conn) same ∙ quiet.boxes conn) (c.act.ensures.changed e.1)
 
 pub finish-requires-clause-still : goal.finish-requires-clause-still
 finish-requires-clause-still g c = λ still.
