@@ -2,6 +2,7 @@ pub mod AnswerLemmas
 pub mod ArraysLemmas
 pub mod DirectoryLemmas
 pub mod DroppedLemmas
+pub mod EffectLemmas
 pub mod Empty
 pub mod Histories
 pub mod IdLemmas

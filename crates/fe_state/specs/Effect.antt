@@ -1,4 +1,4 @@
--- What a request that was answered leaves of the directory.
+-- What a request that was answered changes of the directory, and what it leaves.
 use Rattle.std.specs.Prelude.{ℕ, ◌+◌, List, slice_set, replicate, Option, Some, None, option_and_then}
 use Rattle.std.specs.Ordering.{nat_cmp}
 use Rattle.std.specs.FinMap.{FinMap, get, insert, remove}
@@ -11,6 +11,8 @@ use Rattle.fe_state.specs.Directory.{Directory, creation, word_in}
 use Rattle.fe_state.specs.declared.array.Array.{Array}
 use Rattle.fe_state.specs.declared.answer.Answer.{Answer}
 use Rattle.fe_state.specs.declared.answer.Answer.TheVariants as answer
+use Rattle.fe_state.specs.declared.effect.Effect.{Effect}
+use Rattle.fe_state.specs.declared.effect.Effect.TheVariants as effect
 use Rattle.fe_state.specs.declared.request.Request.{Request}
 use Rattle.fe_state.specs.declared.request.Request.TheVariants.{Create, Find, Remove, Access}
 
@@ -59,3 +61,25 @@ IsNewArray _ = ⊥
 abbrev pub CreatesArray : Directory → Request → Type 0
 CreatesArray d (Create name size tag) = IsNewArray (creation d name size)
 CreatesArray d _ = ⊥
+
+-- what a creation changes that is answered so
+abbrev pub creating : Answer → Effect
+creating (answer.Array id size) = effect.Create
+creating _ = effect.Nothing
+
+-- what the removal of an array changes, if it is there
+abbrev pub removing : ℕ → Option Array → Effect
+removing id None = effect.Nothing
+removing id (Some a) = effect.Remove id
+
+-- what an operation changes that leaves a word, or waits
+abbrev pub writing : ℕ → ℕ → Option (Word × Reply) → Effect
+writing id index None = effect.Nothing
+writing id index (Some after) = effect.Write id index after.0
+
+-- what a request changes once it is answered
+abbrev pub effect_of : Directory → Request → Effect
+effect_of d (Create name size tag) = creating (creation d name size)
+effect_of d (Find name) = effect.Nothing
+effect_of d (Remove id) = removing id (get d.arrays id)
+effect_of d (Access id index op no_wait) = writing id index (option_and_then (table op) (word_in (get d.arrays id) index))

@@ -4,7 +4,7 @@ use Rattle.std.specs.Ordering.{nat_cmp}
 use Rattle.std.specs.Coded.{Coded, code_by, coded×, coded_ℕ}
 use Rattle.std.specs.FinMap.{FinMap, code, empty, get, len}
 use Rattle.fe_state.specs.Directory.{Directory, IsDirectory, answer_in}
-use Rattle.fe_state.specs.Effect.{performed}
+use Rattle.fe_state.specs.Effect.{effect_of, performed}
 use Rattle.fe_state.specs.Sessions.{Session, session_code, IsInWindow}
 use Rattle.fe_state.specs.SessionEffect.{SessionsAllow, sessions_after}
 use Rattle.fe_state.specs.declared.array.Array.{Array}
@@ -12,6 +12,8 @@ use Rattle.fe_state.specs.contracts.array.Array.{the_row}
 use Rattle.fe_state.specs.declared.kept.Kept.{Kept}
 use Rattle.fe_state.specs.declared.answer.Answer.{Answer}
 use Rattle.fe_state.specs.declared.answer.Answer.TheVariants as answer
+use Rattle.fe_state.specs.declared.effect.Effect.{Effect}
+use Rattle.fe_state.specs.declared.effect.Effect.TheVariants.{Nothing}
 use Rattle.fe_state.specs.declared.request.Request.{Request}
 use Rattle.fe_state.specs.declared.request.Request.TheVariants.{Create}
 use Rattle.fe_state.specs.declared.entry.Entry.{Entry}
@@ -62,6 +64,13 @@ pub record IsLegal (s : ServerState) (e : Entry) : Type 0 where
   pub has_place : s.place < greatest_place
   pub allowed : SessionsAllow s.sessions e
   pub answered : IsAnswered (directory_of s) e
+
+-- what an entry changes of the directory
+abbrev pub effect_in : Directory → Entry → Effect
+effect_in d (Attached session floor) = Nothing
+effect_in d (Closed session) = Nothing
+effect_in d (Settled session floor) = Nothing
+effect_in d (Finished session number request answer) = effect_of d request
 
 -- the directory after an entry: only a request that finishes changes it
 abbrev pub directory_after : Directory → Entry → Directory

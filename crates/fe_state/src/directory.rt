@@ -3,8 +3,8 @@ ghost use Rattle.std.specs.Option.{option_map};
 ghost use Rattle.std.specs.Str.{bytes_eq};
 ghost use Rattle.std.specs.FinMap.{entries, get, insert, len, contains_key};
 ghost use Rattle.fe_words.specs.Table.{table};
-ghost use Rattle.fe_state.specs.Directory.{first_directory, named, creation, accessed, access, at_once, answer_of, answer_in, word_in, words_in};
-ghost use Rattle.fe_state.specs.Effect.{created, new_array, put_word, operated_on, performed, CreatesArray};
+ghost use Rattle.fe_state.specs.Directory.{first_directory, named, creation, answer_of, answer_in, word_in, words_in};
+ghost use Rattle.fe_state.specs.Effect.{new_array, put_word, creating, effect_of, performed};
 ghost use Rattle.fe_state.specs.Change.{restored, CanRestore, MayCome};
 ghost use Rattle.fe_state.specs.Shown.{shown_array};
 
@@ -13,6 +13,7 @@ use crate::array::Array;
 use crate::arrays::Arrays;
 use crate::bounds::{ARRAYS, WORDS};
 use crate::change::Change;
+use crate::effect::Effect;
 use crate::name::Name;
 use crate::request::Request;
 use crate::words::Words;
@@ -46,14 +47,8 @@ impl Model for Directory {
 }
 
 impl Directory {
-    /// No array yet. Allocates the memory for the ids and names of all; fails only if memory runs out.
-    pub fn new(alloc: Global) -> Result<Directory, AllocError>
-        ensures { IfOk result (λ directory. directory ≡ first_directory) }
-    {
-        Directory::starting(alloc, 1)
-    }
-
-    /// No array yet, where the next one gets this id. Fails only if memory runs out.
+    /// No array yet, where the next one gets this id. Allocates the memory for the ids and names of all; fails only if
+    /// memory runs out.
     pub fn starting(alloc: Global, next_id: u64) -> Result<Directory, AllocError>
         requires { 1 ≤ next_id }
         ensures { IfOk result (λ directory. directory ≡ record { arrays = first_directory.arrays; next_id = next_id }) }
@@ -74,20 +69,24 @@ impl Directory {
         self.next_id
     }
 
-    /// What a request is answered, or `None` where it has to wait.
-    pub fn answer_to(&self, request: &Request) -> Option<Answer>
-        ensures { result ≡ answer_in self.now request.now }
+    /// What a request is answered, with what it changes, or `None` where it has to wait.
+    pub fn look(&self, request: &Request) -> Option<(Answer, Effect)>
+        ensures answer { option_map (λ x. x.0) result ≡ answer_in self.now request.now }
+        ensures effect { IfSome result (λ x. x.1 ≡ effect_of self.now request.now) }
     {
         match request {
-            Request::Create { name, length, .. } => Some(self.creation(name, *length)),
-            Request::Find { name } => Some(self.found(name)),
+            Request::Create { name, length, .. } => {
+                let answer = self.creation(name, *length);
+                Some((answer, creating(answer)))
+            }
+            Request::Find { name } => Some((self.found(name), Effect::Nothing)),
             Request::Remove { array } => Some(self.removal(*array)),
             Request::Access {
                 array,
                 index,
                 op,
                 no_wait,
-            } => at_once(*no_wait, self.access(*array, *index, *op)),
+            } => self.access(*array, *index, *op, *no_wait),
         }
     }
 
@@ -124,21 +123,33 @@ impl Directory {
         }
     }
 
-    fn removal(&self, id: u64) -> Answer
-        ensures { Some result ≡ answer_in self.now (Request.Remove id) }
+    fn removal(&self, array: u64) -> (Answer, Effect)
+        ensures answer { Some result.0 ≡ answer_in self.now (Request.Remove array) }
+        ensures effect { result.1 ≡ effect_of self.now (Request.Remove array) }
     {
-        match self.arrays.get(id) {
-            Some(_) => Answer::Done,
-            None => Answer::NoArray,
+        match self.arrays.get(array) {
+            Some(_) => (Answer::Done, Effect::Remove { array }),
+            None => (Answer::NoArray, Effect::Nothing),
         }
     }
 
-    fn access(&self, id: u64, index: u32, op: Op) -> Option<Answer>
-        ensures { result ≡ access (get self.now.arrays id) index op }
+    fn access(&self, array: u64, index: u32, op: Op, no_wait: bool) -> Option<(Answer, Effect)>
+        ensures answer { option_map (λ x. x.0) result
+            ≡ answer_in self.now (Request.Access array index op no_wait) }
+        ensures effect { IfSome result (λ x. x.1 ≡ effect_of self.now (Request.Access array index op no_wait)) }
     {
-        match self.arrays.get(id) {
-            None => Some(Answer::NoArray),
-            Some(array) => accessed(array.words.get(index), op),
+        let Some(here) = self.arrays.get(array) else {
+            return Some((Answer::NoArray, Effect::Nothing));
+        };
+        let Some(before) = here.words.get(index) else {
+            return Some((Answer::BadIndex, Effect::Nothing));
+        };
+        match (op.rule(before), no_wait) {
+            (Some((word, reply)), _) => {
+                Some((answer_of(reply), Effect::Write { array, index, word }))
+            }
+            (None, true) => Some((Answer::NotNow, Effect::Nothing)),
+            (None, false) => None,
         }
     }
 
@@ -155,90 +166,49 @@ impl Directory {
         None
     }
 
-    /// Does what a request asks. Fails only if memory runs out for the words of a new array.
-    pub fn perform(&mut self, request: Request) -> Result<(), AllocError>
-        requires { self.old.next_id < 2 ^ 63 }
-        ensures performed { OnOk result (self.new ≡ performed self.old request) }
-        ensures unchanged { OnErr result (self.new ≡ self.old) }
-        ensures memory { OnErr result (CreatesArray self.old request) }
-    {
-        let _ = self.change(&request)?;
-        Ok(())
-    }
-
-    /// Does what a request asks, as `perform`, and says what it changed.
-    pub(crate) fn change(&mut self, request: &Request) -> Result<Change, AllocError>
-        requires { self.old.next_id < 2 ^ 63 }
-        ensures performed { OnOk result (self.new ≡ performed self.old request.now) }
-        ensures undoable { IfOk result (λ change. CanRestore change self.new) }
-        ensures undone { IfOk result (λ change. restored change self.new ≡ self.old) }
-        ensures unchanged { OnErr result (self.new ≡ self.old) }
-        ensures memory { OnErr result (CreatesArray self.old request.now) }
-    {
-        match request {
-            Request::Create { name, length, tag } => self.create(*name, *length, *tag),
-            Request::Find { .. } => Ok(Change::Nothing),
-            Request::Remove { array } => Ok(self.remove(*array)),
-            Request::Access {
-                array,
-                index,
-                op,
-                ..
-            } => Ok(self.operate(*array, *index, *op)),
-        }
-    }
-
-    fn create(&mut self, name: Name, length: u32, tag: Tag) -> Result<Change, AllocError>
-        requires { self.old.next_id < 2 ^ 63 }
+    /// Makes the array of a creation that is answered with one. Fails only if memory runs out for its words.
+    pub(crate) fn create(&mut self, name: Name, length: u32, tag: Tag) -> Result<Change, AllocError>
+        requires id { self.old.next_id < 2 ^ 63 }
+        requires answered { creation self.old name length ≡ Answer.Array self.old.next_id length }
         ensures performed { OnOk result (self.new ≡ performed self.old (Request.Create name length tag)) }
         ensures undoable { IfOk result (λ change. CanRestore change self.new) }
         ensures undone { IfOk result (λ change. restored change self.new ≡ self.old) }
         ensures unchanged { OnErr result (self.new ≡ self.old) }
-        ensures memory { OnErr result (CreatesArray self.old (Request.Create name length tag)) }
     {
-        match self.creation(&name, length) {
-            Answer::Array { id, .. } => {
-                let words = Words::new(self.alloc, length, tag)?;
-                self.next_id += 1;
-                self.insert(id, Array { name, words });
-                Ok(Change::Created)
-            }
-            _ => Ok(Change::Nothing),
-        }
+        let words = Words::new(self.alloc, length, tag)?;
+        let id = self.next_id;
+        self.next_id += 1;
+        self.insert(id, Array { name, words });
+        Ok(Change::Created)
     }
 
-    fn remove(&mut self, id: u64) -> Change
+    /// Removes an array that is there.
+    pub(crate) fn remove(&mut self, id: u64) -> Change
+        requires { IsSome (get self.old.arrays id) }
         ensures removed { self.new ≡ performed self.old (Request.Remove id) }
         ensures undoable { CanRestore result self.new }
         ensures undone { restored result self.new ≡ self.old }
     {
-        match self.arrays.remove(id) {
-            Some(array) => {
-                self.words -= array.words.len();
-                Change::Removed { id, array }
-            }
-            None => Change::Nothing,
-        }
+        let array = self.arrays.remove(id).unwrap();
+        self.words -= array.words.len();
+        Change::Removed { id, array }
     }
 
-    fn operate(&mut self, id: u64, index: u32, op: Op) -> Change
-        ensures operated { self.new ≡ operated_on self.old id index op }
+    /// Replaces the word at an index of an array. Allocates nothing.
+    pub fn write(&mut self, array: u64, index: u32, after: Word) -> Change
+        requires { IsSome (word_in (get self.old.arrays array) index) }
+        ensures written { self.new ≡ record {
+          arrays = put_word self.old.arrays array index after (get self.old.arrays array);
+          next_id = self.old.next_id;
+        } }
         ensures undoable { CanRestore result self.new }
         ensures undone { restored result self.new ≡ self.old }
     {
-        let Some(before) = self.word(id, index) else {
-            return Change::Nothing;
-        };
-        match op.rule(before) {
-            Some((after, _)) => {
-                self.load_word(id, index, after);
-                Change::Wrote {
-                    array: id,
-                    index,
-                    word: before,
-                }
-            }
-            None => Change::Nothing,
+        let before = self.arrays.get_mut(array).words.replace(index, after);
+        Change::Wrote {
+            array,
+            index,
+            word: before,
         }
     }
 
@@ -251,7 +221,9 @@ impl Directory {
             Change::Nothing => {}
             Change::Created => self.take_last(),
             Change::Removed { id, array } => self.insert(id, array),
-            Change::Wrote { array, index, word } => self.load_word(array, index, word),
+            Change::Wrote { array, index, word } => {
+                let _ = self.write(array, index, word);
+            }
         }
     }
 
@@ -323,17 +295,6 @@ impl Directory {
         self.insert(id, Array { name, words });
         Ok(())
     }
-
-    /// Replaces the word at an index of an array. Allocates nothing.
-    pub fn load_word(&mut self, array: u64, index: u32, word: Word)
-        requires { IsSome (word_in (get self.old.arrays array) index) }
-        ensures { self.new ≡ record {
-          arrays = put_word self.old.arrays array index word (get self.old.arrays array);
-          next_id = self.old.next_id;
-        } }
-    {
-        self.arrays.get_mut(array).words.set(index, word);
-    }
 }
 
 impl Copied for Directory {
@@ -347,21 +308,12 @@ impl Copied for Directory {
     }
 }
 
-fn accessed(word: Option<Word>, op: Op) -> Option<Answer>
-    ensures { result ≡ accessed word op }
+fn creating(answer: Answer) -> Effect
+    ensures { result ≡ creating answer }
 {
-    match word {
-        None => Some(Answer::BadIndex),
-        Some(word) => op.rule(word).map(|after| answer_of(after.1)),
-    }
-}
-
-fn at_once(no_wait: bool, answer: Option<Answer>) -> Option<Answer>
-    ensures { result ≡ at_once no_wait answer }
-{
-    match (no_wait, answer) {
-        (true, None) => Some(Answer::NotNow),
-        (_, answer) => answer,
+    match answer {
+        Answer::Array { .. } => Effect::Create,
+        _ => Effect::Nothing,
     }
 }
 

@@ -9,6 +9,7 @@ mod bounds;
 mod change;
 mod directory;
 mod dropped;
+mod effect;
 mod entry;
 mod kept;
 mod kept_answers;
@@ -29,6 +30,7 @@ pub use bounds::{
     ARRAYS, BATCH_ENTRIES, EVENT_ENTRIES, GREATEST_FLOOR, GREATEST_PLACE, NAME_BYTES, SESSIONS,
     WAITING, WINDOW, WORDS,
 };
+pub use effect::Effect;
 pub use entry::Entry;
 pub use kept::Kept;
 pub use kept_answers::KeptAnswers;

@@ -3,10 +3,10 @@ ghost use Rattle.std.specs.Option.{option_map};
 ghost use Rattle.std.specs.FinMap.{get, keys, entries, len, empty, insert};
 ghost use Rattle.fe_state.specs.Change.{MayCome, restored, CanRestore};
 ghost use Rattle.fe_state.specs.Directory.{word_in, words_in};
-ghost use Rattle.fe_state.specs.Effect.{CreatesArray, new_array, put_word};
+ghost use Rattle.fe_state.specs.Effect.{CreatesArray, effect_of, new_array, put_word};
 ghost use Rattle.fe_state.specs.Sessions.{kept_in, IsInWindow, keeping, put_session};
 ghost use Rattle.fe_state.specs.Shown.{shown_array, shown_session};
-ghost use Rattle.fe_state.specs.State.{first_state, reply, IsLegal, IsAnswered, after, directory_of, directory_after, with_arrays, with_sessions, IsWithinLimits, MakesArray, OnFinished};
+ghost use Rattle.fe_state.specs.State.{first_state, reply, IsLegal, IsAnswered, after, directory_of, directory_after, effect_in, with_arrays, with_sessions, IsWithinLimits, MakesArray, OnFinished};
 ghost use Rattle.fe_words.specs.declared.word.Tag.TheVariants.{Empty};
 ghost use Rattle.fe_state.specs.UndoLog.{empty_log, shortened, undone, rewound, IsLogOf};
 ghost use Rattle.fe_state.specs.Limits.{most_sessions, greatest_floor};
@@ -15,6 +15,7 @@ use crate::answer::Answer;
 use crate::bounds::GREATEST_PLACE;
 use crate::change::Change;
 use crate::directory::Directory;
+use crate::effect::Effect;
 use crate::entry::Entry;
 use crate::kept::Kept;
 use crate::kept_answers::KeptAnswers;
@@ -120,31 +121,50 @@ impl State {
         })
     }
 
+    /// What a request is answered, with what it changes, or `None` where it has to wait.
+    pub fn look(&self, request: &Request) -> Option<(Answer, Effect)>
+        ensures answer { option_map (λ x. x.0) result ≡ reply self.now request.now }
+        ensures effect { IfSome result (λ x. x.1 ≡ effect_of (directory_of self.now) request.now) }
+    {
+        self.directory.look(request)
+    }
+
     /// What a request is answered, or `None` where it has to wait.
     pub fn answer_to(&self, request: &Request) -> Option<Answer>
         ensures { result ≡ reply self.now request.now }
     {
-        self.directory.answer_to(request)
+        self.look(request).map(|x| x.0)
+    }
+
+    /// What an entry changes of the arrays that may come next. It is `Illegal` exactly where the entry is not legal here.
+    pub fn examine(&self, entry: &Entry) -> Result<Effect, Illegal>
+        ensures legal { IsOk result ↔ IsLegal self.now entry.now }
+        ensures effect { IfOk result (λ effect. effect ≡ effect_in (directory_of self.now) entry.now) }
+    {
+        if self.place < GREATEST_PLACE && sessions::allow(&self.sessions, entry) {
+            answered(&self.directory, entry).ok_or(Illegal)
+        } else {
+            Err(Illegal)
+        }
     }
 
     /// Whether an entry may come next. It is `Illegal` exactly where the entry is not legal here.
     pub fn check(&self, entry: &Entry) -> Result<(), Illegal>
         ensures { IsOk result ↔ IsLegal self.now entry.now }
     {
-        if self.place < GREATEST_PLACE
-            && sessions::allow(&self.sessions, entry)
-            && is_answered(&self.directory, entry)
-        {
-            Ok(())
-        } else {
-            Err(Illegal)
-        }
+        self.examine(entry).map(|_| ())
     }
 
-    /// Carries out a legal entry, and adds it to a log that has room, so that it can be undone. Fails only if memory
-    /// runs out for the words of a new array.
-    pub fn apply(&mut self, entry: Entry, log: &mut UndoLog) -> Result<(), AllocError>
+    /// Carries out a legal entry with its effect, and adds it to a log that has room, so that it can be undone. Fails
+    /// only if memory runs out for the words of a new array.
+    pub fn apply(
+        &mut self,
+        entry: Entry,
+        effect: Effect,
+        log: &mut UndoLog,
+    ) -> Result<(), AllocError>
         requires legal { IsLegal self.old entry }
+        requires effect { effect ≡ effect_in (directory_of self.old) entry }
         requires room { length log.old.undos < log.old.room }
         ensures ok { OnOk result (self.new ≡ after self.old entry) }
         ensures err { OnErr result ((self.new ≡ self.old) × (log.new ≡ log.old)) }
@@ -160,20 +180,22 @@ impl State {
         ensures log { IsLogOf log.old self.old → IsLogOf log.new self.new }
         ensures beginning { rewound log.new self.new ≡ rewound log.old self.old }
     {
-        let change = enact(&mut self.directory, &entry)?;
+        let change = enact(&mut self.directory, &entry, effect)?;
         sessions::record_entry(&mut self.sessions, self.place, &entry, change, log);
         self.place += 1;
         Ok(())
     }
 
-    /// Carries out a legal entry that cannot be undone. Fails only if memory runs out for the words of a new array.
-    pub fn advance(&mut self, entry: Entry) -> Result<(), AllocError>
-        requires { IsLegal self.old entry }
+    /// Carries out a legal entry with its effect, so that it cannot be undone. Fails only if memory runs out for the
+    /// words of a new array.
+    pub fn advance(&mut self, entry: Entry, effect: Effect) -> Result<(), AllocError>
+        requires legal { IsLegal self.old entry }
+        requires effect { effect ≡ effect_in (directory_of self.old) entry }
         ensures ok { OnOk result (self.new ≡ after self.old entry) }
         ensures err { OnErr result (self.new ≡ self.old) }
         ensures memory { OnErr result (MakesArray entry) }
     {
-        let _ = enact(&mut self.directory, &entry)?;
+        let _ = enact(&mut self.directory, &entry, effect)?;
         sessions::advance(&mut self.sessions, self.place, &entry);
         self.place += 1;
         Ok(())
@@ -317,7 +339,7 @@ impl State {
         ensures { self.new ≡ with_arrays self.old
             (put_word self.old.arrays array index word (get self.old.arrays array)) }
     {
-        self.directory.load_word(array, index, word);
+        let _ = self.directory.write(array, index, word);
     }
 
     /// Adds a session of an image, with a floor of 1 to `GREATEST_FLOOR` and nothing kept. Allocates nothing.
@@ -344,30 +366,44 @@ impl State {
     }
 }
 
-fn is_answered(directory: &Directory, entry: &Entry) -> bool
-    ensures { IsTrue result ↔ IsAnswered directory.now entry.now }
+/// What an entry changes, if its answer is the right one.
+fn answered(directory: &Directory, entry: &Entry) -> Option<Effect>
+    ensures answered { IsSome result ↔ IsAnswered directory.now entry.now }
+    ensures effect { IfSome result (λ effect. effect ≡ effect_in directory.now entry.now) }
 {
     match entry {
         Entry::Finished {
             request,
             answer,
             ..
-        } => directory.answer_to(request) == Some(*answer),
-        _ => true,
+        } => match directory.look(request) {
+            Some((right, effect)) if right == *answer => Some(effect),
+            _ => None,
+        },
+        _ => Some(Effect::Nothing),
     }
 }
 
-/// Carries out the request of an entry, if it has one.
-fn enact(directory: &mut Directory, entry: &Entry) -> Result<Change, AllocError>
-    requires { directory.old.next_id < 2 ^ 63 }
+/// Carries out what an entry changes of the arrays.
+fn enact(directory: &mut Directory, entry: &Entry, effect: Effect) -> Result<Change, AllocError>
+    requires id { directory.old.next_id < 2 ^ 63 }
+    requires effect { effect ≡ effect_in directory.old entry.now }
     ensures ok { OnOk result (directory.new ≡ directory_after directory.old entry.now) }
     ensures undoable { IfOk result (λ change. CanRestore change directory.new) }
     ensures restored { IfOk result (λ change. restored change directory.new ≡ directory.old) }
     ensures err { OnErr result (directory.new ≡ directory.old) }
     ensures memory { OnErr result (OnFinished entry.now (CreatesArray directory.old)) }
 {
-    match entry {
-        Entry::Finished { request, .. } => directory.change(request),
-        _ => Ok(Change::Nothing),
+    match effect {
+        Effect::Nothing => Ok(Change::Nothing),
+        Effect::Create => match entry {
+            Entry::Finished {
+                request: Request::Create { name, length, tag },
+                ..
+            } => directory.create(*name, *length, *tag),
+            _ => unreachable!(),
+        },
+        Effect::Remove { array } => Ok(directory.remove(array)),
+        Effect::Write { array, index, word } => Ok(directory.write(array, index, word)),
     }
 }

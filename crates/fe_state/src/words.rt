@@ -1,4 +1,4 @@
-ghost use Rattle.std.specs.Prelude.{◌≡◌, ◌<◌, ◌^◌, replicate, length, slice_get, slice_set, IfOk};
+ghost use Rattle.std.specs.Prelude.{◌≡◌, ◌<◌, ◌^◌, replicate, length, slice_get, slice_set, IfOk, Some};
 ghost use Rattle.fe_words.specs.Table.{word};
 
 use fe_table::Copied;
@@ -62,12 +62,15 @@ impl Words {
         self.items.as_slice()
     }
 
-    /// Replaces the word at an index.
-    pub fn set(&mut self, index: u32, word: Word)
+    /// Replaces the word at an index, and returns the word before.
+    pub fn replace(&mut self, index: u32, word: Word) -> Word
         requires { index < length self.old }
-        ensures { self.new ≡ slice_set self.old index word }
+        ensures before { Some result ≡ slice_get self.old index }
+        ensures replaced { self.new ≡ slice_set self.old index word }
     {
+        let before = self.items[index as usize];
         self.items[index as usize] = word;
+        before
     }
 }
 

@@ -2,7 +2,7 @@ use Rattle.std.proofs.Common.{◌≡◌, ◌∙◌, refl, sym, ap, arith, subst,
 use Rattle.std.proofs.lemmas.List.{length-replicate}
 use Rattle.fe_state.specs.Directory.{Directory, creation}
 use Rattle.fe_state.specs.declared.answer.Answer.TheVariants as answer
-use Rattle.fe_state.proofs.DirectoryLemmas.{raise_kept, creation_comes, creation_id, creation_free, made_last, made_restored}
+use Rattle.fe_state.proofs.DirectoryLemmas.{raise_kept, creation_comes, creation_free, made_last, made_restored}
 use Rattle.fe_state.proofs.directory.Directory.create.Goals as goal
 
 pub invariant_of-self : goal.invariant_of-self
@@ -11,17 +11,14 @@ invariant_of-self c = (raise_kept _ _ c.self.invariant.0 (omega arith), c.self.i
 pub insert-requires : goal.insert-requires
 insert-requires c =
     let d : Directory = record { arrays = c.self.inside.arrays; next_id = c.self.inside.next_id } in
-    let made = subst (λ (x : Directory). creation x c.args.name c.args.length ≡ answer.Array c.in-Array.id c.in-Array.length) (sym c.self.view_is) (sym c.in-Array.ensures) in
-    creation_comes d c.args.name c.args.length _ _ _ c.self.invariant.0 made refl (ap length c.in_ok-words-in-Array.ensures ∙ length-replicate _ _)
+    let made = subst (λ (x : Directory). creation x c.args.name c.args.length ≡ answer.Array x.next_id c.args.length) (sym c.self.view_is) c.requires.answered in
+    creation_comes d c.args.name c.args.length _ _ _ c.self.invariant.0 made refl (ap length c.in_ok-words.ensures ∙ length-replicate _ _)
 
-pub returns-in_ok-words-in-Array-clause-undoable : goal.returns-in_ok-words-in-Array-clause-undoable
-returns-in_ok-words-in-Array-clause-undoable c =
-    let d : Directory = record { arrays = c.self.inside.arrays; next_id = c.self.inside.next_id } in
-    let made = subst (λ (x : Directory). creation x c.args.name c.args.length ≡ answer.Array c.in-Array.id c.in-Array.length) (sym c.self.view_is) (sym c.in-Array.ensures) in
-    rw c.insert.ensures (made_last d.arrays d.next_id _ _ (creation_id d c.args.name c.args.length _ _ made))
+pub returns-clause-undoable : goal.returns-clause-undoable
+returns-clause-undoable c = rw c.insert.ensures (made_last c.self.inside.arrays c.self.inside.next_id _ _ refl)
 
-pub returns-in_ok-words-in-Array-clause-undone : goal.returns-in_ok-words-in-Array-clause-undone
-returns-in_ok-words-in-Array-clause-undone c =
+pub returns-clause-undone : goal.returns-clause-undone
+returns-clause-undone c =
     let d : Directory = record { arrays = c.self.inside.arrays; next_id = c.self.inside.next_id } in
-    let made = subst (λ (x : Directory). creation x c.args.name c.args.length ≡ answer.Array c.in-Array.id c.in-Array.length) (sym c.self.view_is) (sym c.in-Array.ensures) in
-    rw c.insert.ensures (made_restored d.arrays d.next_id _ _ (creation_id d c.args.name c.args.length _ _ made) (creation_free d c.args.name c.args.length _ _ c.self.invariant.0 made) ∙ c.self.view_is)
+    let made = subst (λ (x : Directory). creation x c.args.name c.args.length ≡ answer.Array x.next_id c.args.length) (sym c.self.view_is) c.requires.answered in
+    rw c.insert.ensures (made_restored d.arrays d.next_id _ _ refl (creation_free d c.args.name c.args.length _ _ c.self.invariant.0 made) ∙ c.self.view_is)
