@@ -1,6 +1,6 @@
 ghost use Rattle.std.specs.Prelude.{◌≡◌, ◌+◌, List, [], length as length_of, Some, OnOk, OnErr};
-ghost use Rattle.fe_state.specs.Effect.{IsNewArray};
-ghost use Rattle.fe_state.specs.State.{reply};
+ghost use Rattle.fe_state.specs.Effect.{effect_of, IsNewArray};
+ghost use Rattle.fe_state.specs.State.{directory_of, reply};
 ghost use Rattle.fe_state.specs.declared.entry.Entry.{Entry};
 ghost use Rattle.fe_state.specs.declared.entry.Entry.TheVariants.{Finished};
 ghost use Rattle.fe_state.specs.declared.request.Request.TheVariants as requests;
@@ -8,7 +8,7 @@ ghost use Rattle.fe_state.specs.declared.answer.Answer.TheVariants as answers;
 ghost use Rattle.fe_service.specs.Events.{IsFree, HasRoom, Completes};
 
 use crate::service::Service;
-use fe_state::{Answer, Entry, Name, Request};
+use fe_state::{Answer, Effect, Entry, Name, Request};
 use fe_words::{Op, Tag};
 use std::alloc::AllocError;
 
@@ -23,9 +23,12 @@ impl Service {
         op: Op,
         no_wait: bool,
         answer: Answer,
+        effect: Effect,
     ) -> u32
         requires free { IsFree self.old session number }
         requires answered { reply self.old.state (requests.Access array index op no_wait) ≡ Some answer }
+        requires effect { effect
+            ≡ effect_of (directory_of self.old.state) (requests.Access array index op no_wait) }
         requires room { HasRoom self.old }
         ensures completes { (served : List Entry)
             × Completes self.old self.new
@@ -40,12 +43,13 @@ impl Service {
             op,
             no_wait,
         };
-        self.parts.enter(Entry::Finished {
+        let entry = Entry::Finished {
             session,
             number,
             request,
             answer,
-        });
+        };
+        self.parts.enter(entry, effect);
         if is_there {
             1 + self.parts.serve_word(array, index)
         } else {
@@ -60,9 +64,11 @@ impl Service {
         number: u64,
         array: u64,
         answer: Answer,
+        effect: Effect,
     ) -> u32
         requires free { IsFree self.old session number }
         requires answered { reply self.old.state (requests.Remove array) ≡ Some answer }
+        requires effect { effect ≡ effect_of (directory_of self.old.state) (requests.Remove array) }
         requires room { HasRoom self.old }
         ensures completes { (served : List Entry)
             × Completes self.old self.new (Finished session number (requests.Remove array) answer) served
@@ -70,12 +76,13 @@ impl Service {
     {
         self.parts.limits();
         let length = self.parts.state.length(array);
-        self.parts.enter(Entry::Finished {
+        let entry = Entry::Finished {
             session,
             number,
             request: Request::Remove { array },
             answer,
-        });
+        };
+        self.parts.enter(entry, effect);
         match length {
             Some(length) => {
                 let served = self.parts.serve_array(array, length);
@@ -93,12 +100,13 @@ impl Service {
         requires room { HasRoom self.old }
         ensures completes { Completes self.old self.new (Finished session number (requests.Find name) answer) [] }
     {
-        self.parts.enter(Entry::Finished {
+        let entry = Entry::Finished {
             session,
             number,
             request: Request::Find { name },
             answer,
-        });
+        };
+        self.parts.enter(entry, Effect::Nothing);
     }
 
     /// Finishes a creation that is refused.
@@ -119,12 +127,13 @@ impl Service {
             (Finished session number (requests.Create name length tag) answer) [] }
     {
         self.parts.limits();
-        self.parts.enter(Entry::Finished {
+        let entry = Entry::Finished {
             session,
             number,
             request: Request::Create { name, length, tag },
             answer,
-        });
+        };
+        self.parts.enter(entry, Effect::Nothing);
     }
 
     /// Makes an array. Fails only if memory runs out; then nothing has changed.
@@ -154,7 +163,7 @@ impl Service {
             answer: Answer::Array { id, length },
         };
         let made = entry;
-        if let Err(fault) = self.parts.state.advance(made) {
+        if let Err(fault) = self.parts.state.advance(made, Effect::Create) {
             self.parts.seats.drop_array(id);
             return Err(fault);
         }

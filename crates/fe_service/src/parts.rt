@@ -3,7 +3,7 @@ ghost use Rattle.std.specs.FinMap.{get, insert, len};
 ghost use Rattle.fe_words.specs.declared.word.Tag.{Tag};
 ghost use Rattle.fe_waits.specs.Waiting.{IsWord};
 ghost use Rattle.fe_state.specs.State as state_limits;
-ghost use Rattle.fe_state.specs.State.{IsLegal, MakesArray, after};
+ghost use Rattle.fe_state.specs.State.{IsLegal, MakesArray, after, directory_of, effect_in};
 ghost use Rattle.fe_state.specs.declared.entry.Entry.{Entry};
 ghost use Rattle.fe_seats.specs.Seating.{waiter_of, IsWithinLimits};
 ghost use Rattle.fe_service.specs.Events.{MaySit};
@@ -13,7 +13,7 @@ ghost use Rattle.fe_service.specs.within.Parts.{IsQuietAt, WaitAtTag, IsAtRest, 
 ghost use Rattle.fe_state.specs.Limits.{most_batch_entries, greatest_place};
 
 use fe_seats::{Seats, Turn};
-use fe_state::{Entries, Entry, Request, State};
+use fe_state::{Effect, Entries, Entry, Request, State};
 
 /// The state, the seats with what waits, and the entries made since the last cut.
 #[derive(Drop)]
@@ -61,9 +61,10 @@ impl Parts {
         self.seats.set_holder(session, Some(conn));
     }
 
-    /// Makes a legal entry that needs no memory.
-    pub(crate) fn enter(&mut self, entry: Entry)
+    /// Makes a legal entry that needs no memory, with its effect.
+    pub(crate) fn enter(&mut self, entry: Entry, effect: Effect)
         requires legal { IsLegal self.old.state entry }
+        requires effect { effect ≡ effect_in (directory_of self.old.state) entry }
         requires memory { MakesArray entry → ⊥ }
         requires room { length_of self.old.pending < most_batch_entries }
         ensures state { self.new.state ≡ after self.old.state entry }
@@ -71,7 +72,7 @@ impl Parts {
         ensures pending { self.new.pending ≡ self.old.pending ++ entry ∷ [] }
     {
         let made = entry;
-        if self.state.advance(made).is_err() {
+        if self.state.advance(made, effect).is_err() {
             unreachable!();
         }
         self.pending.push(entry);
@@ -92,16 +93,17 @@ impl Parts {
         };
         let turn = self.seats.turn(node);
         let request = request_of(&turn);
-        let Some(answer) = self.state.answer_to(&request) else {
+        let Some((answer, effect)) = self.state.look(&request) else {
             return false;
         };
         self.seats.finish(node);
-        self.enter(Entry::Finished {
+        let entry = Entry::Finished {
             session: turn.session,
             number: turn.number,
             request,
             answer,
-        });
+        };
+        self.enter(entry, effect);
         true
     }
 

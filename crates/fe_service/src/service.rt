@@ -1,7 +1,8 @@
 ghost use Rattle.std.specs.Prelude.{◌≡◌, ◌+◌, ◌≤◌, List, [], length, Some, None, IsSome, IfOk, OnErr, is_some, true, false};
 ghost use Rattle.std.specs.FinMap.{get, len, empty};
 ghost use Rattle.fe_state.specs.State as states;
-ghost use Rattle.fe_state.specs.State.{reply, MakesArray};
+ghost use Rattle.fe_state.specs.Effect.{effect_of};
+ghost use Rattle.fe_state.specs.State.{directory_of, reply, MakesArray};
 ghost use Rattle.fe_state.specs.declared.entry.Entry.{Entry};
 ghost use Rattle.fe_state.specs.declared.entry.Entry.TheVariants.{Finished};
 ghost use Rattle.fe_state.specs.declared.request.Request.TheVariants as requests;
@@ -13,7 +14,7 @@ ghost use Rattle.fe_state.specs.Limits.{most_batch_entries};
 use crate::beginning::{add_arrays, seat_sessions};
 use crate::parts::Parts;
 use fe_seats::Seats;
-use fe_state::{Answer, Entries, Entry, Request, State};
+use fe_state::{Answer, Effect, Entries, Entry, Request, State};
 use fe_words::Op;
 use std::alloc::{AllocError, Global};
 use std::marker::Model;
@@ -121,7 +122,8 @@ impl Service {
         self.parts.limits();
         let floor = self.floor(session);
         self.parts.take_seat(session, conn);
-        self.parts.enter(Entry::Attached { session, floor });
+        self.parts
+            .enter(Entry::Attached { session, floor }, Effect::Nothing);
     }
 
     /// Raises a session's floor, with an entry.
@@ -130,7 +132,8 @@ impl Service {
         requires room { HasRoom self.old }
         ensures { self.new ≡ settled self.old session floor }
     {
-        self.parts.enter(Entry::Settled { session, floor });
+        self.parts
+            .enter(Entry::Settled { session, floor }, Effect::Nothing);
     }
 
     /// Closes a session, with an entry, and marks it as closing. Its waiting requests are withdrawn. Returns how many
@@ -143,7 +146,7 @@ impl Service {
     {
         let count = self.parts.seats.drop_session(session);
         self.parts.seats.set_closing(session);
-        self.parts.enter(Entry::Closed { session });
+        self.parts.enter(Entry::Closed { session }, Effect::Nothing);
         count
     }
 
@@ -179,18 +182,20 @@ impl Service {
         self.parts.seats.leave(session);
     }
 
-    /// Completes a request with its reply, and serves the waiting requests that this lets through. Returns how many
-    /// entries were made, 1 to `EVENT_ENTRIES`. Fails only if memory runs out for the words of a new array; then
-    /// nothing has changed.
+    /// Completes a request with its reply and its effect, and serves the waiting requests that this lets through. Returns
+    /// how many entries were made, 1 to `EVENT_ENTRIES`. Fails only if memory runs out for the words of a new array;
+    /// then nothing has changed.
     pub fn complete(
         &mut self,
         session: u64,
         number: u64,
         request: Request,
         answer: Answer,
+        effect: Effect,
     ) -> Result<u32, AllocError>
         requires free { IsFree self.old session number }
         requires answered { reply self.old.state request ≡ Some answer }
+        requires effect { effect ≡ effect_of (directory_of self.old.state) request }
         requires room { HasRoom self.old }
         ensures completes { IfOk result
             (λ count. (served : List Entry)
@@ -214,13 +219,15 @@ impl Service {
                 self.finish_find(session, number, name, answer);
                 Ok(1)
             }
-            Request::Remove { array } => Ok(self.finish_remove(session, number, array, answer)),
+            Request::Remove { array } => Ok(self.finish_remove(
+                session, number, array, answer, effect,
+            )),
             Request::Access {
                 array,
                 index,
                 op,
                 no_wait,
-            } => Ok(self.finish_access(session, number, array, index, op, no_wait, answer)),
+            } => Ok(self.finish_access(session, number, array, index, op, no_wait, answer, effect)),
         }
     }
 

@@ -15,7 +15,7 @@ enter-requires-clause-legal c =
     record {
       has_place = omega (arith, some, c.requires.places);
       allowed = c.requires.usable (key_of turn) (waiter_of turn) c.turn-turn.ensures.waiting;
-      answered = sym c.answer_to.ensures ∙ c.in-Some-answer_to.is;
+      answered = sym c.in-Some-look.ensures.answer;
     }
 
 pub enter-requires-clause-room : goal.enter-requires-clause-room
@@ -31,16 +31,16 @@ returns-clause-served c =
     let same = some_same (sym on.1 ∙ c.turn-turn.ensures.turn) in
     let finished = some_same (sym c.finish.ensures.turn ∙ c.turn-turn.ensures.turn) in
     λ _. (
-      Finished turn.session turn.number c.request_of-request.result c.in-Some-answer_to.answer,
+      Finished turn.session turn.number c.request_of-request.result c.in-Some-look.answer,
       record {
         turn = record {
           session = turn.session;
           number = turn.number;
           waiter = waiter_of turn;
-          answer = c.in-Some-answer_to.answer;
+          answer = c.in-Some-look.answer;
           waits = c.turn-turn.ensures.waiting;
-          answered = subst (λ r. reply c.args.self.now.state r ≡ Some c.in-Some-answer_to.answer) c.request_of-request.ensures (sym c.answer_to.ensures ∙ c.in-Some-answer_to.is);
-          entry = ap (λ r. Finished turn.session turn.number r c.in-Some-answer_to.answer) c.request_of-request.ensures;
+          answered = subst (λ r. reply c.args.self.now.state r ≡ Some c.in-Some-look.answer) c.request_of-request.ensures (sym c.in-Some-look.ensures.answer);
+          entry = ap (λ r. Finished turn.session turn.number r c.in-Some-look.answer) c.request_of-request.ensures;
         };
         on_word = subst (λ (t : Turn). IsOn (waiter_of t) c.args.array c.args.index) same on.2;
         state = c.enter.ensures.state;
