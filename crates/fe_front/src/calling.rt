@@ -5,7 +5,8 @@ ghost use Rattle.fe_front.specs.Refusals.{addressed, own, in_window};
 ghost use Rattle.fe_mail.specs.Books.{Balances};
 ghost use Rattle.fe_mail.specs.declared.refusal.Refusal as refusals;
 ghost use Rattle.fe_service.specs.Events.{IsFree, HasRoom};
-ghost use Rattle.fe_state.specs.State.{reply, MakesArray};
+ghost use Rattle.fe_state.specs.Effect.{effect_of};
+ghost use Rattle.fe_state.specs.State.{directory_of, reply, MakesArray};
 ghost use Rattle.fe_state.specs.declared.entry.Entry.{Entry};
 ghost use Rattle.fe_state.specs.declared.entry.Entry.TheVariants.{Finished};
 
@@ -13,7 +14,7 @@ use crate::asked::is_same;
 use crate::front::Front;
 use crate::outcome::Outcome;
 use fe_mail::{Books, Mail, Refusal};
-use fe_state::{Answer, Request, WINDOW};
+use fe_state::{Answer, Effect, Request, WINDOW};
 
 impl Front {
     /// The session, if its window has the number, or why the call is refused.
@@ -103,11 +104,13 @@ impl Front {
         number: u64,
         request: Request,
         answer: Answer,
+        effect: Effect,
     ) -> Result<Outcome, Refusal>
         requires free { IsFree self.old.service session number }
         requires new { request_at self.old session number ≡ None }
         requires unspent { is_spent self.old ≡ false }
         requires answered { reply self.old.service.state request ≡ Some answer }
+        requires effect { effect ≡ effect_of (directory_of self.old.service.state) request }
         requires room { HasRoom self.old.service }
         ensures completed { IfOk result
             (λ outcome. (count : ℕ) × (entries : List Entry) × (outcome ≡ Outcome.Completed count)
@@ -116,7 +119,10 @@ impl Front {
         ensures memory { OnErr result (MakesArray (Finished session number request answer)) }
         ensures err { OnErr result (self.new ≡ self.old) }
     {
-        match self.service.complete(session, number, request, answer) {
+        match self
+            .service
+            .complete(session, number, request, answer, effect)
+        {
             Ok(entries) => {
                 self.books.call_completed();
                 count_served(&mut self.books, entries - 1);
@@ -162,8 +168,8 @@ impl Front {
             × MakesArray (Finished session number request answer)) }
         ensures err { OnErr result (self.new ≡ self.old) }
     {
-        match self.service.state().answer_to(&request) {
-            Some(answer) => self.complete(session, number, request, answer),
+        match self.service.state().look(&request) {
+            Some((answer, effect)) => self.complete(session, number, request, answer, effect),
             None => {
                 self.wait(session, number, request);
                 Ok(Outcome::Waits)
