@@ -60,12 +60,11 @@ impl Arrays {
         })
     }
 
-    /// How many arrays there are.
-    pub fn len(&self) -> usize
-        ensures len { result ≡ map.len self.now }
-        ensures fits { result ≤ most_arrays }
+    /// The arrays by id, in ascending order.
+    pub fn table(&self) -> &Table<Array, ARRAYS>
+        ensures { result.now ≡ self.now }
     {
-        self.table.len()
+        &self.table
     }
 
     /// The array with an id.
@@ -75,13 +74,6 @@ impl Arrays {
         let position = self.position_of(id)?;
         let (_, array) = self.table.at(position).unwrap();
         Some(array)
-    }
-
-    /// The id at a position of the order of creation, counted from zero, with its array.
-    pub fn at(&self, position: usize) -> Option<(u64, &Array)>
-        ensures entry { option_map shown_entry result ≡ slice_get (map.entries self.now) position }
-    {
-        self.table.at(position)
     }
 
     /// The array with an id that is there, to write.

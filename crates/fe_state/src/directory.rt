@@ -99,7 +99,7 @@ impl Directory {
             Answer::BadLength
         } else if self.named(name).is_some() {
             Answer::NameTaken
-        } else if self.arrays.len() >= ARRAYS {
+        } else if self.arrays.table().len() >= ARRAYS {
             Answer::ArrayLimit
         } else if self.words + length > WORDS {
             Answer::WordLimit
@@ -157,8 +157,9 @@ impl Directory {
     fn named(&self, name: &Name) -> Option<(u64, u32)>
         ensures { result ≡ option_map (λ e. (e.0, length e.1.words)) (named self.now.arrays name.now) }
     {
-        for k in 0..self.arrays.len() {
-            let (id, array) = self.arrays.at(k).unwrap();
+        let table = self.arrays.table();
+        for k in 0..table.len() {
+            let (id, array) = table.at(k).unwrap();
             if array.name.bytes() == name.bytes() {
                 return Some((id, array.words.len()));
             }
@@ -236,7 +237,8 @@ impl Directory {
         self.words -= last.words.len();
     }
 
-    fn insert(&mut self, id: u64, array: Array)
+    /// Puts an array at an id. Allocates nothing.
+    pub fn insert(&mut self, id: u64, array: Array)
         requires { MayCome self.old id array }
         ensures { self.new ≡ record { arrays = insert self.old.arrays id array; next_id = self.old.next_id } }
     {
@@ -244,34 +246,11 @@ impl Directory {
         self.arrays.insert(id, array);
     }
 
-    /// The word at an index of an array, if both are there.
-    pub fn word(&self, array: u64, index: u32) -> Option<Word>
-        ensures { result ≡ word_in (get self.now.arrays array) index }
+    /// The arrays.
+    pub fn arrays(&self) -> &Arrays
+        ensures { result.now ≡ self.now.arrays }
     {
-        self.arrays.get(array)?.words.get(index)
-    }
-
-    /// How many words an array has, if it is there.
-    pub fn length(&self, array: u64) -> Option<u32>
-        ensures { result ≡ words_in (get self.now.arrays array) }
-    {
-        Some(self.arrays.get(array)?.words.len())
-    }
-
-    /// How many arrays there are.
-    pub fn len(&self) -> usize
-        ensures { result ≡ len self.now.arrays }
-    {
-        self.arrays.len()
-    }
-
-    /// The array at a position of the ascending order of ids, counted from zero: its id, its name and its words.
-    pub fn entry_at(&self, position: usize) -> Option<(u64, &Name, &[Word])>
-        ensures entry { option_map shown_array result ≡ slice_get (entries self.now.arrays) position }
-        ensures few { IfSome result (λ e. length e.2.now < 2 ^ 32) }
-    {
-        let (id, array) = self.arrays.at(position)?;
-        Some((id, &array.name, array.words.as_slice()))
+        &self.arrays
     }
 
     /// Looks for an array, so that the look-ups of it that follow take one comparison each.
@@ -279,21 +258,6 @@ impl Directory {
         ensures { self.new ≡ self.old }
     {
         self.arrays.aim(array);
-    }
-
-    /// Adds an array of an image, its words empty and of value 0. Fails only if memory runs out.
-    pub fn load_array(&mut self, id: u64, name: Name, length: u32) -> Result<(), AllocError>
-        requires { MayCome self.old id (new_array name length Tag.Empty) }
-        ensures loaded { OnOk result (self.new
-            ≡ record {
-              arrays = insert self.old.arrays id (new_array name length Tag.Empty);
-              next_id = self.old.next_id;
-            }) }
-        ensures unchanged { OnErr result (self.new ≡ self.old) }
-    {
-        let words = Words::new(self.alloc, length, Tag::Empty)?;
-        self.insert(id, Array { name, words });
-        Ok(())
     }
 }
 

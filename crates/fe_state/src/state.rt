@@ -12,6 +12,7 @@ ghost use Rattle.fe_state.specs.UndoLog.{empty_log, shortened, undone, rewound, 
 ghost use Rattle.fe_state.specs.Limits.{most_sessions, greatest_floor};
 
 use crate::answer::Answer;
+use crate::array::Array;
 use crate::bounds::GREATEST_PLACE;
 use crate::change::Change;
 use crate::directory::Directory;
@@ -25,8 +26,9 @@ use crate::session::Session;
 use crate::sessions;
 use crate::sessions::Sessions;
 use crate::undo_log::UndoLog;
+use crate::words::Words;
 use fe_table::{Copied, Table};
-use fe_words::Word;
+use fe_words::{Tag, Word};
 use std::alloc::{AllocError, Global};
 use std::marker::Model;
 
@@ -136,7 +138,7 @@ impl State {
         self.look(request).map(|x| x.0)
     }
 
-    /// What an entry changes of the arrays that may come next. It is `Illegal` exactly where the entry is not legal here.
+    /// What an entry that may come next changes of the arrays. It is `Illegal` exactly where the entry is not legal here.
     pub fn examine(&self, entry: &Entry) -> Result<Effect, Illegal>
         ensures legal { IsOk result ↔ IsLegal self.now entry.now }
         ensures effect { IfOk result (λ effect. effect ≡ effect_in (directory_of self.now) entry.now) }
@@ -234,14 +236,14 @@ impl State {
     pub fn word(&self, array: u64, index: u32) -> Option<Word>
         ensures { result ≡ word_in (get self.now.arrays array) index }
     {
-        self.directory.word(array, index)
+        self.directory.arrays().get(array)?.words.get(index)
     }
 
     /// How many words an array has, if it is there.
     pub fn length(&self, array: u64) -> Option<u32>
         ensures { result ≡ words_in (get self.now.arrays array) }
     {
-        self.directory.length(array)
+        Some(self.directory.arrays().get(array)?.words.len())
     }
 
     /// What is kept for a number of a session.
@@ -296,7 +298,7 @@ impl State {
     pub fn array_count(&self) -> usize
         ensures { result ≡ len self.now.arrays }
     {
-        self.directory.len()
+        self.directory.arrays().table().len()
     }
 
     /// How many sessions there are.
@@ -311,7 +313,8 @@ impl State {
         ensures entry { option_map shown_array result ≡ slice_get (entries self.now.arrays) k }
         ensures few { IfSome result (λ e. length e.2.now < 2 ^ 32) }
     {
-        self.directory.entry_at(k)
+        let (id, array) = self.directory.arrays().table().at(k)?;
+        Some((id, &array.name, array.words.as_slice()))
     }
 
     /// The session at a position in ascending order, counted from zero: its number, its floor and what it keeps.
@@ -329,7 +332,8 @@ impl State {
             ≡ with_arrays self.old (insert self.old.arrays id (new_array name length Empty))) }
         ensures err { OnErr result (self.new ≡ self.old) }
     {
-        self.directory.load_array(id, name, length)?;
+        let words = Words::new(self.alloc, length, Tag::Empty)?;
+        self.directory.insert(id, Array { name, words });
         Ok(())
     }
 

@@ -6,4 +6,4 @@ use Rattle.fe_state.specs.Directory.{named}
 use Rattle.fe_state.proofs.directory.Directory.named.Given as goal
 
 abbrev pub invariant-loop-k : goal.invariant-loop-k
-invariant-loop-k l = find (λ e. bytes_eq e.1.name l.name) (drop l.k (entries l.self-inside.arrays)) ≡ named l.self-inside.arrays l.name
+invariant-loop-k l = find (λ e. bytes_eq e.1.name l.name) (drop l.k (entries l.table)) ≡ named l.table l.name

@@ -7,9 +7,9 @@ use Rattle.fe_state.proofs.DirectoryLemmas.{come_kept}
 use Rattle.fe_state.proofs.Loads.{directory_within}
 use Rattle.fe_state.proofs.state.State.load_array.Goals as goal
 
-pub invariant_of-self-2 : goal.invariant_of-self-2
-invariant_of-self-2 c =
+pub invariant_of-self : goal.invariant_of-self
+invariant_of-self c =
     let before : ServerState = record { arrays = c.self.inside.directory.arrays; sessions = c.self.inside.sessions; next_id = c.self.inside.directory.next_id; place = c.self.inside.place } in
     let new = new_array c.args.name c.args.length Empty in
     let comes : MayCome (directory_of before) c.args.id new = rw (← c.self.view_is) at c.requires in
-    rw c.in_ok-load_array.ensures.loaded (directory_within before _ c.self.invariant (come_kept (directory_of before) c.args.id new c.self.invariant.directory comes) refl)
+    rw (c.insert.ensures, c.in_ok-words.ensures) (directory_within before _ c.self.invariant (come_kept (directory_of before) c.args.id new c.self.invariant.directory comes) refl)
