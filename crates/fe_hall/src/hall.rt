@@ -7,7 +7,7 @@ ghost use Rattle.fe_shared.specs.Marks.{IsBegun, MayBeTold, TakingTold};
 
 use crate::baton::{Baton, BatonGuard};
 use crate::hold::Lock;
-use fe_front::{BELLS, Front};
+use fe_front::{ConnectionSet, Front, REMAINDERS};
 use fe_history::{GatheredReceipts, History, HistoryWords, NewHistory, Receipt, StoreSeat, Tally};
 use fe_shared::{
     CallSeat, ConnectRight, Cutting, HasStopped, Made, MailSeat, NewSeats, Posted, Shared,
@@ -299,13 +299,13 @@ impl<C: Tally, M: Tally> Hall<C, M> {
         requires stored { WasStoredLast seat.now batch }
         ensures { IfOk result (λ posted. posted ≡ batch.first + length batch.entries) }
     {
-        let mut wakes = [false; BELLS as usize];
+        let mut changed = ConnectionSet::new();
         let mut hold = self.lock.enter(rt);
-        let outcome = hold.post(batch, seat, &mut wakes);
-        hold.mark_watched(&mut wakes);
+        let outcome = hold.post(batch, seat, &mut changed);
+        hold.add_watched(&mut changed);
         MutexGuard::unlock(hold);
         for at in 0..self.bells.len() {
-            if wakes[at] {
+            if changed.may_have(at as u64) {
                 self.bells[at].notify_all();
             }
         }
@@ -332,7 +332,7 @@ impl<C: Tally, M: Tally> Hall<C, M> {
 
     /// The bell of the sides of a connection, and of those of others.
     fn bell(&self, conn: u64) -> &Condvar {
-        &self.bells[(conn % BELLS) as usize]
+        &self.bells[(conn % REMAINDERS) as usize]
     }
 
     /// Rings for the sides of a connection that wait for its box.
@@ -372,12 +372,12 @@ fn tell<M: Tally>(
     }
 }
 
-/// As many condition variables as there are bells.
+/// A condition variable for each remainder by which a set tells connections apart.
 fn bells(alloc: Global) -> Result<Vec<Condvar>, AllocError>
     ensures { IfOk result (λ bells. length bells.items ≡ 256) }
 {
-    let mut bells = Vec::with_capacity(alloc, BELLS as usize)?;
-    for _k in 0..BELLS {
+    let mut bells = Vec::with_capacity(alloc, REMAINDERS as usize)?;
+    for _k in 0..REMAINDERS {
         bells.push(Condvar::new())?;
     }
     Ok(bells)
