@@ -275,7 +275,7 @@ def elsewhere(_place):
 IN_CODE = (
     ("docs/operating.md", "two threads each, with N MB of address space", "fe_server/src/connection.rt", r"STACK: usize = 1 << (\d+)", lambda it: 2 * 2**it // 2**20),
     ("docs/proved.md", "The list has the first N attaches and calls", "fe_history/src/strange.rt", r"LISTED: usize = (\d+)", int),
-    ("docs/proved.md", "The receipts are the first N answers", "fe_hall/src/writing.rt", r"KEPT: usize = (\d+)", int),
+    ("docs/proved.md", "The receipts are the first N answers", "fe_hall/src/writing.rt", r"RECEIPTS: usize = (\d+)", int),
     ("docs/model.md", "a missing session opens, floor N |", "fe_state/specs/Sessions.antt", r"first_session = record \{ floor = (\d+)", int),
     ("docs/model.md", "it does not exist, the floor is N and", "fe_state/specs/Sessions.antt", r"first_session = record \{ floor = (\d+)", int),
     ("docs/headline.md", "each entry adds N to the place", "fe_state/specs/State.antt", r"place = s\.place \+ (\d+)", int),

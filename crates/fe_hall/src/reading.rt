@@ -9,7 +9,7 @@ use crate::baton::BatonGuard;
 use crate::ends::ReadEnd;
 use crate::hall::Hall;
 use crate::halves::{Gate, ReadHalf};
-use fe_history::Tally;
+use fe_history::{LISTED, Tally};
 use fe_shared::{CallSeat, Made, Standing, feed, reserve_one, zeros};
 use fe_wire::{ClientMessage, Decoder, Version};
 use std::alloc::Global;
@@ -21,10 +21,7 @@ const PIECE_BYTES: u16 = 8192;
 
 /// How many messages a read side hands on before it looks whether what came of earlier ones was taken. A box of 128 mails has room for
 /// those of two such runs, and for the answers that wait, 32 at most.
-const RUN: u64 = 32;
-
-/// How many messages the list of a side has at most.
-const LISTED: usize = 1024;
+const RUN_LENGTH: u64 = 32;
 
 /// Serves the direction from the client of a connection, until it ends. Each message passes the gate, outside the lock, and goes
 /// to the hall, where it may wait for room. `turns` is how many reads are made at most; `None` sets no bound.
@@ -269,7 +266,7 @@ impl<C: Tally> Reading<C> {
         ensures listed { self.new.listed ≡ self.old.listed }
         ensures decoder { self.new.decoder ≡ self.old.decoder }
     {
-        if self.run < RUN {
+        if self.run < RUN_LENGTH {
             self.run += 1;
             return;
         }

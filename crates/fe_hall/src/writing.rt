@@ -21,10 +21,10 @@ use std::alloc::Global;
 use std::sync::Wait;
 
 /// The least number of bytes that are spelled before they are written, if there are enough mails.
-const BATCH_BYTES: usize = 65536;
+const BATCH_BYTES: usize = 65_536;
 
 /// How many receipts a side keeps at most.
-const KEPT: usize = 1024;
+const RECEIPTS: usize = 1024;
 
 /// Serves the direction to the client of a connection, until it ends. It waits for mail, takes all of it out of the box, or enough
 /// for some 64 KiB of frames, and makes one write of these, outside the lock.
@@ -201,7 +201,7 @@ impl<M: Tally> Writing<M> {
         ensures history { self.new.history ≡ self.old.history }
         ensures frames { self.new.frames.items ≡ self.old.frames.items }
     {
-        if self.receipts.len() < KEPT {
+        if self.receipts.len() < RECEIPTS {
             reserve_one(&mut self.receipts)?;
         }
         Ok(())
@@ -216,7 +216,7 @@ impl<M: Tally> Writing<M> {
         ensures history { self.new.history ≡ self.old.history }
         ensures frames { self.new.frames.items ≡ self.old.frames.items }
     {
-        if self.receipts.len() >= KEPT {
+        if self.receipts.len() >= RECEIPTS {
             return;
         }
         if let Some(receipt) = Receipt::of(self.seat.conn(), mail) {

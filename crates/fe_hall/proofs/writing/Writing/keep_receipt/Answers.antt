@@ -3,8 +3,8 @@ use Rattle.fe_history.specs.Receipts.{receipt_of}
 use Rattle.fe_hall.proofs.Written.{keeps_none, keeps_one, keeps_first}
 use Rattle.fe_hall.proofs.writing.Writing.keep_receipt.Goals as goal
 
-pub returns-then-len-ge-KEPT-clause-receipts : goal.returns-then-len-ge-KEPT-clause-receipts
-returns-then-len-ge-KEPT-clause-receipts g c =
+pub returns-then-len-ge-RECEIPTS-clause-receipts : goal.returns-then-len-ge-RECEIPTS-clause-receipts
+returns-then-len-ge-RECEIPTS-clause-receipts g c =
     let full : 1024 ≤ length c.args.self.now.receipts.items = omega arith in
     keeps_first c.args.self.now.seat.conn c.args.self.now.receipts.items c.args.mail.now c.args.self.now.few full
 
