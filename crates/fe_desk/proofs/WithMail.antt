@@ -1,5 +1,5 @@
 -- Which connections may have a mail.
-use Rattle.std.proofs.Common.{◌≡◌, ℕ, Bool, true, false, true≢false, [], ◌⊎◌, inl, inr, ⊎_elim, refl, sym, ap, ◌∙◌}
+use Rattle.std.proofs.Common.{◌≡◌, ℕ, Bool, true, false, true≢false, [], ◌⊎◌, inl, inr, ⊎_elim, sym, ap, ◌∙◌}
 use Rattle.std.specs.Prelude.{IsTrue}
 use Rattle.fe_mail.specs.Connections.{mails_on}
 use Rattle.fe_front.specs.ConnectionSet.{may_have}
