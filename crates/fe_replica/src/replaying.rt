@@ -58,10 +58,10 @@ fn replay_one<'a>(format: Format, bytes: &'a [u8], state: &mut State) -> Result<
     let Some((entry, behind)) = next_entry(format, bytes) else {
         return Err(Fault::Bad);
     };
-    if state.check(&entry).is_err() {
+    let Ok(effect) = state.examine(&entry) else {
         return Err(Fault::Bad);
-    }
-    match state.advance(entry) {
+    };
+    match state.advance(entry, effect) {
         Ok(()) => Ok(behind),
         Err(_) => Err(Fault::NoMemory),
     }

@@ -78,12 +78,12 @@ fn take_one(state: &mut State, log: &mut UndoLog, entry: &Entry) -> Result<(), R
     ensures illegal { (place : ℕ) → result ≡ Err (Mismatch place) → IsLegal state.old entry.now → ⊥ }
     ensures memory { result ≡ Err NoMemory → MakesArray entry.now }
 {
-    if state.check(entry).is_err() {
+    let Ok(effect) = state.examine(entry) else {
         return Err(Refused::Mismatch {
             place: state.place(),
         });
-    }
-    match state.apply(*entry, log) {
+    };
+    match state.apply(*entry, effect, log) {
         Ok(()) => Ok(()),
         Err(_) => Err(Refused::NoMemory),
     }

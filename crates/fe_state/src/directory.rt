@@ -3,10 +3,9 @@ ghost use Rattle.std.specs.Option.{option_map};
 ghost use Rattle.std.specs.Str.{bytes_eq};
 ghost use Rattle.std.specs.FinMap.{entries, get, insert, len, contains_key};
 ghost use Rattle.fe_words.specs.Table.{table};
-ghost use Rattle.fe_state.specs.Directory.{first_directory, named, creation, answer_of, answer_in, word_in, words_in};
-ghost use Rattle.fe_state.specs.Effect.{new_array, put_word, creating, effect_of, performed};
+ghost use Rattle.fe_state.specs.Directory.{first_directory, named, creation, answer_of, answer_in, word_in};
+ghost use Rattle.fe_state.specs.Effect.{put_word, creating, effect_of, performed};
 ghost use Rattle.fe_state.specs.Change.{restored, CanRestore, MayCome};
-ghost use Rattle.fe_state.specs.Shown.{shown_array};
 
 use crate::answer::Answer;
 use crate::array::Array;

@@ -130,10 +130,10 @@ fn advanced(alloc: Global, state: &mut State, entries: &[Entry]) -> Result<Vec<u
 /// Adds the entries, which must be legal.
 pub fn advance(state: &mut State, entries: &[Entry]) -> Result<(), Trouble> {
     for entry in entries {
-        if state.check(entry).is_err() {
+        let Ok(effect) = state.examine(entry) else {
             return Err(Trouble::Syntax);
-        }
-        state.advance(*entry)?;
+        };
+        state.advance(*entry, effect)?;
     }
     Ok(())
 }
