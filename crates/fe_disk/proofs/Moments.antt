@@ -1,7 +1,6 @@
 -- How a run of device calls goes on, for the author of a layer above.
 use Rattle.std.proofs.Common.{inl, inr, ⊎_elim, ℕ, List, arith}
-use Rattle.fe_disk.specs.Disk.{Elapses}
-use Rattle.fe_disk.specs.Runs.{LeavesOnly}
+use Rattle.fe_disk.specs.Runs.{HasElapsed, LeavesOnly}
 use Rattle.fe_disk.specs.declared.disk.Disk.{Ghosts}
 
 module _ {D : Type 0} (model : Ghosts D) where
@@ -10,7 +9,7 @@ module _ {D : Type 0} (model : Ghosts D) where
   started old P here = record { later = omega arith; each = here; before = λ t image le left. inl left }
 
   -- one call more, after which a stop leaves what has P
-  pub goes_on : (old mid new : D) (P : List ℕ → Type 0) → LeavesOnly model old mid P → Elapses model.moment model.left_since model.may_leave mid new
+  pub goes_on : (old mid new : D) (P : List ℕ → Type 0) → LeavesOnly model old mid P → HasElapsed model mid new
       → ((image : List ℕ) → model.may_leave new image → P image) → LeavesOnly model old new P
   goes_on old mid new P so_far time here =
       record {

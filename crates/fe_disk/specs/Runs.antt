@@ -1,9 +1,13 @@
 -- What a run of device calls leaves: the images of a stop, the count of faults, and how many reads, writes and syncs were made.
 use Rattle.std.specs.Prelude.{◌≡◌, ◌⊎◌, ◌↔◌, ℕ, ◌+◌, ◌≤◌, List, Result, Ok, Err, IsErr, IsErrOf, OnOk}
-use Rattle.fe_disk.specs.Disk.{Rises, MakesAtMost}
+use Rattle.fe_disk.specs.Disk.{Elapses, Rises, MakesAtMost}
 use Rattle.fe_disk.specs.Outcome.{EndsCall}
 use Rattle.fe_disk.specs.declared.calls.Calls.{Calls}
 use Rattle.fe_disk.specs.declared.disk.Disk.{Ghosts}
+
+-- Time went on through a run of calls, as it does through one.
+abbrev pub HasElapsed : {D : Type 0} → Ghosts D → D → D → Type 0
+HasElapsed model old new = Elapses model.moment model.left_since model.may_leave old new
 
 -- A stop at any moment of a run of calls, from `old` to `new`, leaves an image that has P.
 pub record LeavesOnly {D : Type 0} (model : Ghosts D) (old new : D) (P : List ℕ → Type 0) : Type 0 where

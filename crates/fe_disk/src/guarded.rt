@@ -61,8 +61,9 @@ impl<D: Disk, P: Policy + Drop> Guarded<D, P> {
 
 impl<D: Disk, P: Policy> Disk for Guarded<D, P> {
     ghost use Rattle.std.specs.Prelude.{◌≡◌, ◌+◌, ◌≤◌, length, OnOk};
-    ghost use Rattle.fe_disk.specs.Disk.{bytes_at, after_write, IsTorn, Follows, AddsNone, LeavesJust, Elapses};
+    ghost use Rattle.fe_disk.specs.Disk.{bytes_at, after_write, IsTorn, Follows, AddsNone, LeavesJust};
     ghost use Rattle.fe_disk.specs.Outcome.{EndsCall};
+    ghost use Rattle.fe_disk.specs.Runs.{HasElapsed};
     ghost use Rattle.fe_disk.specs.Guarded.{disk_of, fault_count, inner, inner_holds, Guards};
 
     ghost size = { inner D.size };
@@ -106,8 +107,7 @@ impl<D: Disk, P: Policy> Disk for Guarded<D, P> {
         ensures same { D.honest (disk_of self.old) → D.seen (disk_of self.new) ≡ D.seen (disk_of self.old) }
         ensures stop { D.honest (disk_of self.old)
             → AddsNone (D.may_leave (disk_of self.old)) (D.may_leave (disk_of self.new)) }
-        ensures time { D.honest (disk_of self.old)
-            → Elapses D.moment D.left_since D.may_leave (disk_of self.old) (disk_of self.new) }
+        ensures time { D.honest (disk_of self.old) → HasElapsed D.Disk (disk_of self.old) (disk_of self.new) }
         ensures device { EndsCall (inner D.size) fault_count (inner D.calls) (inner_holds D.honest)
             1 0 0 result self.old self.new }
         ensures guard { Guards P.passes P.next D.Disk result self.old self.new }
@@ -127,8 +127,7 @@ impl<D: Disk, P: Policy> Disk for Guarded<D, P> {
             → IsTorn at (length bytes.now) (D.seen (disk_of self.old)) (D.seen (disk_of self.new)) }
         ensures stop { D.honest (disk_of self.old)
             → Follows (IsTorn at (length bytes.now)) (D.may_leave (disk_of self.old)) (D.may_leave (disk_of self.new)) }
-        ensures time { D.honest (disk_of self.old)
-            → Elapses D.moment D.left_since D.may_leave (disk_of self.old) (disk_of self.new) }
+        ensures time { D.honest (disk_of self.old) → HasElapsed D.Disk (disk_of self.old) (disk_of self.new) }
         ensures device { EndsCall (inner D.size) fault_count (inner D.calls) (inner_holds D.honest)
             0 1 0 result self.old self.new }
         ensures guard { Guards P.passes P.next D.Disk result self.old self.new }
@@ -146,8 +145,7 @@ impl<D: Disk, P: Policy> Disk for Guarded<D, P> {
         ensures same { D.honest (disk_of self.old) → D.seen (disk_of self.new) ≡ D.seen (disk_of self.old) }
         ensures stop { D.honest (disk_of self.old)
             → AddsNone (D.may_leave (disk_of self.old)) (D.may_leave (disk_of self.new)) }
-        ensures time { D.honest (disk_of self.old)
-            → Elapses D.moment D.left_since D.may_leave (disk_of self.old) (disk_of self.new) }
+        ensures time { D.honest (disk_of self.old) → HasElapsed D.Disk (disk_of self.old) (disk_of self.new) }
         ensures device { EndsCall (inner D.size) fault_count (inner D.calls) (inner_holds D.honest)
             0 0 1 result self.old self.new }
         ensures guard { Guards P.passes P.next D.Disk result self.old self.new }

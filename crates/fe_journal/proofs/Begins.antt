@@ -1,8 +1,8 @@
 -- What the calls that make the other slot ready keep.
 use Rattle.std.proofs.Common.{◌≡◌, ℕ, ◌+◌, ◌-◌, ◌<◌, ◌≤◌, ◌^◌, Bool, List, ◌++◌, length, length-append, Option, Some, None, inl, inr, sym, ◌∙◌, ap, subst, refl, arith}
 use Rattle.std.specs.Option.{ForSome}
-use Rattle.fe_disk.specs.Disk.{IsTorn, Follows, Elapses, LeavesJust, after_write, bytes_at}
-use Rattle.fe_disk.specs.Runs.{LeavesOnly}
+use Rattle.fe_disk.specs.Disk.{IsTorn, Follows, LeavesJust, after_write, bytes_at}
+use Rattle.fe_disk.specs.Runs.{HasElapsed, LeavesOnly}
 use Rattle.fe_disk.proofs.Images.{length-after_write, IsTorn-after_write}
 use Rattle.fe_disk.proofs.Moments.{goes_on, weaker}
 use Rattle.fe_journal.specs.Layout.{header_of, gate_of, image_of, area_of, other_than}
@@ -99,7 +99,7 @@ module _ {D : Type 0} (model : Ghosts D) where
     slice_leaves draft was image torn left = slice_left c draft d was image at (length slice) (omega (arith, there)) (omega (arith, there, within, short)) torn left
 
     pub write_moments : (new : D) → ((image : List ℕ) → model.left_since j.disk (model.moment j.disk) image → model.may_leave j.disk image) → Follows (IsTorn at (length slice)) (model.may_leave j.disk) (model.may_leave new)
-        → Elapses model.moment model.left_since model.may_leave j.disk new → LeavesOnly model j.disk new (Holds c)
+        → HasElapsed model j.disk new → LeavesOnly model j.disk new (Holds c)
     write_moments new only_now follows time =
         goes_on model j.disk j.disk new (Holds c) (nothing_done model j c (Some d) (Holds c) keeps only_now (λ image holds. holds)) time
         (λ image now. let from = follows image now in (slice_leaves (Some d) from.0 image from.2 (keeps.left from.0 from.1)).holds)
@@ -223,7 +223,7 @@ module _ {D : Type 0} (model : Ghosts D) (inside : Inside D) (j : JournalState D
 
   module _ (slice : List ℕ) (at : ℕ) (b : Begun) (begun : inside.begun ≡ Some b) (at_is : at ≡ image_of (1 - inside.slot) + b.written) (fits : b.written + length slice ≤ b.image_length) where
     pub write_run : (new : D) → (model.honest inside.disk → (image : List ℕ) → model.left_since inside.disk (model.moment inside.disk) image → model.may_leave inside.disk image)
-        → (model.honest inside.disk → Follows (IsTorn at (length slice)) (model.may_leave inside.disk) (model.may_leave new)) → (model.honest inside.disk → Elapses model.moment model.left_since model.may_leave inside.disk new)
+        → (model.honest inside.disk → Follows (IsTorn at (length slice)) (model.may_leave inside.disk) (model.may_leave new)) → (model.honest inside.disk → HasElapsed model inside.disk new)
         → model.honest j.disk → (c : Contents) (d : Draft) → KeepsContents model j c (Some d) → LeavesOnly model j.disk new (Holds c)
     write_run new only_now follows time =
         subst (λ (s : JournalState D). model.honest s.disk → (c : Contents) (d : Draft) → KeepsContents model s c (Some d) → LeavesOnly model s.disk new (Holds c)) same
