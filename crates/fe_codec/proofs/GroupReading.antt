@@ -63,18 +63,6 @@ none_left Two size i rest h is last = omega (arith, h.whole)
 pub one_left : (format : Format) (bytes : List ℕ) (entries : List Entry) (rest : List ℕ) (i : ℕ) → IsReading format bytes entries rest i → i < length bytes / record_bytes format → record_bytes format ≤ length rest
 one_left format bytes entries rest i h lt = a_record format (length bytes) i (length rest) (left format bytes entries rest i h) lt
 
--- one entry more
-pub reads_one : (format : Format) (bytes : List ℕ) (entries : List Entry) (rest : List ℕ) (i : ℕ) (entry : Entry) (behind : List ℕ) → IsReading format bytes entries rest i
-    → FitsRecord format entry → rest ≡ entry_spelling format entry ++ behind → IsReading format bytes (entries ++ entry ∷ []) behind (i + 1)
-reads_one format bytes entries rest i entry behind h fits is =
-    let more : group_spelling format (entries ++ entry ∷ []) ≡ group_spelling format entries ++ entry_spelling format entry =
-    flat_map-append (entry_spelling format) entries (entry ∷ []) ∙ ap (λ (t : List ℕ). group_spelling format entries ++ t) (append-nil (entry_spelling format entry)) in
-    record {
-      spelled = h.spelled ∙ ap (λ (t : List ℕ). group_spelling format entries ++ t) is ∙ sym (append_assoc (group_spelling format entries) (entry_spelling format entry) behind) ∙ ap (λ (t : List ℕ). t ++ behind) (sym more);
-      fits = all_push (FitsRecord format) entries entry h.fits fits;
-      count = omega (arith, length-append entries (entry ∷ []), h.count);
-    }
-
 -- what begins with no record is not the rest of a group
 no_rest : (format : Format) (xs ys : List Entry) (rest : List ℕ) → FitsGroup format xs → FitsGroup format ys → group_spelling format ys ≡ group_spelling format xs ++ rest → 1 ≤ length rest
     → ((entry : Entry) (more : List ℕ) → FitsRecord format entry → rest ≡ entry_spelling format entry ++ more → ⊥) → ⊥

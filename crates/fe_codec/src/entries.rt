@@ -13,7 +13,7 @@ use fe_state::Entry;
 use std::alloc::AllocError;
 
 /// Numbers and floors are below this.
-const NUMBER_LIMIT: u64 = 9223372036854775808;
+const NUMBER_LIMIT: u64 = 1 << 63;
 
 /// Appends the record of an entry, whose number or floor is below 2^63. `AllocError` if the spare room
 /// doesn't hold it and memory runs out. Then nothing is appended.

@@ -17,8 +17,8 @@ ghost use Rattle.fe_keeper.specs.within.Fresh.{IsImageOf, whole_slices};
 ghost use Rattle.fe_keeper.specs.within.Ready.{CanStore, IsWholeFor};
 ghost use Rattle.fe_keeper.specs.within.Upholds.{IsStore, Upholds, store_of};
 
-use crate::checkpoint::Checkpoint;
 use crate::Format;
+use crate::checkpoint::Checkpoint;
 use fe_codec::put_group;
 use fe_disk::Disk;
 use fe_journal::{Journal, JournalFault, LONGEST_PAYLOAD};
