@@ -9,7 +9,7 @@ use Rattle.fe_words.specs.declared.word.Tag.{Tag}
 use Rattle.fe_state.proofs.Maps.{same_or_other, get_inserted, get_beside}
 use Rattle.fe_state.proofs.Limits.{creation_passed}
 use Rattle.fe_state.specs.Directory.{creation, words_in}
-use Rattle.fe_state.specs.Effect.{IsNewArray, created, new_array}
+use Rattle.fe_state.specs.Effect.{created, new_array}
 use Rattle.fe_state.specs.State.{ServerState, IsWithinLimits, directory_of, reply, after}
 use Rattle.fe_state.specs.declared.array.Array.{Array}
 use Rattle.fe_state.specs.declared.answer.Answer.{Answer}
@@ -55,24 +55,6 @@ few_arrays p sound few =
     by_array : (k : ℕ) (here : Option Array) → is_some (words_in here) ≡ true → is_some here ≡ true
     by_array k None e = e
     by_array k (Some a) e = refl
-
--- a creation that is refused leaves all arrays
-pub refused_lengths : (s : ServerState) (session number : ℕ) (name : List ℕ) (size : ℕ) (tag : Tag) (answer : Answer) → reply s (Create name size tag) ≡ Some answer → (IsNewArray answer → ⊥) → (id : ℕ)
-    → words_in (get (after s (Finished session number (Create name size tag) answer)).arrays id) ≡ words_in (get s.arrays id)
-refused_lengths s session number name size tag answer answered refused id = ap (λ d. words_in (get d.arrays id)) (by_answer answer (some_same answered) refused)
-  where
-    by_answer : (answer : Answer) → creation (directory_of s) name size ≡ answer → (IsNewArray answer → ⊥) → created (directory_of s) name size tag (creation (directory_of s) name size) ≡ directory_of s
-    by_answer (answers.Value v) is refused = ap (created (directory_of s) name size tag) is
-    by_answer answers.Done is refused = ap (created (directory_of s) name size tag) is
-    by_answer (answers.Array i n) is refused = absurd (refused tt)
-    by_answer answers.NoArray is refused = ap (created (directory_of s) name size tag) is
-    by_answer answers.BadIndex is refused = ap (created (directory_of s) name size tag) is
-    by_answer answers.NameTaken is refused = ap (created (directory_of s) name size tag) is
-    by_answer answers.ArrayLimit is refused = ap (created (directory_of s) name size tag) is
-    by_answer answers.WordLimit is refused = ap (created (directory_of s) name size tag) is
-    by_answer answers.BadName is refused = ap (created (directory_of s) name size tag) is
-    by_answer answers.BadLength is refused = ap (created (directory_of s) name size tag) is
-    by_answer answers.NotNow is refused = ap (created (directory_of s) name size tag) is
 
 -- one that makes an array adds it with its length
 pub created_there : (s : ServerState) (session number : ℕ) (name : List ℕ) (size : ℕ) (tag : Tag) (id words : ℕ) → reply s (Create name size tag) ≡ Some (answers.Array id words)

@@ -1,5 +1,6 @@
 pub mod Completing
 pub mod Creating
+pub mod Effects
 pub mod Lengths
 pub mod Quiet
 pub mod Remade

@@ -1,6 +1,6 @@
 -- What is quiet once a request finished, and where requests wait in a quiet service.
-use Rattle.std.proofs.Common.{◌≡◌, ℕ, zero, suc, ◌<◌, inl, inr, Option, Some, None, true, false, List, [], ◌∷◌, length, arith, refl, sym, ap, subst, ◌∙◌}
-use Rattle.std.specs.Prelude.{is_some, slice_get}
+use Rattle.std.proofs.Common.{◌≡◌, ℕ, zero, suc, ◌<◌, inl, inr, Option, Some, None, List, [], ◌∷◌, length, arith, refl, sym, ap, subst, ◌∙◌}
+use Rattle.std.specs.Prelude.{slice_get}
 use Rattle.std.specs.FinMap.{get}
 use Rattle.fe_words.specs.declared.word.Word.{Word}
 use Rattle.fe_words.specs.Table.{row}
@@ -65,26 +65,6 @@ index_below (x ∷ words) (suc i) word e = let below = index_below words i word 
 pub word_below : (here : Option Array) (index : ℕ) (word : Word) → word_in here index ≡ Some word → (n : ℕ) × (words_in here ≡ Some n) × (index < n)
 word_below None index word e = none_some e
 word_below (Some a) index word e = (length a.words, refl, index_below a.words index word e)
-
-pub some_word : (here : Option Word) → is_some here ≡ true → (word : Word) × (here ≡ Some word)
-some_word None e = cc
-some_word (Some word) e = (word, refl)
-
-pub no_word : (here : Option Word) → is_some here ≡ false → here ≡ None
-no_word None e = refl
-no_word (Some word) e = cc
-
--- a word on which nobody waited is quiet, and so is each other one
-pub quiet_unless_there : (s' : ServerState) (waiting waiting' : Waiters) (a i b j : ℕ) → NoneOnWord waiting a i → waiting' ≡ waiting → (¬ ((b ≡ a) × (j ≡ i)) → IsQuietAt s' waiting' b j) → IsQuietAt s' waiting' b j
-quiet_unless_there s' waiting waiting' a i b j none same beside =
-    elim (same_or_other b a) as (λ _. IsQuietAt s' waiting' b j) [
-      | inl array ↦
-          elim (same_or_other j i) as (λ _. IsQuietAt s' waiting' b j) [
-            | inl index ↦ λ key w waits on. absurd (none key w (subst (λ m. get m key ≡ Some w) same waits) (on.0 ∙ array, on.1 ∙ index))
-            | inr other ↦ beside (λ own. other own.1)
-          ]
-      | inr other ↦ beside (λ own. other own.0)
-    ]
 
 -- a word that is quiet, and each other one
 pub quiet_there_and : (s' : ServerState) (waiting' : Waiters) (a i b j : ℕ) → IsQuietAt s' waiting' a i → (¬ ((b ≡ a) × (j ≡ i)) → IsQuietAt s' waiting' b j) → IsQuietAt s' waiting' b j

@@ -12,7 +12,7 @@ use Rattle.fe_state.specs.declared.entry.Entry.TheVariants.{Finished}
 use Rattle.fe_service.specs.Service.{request_of, IsQuiet}
 use Rattle.fe_service.specs.within.Parts.{IsQuietAt, WaitAtTag, TakesTurns}
 use Rattle.fe_service.specs.declared.parts.Parts.{Parts}
-use Rattle.fe_service.proofs.Quiet.{tag_in, waits_at_tag, waits_below, none_on_absent}
+use Rattle.fe_service.proofs.Quiet.{tag_in, waits_at_tag, waits_below}
 use Rattle.fe_service.proofs.Completing.{IsEntered, entered_quiet_at}
 use Rattle.fe_service.proofs.Serving.{taken_within}
 
@@ -30,16 +30,6 @@ removed_quiet old mid new session number array n answer es quiet e t long here b
           let at : WaitAtTag mid.seats.waiting array w.index (tags w.index) = subst (λ m. WaitAtTag m array w.index (tags w.index)) (sym e.waiting) (waits_at_tag old.state old.seats.waiting array w.index quiet) in
           here tags w.index (waits_below old.state old.seats.waiting array n quiet long key w was same) at key w waits (same, refl)
       | inr other ↦ beside w.array w.index other (entered_quiet_at old mid session number (Remove array) answer quiet e w.array w.index (λ own. other own)) key w waits (refl, refl)
-    ]
-
--- where the array was not there, its words had nobody, and the others are quiet still
-pub nothing_removed : (old mid : Parts) (session number array : ℕ) (answer : Answer) → IsQuiet old.state old.seats.waiting → IsEntered old mid (Finished session number (Remove array) answer)
-    → words_in (get old.state.arrays array) ≡ None → IsQuiet mid.state mid.seats.waiting
-nothing_removed old mid session number array answer quiet e absent key w waits =
-    let was : get old.seats.waiting key ≡ Some w = subst (λ m. get m key ≡ Some w) e.waiting waits in
-    elim (same_or_other w.array array) as (λ _. reply mid.state (request_of w) ≡ None) [
-      | inl same ↦ absurd (none_on_absent old.state old.seats.waiting array quiet absent key w was same)
-      | inr other ↦ entered_quiet_at old mid session number (Remove array) answer quiet e w.array w.index (λ own. other own) key w waits (refl, refl)
     ]
 
 -- the array is gone

@@ -1,5 +1,5 @@
 ghost use Rattle.std.specs.Prelude.{◌≡◌, ◌+◌, List, [], length as length_of, Some, OnOk, OnErr};
-ghost use Rattle.fe_state.specs.Effect.{effect_of, IsNewArray};
+ghost use Rattle.fe_state.specs.Effect.{effect_of};
 ghost use Rattle.fe_state.specs.State.{directory_of, reply};
 ghost use Rattle.fe_state.specs.declared.entry.Entry.{Entry};
 ghost use Rattle.fe_state.specs.declared.entry.Entry.TheVariants.{Finished};
@@ -9,52 +9,39 @@ ghost use Rattle.fe_service.specs.Events.{IsFree, HasRoom, Completes};
 
 use crate::service::Service;
 use fe_state::{Answer, Effect, Entry, Name, Request};
-use fe_words::{Op, Tag};
+use fe_words::{Tag, Word};
 use std::alloc::AllocError;
 
 impl Service {
-    /// Finishes an access, and serves those that wait on its word. It counts the entries.
-    pub(crate) fn finish_access(
+    /// Finishes a request that writes a word, and serves those that wait on it. It counts the entries.
+    pub(crate) fn finish_write(
         &mut self,
         session: u64,
         number: u64,
+        request: Request,
+        answer: Answer,
         array: u64,
         index: u32,
-        op: Op,
-        no_wait: bool,
-        answer: Answer,
-        effect: Effect,
+        word: Word,
     ) -> u32
         requires free { IsFree self.old session number }
-        requires answered { reply self.old.state (requests.Access array index op no_wait) ≡ Some answer }
-        requires effect { effect
-            ≡ effect_of (directory_of self.old.state) (requests.Access array index op no_wait) }
+        requires answered { reply self.old.state request ≡ Some answer }
+        requires changes { effect_of (directory_of self.old.state) request ≡ Effect.Write array index word }
         requires room { HasRoom self.old }
         ensures completes { (served : List Entry)
-            × Completes self.old self.new
-            (Finished session number (requests.Access array index op no_wait) answer) served
+            × Completes self.old self.new (Finished session number request answer) served
             × (result ≡ 1 + length_of served) }
     {
         self.parts.limits();
-        let is_there = self.parts.state.word(array, index).is_some();
-        let request = Request::Access {
-            array,
-            index,
-            op,
-            no_wait,
-        };
         let entry = Entry::Finished {
             session,
             number,
             request,
             answer,
         };
-        self.parts.enter(entry, effect);
-        if is_there {
-            1 + self.parts.serve_word(array, index)
-        } else {
-            1
-        }
+        self.parts
+            .enter(entry, Effect::Write { array, index, word });
+        1 + self.parts.serve_word(array, index)
     }
 
     /// Finishes a removal, and serves those that wait on the array's words. It counts the entries.
@@ -64,73 +51,47 @@ impl Service {
         number: u64,
         array: u64,
         answer: Answer,
-        effect: Effect,
     ) -> u32
         requires free { IsFree self.old session number }
         requires answered { reply self.old.state (requests.Remove array) ≡ Some answer }
-        requires effect { effect ≡ effect_of (directory_of self.old.state) (requests.Remove array) }
+        requires changes { effect_of (directory_of self.old.state) (requests.Remove array) ≡ Effect.Remove array }
         requires room { HasRoom self.old }
         ensures completes { (served : List Entry)
             × Completes self.old self.new (Finished session number (requests.Remove array) answer) served
             × (result ≡ 1 + length_of served) }
     {
         self.parts.limits();
-        let length = self.parts.state.length(array);
+        let length = self.parts.state.length(array).unwrap();
         let entry = Entry::Finished {
             session,
             number,
             request: Request::Remove { array },
             answer,
         };
-        self.parts.enter(entry, effect);
-        match length {
-            Some(length) => {
-                let served = self.parts.serve_array(array, length);
-                self.parts.seats.drop_array(array);
-                1 + served
-            }
-            None => 1,
-        }
+        self.parts.enter(entry, Effect::Remove { array });
+        let served = self.parts.serve_array(array, length);
+        self.parts.seats.drop_array(array);
+        1 + served
     }
 
-    /// Finishes a look-up by name.
-    pub(crate) fn finish_find(&mut self, session: u64, number: u64, name: Name, answer: Answer)
-        requires free { IsFree self.old session number }
-        requires answered { reply self.old.state (requests.Find name) ≡ Some answer }
-        requires room { HasRoom self.old }
-        ensures completes { Completes self.old self.new (Finished session number (requests.Find name) answer) [] }
-    {
-        let entry = Entry::Finished {
-            session,
-            number,
-            request: Request::Find { name },
-            answer,
-        };
-        self.parts.enter(entry, Effect::Nothing);
-    }
-
-    /// Finishes a creation that is refused.
-    pub(crate) fn finish_refused(
+    /// Finishes a request that changes nothing.
+    pub(crate) fn finish_unchanged(
         &mut self,
         session: u64,
         number: u64,
-        name: Name,
-        length: u32,
-        tag: Tag,
+        request: Request,
         answer: Answer,
     )
         requires free { IsFree self.old session number }
-        requires answered { reply self.old.state (requests.Create name length tag) ≡ Some answer }
-        requires refused { IsNewArray answer → ⊥ }
+        requires answered { reply self.old.state request ≡ Some answer }
+        requires unchanged { effect_of (directory_of self.old.state) request ≡ Effect.Nothing }
         requires room { HasRoom self.old }
-        ensures completes { Completes self.old self.new
-            (Finished session number (requests.Create name length tag) answer) [] }
+        ensures completes { Completes self.old self.new (Finished session number request answer) [] }
     {
-        self.parts.limits();
         let entry = Entry::Finished {
             session,
             number,
-            request: Request::Create { name, length, tag },
+            request,
             answer,
         };
         self.parts.enter(entry, Effect::Nothing);

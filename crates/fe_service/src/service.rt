@@ -182,9 +182,9 @@ impl Service {
         self.parts.seats.leave(session);
     }
 
-    /// Completes a request with its reply and its effect, and serves the waiting requests that this lets through. Returns
-    /// how many entries were made, 1 to `EVENT_ENTRIES`. Fails only if memory runs out for the words of a new array;
-    /// then nothing has changed.
+    /// Completes a request with its reply and its effect, and serves the waiting requests that this lets through. It
+    /// returns how many entries were made, 1 to `EVENT_ENTRIES`. Fails only if memory runs out for the words of a new
+    /// array; then nothing has changed.
     pub fn complete(
         &mut self,
         session: u64,
@@ -204,30 +204,25 @@ impl Service {
         ensures memory { OnErr result (MakesArray (Finished session number request answer)) }
         ensures err { OnErr result (self.new ≡ self.old) }
     {
-        match request {
-            Request::Create { name, length, tag } => match answer {
-                Answer::Array { id, .. } => {
-                    self.finish_create(session, number, name, length, tag, id)?;
-                    Ok(1)
-                }
-                _ => {
-                    self.finish_refused(session, number, name, length, tag, answer);
-                    Ok(1)
-                }
-            },
-            Request::Find { name } => {
-                self.finish_find(session, number, name, answer);
+        match effect {
+            Effect::Nothing => {
+                self.finish_unchanged(session, number, request, answer);
                 Ok(1)
             }
-            Request::Remove { array } => Ok(self.finish_remove(
-                session, number, array, answer, effect,
-            )),
-            Request::Access {
-                array,
-                index,
-                op,
-                no_wait,
-            } => Ok(self.finish_access(session, number, array, index, op, no_wait, answer, effect)),
+            Effect::Create => match request {
+                Request::Create { name, length, tag } => match answer {
+                    Answer::Array { id, .. } => {
+                        self.finish_create(session, number, name, length, tag, id)?;
+                        Ok(1)
+                    }
+                    _ => unreachable!(),
+                },
+                _ => unreachable!(),
+            },
+            Effect::Remove { array } => Ok(self.finish_remove(session, number, array, answer)),
+            Effect::Write { array, index, word } => {
+                Ok(self.finish_write(session, number, request, answer, array, index, word))
+            }
         }
     }
 

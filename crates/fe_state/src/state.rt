@@ -138,7 +138,8 @@ impl State {
         self.look(request).map(|x| x.0)
     }
 
-    /// What an entry that may come next changes of the arrays. It is `Illegal` exactly where the entry is not legal here.
+    /// What an entry that may come next changes of the arrays. It is `Illegal` exactly where the entry is not legal
+    /// here.
     pub fn examine(&self, entry: &Entry) -> Result<Effect, Illegal>
         ensures legal { IsOk result ↔ IsLegal self.now entry.now }
         ensures effect { IfOk result (λ effect. effect ≡ effect_in (directory_of self.now) entry.now) }

@@ -1,18 +1,28 @@
-use Rattle.std.proofs.Common.{◌≡◌, inl, inr, [], refl, sym, ap, subst, ◌∙◌, arith}
+use Rattle.std.proofs.Common.{◌≡◌, inl, inr, sym, ap, subst, ◌∙◌, arith}
+use Rattle.std.specs.Prelude.{is_some}
 use Rattle.std.specs.FinMap.{get, len, remove}
 use Rattle.fe_state.proofs.Maps.{same_or_other, get_removed, get_left}
 use Rattle.fe_state.specs.Directory.{words_in}
+use Rattle.fe_state.specs.Effect.{effect_of}
+use Rattle.fe_state.specs.State.{directory_of}
 use Rattle.fe_state.specs.declared.request.Request.TheVariants.{Remove}
 use Rattle.fe_state.specs.declared.entry.Entry.TheVariants.{Finished}
 use Rattle.fe_service.specs.Service.{IsQuiet}
-use Rattle.fe_service.specs.ServiceState.{IsService}
+use Rattle.fe_service.specs.ServiceState.{ServiceState, IsService}
 use Rattle.fe_service.specs.Events.{Completes}
+use Rattle.fe_service.proofs.Effects.{removes}
 use Rattle.fe_service.proofs.Quiet.{none_on_absent}
 use Rattle.fe_service.proofs.Completing.{IsEntered, free_in, completes_in, entered_by, entered_usable, entered_service, entered_completes}
-use Rattle.fe_service.proofs.Removing.{removed_quiet, nothing_removed, removed_absent, removed_lengths}
-use Rattle.fe_service.proofs.Serving.{none_taken, taken_len, taken_lengths}
+use Rattle.fe_service.proofs.Removing.{removed_quiet, removed_absent, removed_lengths}
+use Rattle.fe_service.proofs.Serving.{taken_len, taken_lengths}
 use Rattle.fe_service.proofs.service.Service.finish_remove.Goals.{After-serve_array-served}
 use Rattle.fe_service.proofs.service.Service.finish_remove.Goals as goal
+
+pub unwrap-length-requires : goal.unwrap-length-requires
+unwrap-length-requires c =
+    let here = get c.self.inside.parts.state.arrays c.args.array in
+    let changes = ap (λ (s : ServiceState). effect_of (directory_of s.state) (Remove c.args.array)) c.self.view_is ∙ c.requires.changes in
+    ap is_some c.length.ensures ∙ removes c.args.array here changes
 
 pub serve_array-served-requires-clause-usable : goal.serve_array-served-requires-clause-usable
 serve_array-served-requires-clause-usable c =
@@ -27,7 +37,7 @@ all_quiet c =
     let new = c.serve_array-served.new.self in
     let entered : IsEntered old mid _ = entered_by old mid _ c.enter.ensures.state c.enter.ensures.seats c.enter.ensures.pending in
     let (es, t, counted) = c.serve_array-served.ensures.served in
-    removed_quiet old mid new c.args.session c.args.number c.args.array c.in-Some.length c.args.answer es c.self.invariant.service.quiet entered t (sym c.length-length.ensures ∙ c.in-Some.is) c.serve_array-served.ensures.here c.serve_array-served.ensures.beside
+    removed_quiet old mid new c.args.session c.args.number c.args.array c.unwrap-length.result c.args.answer es c.self.invariant.service.quiet entered t (sym c.length.ensures ∙ c.unwrap-length.ensures) c.serve_array-served.ensures.here c.serve_array-served.ensures.beside
 
 pub drop_array-requires : goal.drop_array-requires
 drop_array-requires c =
@@ -77,14 +87,14 @@ invariant_of-self c =
           ];
     }
 
-pub returns-in-Some : goal.returns-in-Some
-returns-in-Some c =
+pub returns : goal.returns
+returns c =
     let old = c.self.inside.parts in
     let mid = c.enter.new.self in
     let new = c.serve_array-served.new.self in
     let entered : IsEntered old mid _ = entered_by old mid _ c.enter.ensures.state c.enter.ensures.seats c.enter.ensures.pending in
     let (es, t, counted) = c.serve_array-served.ensures.served in
-    let quiet = all_quiet (goal.at.returns-in-Some c).After-serve_array-served in
+    let quiet = all_quiet (goal.at.returns c).After-serve_array-served in
     let completes = completes_in c.self.view_is (entered_completes old mid new _ es entered t quiet) in
     record {
       completes = (
@@ -93,33 +103,3 @@ returns-in-Some c =
         omega (arith, counted),
       );
     }
-
-pub invariant_of-self-in-None : goal.invariant_of-self-in-None
-invariant_of-self-in-None c =
-    let old = c.self.inside.parts in
-    let mid = c.enter.new.self in
-    let entered : IsEntered old mid _ = entered_by old mid _ c.enter.ensures.state c.enter.ensures.seats c.enter.ensures.pending in
-    let absent = sym c.length-length.ensures ∙ c.in-None.is in
-    let quiet = nothing_removed old mid c.args.session c.args.number c.args.array c.args.answer c.self.invariant.service.quiet entered absent in
-    record {
-      service = entered_service old mid mid c.args.session c.args.number (Remove c.args.array) c.args.answer [] c.self.invariant.service (free_in c.self.view_is c.requires.free) entered (none_taken mid) quiet;
-      arrays = λ id.
-          elim (same_or_other id c.args.array) as (λ _. get mid.seats.arrays id ≡ words_in (get mid.state.arrays id)) [
-            | inl same ↦
-                ap (λ s. get s.arrays id) c.enter.ensures.seats
-                ∙ c.self.invariant.arrays id
-                ∙ ap (λ id. words_in (get old.state.arrays id)) same
-                ∙ absent
-                ∙ sym (removed_absent old mid c.args.session c.args.number c.args.array c.args.answer entered)
-                ∙ ap (λ id. words_in (get mid.state.arrays id)) (sym same)
-            | inr other ↦ ap (λ s. get s.arrays id) c.enter.ensures.seats ∙ c.self.invariant.arrays id ∙ sym (removed_lengths old mid c.args.session c.args.number c.args.array c.args.answer entered id other)
-          ];
-    }
-
-pub returns-in-None : goal.returns-in-None
-returns-in-None c =
-    let old = c.self.inside.parts in
-    let mid = c.enter.new.self in
-    let entered : IsEntered old mid _ = entered_by old mid _ c.enter.ensures.state c.enter.ensures.seats c.enter.ensures.pending in
-    let quiet = nothing_removed old mid c.args.session c.args.number c.args.array c.args.answer c.self.invariant.service.quiet entered (sym c.length-length.ensures ∙ c.in-None.is) in
-    record { completes = ([], completes_in c.self.view_is (entered_completes old mid mid _ [] entered (none_taken mid) quiet), refl) }
