@@ -93,7 +93,7 @@ def costs(_place):
             said[kind] += int(many)
         begin = re.search(rf"^    pub fn {name}\b.*?^    \{{", source, re.M | re.S)
         holds(begin, f"fe_journal has no {name}")
-        if ends := re.search(r"ensures ends \{ CallEnds D\.failures D\.calls D\.honest (\d) (\d) (\d) ", begin[0]):
+        if ends := re.search(r"ensures ends \{ CallEnds D\.Disk (\d) (\d) (\d) ", begin[0]):
             same(list(said.values()), [int(it) for it in ends.groups()], name)
         else:
             relation = re.search(r"ensures (?:ends|device) \{ (\w+) ", begin[0])[1]

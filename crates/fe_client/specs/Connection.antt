@@ -1,8 +1,8 @@
 -- When a connection over a stream is over.
 use Rattle.std.specs.Prelude.{◌≡◌, ◌⊎◌, ℕ, List, [], Option, None, Some, IsSome, ⊤}
-use Rattle.fe_streams.specs.declared.Failed.{Failed}
+use Rattle.fe_streams.specs.declared.StreamFailed.{StreamFailed}
 
 -- A call of a stream failed, or all that it had is read. Where its bytes are not known, either may be so at any time.
-abbrev pub IsOver : Option Failed → Option (List ℕ) → Type 0
+abbrev pub IsOver : Option StreamFailed → Option (List ℕ) → Type 0
 IsOver failure None = ⊤
 IsOver failure (Some left) = IsSome failure ⊎ (left ≡ [])

@@ -3,7 +3,7 @@
 ghost use Rattle.std.specs.Prelude.{◌≡◌};
 
 use crate::connection::{Broken, Connection};
-use fe_streams::{Failed, Incoming, write_some};
+use fe_streams::{Incoming, StreamFailed, write_some};
 use std::io::{Read, Write};
 
 /// A connection that receives from a reader and sends to a writer. Over a socket, each of them is a reference to it.
@@ -11,7 +11,7 @@ use std::io::{Read, Write};
 pub struct StreamConnection<R: Read, W: Write> {
     incoming: Incoming<R>,
     writer: W,
-    failure: Option<Failed>,
+    failure: Option<StreamFailed>,
 }
 
 impl<R: Read, W: Write> StreamConnection<R, W> {

@@ -79,7 +79,7 @@ array_loads format x y fits e =
 -- ---- what was spelled is loaded
 
 -- an array that may come next
-pub record MayCome (format : Format) (previous : Option ℕ) (s : ServerState) (e : ℕ × Array) : Type 0 where
+pub record CanBeNext (format : Format) (previous : Option ℕ) (s : ServerState) (e : ℕ × Array) : Type 0 where
   pub small : e.0 < 2 ^ 64
   pub above : is_after previous e.0 ≡ true
   pub made : 1 ≤ e.0
@@ -91,7 +91,7 @@ pub record MayCome (format : Format) (previous : Option ℕ) (s : ServerState) (
   pub few_words : word_count s.arrays + length e.1.words ≤ 65536
   pub values : AllByRecursion (λ w. w.value < 2 ^ 64) e.1.words
 
-pub array_again : (format : Format) (previous : Option ℕ) (s : ServerState) (e : ℕ × Array) (rest : List ℕ) → MayCome format previous s e → next_array format (previous, s, array_spelling format e ++ rest) ≡ Ok (Some e.0, load_array s e, rest)
+pub array_again : (format : Format) (previous : Option ℕ) (s : ServerState) (e : ℕ × Array) (rest : List ℕ) → CanBeNext format previous s e → next_array format (previous, s, array_spelling format e ++ rest) ≡ Ok (Some e.0, load_array s e, rest)
 unfolding next_array
 array_again format previous s e rest may =
     let id : ℕ = e.0 in

@@ -15,8 +15,8 @@ use Rattle.fe_codec.specs.Laws.{ImageIsSpelled}
 use Rattle.fe_codec.specs.declared.fault.ImageFault.{ImageFault}
 use Rattle.fe_codec.specs.Image.{array_spelling, session_spelling, image_spelling, ArrayOfFormat, SessionOfFormat, HasRoomForState, ArrayFits, SessionFits, FitsImage}
 use Rattle.fe_format.specs.declared.format.Format.{Format}
-use Rattle.fe_codec.specs.declared.header.Header.{Header}
-use Rattle.fe_codec.specs.FirstFault.{◌followed_by◌, repeated, number_in, header_at, starting, next_array, next_session, ended, state_at, told_at, image_at}
+use Rattle.fe_codec.specs.declared.header.ImageHeader.{ImageHeader}
+use Rattle.fe_codec.specs.FirstFault.{◌followed_by◌, repeated, number_in, header_at, starting, next_array, next_session, ended, state_at, error_at_offset, image_at}
 use Rattle.fe_codec.proofs.InOrder.{put_all, entries-in_order, len-in_order}
 use Rattle.fe_codes.proofs.Splits.{Splits, splits_then}
 use Rattle.fe_codec.proofs.ImageFields.{bind_ok, ok_is, field32, field64, number_in_takes}
@@ -24,10 +24,10 @@ use Rattle.fe_codec.proofs.ImageArrays.{ArrayRead, load_array, arrays_loaded, ar
 use Rattle.fe_codec.proofs.ImageSessions.{SessionRead, load_session, sessions_loaded, session_loads}
 use Rattle.fe_codec.proofs.Loads.{all_so, loads_all}
 
-abbrev header_spelling : Header → List ℕ
+abbrev header_spelling : ImageHeader → List ℕ
 header_spelling h = to_be_bytes w64 h.place ++ to_be_bytes w64 h.next_id ++ to_be_bytes w32 h.arrays ++ to_be_bytes w32 h.sessions
 
-header_takes : (bytes : List ℕ) (x : Header × List ℕ) → IsBytes bytes → header_at bytes ≡ Ok x → Splits bytes (header_spelling x.0) x.1
+header_takes : (bytes : List ℕ) (x : ImageHeader × List ℕ) → IsBytes bytes → header_at bytes ≡ Ok x → Splits bytes (header_spelling x.0) x.1
 unfolding header_at
 header_takes bytes x fits e =
     let a = bind_ok (number_in w64 0 (2 ^ 63) bytes) (λ place. number_in w64 1 (place.0 + 2) place.1 followed_by λ next. number_in w32 0 65 next.1 followed_by λ arrays. number_in w32 0 65 arrays.1 followed_by λ sessions. Ok (record { place = place.0; next_id = next.0; arrays = arrays.0; sessions = sessions.0 }, sessions.1)) x e in
@@ -41,15 +41,15 @@ header_takes bytes x fits e =
     let two = splits_then bytes (to_be_bytes w64 a.0.0) a.0.1 (to_be_bytes w64 b.0.0) b.0.1 t_place t_next in
     let three = splits_then bytes (to_be_bytes w64 a.0.0 ++ to_be_bytes w64 b.0.0) b.0.1 (to_be_bytes w32 c.0.0) c.0.1 two t_arrays in
     let four = splits_then bytes (to_be_bytes w64 a.0.0 ++ to_be_bytes w64 b.0.0 ++ to_be_bytes w32 c.0.0) c.0.1 (to_be_bytes w32 d.0.0) d.0.1 three t_sessions in
-    let made : Header × List ℕ = (record { place = a.0.0; next_id = b.0.0; arrays = c.0.0; sessions = d.0.0 }, d.0.1) in
-    subst (λ (y : Header × List ℕ). Splits bytes (header_spelling y.0) y.1) (ok_is made x d.2) four
+    let made : ImageHeader × List ℕ = (record { place = a.0.0; next_id = b.0.0; arrays = c.0.0; sessions = d.0.0 }, d.0.1) in
+    subst (λ (y : ImageHeader × List ℕ). Splits bytes (header_spelling y.0) y.1) (ok_is made x d.2) four
 
 ended_ok : (s : ServerState) (bytes : List ℕ) (t : ServerState) → ended s bytes ≡ Ok t → (s ≡ t) × (bytes ≡ [])
 ended_ok s [] t e = (ok_is s t e, refl)
 ended_ok s (b ∷ bytes) t e = absurd cc
 
 -- a state that was put together from a header, arrays and sessions in order is spelled by these
-spelled : (format : Format) (h : Header) (es : List (ℕ × Array)) (fs : List (ℕ × Session)) (arrays : FinMap nat_cmp Array) (sessions : FinMap nat_cmp Session)
+spelled : (format : Format) (h : ImageHeader) (es : List (ℕ × Array)) (fs : List (ℕ × Session)) (arrays : FinMap nat_cmp Array) (sessions : FinMap nat_cmp Session)
     → entries arrays ≡ es → len arrays ≡ h.arrays → entries sessions ≡ fs → len sessions ≡ h.sessions
     → header_spelling h ++ flat_map (array_spelling format) es ++ flat_map (session_spelling format) fs ≡ image_spelling format (record { arrays = arrays; sessions = sessions; next_id = h.next_id; place = h.place })
 spelled format h es fs arrays sessions es_is many fs_is some = rw (← es_is, ← many, ← fs_is, ← some) refl
@@ -64,7 +64,7 @@ state_found : (format : Format) (bytes : List ℕ) (s : ServerState) → IsBytes
 unfolding state_at
 state_found format bytes s fits e =
     let a = bind_ok (header_at bytes) (λ header. repeated (next_array format) header.0.arrays (None, starting header.0, header.1) followed_by λ arrays. repeated (next_session format) header.0.sessions (None, arrays.1, arrays.2) followed_by λ sessions. ended sessions.1 sessions.2) s e in
-    let h : Header = a.0.0 in
+    let h : ImageHeader = a.0.0 in
     let b = bind_ok (repeated (next_array format) h.arrays (None, starting h, a.0.1)) (λ arrays. repeated (next_session format) h.sessions (None, arrays.1, arrays.2) followed_by λ sessions. ended sessions.1 sessions.2) s a.2 in
     let c = bind_ok (repeated (next_session format) h.sessions (None, b.0.1, b.0.2)) (λ sessions. ended sessions.1 sessions.2) s b.2 in
     let end = ended_ok c.0.1 c.0.2 s c.2 in
@@ -98,7 +98,7 @@ state_found format bytes s fits e =
       sessions = subst (λ (t : List (ℕ × Session)). AllByRecursion SessionFits t) (sym f_is) (all_so _ _ (λ f good. good.1) fs.entries fs.good);
     })
 
-told : {A : Type 0} (size : ℕ) (r : Result A ℕ) (x : A) → told_at size r ≡ Ok x → r ≡ Ok x
+told : {A : Type 0} (size : ℕ) (r : Result A ℕ) (x : A) → error_at_offset size r ≡ Ok x → r ≡ Ok x
 told size (Ok y) x e = e
 told size (Err left) x e = absurd cc
 

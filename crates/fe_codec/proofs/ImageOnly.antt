@@ -17,8 +17,8 @@ use Rattle.fe_codec.specs.Given.{ImageGives}
 use Rattle.fe_codec.specs.Laws.{SpellingIsRead, ImageHasOneSpelling}
 use Rattle.fe_codec.specs.declared.fault.ImageFault.{ImageFault}
 use Rattle.fe_format.specs.declared.format.Format.{Format}
-use Rattle.fe_codec.specs.declared.header.Header.{Header}
-use Rattle.fe_codec.specs.FirstFault.{◌followed_by◌, repeated, number_in, header_at, starting, next_array, next_session, ended, state_at, told_at, image_at}
+use Rattle.fe_codec.specs.declared.header.ImageHeader.{ImageHeader}
+use Rattle.fe_codec.specs.FirstFault.{◌followed_by◌, repeated, number_in, header_at, starting, next_array, next_session, ended, state_at, error_at_offset, image_at}
 use Rattle.fe_codec.proofs.InOrder.{entries-Rises, put_all-entries}
 use Rattle.fe_codec.proofs.ImageFields.{ok_is, field32, field64, goes_from, number_in_again}
 use Rattle.fe_codec.proofs.ImageArrays.{load_array, arrays_loaded, Remains, remains_next}
@@ -80,7 +80,7 @@ sessions_remain format s fits before at = record {
       (all_and (SessionOfFormat format) SessionFits (entries s.sessions) fits.room.sessions fits.sessions);
 }
 
-header_of : ServerState → Header
+header_of : ServerState → ImageHeader
 header_of s = record { place = s.place; next_id = s.next_id; arrays = len s.arrays; sessions = len s.sessions }
 
 arrays_remain : (format : Format) (s : ServerState) → FitsImage format s → Remains format s None (record { arrays = empty; sessions = empty; next_id = s.next_id; place = s.place }) (entries s.arrays)
@@ -97,17 +97,17 @@ arrays_remain format s fits = record {
 
 -- ---- the whole
 
-header_again : (h : Header) (rest : List ℕ) → h.place < 2 ^ 63 → 1 ≤ h.next_id → h.next_id ≤ h.place + 1 → h.arrays ≤ 64 → h.sessions ≤ 64
+header_again : (h : ImageHeader) (rest : List ℕ) → h.place < 2 ^ 63 → 1 ≤ h.next_id → h.next_id ≤ h.place + 1 → h.arrays ≤ 64 → h.sessions ≤ 64
     → header_at (to_be_bytes w64 h.place ++ (to_be_bytes w64 h.next_id ++ (to_be_bytes w32 h.arrays ++ (to_be_bytes w32 h.sessions ++ rest)))) ≡ Ok (h, rest)
 unfolding header_at
 header_again h rest small least most few some =
     let four : List ℕ = to_be_bytes w32 h.sessions ++ rest in
     let three : List ℕ = to_be_bytes w32 h.arrays ++ four in
     let two : List ℕ = to_be_bytes w64 h.next_id ++ three in
-    let k4 : ℕ × List ℕ → Result (Header × List ℕ) ℕ = λ n. Ok (record { place = h.place; next_id = h.next_id; arrays = h.arrays; sessions = n.0 }, n.1) in
-    let k3 : ℕ × List ℕ → Result (Header × List ℕ) ℕ = λ a. number_in w32 0 65 a.1 followed_by λ n. Ok (record { place = h.place; next_id = h.next_id; arrays = a.0; sessions = n.0 }, n.1) in
-    let k2 : ℕ × List ℕ → Result (Header × List ℕ) ℕ = λ i. number_in w32 0 65 i.1 followed_by λ a. number_in w32 0 65 a.1 followed_by λ n. Ok (record { place = h.place; next_id = i.0; arrays = a.0; sessions = n.0 }, n.1) in
-    let k1 : ℕ × List ℕ → Result (Header × List ℕ) ℕ = λ p. number_in w64 1 (p.0 + 2) p.1 followed_by λ i. number_in w32 0 65 i.1 followed_by λ a. number_in w32 0 65 a.1 followed_by λ n. Ok (record { place = p.0; next_id = i.0; arrays = a.0; sessions = n.0 }, n.1) in
+    let k4 : ℕ × List ℕ → Result (ImageHeader × List ℕ) ℕ = λ n. Ok (record { place = h.place; next_id = h.next_id; arrays = h.arrays; sessions = n.0 }, n.1) in
+    let k3 : ℕ × List ℕ → Result (ImageHeader × List ℕ) ℕ = λ a. number_in w32 0 65 a.1 followed_by λ n. Ok (record { place = h.place; next_id = h.next_id; arrays = a.0; sessions = n.0 }, n.1) in
+    let k2 : ℕ × List ℕ → Result (ImageHeader × List ℕ) ℕ = λ i. number_in w32 0 65 i.1 followed_by λ a. number_in w32 0 65 a.1 followed_by λ n. Ok (record { place = h.place; next_id = i.0; arrays = a.0; sessions = n.0 }, n.1) in
+    let k1 : ℕ × List ℕ → Result (ImageHeader × List ℕ) ℕ = λ p. number_in w64 1 (p.0 + 2) p.1 followed_by λ i. number_in w32 0 65 i.1 followed_by λ a. number_in w32 0 65 a.1 followed_by λ n. Ok (record { place = p.0; next_id = i.0; arrays = a.0; sessions = n.0 }, n.1) in
     goes_from (number_in w64 0 (2 ^ 63) (to_be_bytes w64 h.place ++ two)) k1 (h.place, two) (number_in_again w64 (2 ^ 64) field64 0 (2 ^ 63) h.place two (omega (arith, small)) (omega arith) small)
     ∙ goes_from (number_in w64 1 (h.place + 2) two) k2 (h.next_id, three) (number_in_again w64 (2 ^ 64) field64 1 (h.place + 2) h.next_id three (omega (arith, small, most)) least (omega (arith, most)))
     ∙ goes_from (number_in w32 0 65 three) k3 (h.arrays, four) (number_in_again w32 (2 ^ 32) field32 0 65 h.arrays four (omega (arith, few)) (omega arith) (omega (arith, few)))
@@ -119,7 +119,7 @@ regrouped p n a b x y = simp (append_assoc, append-nil)
 state_again : (format : Format) (s : ServerState) → FitsImage format s → state_at format (image_spelling format s) ≡ Ok s
 unfolding state_at header_of
 state_again format s fits =
-    let h : Header = header_of s in
+    let h : ImageHeader = header_of s in
     let es : List (ℕ × Array) = entries s.arrays in
     let fs : List (ℕ × Session) = entries s.sessions in
     let last : List ℕ = flat_map (session_spelling format) fs ++ [] in
@@ -128,7 +128,7 @@ state_again format s fits =
     let middle : ServerState = with_arrays made s.arrays in
     let k3 : Walk → Result ServerState ℕ = λ x. ended x.1 x.2 in
     let k2 : Walk → Result ServerState ℕ = λ x. repeated (next_session format) h.sessions (None, x.1, x.2) followed_by k3 in
-    let k1 : Header × List ℕ → Result ServerState ℕ = λ x. repeated (next_array format) x.0.arrays (None, starting x.0, x.1) followed_by λ a. repeated (next_session format) x.0.sessions (None, a.1, a.2) followed_by λ b. ended b.1 b.2 in
+    let k1 : ImageHeader × List ℕ → Result ServerState ℕ = λ x. repeated (next_array format) x.0.arrays (None, starting x.0, x.1) followed_by λ a. repeated (next_session format) x.0.sessions (None, a.1, a.2) followed_by λ b. ended b.1 b.2 in
     let arrays = again_all (next_array format) load_array (array_spelling format) (Remains format s) (remains_next format s fits.limits) es None made last (arrays_remain format s fits) in
     let sessions = again_all (next_session format) load_session (session_spelling format) (SessionsRemain format s.place) (session_next format s.place fits.limits.place) fs None middle [] (sessions_remain format s fits middle refl) in
     let first : load_all (next_array format) load_array (array_spelling format) made es ≡ middle =
@@ -146,7 +146,7 @@ state_again format s fits =
 
 pub spellings_read : SpellingIsRead
 unfolding image_at
-spellings_read format s fits = ap (told_at (length (image_spelling format s))) (state_again format s fits)
+spellings_read format s fits = ap (error_at_offset (length (image_spelling format s))) (state_again format s fits)
 
 -- the same of what a reader returned
 pub is_only : (format : Format) (bytes : List ℕ) (result : Result ServerState ImageFault) → ImageGives result (image_at format bytes) → (s : ServerState) → FitsImage format s → bytes ≡ image_spelling format s → ImageGives result (Ok s)

@@ -12,7 +12,7 @@ use Rattle.fe_words.specs.declared.word.Word.{Word}
 use Rattle.fe_words.specs.declared.word.Tag.TheVariants.{Empty}
 use Rattle.fe_state.proofs.Maps.{get_inserted, get_beside, same_or_other}
 use Rattle.fe_state.specs.Name.{is_plain}
-use Rattle.fe_state.specs.Change.{MayCome}
+use Rattle.fe_state.specs.Change.{MayBeAdded}
 use Rattle.fe_state.specs.Directory.{Directory, named, word_in, word_count}
 use Rattle.fe_state.specs.Effect.{new_array, put_word, with_word}
 use Rattle.fe_state.specs.Sessions.{Session, keeping, put_session}
@@ -96,7 +96,7 @@ new_words m id name size i lt = rw (get_inserted m id (new_array name size Empty
 
 -- a new array may come
 pub may_come : (d : Directory) (previous : Option ℕ) (id : ℕ) (name : List ℕ) (size : ℕ) → HasNoneAfter previous d.arrays → is_after previous id ≡ true → 1 ≤ id → id < d.next_id → is_plain name ≡ true
-    → is_some (named d.arrays name) ≡ false → len d.arrays < 64 → 1 ≤ size → word_count d.arrays + size ≤ 65536 → MayCome d id (new_array name size Empty)
+    → is_some (named d.arrays name) ≡ false → len d.arrays < 64 → 1 ≤ size → word_count d.arrays + size ≤ 65536 → MayBeAdded d id (new_array name size Empty)
 may_come d previous id name size fresh above least older plain free few some room = record {
   array = record {
     made = least;

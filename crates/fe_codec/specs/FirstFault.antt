@@ -25,7 +25,7 @@ use Rattle.fe_format.specs.Layout.{name_bytes, record_bytes}
 use Rattle.fe_codec.specs.Reading.{record_entry}
 use Rattle.fe_codes.specs.Reading.{tag_of}
 use Rattle.fe_format.specs.declared.format.Format.{Format}
-use Rattle.fe_codec.specs.declared.header.Header.{Header}
+use Rattle.fe_codec.specs.declared.header.ImageHeader.{ImageHeader}
 
 -- a step, and the one that goes on from its value; what follows a fault is not looked at
 infixl 10 ◌followed_by◌
@@ -66,7 +66,7 @@ is_after (Some previous) n = nat_lt previous n
 
 -- ---- header
 
-unfoldable pub header_at : List ℕ → Result (Header × List ℕ) ℕ
+unfoldable pub header_at : List ℕ → Result (ImageHeader × List ℕ) ℕ
 header_at bytes =
     number_in w64 0 (greatest_place + 1) bytes followed_by λ place.
     number_in w64 1 (place.0 + 2) place.1 followed_by λ next.
@@ -75,7 +75,7 @@ header_at bytes =
     Ok (record { place = place.0; next_id = next.0; arrays = arrays.0; sessions = sessions.0 }, sessions.1)
 
 -- a state with nothing in it yet
-abbrev pub starting : Header → ServerState
+abbrev pub starting : ImageHeader → ServerState
 starting header = record { arrays = empty; sessions = empty; next_id = header.next_id; place = header.place }
 
 -- ---- arrays
@@ -204,10 +204,10 @@ state_at format bytes =
     ended sessions.1 sessions.2
 
 -- an offset is counted from the first byte
-abbrev pub told_at : {A : Type 0} → ℕ → Result A ℕ → Result A ℕ
-told_at size (Ok x) = Ok x
-told_at size (Err left) = Err (size - left)
+abbrev pub error_at_offset : {A : Type 0} → ℕ → Result A ℕ → Result A ℕ
+error_at_offset size (Ok x) = Ok x
+error_at_offset size (Err left) = Err (size - left)
 
 -- the state that an image stands for, or the offset of the image's first fault
 unfoldable pub image_at : Format → List ℕ → Result ServerState ℕ
-image_at format bytes = told_at (length bytes) (state_at format bytes)
+image_at format bytes = error_at_offset (length bytes) (state_at format bytes)

@@ -21,7 +21,7 @@ const SESSION_LIMIT: u32 = SESSIONS as u32 + 1;
 
 /// The first fields of an image: its place, its next array id, and how many arrays and sessions follow.
 #[derive(Clone, Copy)]
-pub struct Header {
+pub struct ImageHeader {
     pub place: u64,
     pub next_id: u64,
     pub arrays: u32,
@@ -97,7 +97,7 @@ pub fn is_after(previous: Option<u64>, number: u64) -> bool
 
 /// The first fields of an image.
 #[tactic(auto, unfolding(crate::specs::FirstFault::header_at))]
-pub fn header_at(bytes: &[u8]) -> Result<(Header, &[u8]), Fault>
+pub fn header_at(bytes: &[u8]) -> Result<(ImageHeader, &[u8]), Fault>
     ensures given { Gives (λ x. (x.0, x.1.now)) result (header_at bytes.now) }
     ensures place { IfOk result (λ x. x.0.place < 2 ^ 63) }
     ensures least { IfOk result (λ x. 1 ≤ x.0.next_id) }
@@ -111,7 +111,7 @@ pub fn header_at(bytes: &[u8]) -> Result<(Header, &[u8]), Fault>
     let (next_id, rest) = u64_in(1, place + 2, rest)?;
     let (arrays, rest) = u32_in(0, ARRAY_LIMIT, rest)?;
     let (sessions, rest) = u32_in(0, SESSION_LIMIT, rest)?;
-    let header = Header {
+    let header = ImageHeader {
         place,
         next_id,
         arrays,

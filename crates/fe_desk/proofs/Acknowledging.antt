@@ -32,12 +32,12 @@ use Rattle.fe_messages.specs.Asking.{HasOnly}
 use Rattle.fe_messages.specs.Mails.{reply_of}
 use Rattle.fe_messages.proofs.Answers.{KeepsBelow, answered-append, answered-split, finished_more, kept_stands}
 use Rattle.fe_messages.proofs.Boxes.{AllIn, all_append, all_weaker, boxes-connected, boxes-dropped, boxes-posted_all}
-use Rattle.fe_messages.proofs.Seated.{has_lost, connected_loses, dropped_loses, posted_loses, posted_entry_loses, message_has, first_has, none_some, some_same}
+use Rattle.fe_messages.proofs.AttachmentLaws.{has_lost, connected_loses, dropped_loses, posted_loses, posted_entry_loses, message_has, first_has, none_some, some_same}
 use Rattle.fe_desk.specs.declared.handed.Handed.{Handed}
 use Rattle.fe_desk.specs.declared.handed.Handed.TheVariants.{Nothing, Cut, Stored}
 use Rattle.fe_desk.specs.declared.step.Step.{Step}
 use Rattle.fe_desk.specs.declared.step.Step.TheVariants as step
-use Rattle.fe_desk.specs.Standing.{Client, Standing, IsFirstStanding}
+use Rattle.fe_desk.specs.DeskRunState.{Client, DeskRunState, IsFirstRunState}
 use Rattle.fe_desk.specs.Storing.{handed_after, cut, stored, stored_from, posted, posted_from, cleared, committed, made, is_making, with_room, begun_room, roomy}
 use Rattle.fe_desk.specs.Steps.{find, on_client, new_client, clients_with, with_left, with_decoder, Connects, gone, after_frame, TakesPiece, TakesFrom, TakesBytes, Reads, Acts}
 use Rattle.fe_desk.specs.Taking.{TakesOne, TakesAll}
@@ -65,7 +65,7 @@ none_out false b e = refl
 abbrev handed_out : FrontState → FrontState
 handed_out f = record f { service = record f.service { pending = [] }; out = Some (record { first = f.durable; length = length f.service.pending }) }
 
-cut_holds : (begun : ServerState) (asked : ℕ → ℕ → Bool) (s : Standing) → HoldsAt begun asked s → HoldsAt begun asked (cut s)
+cut_holds : (begun : ServerState) (asked : ℕ → ℕ → Bool) (s : DeskRunState) → HoldsAt begun asked s → HoldsAt begun asked (cut s)
 cut_holds begun asked s h = by (has_no_cut s.front) refl
   where
     f : FrontState
@@ -135,7 +135,7 @@ tells_behind begun asked groups more c t = (
     later None waits = tt
     later (Some r) (m, is, stands) = (m, is, stands_behind begun groups more (asked c.conn) m stands)
 
-stored_holds : (begun : ServerState) (asked : ℕ → ℕ → Bool) (s : Standing) → HoldsAt begun asked s → HoldsAt begun asked (stored s)
+stored_holds : (begun : ServerState) (asked : ℕ → ℕ → Bool) (s : DeskRunState) → HoldsAt begun asked s → HoldsAt begun asked (stored s)
 stored_holds begun asked s h = by s.handed h
   where
     by : (x : Handed) → Holds begun asked s.front s.clients x s.groups → HoldsAt begun asked (stored_from x (record s { handed = x }))
@@ -188,7 +188,7 @@ posted_front begun asked f cs batch groups h =
       has = has_lost (MayAsk asked) f g (posted_loses f batch) h.has;
     }
 
-posted_holds : (begun : ServerState) (asked : ℕ → ℕ → Bool) (s : Standing) → HoldsAt begun asked s → HoldsAt begun asked (posted s)
+posted_holds : (begun : ServerState) (asked : ℕ → ℕ → Bool) (s : DeskRunState) → HoldsAt begun asked s → HoldsAt begun asked (posted s)
 posted_holds begun asked s h = by s.handed h
   where
     by : (x : Handed) → Holds begun asked s.front s.clients x s.groups → HoldsAt begun asked (posted_from x (record s { handed = x }))
@@ -198,27 +198,27 @@ posted_holds begun asked s h = by s.handed h
 
 -- ---- room is made
 
-cleared_holds : (begun : ServerState) (asked : ℕ → ℕ → Bool) (s : Standing) → HoldsAt begun asked s → HoldsAt begun asked (cleared s)
+cleared_holds : (begun : ServerState) (asked : ℕ → ℕ → Bool) (s : DeskRunState) → HoldsAt begun asked s → HoldsAt begun asked (cleared s)
 cleared_holds begun asked s h = posted_holds begun asked (stored s) (stored_holds begun asked s h)
 
-committed_holds : (begun : ServerState) (asked : ℕ → ℕ → Bool) (s : Standing) → HoldsAt begun asked s → HoldsAt begun asked (committed s)
+committed_holds : (begun : ServerState) (asked : ℕ → ℕ → Bool) (s : DeskRunState) → HoldsAt begun asked s → HoldsAt begun asked (committed s)
 committed_holds begun asked s h = cleared_holds begun asked (cut s) (cut_holds begun asked s h)
 
-with_room_holds : (begun : ServerState) (asked : ℕ → ℕ → Bool) (s : Standing) → HoldsAt begun asked s → HoldsAt begun asked (with_room s)
+with_room_holds : (begun : ServerState) (asked : ℕ → ℕ → Bool) (s : DeskRunState) → HoldsAt begun asked s → HoldsAt begun asked (with_room s)
 with_room_holds begun asked s h = by (has_room s.front)
   where
     by : (b : Bool) → HoldsAt begun asked (if b then s else made (committed (cleared s)))
     by true = h
     by false = committed_holds begun asked (cleared s) (cleared_holds begun asked s h)
 
-begun_room_holds : (begun : ServerState) (asked : ℕ → ℕ → Bool) (s : Standing) (conn : ℕ) → HoldsAt begun asked s → HoldsAt begun asked (begun_room s conn)
+begun_room_holds : (begun : ServerState) (asked : ℕ → ℕ → Bool) (s : DeskRunState) (conn : ℕ) → HoldsAt begun asked s → HoldsAt begun asked (begun_room s conn)
 begun_room_holds begun asked s conn h = by (is_making s conn)
   where
     by : (b : Bool) → HoldsAt begun asked (if b then made (cleared s) else s)
     by true = cleared_holds begun asked s h
     by false = h
 
-roomy_holds : (begun : ServerState) (asked : ℕ → ℕ → Bool) (s : Standing) (conn : ℕ) → HoldsAt begun asked s → HoldsAt begun asked (roomy s conn)
+roomy_holds : (begun : ServerState) (asked : ℕ → ℕ → Bool) (s : DeskRunState) (conn : ℕ) → HoldsAt begun asked s → HoldsAt begun asked (roomy s conn)
 roomy_holds begun asked s conn h = with_room_holds begun asked (begun_room s conn) (begun_room_holds begun asked s conn h)
 
 -- ---- clients change
@@ -242,7 +242,7 @@ found_one P conn (x ∷ xs) c is all = by (nat_eq x.conn conn) refl is (λ (e : 
     by false other e rest = rest e
 
 -- the messages that are left of a connection ask for its sessions alone
-left_asks : (begun : ServerState) (asked : ℕ → ℕ → Bool) (groups : List (List Entry)) (s : Standing) (conn : ℕ) → AllTell begun groups asked s.clients → AllByRecursion (AsksFor (asked conn)) (left_of s conn)
+left_asks : (begun : ServerState) (asked : ℕ → ℕ → Bool) (groups : List (List Entry)) (s : DeskRunState) (conn : ℕ) → AllTell begun groups asked s.clients → AllByRecursion (AsksFor (asked conn)) (left_of s conn)
 left_asks begun asked groups s conn tell = by (find conn s.clients) refl
   where
     by : (o : Option Client) → find conn s.clients ≡ o → AllByRecursion (AsksFor (asked conn)) (option_map_or (λ (c : Client). c.left) o [])
@@ -254,12 +254,12 @@ left_asks begun asked groups s conn tell = by (find conn s.clients) refl
 same_front : (f : FrontState) → Remains f f
 same_front f = record { state = refl; pending = refl; out = refl; durable = refl }
 
-with_left_holds : (begun : ServerState) (asked : ℕ → ℕ → Bool) (s : Standing) (conn : ℕ) (left : List ClientMessage) → AllByRecursion (AsksFor (asked conn)) left → HoldsAt begun asked s → HoldsAt begun asked (with_left s conn left)
+with_left_holds : (begun : ServerState) (asked : ℕ → ℕ → Bool) (s : DeskRunState) (conn : ℕ) (left : List ClientMessage) → AllByRecursion (AsksFor (asked conn)) left → HoldsAt begun asked s → HoldsAt begun asked (with_left s conn left)
 with_left_holds begun asked s conn left asks h =
     remains_hold begun asked s.front s.front s.clients (with_left s conn left).clients s.handed s.groups (same_front s.front) (times_lose 0 s.front conn) h.boxes
     (changed_tell begun asked s.groups conn (λ c. record c { left = left }) (λ c is t. (t.0, subst (λ (n : ℕ). AllByRecursion (AsksFor (asked n)) left) (sym is) asks)) s.clients h.tell) h
 
-with_decoder_holds : (begun : ServerState) (asked : ℕ → ℕ → Bool) (s : Standing) (conn : ℕ) (d : Decoding) → HoldsAt begun asked s → HoldsAt begun asked (with_decoder s conn d)
+with_decoder_holds : (begun : ServerState) (asked : ℕ → ℕ → Bool) (s : DeskRunState) (conn : ℕ) (d : Decoding) → HoldsAt begun asked s → HoldsAt begun asked (with_decoder s conn d)
 with_decoder_holds begun asked s conn d h =
     remains_hold begun asked s.front s.front s.clients (with_decoder s conn d).clients s.handed s.groups (same_front s.front) (times_lose 0 s.front conn) h.boxes
     (changed_tell begun asked s.groups conn (λ c. record c { decoder = d }) (λ c is t. (t.0, t.1)) s.clients h.tell) h
@@ -276,8 +276,8 @@ clients_with_tell begun asked groups cs conn d tell = by (is_some (find conn cs)
 
 -- ---- connections come and go
 
-connects_holds : (begun : ServerState) (asked : ℕ → ℕ → Bool) (s : Standing) (conn : ℕ) (t : Standing) → Connects s conn t → HoldsAt begun asked s → HoldsAt begun asked t
-connects_holds begun asked s conn t c h = subst (λ (x : Standing). HoldsAt begun asked x) (sym c.after) (by (is_making s conn))
+connects_holds : (begun : ServerState) (asked : ℕ → ℕ → Bool) (s : DeskRunState) (conn : ℕ) (t : DeskRunState) → Connects s conn t → HoldsAt begun asked s → HoldsAt begun asked t
+connects_holds begun asked s conn t c h = subst (λ (x : DeskRunState). HoldsAt begun asked x) (sym c.after) (by (is_making s conn))
   where
     joins : Holds begun asked (front.connected s.front conn) (clients_with s.clients conn c.decoder) s.handed s.groups
     joins = remains_hold begun asked s.front (front.connected s.front conn) s.clients (clients_with s.clients conn c.decoder) s.handed s.groups
@@ -288,7 +288,7 @@ connects_holds begun asked s conn t c h = subst (λ (x : Standing). HoldsAt begu
     by true = joins
     by false = joins
 
-gone_holds : (begun : ServerState) (asked : ℕ → ℕ → Bool) (s : Standing) (conn : ℕ) → HoldsAt begun asked s → HoldsAt begun asked (gone s conn)
+gone_holds : (begun : ServerState) (asked : ℕ → ℕ → Bool) (s : DeskRunState) (conn : ℕ) → HoldsAt begun asked s → HoldsAt begun asked (gone s conn)
 gone_holds begun asked s conn h = by (is_making s conn)
   where
     leaves : Holds begun asked (front.dropped s.front conn) (on_client conn (λ c. record c { left = [] }) s.clients) s.handed s.groups
@@ -336,21 +336,21 @@ module _ (begun : ServerState) (asked : ℕ → ℕ → Bool) (below : KeepsBelo
         has = has;
       }
 
-  takes_one_holds : (s : Standing) (conn : ℕ) (m : ClientMessage) (t : Standing) → AsksFor (asked conn) m → TakesOne s conn m t → HoldsAt begun asked s → HoldsAt begun asked t
+  takes_one_holds : (s : DeskRunState) (conn : ℕ) (m : ClientMessage) (t : DeskRunState) → AsksFor (asked conn) m → TakesOne s conn m t → HoldsAt begun asked s → HoldsAt begun asked t
   takes_one_holds s conn m t asks takes h =
-      let u : Standing = roomy s conn in
+      let u : DeskRunState = roomy s conn in
       let there : HoldsAt begun asked u = roomy_holds begun asked s conn h in
       let kept : KeptStand begun u.groups asked u.front = kept_stand u.front u.clients u.handed u.groups there in
-      subst (λ (x : Standing). HoldsAt begun asked x) (sym takes.after)
+      subst (λ (x : DeskRunState). HoldsAt begun asked x) (sym takes.after)
       (made_holds u.front takes.front takes.entries u.clients u.handed u.groups (message_made u.front takes.front conn m takes.entries takes.takes)
       (message_stands begun u.groups asked u.front takes.front conn m takes.entries there.has kept takes.takes there.boxes)
       (message_has (MayAsk asked) u.front takes.front conn m takes.entries asks takes.takes there.has) there)
 
-  takes_all_holds : (s : Standing) (conn : ℕ) (ms : List ClientMessage) (t : Standing) → AllByRecursion (AsksFor (asked conn)) ms → TakesAll s conn ms t → HoldsAt begun asked s → HoldsAt begun asked t
-  takes_all_holds s conn [] t asks takes h = subst (λ (x : Standing). HoldsAt begun asked x) (sym takes) h
+  takes_all_holds : (s : DeskRunState) (conn : ℕ) (ms : List ClientMessage) (t : DeskRunState) → AllByRecursion (AsksFor (asked conn)) ms → TakesAll s conn ms t → HoldsAt begun asked s → HoldsAt begun asked t
+  takes_all_holds s conn [] t asks takes h = subst (λ (x : DeskRunState). HoldsAt begun asked x) (sym takes) h
   takes_all_holds s conn (m ∷ ms) t asks takes h = takes_all_holds takes.0 conn ms t asks.1 takes.2 (takes_one_holds s conn m takes.0 asks.0 takes.1 h)
 
-  after_frame_holds : (bad : Bool) (s : Standing) (conn : ℕ) → HoldsAt begun asked s → HoldsAt begun asked (after_frame bad s conn)
+  after_frame_holds : (bad : Bool) (s : DeskRunState) (conn : ℕ) → HoldsAt begun asked s → HoldsAt begun asked (after_frame bad s conn)
   after_frame_holds true s conn h = gone_holds begun asked s conn h
   after_frame_holds false s conn h = h
 
@@ -358,13 +358,13 @@ module _ (begun : ServerState) (asked : ℕ → ℕ → Bool) (below : KeepsBelo
   abbrev pub PieceAsks : ℕ → Decoding → List ℕ → Type 0
   PieceAsks conn before piece = (after : Decoding) (more : List ClientMessage) → Reads before after piece more → AllByRecursion (AsksFor (asked conn)) more
 
-  piece_holds : (s : Standing) (conn : ℕ) (before : Decoding) (piece : List ℕ) (t : Standing) → PieceAsks conn before piece → TakesPiece s conn before piece t → HoldsAt begun asked s → HoldsAt begun asked t
+  piece_holds : (s : DeskRunState) (conn : ℕ) (before : Decoding) (piece : List ℕ) (t : DeskRunState) → PieceAsks conn before piece → TakesPiece s conn before piece t → HoldsAt begun asked s → HoldsAt begun asked t
   piece_holds s conn before piece t asks takes h =
-      subst (λ (x : Standing). HoldsAt begun asked x) (sym takes.after)
+      subst (λ (x : DeskRunState). HoldsAt begun asked x) (sym takes.after)
       (after_frame_holds takes.decoder.is_bad takes.last conn
       (takes_all_holds (with_decoder s conn takes.decoder) conn takes.more takes.last (asks takes.decoder takes.more takes.reads) takes.takes (with_decoder_holds begun asked s conn takes.decoder h)))
 
-  from_holds : (s : Standing) (conn : ℕ) (left : List ClientMessage) (before : Decoding) (piece : List ℕ) (t : Standing) → AllByRecursion (AsksFor (asked conn)) left → PieceAsks conn before piece
+  from_holds : (s : DeskRunState) (conn : ℕ) (left : List ClientMessage) (before : Decoding) (piece : List ℕ) (t : DeskRunState) → AllByRecursion (AsksFor (asked conn)) left → PieceAsks conn before piece
       → TakesFrom s conn left before piece t → HoldsAt begun asked s → HoldsAt begun asked t
   from_holds s conn left before piece t first asks takes h = by (is_connected takes.mid.front conn) takes.reading
     where
@@ -373,17 +373,17 @@ module _ (begun : ServerState) (asked : ℕ → ℕ → Bool) (below : KeepsBelo
 
       by : (b : Bool) → MatchBool b (TakesPiece takes.mid conn before piece t) (t ≡ takes.mid) → HoldsAt begun asked t
       by true reads = piece_holds takes.mid conn before piece t asks reads mid
-      by false is = subst (λ (x : Standing). HoldsAt begun asked x) (sym is) mid
+      by false is = subst (λ (x : DeskRunState). HoldsAt begun asked x) (sym is) mid
 
   -- a step's bytes ask for the connection's sessions alone
-  abbrev pub BytesAsk : Standing → ℕ → List ℕ → Type 0
+  abbrev pub BytesAsk : DeskRunState → ℕ → List ℕ → Type 0
   BytesAsk s conn piece = (before after : Decoding) (more : List ClientMessage) → read_by s conn ≡ Some before → Reads before after piece more → AllByRecursion (AsksFor (asked conn)) more
 
-  bytes_hold : (s : Standing) (conn : ℕ) (piece : List ℕ) (t : Standing) → BytesAsk s conn piece → TakesBytes s (find conn s.clients) piece t → HoldsAt begun asked s → HoldsAt begun asked t
+  bytes_hold : (s : DeskRunState) (conn : ℕ) (piece : List ℕ) (t : DeskRunState) → BytesAsk s conn piece → TakesBytes s (find conn s.clients) piece t → HoldsAt begun asked s → HoldsAt begun asked t
   bytes_hold s conn piece t asks takes h = by (find conn s.clients) refl takes
     where
       by : (o : Option Client) → find conn s.clients ≡ o → TakesBytes s o piece t → HoldsAt begun asked t
-      by None is takes = subst (λ (x : Standing). HoldsAt begun asked x) (sym takes) h
+      by None is takes = subst (λ (x : DeskRunState). HoldsAt begun asked x) (sym takes) h
       by (Some c) is takes =
           let here = found_one (Tells begun s.groups asked) conn s.clients c is h.tell in
           let read : read_by s conn ≡ Some c.decoder = ap (λ (o : Option Client). option_map (λ (x : Client). x.decoder) o) is in
@@ -392,58 +392,58 @@ module _ (begun : ServerState) (asked : ℕ → ℕ → Bool) (below : KeepsBelo
 
   -- ---- steps
 
-  abbrev pub StepAsks : Standing → Step → Type 0
+  abbrev pub StepAsks : DeskRunState → Step → Type 0
   StepAsks s (step.Bytes conn piece) = BytesAsk s conn piece.items
   StepAsks s other = Unit {0}
 
-  pub acts_hold : (s : Standing) (x : Step) (t : Standing) → StepAsks s x → Acts s x t → HoldsAt begun asked s → HoldsAt begun asked t
+  pub acts_hold : (s : DeskRunState) (x : Step) (t : DeskRunState) → StepAsks s x → Acts s x t → HoldsAt begun asked s → HoldsAt begun asked t
   acts_hold s (step.Connect conn) t asks acts h = by (is_connected s.front conn) acts
     where
       by : (b : Bool) → MatchBool b (t ≡ s) (Connects s conn t) → HoldsAt begun asked t
-      by true is = subst (λ (x : Standing). HoldsAt begun asked x) (sym is) h
+      by true is = subst (λ (x : DeskRunState). HoldsAt begun asked x) (sym is) h
       by false connects = connects_holds begun asked s conn t connects h
   acts_hold s (step.Bytes conn piece) t asks acts h = bytes_hold s conn piece.items t asks acts h
-  acts_hold s (step.Gone conn) t asks acts h = subst (λ (x : Standing). HoldsAt begun asked x) (sym acts) (gone_holds begun asked s conn h)
-  acts_hold s step.Cut t asks acts h = subst (λ (x : Standing). HoldsAt begun asked x) (sym acts) (cut_holds begun asked s h)
-  acts_hold s step.Append t asks acts h = subst (λ (x : Standing). HoldsAt begun asked x) (sym acts) (stored_holds begun asked s h)
-  acts_hold s step.Post t asks acts h = subst (λ (x : Standing). HoldsAt begun asked x) (sym acts) (posted_holds begun asked s h)
-  acts_hold s step.CheckBegin t asks acts h = subst (λ (x : Standing). HoldsAt begun asked x) (sym acts) h
-  acts_hold s step.CheckStep t asks acts h = subst (λ (x : Standing). HoldsAt begun asked x) (sym acts) h
-  acts_hold s step.CheckFinish t asks acts h = subst (λ (x : Standing). HoldsAt begun asked x) (sym acts) h
+  acts_hold s (step.Gone conn) t asks acts h = subst (λ (x : DeskRunState). HoldsAt begun asked x) (sym acts) (gone_holds begun asked s conn h)
+  acts_hold s step.Cut t asks acts h = subst (λ (x : DeskRunState). HoldsAt begun asked x) (sym acts) (cut_holds begun asked s h)
+  acts_hold s step.Append t asks acts h = subst (λ (x : DeskRunState). HoldsAt begun asked x) (sym acts) (stored_holds begun asked s h)
+  acts_hold s step.Post t asks acts h = subst (λ (x : DeskRunState). HoldsAt begun asked x) (sym acts) (posted_holds begun asked s h)
+  acts_hold s step.CheckBegin t asks acts h = subst (λ (x : DeskRunState). HoldsAt begun asked x) (sym acts) h
+  acts_hold s step.CheckStep t asks acts h = subst (λ (x : DeskRunState). HoldsAt begun asked x) (sym acts) h
+  acts_hold s step.CheckFinish t asks acts h = subst (λ (x : DeskRunState). HoldsAt begun asked x) (sym acts) h
 
   -- ---- a batch that found no memory, or was torn
 
-  may_begin_holds : (s : Standing) (conn : ℕ) (t : Standing) → MayBegin s conn t → HoldsAt begun asked s → HoldsAt begun asked t
-  may_begin_holds s conn t (inl is) h = subst (λ (x : Standing). HoldsAt begun asked x) (sym is) h
-  may_begin_holds s conn t (inr is) h = subst (λ (x : Standing). HoldsAt begun asked x) (sym is) (cut_holds begun asked (cleared s) (cleared_holds begun asked s h))
+  may_begin_holds : (s : DeskRunState) (conn : ℕ) (t : DeskRunState) → MayBegin s conn t → HoldsAt begun asked s → HoldsAt begun asked t
+  may_begin_holds s conn t (inl is) h = subst (λ (x : DeskRunState). HoldsAt begun asked x) (sym is) h
+  may_begin_holds s conn t (inr is) h = subst (λ (x : DeskRunState). HoldsAt begun asked x) (sym is) (cut_holds begun asked (cleared s) (cleared_holds begun asked s h))
 
-  making_holds : (s : Standing) (conn : ℕ) (t : Standing) → StopsMaking s conn t → HoldsAt begun asked s → HoldsAt begun asked t
-  making_holds s conn t (inl still) h = subst (λ (x : Standing). HoldsAt begun asked x) (sym still.1) h
+  making_holds : (s : DeskRunState) (conn : ℕ) (t : DeskRunState) → StopsMaking s conn t → HoldsAt begun asked s → HoldsAt begun asked t
+  making_holds s conn t (inl still) h = subst (λ (x : DeskRunState). HoldsAt begun asked x) (sym still.1) h
   making_holds s conn t (inr begins) h = may_begin_holds (begun_room s conn) conn t begins.1 (begun_room_holds begun asked s conn h)
 
-  first_taken_holds : (s : Standing) (conn : ℕ) (ms : List ClientMessage) (t : Standing) → AllByRecursion (AsksFor (asked conn)) ms → TakesFirst s conn ms t → HoldsAt begun asked s → HoldsAt begun asked t
+  first_taken_holds : (s : DeskRunState) (conn : ℕ) (ms : List ClientMessage) (t : DeskRunState) → AllByRecursion (AsksFor (asked conn)) ms → TakesFirst s conn ms t → HoldsAt begun asked s → HoldsAt begun asked t
   first_taken_holds s conn ms t asks takes h =
       let parts = first_of (AsksFor (asked conn)) takes.taken (takes.next ∷ takes.behind) (subst (λ (xs : List ClientMessage). AllByRecursion (AsksFor (asked conn)) xs) takes.all asks) in
       let before : HoldsAt begun asked takes.before = takes_all_holds s conn takes.taken takes.before parts.0 takes.takes h in
-      subst (λ (x : Standing). HoldsAt begun asked x) (sym takes.after)
+      subst (λ (x : DeskRunState). HoldsAt begun asked x) (sym takes.after)
       (with_left_holds begun asked takes.last conn (takes.next ∷ takes.behind) parts.1 (making_holds takes.before conn takes.last takes.stops before))
 
-  pub before_holds : (s : Standing) (conn : ℕ) (t : Standing) → StopsBefore s conn t → HoldsAt begun asked s → HoldsAt begun asked t
+  pub before_holds : (s : DeskRunState) (conn : ℕ) (t : DeskRunState) → StopsBefore s conn t → HoldsAt begun asked s → HoldsAt begun asked t
   before_holds s conn t stops h =
       first_taken_holds (with_left s conn []) conn (left_of s conn) t (left_asks begun asked s.groups s conn h.tell) stops (with_left_holds begun asked s conn [] tt h)
 
-  pub unread_holds : (s : Standing) (conn : ℕ) (t : Standing) → StopsUnread s conn t → HoldsAt begun asked s → HoldsAt begun asked t
+  pub unread_holds : (s : DeskRunState) (conn : ℕ) (t : DeskRunState) → StopsUnread s conn t → HoldsAt begun asked s → HoldsAt begun asked t
   unread_holds s conn t stops h =
       takes_all_holds (with_left s conn []) conn (left_of s conn) t (left_asks begun asked s.groups s conn h.tell) stops.leftovers (with_left_holds begun asked s conn [] tt h)
 
-  pub behind_holds : (s : Standing) (conn : ℕ) (piece : List ℕ) (t : Standing) → BytesAsk s conn piece → StopsBehind s conn piece t → HoldsAt begun asked s → HoldsAt begun asked t
+  pub behind_holds : (s : DeskRunState) (conn : ℕ) (piece : List ℕ) (t : DeskRunState) → BytesAsk s conn piece → StopsBehind s conn piece t → HoldsAt begun asked s → HoldsAt begun asked t
   behind_holds s conn piece t asks stops h =
       first_taken_holds (with_decoder stops.mid conn stops.decoder) conn stops.more t (asks stops.before stops.decoder stops.more stops.was stops.reads) stops.first
       (with_decoder_holds begun asked stops.mid conn stops.decoder (unread_holds s conn stops.mid stops.unread h))
 
 -- ---- a run from the first standing on
 
-pub first_holds : (begun : ServerState) (asked : ℕ → ℕ → Bool) (s : Standing) → IsFirstStanding begun s → HoldsAt begun asked s
+pub first_holds : (begun : ServerState) (asked : ℕ → ℕ → Bool) (s : DeskRunState) → IsFirstRunState begun s → HoldsAt begun asked s
 first_holds begun asked s first =
     let f : FrontState = s.front in
     let none : made_entries s.groups s.handed f ≡ [] =

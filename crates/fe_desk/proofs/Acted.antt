@@ -11,10 +11,10 @@ use Rattle.fe_desk.specs.declared.fault.DeskFault.{DeskFault}
 use Rattle.fe_desk.specs.declared.fault.DeskFault.TheVariants as desk
 use Rattle.fe_desk.specs.declared.step.Step.{Step}
 use Rattle.fe_desk.specs.declared.step.Step.TheVariants as step
-use Rattle.fe_desk.specs.Standing.{Standing}
+use Rattle.fe_desk.specs.DeskRunState.{DeskRunState}
 use Rattle.fe_desk.specs.Storing.{stored, is_making}
 use Rattle.fe_desk.specs.Steps.{find, unmade, Acts, Connects, IsAgain, TakesBytes}
-use Rattle.fe_desk.specs.Messages.{outputs, told_as}
+use Rattle.fe_desk.specs.Messages.{outputs, desk_fault_of}
 use Rattle.fe_desk.specs.Crash.{DeskState, Advances}
 use Rattle.fe_desk.specs.Checks.{Checks}
 use Rattle.fe_desk.specs.Ends.{Lacks, Tears, TearsStep, BreaksOff}
@@ -29,7 +29,7 @@ use Rattle.fe_keeper.specs.Ends.{Works}
 
 -- what a call answered, in the words of a step
 abbrev pub IsTold : {T : Type 0} → Result T Fault → Result (Unit {0}) DeskFault → Type 0
-IsTold r q = MatchResult r (λ _. q ≡ Ok tt) (λ f. q ≡ Err (told_as f false))
+IsTold r q = MatchResult r (λ _. q ≡ Ok tt) (λ f. q ≡ Err (desk_fault_of f false))
 
 -- a step of a kind
 pub act_at : {D : Type 0} {k : Ghosts D} {x y : Step} {q : Result (Unit {0}) DeskFault} {a b : DeskState D} → x ≡ y → GoesAct k a y q b → GoesAct k a x q b
@@ -37,7 +37,7 @@ act_at {D} {k} {x} {y} {q} {a} {b} is h = subst (λ (z : Step). GoesAct k a z q 
 
 module _ {D : Type 0} {k : Ghosts D} {y : Step} {a b : DeskState D} where
   -- the store is not touched
-  pub act_still : OnlyNow k → IsDesk k a → a.keeper.store.has_failed ≡ false → HasStore a b → b.standing.owes ≡ a.standing.owes → Acts a.standing y b.standing → Checks y a b → GoesAct k a y (Ok tt) b
+  pub act_still : OnlyNow k → IsDesk k a → a.keeper.store.has_failed ≡ false → HasStore a b → b.run_state.owes ≡ a.run_state.owes → Acts a.run_state y b.run_state → Checks y a b → GoesAct k a y (Ok tt) b
   act_still only_now desk works same owes acts checked = record {
     owes = owes;
     advances = advances_as k only_now a b desk same;
@@ -47,27 +47,27 @@ module _ {D : Type 0} {k : Ghosts D} {y : Step} {a b : DeskState D} where
   -- memory was short, and nothing was done
   lacking : b ≡ a → Works k a.keeper b.keeper → Lacks false y a b → IsLacking k false a y b
   lacking same fine lacks =
-      let is : b.standing ≡ a.standing = ap (λ (d : DeskState D). d.standing) same in
+      let is : b.run_state ≡ a.run_state = ap (λ (d : DeskState D). d.run_state) same in
       record {
         lacks = lacks;
-        read = same_reads a.standing b.standing is;
-        again = λ next t again h. subst (λ (s : Standing). Acts s y t) is (subst (λ (z : Step). Acts b.standing z t) again h);
+        read = same_reads a.run_state b.run_state is;
+        again = λ next t again h. subst (λ (s : DeskRunState). Acts s y t) is (subst (λ (z : Step). Acts b.run_state z t) again h);
         silent = ap outputs is;
         fine = fine;
       }
 
   pub act_short : OnlyNow k → IsDesk k a → a.keeper.store.has_failed ≡ false → b ≡ a → Lacks false y a b → GoesAct k a y (Err (desk.NoMemory false)) b
   act_short only_now desk works same lacks =
-      let still : HasStore a b = record { keeper = ap (λ (d : DeskState D). d.keeper) same; groups = ap (λ (d : DeskState D). d.standing.groups) same; synced = ap (λ (d : DeskState D). d.synced) same } in
+      let still : HasStore a b = record { keeper = ap (λ (d : DeskState D). d.keeper) same; groups = ap (λ (d : DeskState D). d.run_state.groups) same; synced = ap (λ (d : DeskState D). d.synced) same } in
       record {
-        owes = ap (λ (d : DeskState D). d.standing.owes) same;
+        owes = ap (λ (d : DeskState D). d.run_state.owes) same;
         advances = advances_as k only_now a b desk still;
         ends = lacking same (fine_as k a b works still) lacks;
       }
 
 -- ---- connections come and go
 
-unmade_stays : (s : Standing) (conn : ℕ) → ((unmade s conn).owes ≡ s.owes) × ((unmade s conn).groups ≡ s.groups)
+unmade_stays : (s : DeskRunState) (conn : ℕ) → ((unmade s conn).owes ≡ s.owes) × ((unmade s conn).groups ≡ s.groups)
 unmade_stays s conn = by (is_making s conn)
   where
     by : (b : Bool) → ((if b then record s { making = None } else s).owes ≡ s.owes) × ((if b then record s { making = None } else s).groups ≡ s.groups)
@@ -75,29 +75,29 @@ unmade_stays s conn = by (is_making s conn)
     by false = (refl, refl)
 
 -- a connection that comes does nothing to the mails that are owed, nor to the groups
-pub came_stays : (s t : Standing) (conn : ℕ) → MatchBool (is_connected s.front conn) (t ≡ s) (Connects s conn t) → (t.owes ≡ s.owes) × (t.groups ≡ s.groups)
+pub came_stays : (s t : DeskRunState) (conn : ℕ) → MatchBool (is_connected s.front conn) (t ≡ s) (Connects s conn t) → (t.owes ≡ s.owes) × (t.groups ≡ s.groups)
 came_stays s t conn came = by (is_connected s.front conn) came
   where
     by : (b : Bool) → MatchBool b (t ≡ s) (Connects s conn t) → (t.owes ≡ s.owes) × (t.groups ≡ s.groups)
-    by true same = (ap (λ (x : Standing). x.owes) same, ap (λ (x : Standing). x.groups) same)
+    by true same = (ap (λ (x : DeskRunState). x.owes) same, ap (λ (x : DeskRunState). x.groups) same)
     by false comes =
         let stays = unmade_stays s conn in
-        (ap (λ (x : Standing). x.owes) comes.after ∙ stays.0, ap (λ (x : Standing). x.groups) comes.after ∙ stays.1)
+        (ap (λ (x : DeskRunState). x.owes) comes.after ∙ stays.0, ap (λ (x : DeskRunState). x.groups) comes.after ∙ stays.1)
 
 -- ---- bytes
 
-given_empty : (s : Standing) (conn : ℕ) (piece : Vec ℕ Global) (next : Step) (u : Standing) → IsAgain true (step.Bytes conn piece) next → Acts s next u → TakesStream s conn [] u
+given_empty : (s : DeskRunState) (conn : ℕ) (piece : Vec ℕ Global) (next : Step) (u : DeskRunState) → IsAgain true (step.Bytes conn piece) next → Acts s next u → TakesStream s conn [] u
 given_empty s conn piece (step.Bytes c p) u again h =
     subst (λ (xs : List ℕ). TakesStream s conn xs u) again.1 (subst (λ (n : ℕ). TakesBytes s (find n s.clients) p.items u) again.0 h)
 given_empty s conn piece other u again h = absurd again
 
 module _ {D : Type 0} {k : Ghosts D} {a b : DeskState D} where
-  pub act_bytes : {q : Result (Unit {0}) DeskFault} (conn : ℕ) (piece : Vec ℕ Global) (slice : List ℕ) → slice ≡ piece.items → outputs b.standing ≡ outputs a.standing
-      → GoesPiece k (TakesStream a.standing conn slice) (LeavesStream a.standing conn slice) (StopsStream a.standing conn slice) q a b → GoesAct k a (step.Bytes conn piece) q b
+  pub act_bytes : {q : Result (Unit {0}) DeskFault} (conn : ℕ) (piece : Vec ℕ Global) (slice : List ℕ) → slice ≡ piece.items → outputs b.run_state ≡ outputs a.run_state
+      → GoesPiece k (TakesStream a.run_state conn slice) (LeavesStream a.run_state conn slice) (StopsStream a.run_state conn slice) q a b → GoesAct k a (step.Bytes conn piece) q b
   act_bytes {q} conn piece slice same silent h =
-      by q (subst (λ (xs : List ℕ). GoesPiece k (TakesStream a.standing conn xs) (LeavesStream a.standing conn xs) (StopsStream a.standing conn xs) q a b) same h)
+      by q (subst (λ (xs : List ℕ). GoesPiece k (TakesStream a.run_state conn xs) (LeavesStream a.run_state conn xs) (StopsStream a.run_state conn xs) q a b) same h)
     where
-      by : (q : Result (Unit {0}) DeskFault) → GoesPiece k (TakesStream a.standing conn piece.items) (LeavesStream a.standing conn piece.items) (StopsStream a.standing conn piece.items) q a b → GoesAct k a (step.Bytes conn piece) q b
+      by : (q : Result (Unit {0}) DeskFault) → GoesPiece k (TakesStream a.run_state conn piece.items) (LeavesStream a.run_state conn piece.items) (StopsStream a.run_state conn piece.items) q a b → GoesAct k a (step.Bytes conn piece) q b
       by (Ok x) h = record { owes = h.owes; advances = h.advances; ends = record { acts = h.ends.1; checked = h.ends.0.grows; fine = h.ends.0.fine } }
       by (Err (desk.Store cause)) h = record {
         owes = h.owes;
@@ -110,7 +110,7 @@ module _ {D : Type 0} {k : Ghosts D} {a b : DeskState D} where
         ends = record {
           lacks = (h.ends.1.stops, h.ends.0.grows);
           read = h.ends.1.read;
-          again = λ next u again acts. h.ends.1.again u (subst (λ (z : Step). Acts b.standing z u) again acts);
+          again = λ next u again acts. h.ends.1.again u (subst (λ (z : Step). Acts b.run_state z u) again acts);
           silent = silent;
           fine = h.ends.0.fine;
         };
@@ -121,7 +121,7 @@ module _ {D : Type 0} {k : Ghosts D} {a b : DeskState D} where
         ends = record {
           lacks = (h.ends.1.stops, h.ends.0.grows);
           read = h.ends.1.read;
-          again = λ next u again acts. h.ends.1.again u (given_empty b.standing conn piece next u again acts);
+          again = λ next u again acts. h.ends.1.again u (given_empty b.run_state conn piece next u again acts);
           silent = silent;
           fine = h.ends.0.fine;
         };
@@ -130,14 +130,14 @@ module _ {D : Type 0} {k : Ghosts D} {a b : DeskState D} where
 
   -- ---- the batch at hand is stored
 
-  pub act_append : {r : Result (Unit {0}) Fault} {q : Result (Unit {0}) DeskFault} → IsTold r q → Goes k (Is (stored a.standing)) (IsUnstored a) (Is a.standing) r a b → GoesAct k a step.Append q b
-  act_append {r} {q} told h = by r told h
+  pub act_append : {r : Result (Unit {0}) Fault} {q : Result (Unit {0}) DeskFault} → IsTold r q → Goes k (Is (stored a.run_state)) (IsUnstored a) (Is a.run_state) r a b → GoesAct k a step.Append q b
+  act_append {r} {q} written_out h = by r written_out h
     where
-      of : (f : Fault) → Goes k (Is (stored a.standing)) (IsUnstored a) (Is a.standing) (Err f) a b → GoesAct k a step.Append (Err (told_as f false)) b
+      of : (f : Fault) → Goes k (Is (stored a.run_state)) (IsUnstored a) (Is a.run_state) (Err f) a b → GoesAct k a step.Append (Err (desk_fault_of f false)) b
       of Device h = record {
         owes = h.owes;
         advances = h.advances;
-        ends = (refl, record { breaks = subst (λ (s : Standing). Tears s b) h.ends.until h.ends.tears; silent = ap outputs h.ends.tears.standing ∙ ap outputs h.ends.until; failed = h.ends.failed });
+        ends = (refl, record { breaks = subst (λ (s : DeskRunState). Tears s b) h.ends.until h.ends.tears; silent = ap outputs h.ends.tears.run_state ∙ ap outputs h.ends.until; failed = h.ends.failed });
       }
       of NoMemory h = record { owes = h.owes; advances = h.advances; ends = lacking h.ends.1.same h.ends.0.fine (h.ends.1.at_hand, h.ends.1.same) }
       of Failed h = absurd h.ends
@@ -145,9 +145,9 @@ module _ {D : Type 0} {k : Ghosts D} {a b : DeskState D} where
       of (Damaged offset) h = absurd h.ends
       of Unformatted h = absurd h.ends
 
-      by : (r : Result (Unit {0}) Fault) → IsTold r q → Goes k (Is (stored a.standing)) (IsUnstored a) (Is a.standing) r a b → GoesAct k a step.Append q b
-      by (Ok x) told h = subst (λ (p : Result (Unit {0}) DeskFault). GoesAct k a step.Append p b) (sym told) (record { owes = h.owes; advances = h.advances; ends = record { acts = h.ends.1; checked = h.ends.0.grows; fine = h.ends.0.fine } })
-      by (Err f) told h = subst (λ (p : Result (Unit {0}) DeskFault). GoesAct k a step.Append p b) (sym told) (of f h)
+      by : (r : Result (Unit {0}) Fault) → IsTold r q → Goes k (Is (stored a.run_state)) (IsUnstored a) (Is a.run_state) r a b → GoesAct k a step.Append q b
+      by (Ok x) written_out h = subst (λ (p : Result (Unit {0}) DeskFault). GoesAct k a step.Append p b) (sym written_out) (record { owes = h.owes; advances = h.advances; ends = record { acts = h.ends.1; checked = h.ends.0.grows; fine = h.ends.0.fine } })
+      by (Err f) written_out h = subst (λ (p : Result (Unit {0}) DeskFault). GoesAct k a step.Append p b) (sym written_out) (of f h)
 
 -- ---- checkpoints
 
@@ -157,16 +157,16 @@ with_keeper d new = record d { keeper = new }
 module _ {D : Type 0} {k : Ghosts D} (y : Step) (d : DeskState D) (new : KeeperState D) where
   -- A step makes a call of the keeper that keeps the replica.
   pub act_check : {T : Type 0} {q : Result (Unit {0}) DeskFault} (r : Result T Fault) (Cause : Fault → Type 0) → CountsNow k → IsDesk k d → keeper.Rests k d.keeper new
-      → d.keeper.store.has_failed ≡ false → Acts d.standing y d.standing → OnOk r (Checks y d (with_keeper d new)) → (Cause NoMemory → with_keeper d new ≡ d → Lacks false y d (with_keeper d new)) → ((place : ℕ) → Cause (Mismatch place) → ⊥)
+      → d.keeper.store.has_failed ≡ false → Acts d.run_state y d.run_state → OnOk r (Checks y d (with_keeper d new)) → (Cause NoMemory → with_keeper d new ≡ d → Lacks false y d (with_keeper d new)) → ((place : ℕ) → Cause (Mismatch place) → ⊥)
       → (BreaksOff d (with_keeper d new) → TearsStep y d (with_keeper d new)) → IsTold r q → keeper.Ends k Cause r d.keeper new → IsDesk k (with_keeper d new) × GoesAct k d y q (with_keeper d new)
-  act_check {T} {q} r Cause counts_now desk rests works acts checked lacks mismatch breaks told h =
-      (desk_checked k d new counts_now desk works rests.state rests.any_moment rests.honesty, by r checked told h)
+  act_check {T} {q} r Cause counts_now desk rests works acts checked lacks mismatch breaks written_out h =
+      (desk_checked k d new counts_now desk works rests.state rests.any_moment rests.honesty, by r checked written_out h)
     where
       advances : Advances k d (with_keeper d new)
       advances = advances_checked k d new desk rests.state rests.any_moment rests.honesty
 
-      of : (f : Fault) → keeper.Fails k Cause d.keeper new f → GoesAct k d y (Err (told_as f false)) (with_keeper d new)
-      of Device h = record { owes = refl; advances = advances; ends = (refl, record { breaks = breaks (record { standing = refl; synced = refl }); silent = refl; failed = h.1 }) }
+      of : (f : Fault) → keeper.Fails k Cause d.keeper new f → GoesAct k d y (Err (desk_fault_of f false)) (with_keeper d new)
+      of Device h = record { owes = refl; advances = advances; ends = (refl, record { breaks = breaks (record { run_state = refl; synced = refl }); silent = refl; failed = h.1 }) }
       of Failed h = let had = h.0 in absurd (cc (had, works))
       of NoMemory h =
           let same : new ≡ d.keeper = h.1.same in
@@ -181,5 +181,5 @@ module _ {D : Type 0} {k : Ghosts D} (y : Step) (d : DeskState D) (new : KeeperS
       of Unformatted h = absurd h
 
       by : (r : Result T Fault) → OnOk r (Checks y d (with_keeper d new)) → IsTold r q → keeper.Ends k Cause r d.keeper new → GoesAct k d y q (with_keeper d new)
-      by (Ok x) checked told h = subst (λ (p : Result (Unit {0}) DeskFault). GoesAct k d y p (with_keeper d new)) (sym told) (record { owes = refl; advances = advances; ends = record { acts = acts; checked = checked; fine = h } })
-      by (Err f) checked told h = subst (λ (p : Result (Unit {0}) DeskFault). GoesAct k d y p (with_keeper d new)) (sym told) (of f h)
+      by (Ok x) checked written_out h = subst (λ (p : Result (Unit {0}) DeskFault). GoesAct k d y p (with_keeper d new)) (sym written_out) (record { owes = refl; advances = advances; ends = record { acts = acts; checked = checked; fine = h } })
+      by (Err f) checked written_out h = subst (λ (p : Result (Unit {0}) DeskFault). GoesAct k d y p (with_keeper d new)) (sym written_out) (of f h)

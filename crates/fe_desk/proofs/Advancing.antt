@@ -11,7 +11,7 @@ use Rattle.fe_front.specs.Front.{is_connected}
 use Rattle.fe_keeper.specs.Keeper.{KeeperState}
 use Rattle.fe_keeper.specs.Prefix.{LeavesPrefix}
 use Rattle.fe_desk.specs.declared.handed.Handed.{Handed}
-use Rattle.fe_desk.specs.Standing.{Standing}
+use Rattle.fe_desk.specs.DeskRunState.{DeskRunState}
 use Rattle.fe_desk.specs.Steps.{find}
 use Rattle.fe_desk.specs.Crash.{DeskState, IsFrom, Advances, disk_of}
 use Rattle.fe_desk.specs.Acknowledged.{cut_entries}
@@ -48,7 +48,7 @@ from_as {D} begun old new same f =
     record {
       history = subst (λ (gs : List (List Entry)). IsHistory begun gs) (sym same.groups) f.history;
       replica =
-          ap (λ (k : KeeperState D). k.state) same.keeper ∙ f.replica ∙ ap (λ (n : ℕ). after_groups begun (take n old.standing.groups)) (sym same.synced)
+          ap (λ (k : KeeperState D). k.state) same.keeper ∙ f.replica ∙ ap (λ (n : ℕ). after_groups begun (take n old.run_state.groups)) (sym same.synced)
           ∙ ap (λ (gs : List (List Entry)). after_groups begun (take new.synced gs)) (sym same.groups);
     }
 
@@ -56,7 +56,7 @@ disk_as : {D : Type 0} (old new : DeskState D) → HasStore old new → disk_of 
 disk_as {D} old new same = ap (λ (k : KeeperState D). k.store.disk) same.keeper
 
 -- the same front as far as the store goes: what is pending, the batch that is out and the state
-pub tied_as : (s t : Standing) (replica : ServerState) → t.handed ≡ s.handed → t.front.out ≡ s.front.out → t.front.service.pending ≡ s.front.service.pending → t.front.service.state ≡ s.front.service.state
+pub tied_as : (s t : DeskRunState) (replica : ServerState) → t.handed ≡ s.handed → t.front.out ≡ s.front.out → t.front.service.pending ≡ s.front.service.pending → t.front.service.state ≡ s.front.service.state
     → IsAhead s replica → IsAhead t replica
 tied_as s t replica handed out pending state tied =
     let same : unstored t ≡ unstored s =
@@ -69,8 +69,8 @@ tied_as s t replica handed out pending state tied =
 
 module _ {D : Type 0} (model : Ghosts D) where
   -- what is always true of a desk's store stays where the store does
-  pub desk_as : (old new : DeskState D) → IsDesk model old → HasStore old new → IsAhead new.standing new.keeper.state
-      → ((conn : ℕ) → is_connected new.standing.front conn ≡ true → is_some (find conn new.standing.clients) ≡ true) → IsDesk model new
+  pub desk_as : (old new : DeskState D) → IsDesk model old → HasStore old new → IsAhead new.run_state new.keeper.state
+      → ((conn : ℕ) → is_connected new.run_state.front conn ≡ true → is_some (find conn new.run_state.clients) ≡ true) → IsDesk model new
   desk_as old new desk same tied known =
       let disk = disk_as old new same in
       let back : HasStore new old = record { keeper = sym same.keeper; groups = sym same.groups; synced = sym same.synced } in
@@ -81,8 +81,8 @@ module _ {D : Type 0} (model : Ghosts D) where
         all = λ works.
             same.synced ∙ desk.all (ap (λ (k : KeeperState D). k.store.has_failed) (sym same.keeper) ∙ works) ∙ ap (λ (gs : List (List Entry)). length gs) (sym same.groups);
         upheld = λ h begun from image may.
-            prefix_as begun old.standing.groups new.standing.groups new.synced image same.groups
-            (subst (λ (n : ℕ). LeavesPrefix begun old.standing.groups n image) (sym same.synced)
+            prefix_as begun old.run_state.groups new.run_state.groups new.synced image same.groups
+            (subst (λ (n : ℕ). LeavesPrefix begun old.run_state.groups n image) (sym same.synced)
             (desk.upheld (subst model.honest disk h) begun (from_as begun new old back from) image (subst (λ (d : D). model.may_leave d image) disk may)));
       }
 
@@ -94,14 +94,14 @@ module _ {D : Type 0} (model : Ghosts D) where
       let disk = disk_as old new same in
       record {
         more = [];
-        groups = same.groups ∙ sym (append-nil old.standing.groups);
+        groups = same.groups ∙ sym (append-nil old.run_state.groups);
         synced = let s = same.synced in omega arith;
         from = λ begun from. from_as begun old new same from;
         any_moment = λ h works begun from.
-            let here = started model (disk_of old) (LeavesPrefix begun new.standing.groups old.synced)
-            (λ image left. prefix_as begun old.standing.groups new.standing.groups old.synced image same.groups
+            let here = started model (disk_of old) (LeavesPrefix begun new.run_state.groups old.synced)
+            (λ image left. prefix_as begun old.run_state.groups new.run_state.groups old.synced image same.groups
             (desk.upheld h begun from image (only_now (disk_of old) image h left))) in
-            subst (λ (d : D). LeavesOnly model (disk_of old) d (LeavesPrefix begun new.standing.groups old.synced)) (sym disk) here;
+            subst (λ (d : D). LeavesOnly model (disk_of old) d (LeavesPrefix begun new.run_state.groups old.synced)) (sym disk) here;
         honesty = (λ h. subst model.honest disk h, λ h. subst model.honest (sym disk) h);
       }
 
@@ -114,17 +114,17 @@ module _ {D : Type 0} (model : Ghosts D) where
   advances_both a b c works ab bc =
       record {
         more = ab.more ++ bc.more;
-        groups = bc.groups ∙ ap (λ (gs : List (List Entry)). gs ++ bc.more) ab.groups ∙ append_assoc a.standing.groups ab.more bc.more;
+        groups = bc.groups ∙ ap (λ (gs : List (List Entry)). gs ++ bc.more) ab.groups ∙ append_assoc a.run_state.groups ab.more bc.more;
         synced = omega (arith, ab.synced, bc.synced);
         from = λ begun from. bc.from begun (ab.from begun from);
         any_moment = λ h fine begun from.
-            joined model (disk_of a) (disk_of b) (disk_of c) (LeavesPrefix begun c.standing.groups a.synced)
-            (weaker model (disk_of a) (disk_of b) (LeavesPrefix begun b.standing.groups a.synced) (LeavesPrefix begun c.standing.groups a.synced)
-            (λ image p. prefix_as begun (b.standing.groups ++ bc.more) c.standing.groups a.synced image bc.groups
-            (prefix_more begun b.standing.groups bc.more a.synced a.synced image (omega arith) p))
+            joined model (disk_of a) (disk_of b) (disk_of c) (LeavesPrefix begun c.run_state.groups a.synced)
+            (weaker model (disk_of a) (disk_of b) (LeavesPrefix begun b.run_state.groups a.synced) (LeavesPrefix begun c.run_state.groups a.synced)
+            (λ image p. prefix_as begun (b.run_state.groups ++ bc.more) c.run_state.groups a.synced image bc.groups
+            (prefix_more begun b.run_state.groups bc.more a.synced a.synced image (omega arith) p))
             (ab.any_moment h fine begun from))
-            (weaker model (disk_of b) (disk_of c) (LeavesPrefix begun c.standing.groups b.synced) (LeavesPrefix begun c.standing.groups a.synced)
-            (λ image p. fewer begun c.standing.groups b.synced a.synced image ab.synced p)
+            (weaker model (disk_of b) (disk_of c) (LeavesPrefix begun c.run_state.groups b.synced) (LeavesPrefix begun c.run_state.groups a.synced)
+            (λ image p. fewer begun c.run_state.groups b.synced a.synced image ab.synced p)
             (bc.any_moment (ab.honesty.1 h) works begun (ab.from begun from)));
         honesty = (λ h. ab.honesty.0 (bc.honesty.0 h), λ h. bc.honesty.1 (ab.honesty.1 h));
       }
@@ -146,9 +146,9 @@ module _ {D : Type 0} (model : Ghosts D) where
         synced = let s = same.synced in omega (arith, ab.synced);
         from = λ begun from. from_as begun b c same (ab.from begun from);
         any_moment = λ h fine begun from.
-            subst (λ (d : D). LeavesOnly model (disk_of a) d (LeavesPrefix begun c.standing.groups a.synced)) (sym disk)
-            (weaker model (disk_of a) (disk_of b) (LeavesPrefix begun b.standing.groups a.synced) (LeavesPrefix begun c.standing.groups a.synced)
-            (λ image p. prefix_as begun b.standing.groups c.standing.groups a.synced image same.groups p) (ab.any_moment h fine begun from));
+            subst (λ (d : D). LeavesOnly model (disk_of a) d (LeavesPrefix begun c.run_state.groups a.synced)) (sym disk)
+            (weaker model (disk_of a) (disk_of b) (LeavesPrefix begun b.run_state.groups a.synced) (LeavesPrefix begun c.run_state.groups a.synced)
+            (λ image p. prefix_as begun b.run_state.groups c.run_state.groups a.synced image same.groups p) (ab.any_moment h fine begun from));
         honesty = (λ h. ab.honesty.0 (subst model.honest disk h), λ h. subst model.honest (sym disk) (ab.honesty.1 h));
       }
 
@@ -161,8 +161,8 @@ module _ {D : Type 0} (model : Ghosts D) where
         synced = let s = same.synced in omega (arith, bc.synced);
         from = λ begun from. bc.from begun (from_as begun a b same from);
         any_moment = λ h fine begun from.
-            subst (λ (d : D). LeavesOnly model d (disk_of c) (LeavesPrefix begun c.standing.groups a.synced)) disk
-            (subst (λ (n : ℕ). LeavesOnly model (disk_of b) (disk_of c) (LeavesPrefix begun c.standing.groups n)) same.synced
+            subst (λ (d : D). LeavesOnly model d (disk_of c) (LeavesPrefix begun c.run_state.groups a.synced)) disk
+            (subst (λ (n : ℕ). LeavesOnly model (disk_of b) (disk_of c) (LeavesPrefix begun c.run_state.groups n)) same.synced
             (bc.any_moment (subst model.honest (sym disk) h) (ap (λ (k : KeeperState D). k.store.has_failed) same.keeper ∙ fine) begun (from_as begun a b same from)));
         honesty = (λ h. subst model.honest disk (bc.honesty.0 h), λ h. bc.honesty.1 (subst model.honest (sym disk) h));
       }

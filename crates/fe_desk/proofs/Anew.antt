@@ -8,12 +8,12 @@ use Rattle.fe_keeper.specs.Stands.{EachStandsFor}
 use Rattle.fe_desk.specs.Anew.{unwritten_to, anew, desk_anew}
 use Rattle.fe_desk.specs.Crash.{DeskState, disk_of}
 use Rattle.fe_desk.specs.Quiet.{AreWritten, HasNoMail}
-use Rattle.fe_desk.specs.Standing.{Client, Standing}
+use Rattle.fe_desk.specs.DeskRunState.{Client, DeskRunState}
 use Rattle.fe_desk.specs.Steps.{find}
-use Rattle.fe_desk.specs.declared.parts.Parts.{Parts}
+use Rattle.fe_desk.specs.declared.desk_inner.DeskInner.{DeskInner}
 use Rattle.fe_desk.specs.declared.port.Port.{Port}
 use Rattle.fe_desk.specs.declared.trace.Trace.{Trace}
-use Rattle.fe_desk.specs.within.Desk.{client_of, standing_of, desk_of, IsDesk}
+use Rattle.fe_desk.specs.within.Desk.{client_of, run_state_of, desk_of, IsDesk}
 use Rattle.fe_desk.proofs.Openings.{stands_at}
 use Rattle.fe_disk.specs.declared.disk.Disk.{Ghosts}
 
@@ -59,33 +59,33 @@ written_still (c ∷ cs) all = (all.0, written_still cs all.1)
 
 module _ {D : Type 0} where
   -- the parts with a trace that was cleared
-  pub is_anew : (p : Parts D) (t : Trace) → t.groups.items ≡ [] → t.synced ≡ 0 → map client_of t.ports.items ≡ map unwritten_to (map client_of p.trace.ports.items)
+  pub is_anew : (p : DeskInner D) (t : Trace) → t.groups.items ≡ [] → t.synced ≡ 0 → map client_of t.ports.items ≡ map unwritten_to (map client_of p.trace.ports.items)
       → desk_of (record p { trace = t }) ≡ desk_anew (desk_of p)
   is_anew p t groups synced ports =
-      let s : Standing = standing_of p in
+      let s : DeskRunState = run_state_of p in
       let k = p.keeper in
-      ap (λ (gs : List (Vec Entry Global)). record { standing = record s { groups = map (λ g. g.items) gs; clients = map client_of t.ports.items }; keeper = k; synced = t.synced }) groups
-      ∙ ap (λ (cs : List Client). record { standing = record s { groups = []; clients = cs }; keeper = k; synced = t.synced }) ports
-      ∙ ap (λ (n : ℕ). record { standing = anew s; keeper = k; synced = n }) synced
+      ap (λ (gs : List (Vec Entry Global)). record { run_state = record s { groups = map (λ g. g.items) gs; clients = map client_of t.ports.items }; keeper = k; synced = t.synced }) groups
+      ∙ ap (λ (cs : List Client). record { run_state = record s { groups = []; clients = cs }; keeper = k; synced = t.synced }) ports
+      ∙ ap (λ (n : ℕ). record { run_state = anew s; keeper = k; synced = n }) synced
 
   anew_desk : (model : Ghosts D) (d : DeskState D) → IsDesk model d → (model.honest (disk_of d) → EachStandsFor model (disk_of d) d.keeper.state)
       → IsDesk model (desk_anew d)
   anew_desk model d is stands = record {
     tied = record { handed = is.tied.handed; legal = is.tied.legal; state = is.tied.state };
-    known = λ conn there. found conn d.standing.clients (is.known conn there);
+    known = λ conn there. found conn d.run_state.clients (is.known conn there);
     few = omega arith;
     all = λ works. refl;
     upheld = λ h begun from image may. stands_at begun (desk_anew d) image from (omega arith) (stands h image may);
   }
 
   -- a desk with such a trace is one
-  pub still_desk : (model : Ghosts D) (p : Parts D) (t : Trace) → t.groups.items ≡ [] → t.synced ≡ 0 → map client_of t.ports.items ≡ map unwritten_to (map client_of p.trace.ports.items)
+  pub still_desk : (model : Ghosts D) (p : DeskInner D) (t : Trace) → t.groups.items ≡ [] → t.synced ≡ 0 → map client_of t.ports.items ≡ map unwritten_to (map client_of p.trace.ports.items)
       → IsDesk model (desk_of p) → (model.honest p.keeper.store.disk → EachStandsFor model p.keeper.store.disk p.keeper.state) → IsDesk model (desk_of (record p { trace = t }))
   still_desk model p t groups synced ports is stands =
       subst (λ (d : DeskState D). IsDesk model d) (sym (is_anew p t groups synced ports)) (anew_desk model (desk_of p) is stands)
 
   -- and where there was no mail there is none
-  pub still_quiet : (p : Parts D) (t : Trace) → map client_of t.ports.items ≡ map unwritten_to (map client_of p.trace.ports.items) → HasNoMail (standing_of p) → HasNoMail (standing_of (record p { trace = t }))
+  pub still_quiet : (p : DeskInner D) (t : Trace) → map client_of t.ports.items ≡ map unwritten_to (map client_of p.trace.ports.items) → HasNoMail (run_state_of p) → HasNoMail (run_state_of (record p { trace = t }))
   still_quiet p t ports quiet = record {
     boxes = quiet.boxes;
     replies = subst AreWritten (sym ports) (written_still (map client_of p.trace.ports.items) quiet.replies);

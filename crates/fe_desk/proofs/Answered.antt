@@ -7,7 +7,7 @@ use Rattle.std.proofs.lemmas.List.Elements.{Contains-append_right}
 use Rattle.fe_state.specs.State.{ServerState, IsAnswered, directory_of, after}
 use Rattle.fe_state.specs.declared.entry.Entry.{Entry}
 use Rattle.fe_state.specs.declared.entry.Entry.TheVariants.{Attached, Closed, Settled, Finished}
-use Rattle.fe_service.specs.Service.{Waiters, AreTurns, without_turn}
+use Rattle.fe_service.specs.Service.{WaitingAccesses, AreTurns, without_turn}
 use Rattle.fe_mail.specs.Mail.{session_of, mail_of}
 use Rattle.fe_messages.specs.Answers.{AreAnswered}
 use Rattle.fe_messages.proofs.Answers.{finished_at}
@@ -15,7 +15,7 @@ use Rattle.fe_messages.proofs.Boxes.{AllPosted}
 use Rattle.fe_desk.specs.Acknowledged.{StandsOn}
 
 -- those that serve what waits are
-pub turns_answered : (s : ServerState) (waiting : Waiters) (es : List Entry) → AreTurns s waiting es → AreAnswered s es
+pub turns_answered : (s : ServerState) (waiting : WaitingAccesses) (es : List Entry) → AreTurns s waiting es → AreAnswered s es
 turns_answered s waiting [] turns = tt
 turns_answered s waiting (e ∷ es) turns =
     (subst (λ (x : Entry). IsAnswered (directory_of s) x) (sym turns.0.entry) turns.0.answered, turns_answered (after s e) (without_turn waiting e) es turns.1)

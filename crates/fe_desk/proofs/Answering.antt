@@ -15,7 +15,7 @@ use Rattle.fe_desk.specs.declared.step.Step.TheVariants as step
 use Rattle.fe_desk.specs.Acknowledged.{IsWritten, AsksFor, StepAsksFor, IsAcknowledged, AnySessionMayBeAsked, AreStepsFor, AcknowledgedStand, stored_groups}
 use Rattle.fe_desk.specs.Crash.{DeskState}
 use Rattle.fe_desk.specs.Ends.{Tears, BreaksOff, Lacks, TearsStep, discharged_desk}
-use Rattle.fe_desk.specs.Standing.{Client, Standing, IsFirstStanding, emptied, discharged}
+use Rattle.fe_desk.specs.DeskRunState.{Client, DeskRunState, IsFirstRunState, emptied, discharged}
 use Rattle.fe_desk.specs.Taken.{Ends, IsStep}
 use Rattle.fe_desk.proofs.Holding.{AllTell, Tells, Holds, HoldsAt, some_holds, emptied_holds, discharged_holds}
 use Rattle.fe_messages.proofs.Answers.{KeepsBelow, keeps_below}
@@ -31,14 +31,14 @@ all_written begun groups asked cs =
 all_left : (begun : ServerState) (groups : List (List Entry)) (asked : ℕ → ℕ → Bool) (cs : List Client) → AllTell begun groups asked cs → AllByRecursion (λ (c : Client). AllByRecursion (AsksFor (asked c.conn)) c.left) cs
 all_left begun groups asked cs = all_weaker (Tells begun groups asked) (λ (c : Client). AllByRecursion (AsksFor (asked c.conn)) c.left) (λ c t. t.1) cs
 
-all_told_back : (begun : ServerState) (groups : List (List Entry)) (asked : ℕ → ℕ → Bool) (cs : List Client) → AllByRecursion (IsWritten begun groups asked) cs
+all_written_out_back : (begun : ServerState) (groups : List (List Entry)) (asked : ℕ → ℕ → Bool) (cs : List Client) → AllByRecursion (IsWritten begun groups asked) cs
     → AllByRecursion (λ (c : Client). AllByRecursion (AsksFor (asked c.conn)) c.left) cs → AllTell begun groups asked cs
-all_told_back begun groups asked [] written left = tt
-all_told_back begun groups asked (c ∷ cs) written left =
+all_written_out_back begun groups asked [] written left = tt
+all_written_out_back begun groups asked (c ∷ cs) written left =
     let w = written.0 in
-    ((record { waits = w.waits; mails = w.mails; stand = w.stand; spelling = w.written }, left.0), all_told_back begun groups asked cs written.1 left.1)
+    ((record { waits = w.waits; mails = w.mails; stand = w.stand; spelling = w.written }, left.0), all_written_out_back begun groups asked cs written.1 left.1)
 
-discharged_groups : (s : Standing) → (discharged s).groups ≡ s.groups
+discharged_groups : (s : DeskRunState) → (discharged s).groups ≡ s.groups
 discharged_groups s = by s.owes
   where
     by : (b : Bool) → (if b then emptied s else s).groups ≡ s.groups
@@ -47,13 +47,13 @@ discharged_groups s = by s.owes
 
 module _ {D : Type 0} (begun : ServerState) (asked : ℕ → ℕ → Bool) where
   abbrev HoldsIn : DeskState D → List (List Entry) → Type 0
-  HoldsIn d groups = Holds begun asked d.standing.front d.standing.clients d.standing.handed groups
+  HoldsIn d groups = Holds begun asked d.run_state.front d.run_state.clients d.run_state.handed groups
 
-  from_holds_in : (d : DeskState D) → HoldsIn d (stored_groups d) → (d.keeper.store.has_failed ≡ false → d.synced ≡ length d.standing.groups) → IsAcknowledged begun asked d
+  from_holds_in : (d : DeskState D) → HoldsIn d (stored_groups d) → (d.keeper.store.has_failed ≡ false → d.synced ≡ length d.run_state.groups) → IsAcknowledged begun asked d
   from_holds_in d h all = record {
-    answers = all_written begun (stored_groups d) asked d.standing.clients h.tell;
+    answers = all_written begun (stored_groups d) asked d.run_state.clients h.tell;
     boxed = h.boxes;
-    left = all_left begun (stored_groups d) asked d.standing.clients h.tell;
+    left = all_left begun (stored_groups d) asked d.run_state.clients h.tell;
     holders = h.has.holders;
     sessions = h.has.sessions;
     state = h.state;
@@ -63,56 +63,56 @@ module _ {D : Type 0} (begun : ServerState) (asked : ℕ → ℕ → Bool) where
   }
 
   -- where all groups are stored
-  whole_groups : (d : DeskState D) → d.synced ≡ length d.standing.groups → stored_groups d ≡ d.standing.groups
-  whole_groups d all = take_all d.synced d.standing.groups (omega (arith, all))
+  whole_groups : (d : DeskState D) → d.synced ≡ length d.run_state.groups → stored_groups d ≡ d.run_state.groups
+  whole_groups d all = take_all d.synced d.run_state.groups (omega (arith, all))
 
-  pub acknowledged_by : (d : DeskState D) → d.synced ≡ length d.standing.groups → HoldsAt begun asked d.standing → IsAcknowledged begun asked d
+  pub acknowledged_by : (d : DeskState D) → d.synced ≡ length d.run_state.groups → HoldsAt begun asked d.run_state → IsAcknowledged begun asked d
   acknowledged_by d all h = from_holds_in d (subst (λ (gs : List (List Entry)). HoldsIn d gs) (sym (whole_groups d all)) h) (λ works. all)
 
-  holds_of : (d : DeskState D) → d.synced ≡ length d.standing.groups → IsAcknowledged begun asked d → HoldsAt begun asked d.standing
+  holds_of : (d : DeskState D) → d.synced ≡ length d.run_state.groups → IsAcknowledged begun asked d → HoldsAt begun asked d.run_state
   holds_of d all is =
       let h : HoldsIn d (stored_groups d) = record {
         state = is.state;
         answered = is.answered;
         way = is.way;
         boxes = is.boxed;
-        tell = all_told_back begun (stored_groups d) asked d.standing.clients is.answers is.left;
+        tell = all_written_out_back begun (stored_groups d) asked d.run_state.clients is.answers is.left;
         has = record { holders = is.holders; sessions = is.sessions };
       } in
       subst (λ (gs : List (List Entry)). HoldsIn d gs) (whole_groups d all) h
 
-  pub first_acknowledged : (d : DeskState D) → IsFirstStanding begun d.standing → d.synced ≡ 0 → IsAcknowledged begun asked d
+  pub first_acknowledged : (d : DeskState D) → IsFirstRunState begun d.run_state → d.synced ≡ 0 → IsAcknowledged begun asked d
   first_acknowledged d first none =
       let few = ap (λ (gs : List (List Entry)). length gs) first.groups in
-      acknowledged_by d (omega (arith, few, none)) (first_holds begun asked d.standing first)
+      acknowledged_by d (omega (arith, few, none)) (first_holds begun asked d.run_state first)
 
   -- the batch that was torn is not stored
-  torn : (last : Standing) (d : DeskState D) → Tears last d → d.keeper.store.has_failed ≡ true → HoldsAt begun asked last → IsAcknowledged begun asked d
+  torn : (last : DeskRunState) (d : DeskState D) → Tears last d → d.keeper.store.has_failed ≡ true → HoldsAt begun asked last → IsAcknowledged begun asked d
   torn last d tears failed h =
       let batch : List Entry = tears.at_hand.batch.entries in
       let stored : stored_groups d ≡ last.groups =
-      ap (λ (s : Standing). take d.synced s.groups) tears.standing ∙ ap (λ (n : ℕ). take n (last.groups ++ batch ∷ [])) tears.synced ∙ take-append_seam last.groups (batch ∷ []) in
-      let here : Holds begun asked d.standing.front d.standing.clients d.standing.handed last.groups =
-      subst (λ (s : Standing). Holds begun asked s.front s.clients s.handed last.groups) (sym tears.standing) h in
+      ap (λ (s : DeskRunState). take d.synced s.groups) tears.run_state ∙ ap (λ (n : ℕ). take n (last.groups ++ batch ∷ [])) tears.synced ∙ take-append_seam last.groups (batch ∷ []) in
+      let here : Holds begun asked d.run_state.front d.run_state.clients d.run_state.handed last.groups =
+      subst (λ (s : DeskRunState). Holds begun asked s.front s.clients s.handed last.groups) (sym tears.run_state) h in
       from_holds_in d (subst (λ (gs : List (List Entry)). HoldsIn d gs) (sym stored) here) (λ works. absurd (true≢false (sym failed ∙ works)))
 
-  broken_off : (old new : DeskState D) → BreaksOff old new → old.synced ≡ length old.standing.groups → HoldsAt begun asked old.standing → IsAcknowledged begun asked new
+  broken_off : (old new : DeskState D) → BreaksOff old new → old.synced ≡ length old.run_state.groups → HoldsAt begun asked old.run_state → IsAcknowledged begun asked new
   broken_off old new off all h =
-      let same = ap (λ (s : Standing). length s.groups) off.standing in
+      let same = ap (λ (s : DeskRunState). length s.groups) off.run_state in
       let synced = off.synced in
-      acknowledged_by new (omega (arith, same, synced, all)) (subst (λ (s : Standing). HoldsAt begun asked s) (sym off.standing) h)
+      acknowledged_by new (omega (arith, same, synced, all)) (subst (λ (s : DeskRunState). HoldsAt begun asked s) (sym off.run_state) h)
 
   module _ (below : KeepsBelow begun) (model : Ghosts D) where
     -- what a step at fault did, where no mails are owed
-    lacks_hold : (fed : Bool) (x : Step) (old new : DeskState D) → StepAsks begun asked below old.standing x → Lacks fed x old new → HoldsAt begun asked old.standing → HoldsAt begun asked new.standing
-    lacks_hold false (step.Connect conn) old new asks lacks h = subst (λ (d : DeskState D). HoldsAt begun asked d.standing) (sym lacks.1) h
+    lacks_hold : (fed : Bool) (x : Step) (old new : DeskState D) → StepAsks begun asked below old.run_state x → Lacks fed x old new → HoldsAt begun asked old.run_state → HoldsAt begun asked new.run_state
+    lacks_hold false (step.Connect conn) old new asks lacks h = subst (λ (d : DeskState D). HoldsAt begun asked d.run_state) (sym lacks.1) h
     lacks_hold false (step.Bytes conn piece) old new asks lacks h = elim lacks.0 [
-      | inl stops ↦ before_holds begun asked below old.standing conn new.standing stops h
-      | inr stops ↦ unread_holds begun asked below old.standing conn new.standing stops.unread h
+      | inl stops ↦ before_holds begun asked below old.run_state conn new.run_state stops h
+      | inr stops ↦ unread_holds begun asked below old.run_state conn new.run_state stops.unread h
     ]
-    lacks_hold true (step.Bytes conn piece) old new asks lacks h = behind_holds begun asked below old.standing conn piece.items new.standing asks lacks.0 h
-    lacks_hold false step.Append old new asks lacks h = subst (λ (d : DeskState D). HoldsAt begun asked d.standing) (sym lacks.1) h
-    lacks_hold false step.CheckBegin old new asks lacks h = subst (λ (d : DeskState D). HoldsAt begun asked d.standing) (sym lacks.1) h
+    lacks_hold true (step.Bytes conn piece) old new asks lacks h = behind_holds begun asked below old.run_state conn piece.items new.run_state asks lacks.0 h
+    lacks_hold false step.Append old new asks lacks h = subst (λ (d : DeskState D). HoldsAt begun asked d.run_state) (sym lacks.1) h
+    lacks_hold false step.CheckBegin old new asks lacks h = subst (λ (d : DeskState D). HoldsAt begun asked d.run_state) (sym lacks.1) h
     lacks_hold false (step.Gone conn) old new asks lacks h = absurd lacks
     lacks_hold false step.Cut old new asks lacks h = absurd lacks
     lacks_hold false step.Post old new asks lacks h = absurd lacks
@@ -127,12 +127,12 @@ module _ {D : Type 0} (begun : ServerState) (asked : ℕ → ℕ → Bool) where
     lacks_hold true step.CheckStep old new asks lacks h = absurd lacks
     lacks_hold true step.CheckFinish old new asks lacks h = absurd lacks
 
-    breaks_acknowledged : (x : Step) (old new : DeskState D) → StepAsks begun asked below old.standing x → TearsStep x old new → new.keeper.store.has_failed ≡ true → old.synced ≡ length old.standing.groups → HoldsAt begun asked old.standing → IsAcknowledged begun asked new
+    breaks_acknowledged : (x : Step) (old new : DeskState D) → StepAsks begun asked below old.run_state x → TearsStep x old new → new.keeper.store.has_failed ≡ true → old.synced ≡ length old.run_state.groups → HoldsAt begun asked old.run_state → IsAcknowledged begun asked new
     breaks_acknowledged (step.Bytes conn piece) old new asks breaks failed all h = elim breaks.stops [
-      | inl stops ↦ torn breaks.last new breaks.tears failed (before_holds begun asked below old.standing conn breaks.last stops h)
-      | inr stops ↦ torn breaks.last new breaks.tears failed (behind_holds begun asked below old.standing conn piece.items breaks.last asks stops h)
+      | inl stops ↦ torn breaks.last new breaks.tears failed (before_holds begun asked below old.run_state conn breaks.last stops h)
+      | inr stops ↦ torn breaks.last new breaks.tears failed (behind_holds begun asked below old.run_state conn piece.items breaks.last asks stops h)
     ]
-    breaks_acknowledged step.Append old new asks breaks failed all h = torn old.standing new breaks failed h
+    breaks_acknowledged step.Append old new asks breaks failed all h = torn old.run_state new breaks failed h
     breaks_acknowledged step.CheckBegin old new asks breaks failed all h = broken_off old new breaks all h
     breaks_acknowledged step.CheckStep old new asks breaks failed all h = broken_off old new breaks all h
     breaks_acknowledged step.CheckFinish old new asks breaks failed all h = broken_off old new breaks all h
@@ -142,8 +142,8 @@ module _ {D : Type 0} (begun : ServerState) (asked : ℕ → ℕ → Bool) where
     breaks_acknowledged step.Post old new asks breaks failed all h = absurd breaks
 
     -- what is read of a connection's stream is the same where mails that were owed are written
-    asks_discharged : (d : DeskState D) (x : Step) → StepAsksFor asked d x → StepAsks begun asked below (discharged d.standing) x
-    asks_discharged d (step.Bytes conn piece) asks = λ before after more read reads. asks before after more (sym (discharged_reads d.standing conn) ∙ read) reads
+    asks_discharged : (d : DeskState D) (x : Step) → StepAsksFor asked d x → StepAsks begun asked below (discharged d.run_state) x
+    asks_discharged d (step.Bytes conn piece) asks = λ before after more read reads. asks before after more (sym (discharged_reads d.run_state conn) ∙ read) reads
     asks_discharged d (step.Connect conn) asks = tt
     asks_discharged d (step.Gone conn) asks = tt
     asks_discharged d step.Cut asks = tt
@@ -153,28 +153,28 @@ module _ {D : Type 0} (begun : ServerState) (asked : ℕ → ℕ → Bool) where
     asks_discharged d step.CheckStep asks = tt
     asks_discharged d step.CheckFinish asks = tt
 
-    ends_acknowledged : (old : DeskState D) (x : Step) (r : Result (Unit {0}) DeskFault) (new : DeskState D) → StepAsksFor asked old x → Ends model old x r new → old.synced ≡ length old.standing.groups
-        → HoldsAt begun asked old.standing → IsAcknowledged begun asked new
+    ends_acknowledged : (old : DeskState D) (x : Step) (r : Result (Unit {0}) DeskFault) (new : DeskState D) → StepAsksFor asked old x → Ends model old x r new → old.synced ≡ length old.run_state.groups
+        → HoldsAt begun asked old.run_state → IsAcknowledged begun asked new
     ends_acknowledged old x r new asks ends all h = by r ends
       where
-        there : HoldsAt begun asked (discharged old.standing)
-        there = discharged_holds begun asked old.standing h
+        there : HoldsAt begun asked (discharged old.run_state)
+        there = discharged_holds begun asked old.run_state h
 
-        mine : StepAsks begun asked below (discharged old.standing) x
+        mine : StepAsks begun asked below (discharged old.run_state) x
         mine = asks_discharged old x asks
 
         by : (r : Result (Unit {0}) DeskFault) → Ends model old x r new → IsAcknowledged begun asked new
         by (Ok done) ends =
-            acknowledged_by new ends.sound.stored (subst (λ (s : Standing). HoldsAt begun asked s) (sym ends.took.after)
-            (emptied_holds begun asked ends.took.last (acts_hold begun asked below (discharged old.standing) x ends.took.last mine ends.took.acts there)))
+            acknowledged_by new ends.sound.stored (subst (λ (s : DeskRunState). HoldsAt begun asked s) (sym ends.took.after)
+            (emptied_holds begun asked ends.took.last (acts_hold begun asked below (discharged old.run_state) x ends.took.last mine ends.took.acts there)))
         by (Err (Store cause)) ends =
-            breaks_acknowledged x (discharged_desk old) new mine ends.1.breaks ends.1.failed.failed (all ∙ ap (λ (gs : List (List Entry)). length gs) (sym (discharged_groups old.standing))) there
+            breaks_acknowledged x (discharged_desk old) new mine ends.1.breaks ends.1.failed.failed (all ∙ ap (λ (gs : List (List Entry)). length gs) (sym (discharged_groups old.run_state))) there
         by (Err (NoMemory fed)) ends = acknowledged_by new ends.sound.stored (elim ends.finds [
-          | inl still ↦ some_holds begun asked old.standing new.standing still.1.writes h
+          | inl still ↦ some_holds begun asked old.run_state new.run_state still.1.writes h
           | inr lacks ↦ lacks_hold fed x (discharged_desk old) new mine lacks there
         ])
         by (Err Unwritten) ends =
-            acknowledged_by new ends.sound.stored (some_holds begun asked ends.last new.standing ends.writes (acts_hold begun asked below (discharged old.standing) x ends.last mine ends.acts there))
+            acknowledged_by new ends.sound.stored (some_holds begun asked ends.last new.run_state ends.writes (acts_hold begun asked below (discharged old.run_state) x ends.last mine ends.acts there))
 
     pub step_acknowledged : (old : DeskState D) (x : Step) (r : Result (Unit {0}) DeskFault) (new : DeskState D) → StepAsksFor asked old x → IsStep model old x r new → IsAcknowledged begun asked old
         → IsAcknowledged begun asked new

@@ -13,7 +13,7 @@ use Rattle.fe_front.specs.Front.{FrontState, is_connected}
 use Rattle.fe_front.specs.Steps.{connected, dropped}
 use Rattle.fe_front.proofs.Keeping.{dropped-keeps}
 use Rattle.fe_desk.specs.declared.port.Port.{Port}
-use Rattle.fe_desk.specs.Standing.{Client, Standing}
+use Rattle.fe_desk.specs.DeskRunState.{Client, DeskRunState}
 use Rattle.fe_desk.specs.Storing.{is_making}
 use Rattle.fe_desk.specs.Steps.{find, on_client, with_left, unmade, gone, new_client, clients_with, BeginsStream, Connects}
 use Rattle.fe_desk.specs.within.Places.{IsFirstAt, Joins}
@@ -36,13 +36,13 @@ pub record KeepsMade (f g : FrontState) : Type 0 where
   pub pending : g.service.pending ≡ f.service.pending
   pub out : g.out ≡ f.out
 
-abbrev moved : Standing → FrontState → List Client → Option ℕ → Bool → Standing
+abbrev moved : DeskRunState → FrontState → List Client → Option ℕ → Bool → DeskRunState
 moved s f clients making owes = record s { front = f; clients = clients; making = making; owes = owes }
 
-abbrev desk_at : {D : Type 0} → Standing → KeeperState D → ℕ → DeskState D
-desk_at s k n = record { standing = s; keeper = k; synced = n }
+abbrev desk_at : {D : Type 0} → DeskRunState → KeeperState D → ℕ → DeskState D
+desk_at s k n = record { run_state = s; keeper = k; synced = n }
 
-moved_desk : {D : Type 0} (model : Ghosts D) (s : Standing) (k : KeeperState D) (n : ℕ) (f : FrontState) (clients : List Client) (making : Option ℕ) (owes : Bool)
+moved_desk : {D : Type 0} (model : Ghosts D) (s : DeskRunState) (k : KeeperState D) (n : ℕ) (f : FrontState) (clients : List Client) (making : Option ℕ) (owes : Bool)
     → IsDesk model (desk_at s k n) → KeepsMade s.front f → AreKnown f clients → IsDesk model (desk_at (moved s f clients making owes) k n)
 moved_desk model s k n f clients making owes desk keeps known = record {
   tied = record {
@@ -57,17 +57,17 @@ moved_desk model s k n f clients making owes desk keeps known = record {
 }
 
 -- the same of a standing that is equal, and a keeper and a number that are
-pub keeps_desk : {D : Type 0} (model : Ghosts D) (s t : Standing) (k k' : KeeperState D) (n n' : ℕ) (f : FrontState) (clients : List Client) (making : Option ℕ) (owes : Bool)
+pub keeps_desk : {D : Type 0} (model : Ghosts D) (s t : DeskRunState) (k k' : KeeperState D) (n n' : ℕ) (f : FrontState) (clients : List Client) (making : Option ℕ) (owes : Bool)
     → t ≡ moved s f clients making owes → k' ≡ k → n' ≡ n → IsDesk model (desk_at s k n) → KeepsMade s.front f → AreKnown f clients → IsDesk model (desk_at t k' n')
-keeps_desk {D} model s t k k' n n' f clients making owes standing keeper synced desk keeps known =
-    subst (λ (x : Standing). IsDesk model (desk_at x k' n')) (sym standing)
+keeps_desk {D} model s t k k' n n' f clients making owes run_state keeper synced desk keeps known =
+    subst (λ (x : DeskRunState). IsDesk model (desk_at x k' n')) (sym run_state)
     (subst (λ (x : KeeperState D). IsDesk model (desk_at (moved s f clients making owes) x n')) (sym keeper)
     (subst (λ (x : ℕ). IsDesk model (desk_at (moved s f clients making owes) k x)) (sym synced)
     (moved_desk model s k n f clients making owes desk keeps known)))
 
 -- ---- room is made for nobody
 
-unmade_moved : (s : Standing) (conn : ℕ) (f : FrontState) (clients : List Client)
+unmade_moved : (s : DeskRunState) (conn : ℕ) (f : FrontState) (clients : List Client)
     → unmade (moved s f clients s.making s.owes) conn ≡ moved s f clients (unmade s conn).making s.owes
 unmade_moved s conn f clients = by (is_making s conn)
   where
@@ -76,7 +76,7 @@ unmade_moved s conn f clients = by (is_making s conn)
     by true = refl
     by false = refl
 
-unmade_apart : (s : Standing) (conn : ℕ) (f : FrontState) (clients : List Client)
+unmade_apart : (s : DeskRunState) (conn : ℕ) (f : FrontState) (clients : List Client)
     → record (unmade s conn) { front = f; clients = clients } ≡ moved s f clients (unmade s conn).making s.owes
 unmade_apart s conn f clients = by (is_making s conn)
   where
@@ -109,15 +109,15 @@ came_all f clients conn d known q there = elim (same_or_other q conn) [
 ]
 
 -- it came, and no room is being made for it then
-pub connects : (s mid t : Standing) (conn : ℕ) → Joins s conn mid → t ≡ unmade mid conn → Connects s conn t
+pub connects : (s mid t : DeskRunState) (conn : ℕ) → Joins s conn mid → t ≡ unmade mid conn → Connects s conn t
 connects s mid t conn joins is = record {
   decoder = joins.decoder;
   begins = joins.begins;
-  after = is ∙ ap (λ (x : Standing). unmade x conn) joins.after ∙ unmade_moved s conn (connected s.front conn) (clients_with s.clients conn joins.decoder)
+  after = is ∙ ap (λ (x : DeskRunState). unmade x conn) joins.after ∙ unmade_moved s conn (connected s.front conn) (clients_with s.clients conn joins.decoder)
       ∙ sym (unmade_apart s conn (connected s.front conn) (clients_with s.clients conn joins.decoder));
 }
 
-pub connects_desk : {D : Type 0} (model : Ghosts D) (s t : Standing) (k k' : KeeperState D) (n n' conn : ℕ)
+pub connects_desk : {D : Type 0} (model : Ghosts D) (s t : DeskRunState) (k k' : KeeperState D) (n n' conn : ℕ)
     → Connects s conn t → k' ≡ k → n' ≡ n → IsDesk model (desk_at s k n) → IsDesk model (desk_at t k' n')
 connects_desk model s t k k' n n' conn connects keeper synced desk =
     let f = connected s.front conn in
@@ -127,7 +127,7 @@ connects_desk model s t k k' n n' conn connects keeper synced desk =
 
 -- ---- a connection goes
 
-gone_moved : (s : Standing) (conn : ℕ) → gone s conn ≡ moved s (dropped s.front conn) (on_client conn (λ c. record c { left = [] }) s.clients) (unmade s conn).making s.owes
+gone_moved : (s : DeskRunState) (conn : ℕ) → gone s conn ≡ moved s (dropped s.front conn) (on_client conn (λ c. record c { left = [] }) s.clients) (unmade s conn).making s.owes
 gone_moved s conn = by (is_making s conn)
   where
     by : (b : Bool) → record (with_left (if b then record s { making = None } else s) conn []) { front = dropped s.front conn }
@@ -136,13 +136,13 @@ gone_moved s conn = by (is_making s conn)
     by false = refl
 
 -- the front lets it go, its messages are forgotten, and no room is being made for it
-pub goes : (s t : Standing) (f : FrontState) (conn : ℕ) → f ≡ dropped s.front conn → t ≡ unmade (with_left (record s { front = f }) conn []) conn → t ≡ gone s conn
+pub goes : (s t : DeskRunState) (f : FrontState) (conn : ℕ) → f ≡ dropped s.front conn → t ≡ unmade (with_left (record s { front = f }) conn []) conn → t ≡ gone s conn
 goes s t f conn front is =
     let g = dropped s.front conn in
     let clients = on_client conn (λ c. record c { left = [] }) s.clients in
     is ∙ ap (λ (x : FrontState). unmade (with_left (record s { front = x }) conn []) conn) front ∙ unmade_moved s conn g clients ∙ sym (gone_moved s conn)
 
-pub gone_desk : {D : Type 0} (model : Ghosts D) (s t : Standing) (k k' : KeeperState D) (n n' conn : ℕ)
+pub gone_desk : {D : Type 0} (model : Ghosts D) (s t : DeskRunState) (k k' : KeeperState D) (n n' conn : ℕ)
     → t ≡ gone s conn → k' ≡ k → n' ≡ n → IsDesk model (desk_at s k n) → IsDesk model (desk_at t k' n')
 gone_desk model s t k k' n n' conn is keeper synced desk =
     let f = dropped s.front conn in
@@ -156,17 +156,17 @@ gone_desk model s t k k' n n' conn is keeper synced desk =
 -- ---- from the calls on ports
 
 -- the messages of a number's port are forgotten
-pub left_forgotten : (s : Standing) (ports : List Port) (conn at : ℕ) (p q : Port) → s.clients ≡ map client_of ports → IsFirstAt (map client_of ports) conn at → p ≡ get_or ports at p
+pub left_forgotten : (s : DeskRunState) (ports : List Port) (conn at : ℕ) (p q : Port) → s.clients ≡ map client_of ports → IsFirstAt (map client_of ports) conn at → p ≡ get_or ports at p
     → client_of q ≡ record (client_of p) { left = [] } → record s { clients = map client_of (slice_set ports at q) } ≡ with_left s conn []
 left_forgotten s ports conn at p q clients first is to =
     let change : Client → Client = λ c. record c { left = [] } in
     ap (λ (cs : List Client). record s { clients = cs }) (port_changed ports conn at p q change first is to ∙ ap (λ (cs : List Client). on_client conn change cs) (sym clients))
 
-pub nothing_forgotten : (s : Standing) (conn : ℕ) → find conn s.clients ≡ None → s ≡ with_left s conn []
+pub nothing_forgotten : (s : DeskRunState) (conn : ℕ) → find conn s.clients ≡ None → s ≡ with_left s conn []
 nothing_forgotten s conn none = ap (λ (cs : List Client). record s { clients = cs }) (sym (changed_nowhere s.clients conn (λ c. record c { left = [] }) none))
 
 -- a number's port begins anew
-pub joins_again : (s : Standing) (f : FrontState) (ports : List Port) (conn at : ℕ) (p q : Port) → s.clients ≡ map client_of ports → IsFirstAt (map client_of ports) conn at → p ≡ get_or ports at p
+pub joins_again : (s : DeskRunState) (f : FrontState) (ports : List Port) (conn at : ℕ) (p q : Port) → s.clients ≡ map client_of ports → IsFirstAt (map client_of ports) conn at → p ≡ get_or ports at p
     → client_of q ≡ record (client_of p) { decoder = q.decoder; left = [] } → BeginsStream q.decoder → f ≡ connected s.front conn
     → Joins s conn (record s { front = f; clients = map client_of (slice_set ports at q) })
 joins_again s f ports conn at p q clients first is to begins front =

@@ -23,9 +23,9 @@ use Rattle.fe_desk.specs.within.Desk.{client_of}
 use Rattle.fe_messages.specs.Mails.{reply_of, spelled}
 use Rattle.fe_desk.specs.Mails.{taken_times, emptied_box}
 use Rattle.fe_desk.specs.Output.{output_of, Extends}
-use Rattle.fe_desk.specs.Standing.{Client, unwritten, told, all_told, all_emptied}
+use Rattle.fe_desk.specs.DeskRunState.{Client, unwritten, written_out, all_written_out, all_emptied}
 use Rattle.fe_desk.specs.Steps.{find}
-use Rattle.fe_desk.specs.within.Keeping.{KeepsFront, KeepsEmpty, IsToldLater, AreToldLater}
+use Rattle.fe_desk.specs.within.Keeping.{KeepsFront, KeepsEmpty, IsWrittenOutLater, AreWrittenOutLater}
 use Rattle.fe_desk.proofs.Outputs.{extends_itself, extends_both, extends_at}
 
 -- ---- what stays, over calls one after another
@@ -180,15 +180,15 @@ pub record IsQuiet (f : FrontState) (c : Client) : Type 0 where
   pub reply : c.reply ≡ None
   pub box : mails_on f.connections c.conn ≡ []
 
-pub quiet_told : (f : FrontState) (c : Client) → IsQuiet f c → told f c ≡ c
-quiet_told f c quiet =
+pub quiet_written_out : (f : FrontState) (c : Client) → IsQuiet f c → written_out f c ≡ c
+quiet_written_out f c quiet =
     let nothing : unwritten f c ≡ [] =
     ap (λ (o : Option ServerMessage). option_map_or reply_spelling o [] ++ spelled (mails_on f.connections c.conn)) quiet.reply ∙ ap spelled quiet.box in
     ap (λ (t : List ℕ). record c { reply = None; written = c.written ++ t }) nothing
     ∙ ap (λ (t : List ℕ). record c { reply = None; written = t }) (append-nil c.written)
     ∙ ap (λ (o : Option ServerMessage). record c { reply = o }) (sym quiet.reply)
 
-pub later_both : (f g h : FrontState) (c d e : Client) → IsToldLater f c g d → IsToldLater g d h e → IsToldLater f c h e
+pub later_both : (f g h : FrontState) (c d e : Client) → IsWrittenOutLater f c g d → IsWrittenOutLater g d h e → IsWrittenOutLater f c h e
 later_both f g h c d e a b =
     let one = a.output in
     let two = b.output in
@@ -199,21 +199,21 @@ later_both f g h c d e a b =
       client = b.client ∙ a.client;
     }
 
-pub later_itself : (f : FrontState) (c : Client) → IsToldLater f c f c
+pub later_itself : (f : FrontState) (c : Client) → IsWrittenOutLater f c f c
 later_itself f c = record { conn = refl; output = ([], sym (append-nil c.written)); front = refl; client = refl }
 
 -- the reply that waits is written
-pub waiting_written : (f : FrontState) (c d : Client) → d ≡ record c { reply = None; written = c.written ++ option_map_or reply_spelling c.reply [] } → IsToldLater f c f d
+pub waiting_written : (f : FrontState) (c d : Client) → d ≡ record c { reply = None; written = c.written ++ option_map_or reply_spelling c.reply [] } → IsWrittenOutLater f c f d
 waiting_written f c d is =
     let frame : List ℕ = option_map_or reply_spelling c.reply [] in
     let rest : List ℕ = spelled (mails_on f.connections c.conn) in
-    let here : IsToldLater f c f (record c { reply = None; written = c.written ++ frame }) = record {
+    let here : IsWrittenOutLater f c f (record c { reply = None; written = c.written ++ frame }) = record {
       conn = refl;
       output = (frame, refl);
       front = refl;
       client = ap (λ (t : List ℕ). record c { reply = None; written = t }) (append_assoc c.written frame rest);
     } in
-    subst (λ (x : Client). IsToldLater f c f x) (sym is) here
+    subst (λ (x : Client). IsWrittenOutLater f c f x) (sym is) here
 
 -- what the first mail of a box is, and what its taking leaves
 record TakesMail (f : FrontState) (conn : ℕ) (m : Mail) (g : FrontState) : Type 0 where
@@ -242,7 +242,7 @@ fewer_left f conn m first = (takes_mail f conn m first).fewer
 
 -- a mail is taken, and written
 pub mail_written : (f : FrontState) (c : Client) (m : Mail) → c.reply ≡ None → Some m ≡ slice_get (mails_on f.connections c.conn) 0
-    → IsToldLater f c (taken f c.conn) (record c { written = c.written ++ reply_spelling (reply_of m) })
+    → IsWrittenOutLater f c (taken f c.conn) (record c { written = c.written ++ reply_spelling (reply_of m) })
 mail_written f c m none first =
     let t = takes_mail f c.conn m first in
     let g : FrontState = taken f c.conn in
@@ -257,7 +257,7 @@ mail_written f c m none first =
 
 -- a mail is taken, and its reply waits
 pub mail_waits : (f : FrontState) (c : Client) (m : Mail) → c.reply ≡ None → Some m ≡ slice_get (mails_on f.connections c.conn) 0
-    → IsToldLater f c (taken f c.conn) (record c { reply = Some (reply_of m) })
+    → IsWrittenOutLater f c (taken f c.conn) (record c { reply = Some (reply_of m) })
 mail_waits f c m none first =
     let t = takes_mail f c.conn m first in
     let same : reply_spelling (reply_of m) ++ spelled (mails_on (taken f c.conn).connections c.conn) ≡ unwritten f c =
@@ -265,22 +265,22 @@ mail_waits f c m none first =
     record { conn = refl; output = ([], sym (append-nil c.written)); front = t.front; client = ap (λ (t : List ℕ). record c { reply = None; written = c.written ++ t }) same }
 
 -- the next mail is taken, and written
-pub next_written : (f : FrontState) (c : Client) (h : FrontState) (e : Client) (g : FrontState) (d : Client) (m : Mail) (r : ServerMessage) → IsToldLater f c h e → e.reply ≡ None
-    → Some m ≡ slice_get (mails_on h.connections e.conn) 0 → g ≡ taken h e.conn → r ≡ reply_of m → d ≡ record e { written = e.written ++ reply_spelling r } → IsToldLater f c g d
+pub next_written : (f : FrontState) (c : Client) (h : FrontState) (e : Client) (g : FrontState) (d : Client) (m : Mail) (r : ServerMessage) → IsWrittenOutLater f c h e → e.reply ≡ None
+    → Some m ≡ slice_get (mails_on h.connections e.conn) 0 → g ≡ taken h e.conn → r ≡ reply_of m → d ≡ record e { written = e.written ++ reply_spelling r } → IsWrittenOutLater f c g d
 next_written f c h e g d m r later none first front reply client =
     let d' : Client = record e { written = e.written ++ reply_spelling (reply_of m) } in
     let same : d ≡ d' = client ∙ ap (λ (x : ServerMessage). record e { written = e.written ++ reply_spelling x }) reply in
-    let step : IsToldLater f c (taken h e.conn) d' = later_both f h (taken h e.conn) c e d' later (mail_written h e m none first) in
-    subst (λ (x : Client). IsToldLater f c g x) (sym same) (subst (λ (x : FrontState). IsToldLater f c x d') (sym front) step)
+    let step : IsWrittenOutLater f c (taken h e.conn) d' = later_both f h (taken h e.conn) c e d' later (mail_written h e m none first) in
+    subst (λ (x : Client). IsWrittenOutLater f c g x) (sym same) (subst (λ (x : FrontState). IsWrittenOutLater f c x d') (sym front) step)
 
 -- the next mail is taken, and its reply waits
-pub next_waits : (f : FrontState) (c : Client) (h : FrontState) (e : Client) (g : FrontState) (d : Client) (m : Mail) (r : ServerMessage) → IsToldLater f c h e → e.reply ≡ None
-    → Some m ≡ slice_get (mails_on h.connections e.conn) 0 → g ≡ taken h e.conn → r ≡ reply_of m → d ≡ record e { reply = Some r } → IsToldLater f c g d
+pub next_waits : (f : FrontState) (c : Client) (h : FrontState) (e : Client) (g : FrontState) (d : Client) (m : Mail) (r : ServerMessage) → IsWrittenOutLater f c h e → e.reply ≡ None
+    → Some m ≡ slice_get (mails_on h.connections e.conn) 0 → g ≡ taken h e.conn → r ≡ reply_of m → d ≡ record e { reply = Some r } → IsWrittenOutLater f c g d
 next_waits f c h e g d m r later none first front reply client =
     let d' : Client = record e { reply = Some (reply_of m) } in
     let same : d ≡ d' = client ∙ ap (λ (x : ServerMessage). record e { reply = Some x }) reply in
-    let step : IsToldLater f c (taken h e.conn) d' = later_both f h (taken h e.conn) c e d' later (mail_waits h e m none first) in
-    subst (λ (x : Client). IsToldLater f c g x) (sym same) (subst (λ (x : FrontState). IsToldLater f c x d') (sym front) step)
+    let step : IsWrittenOutLater f c (taken h e.conn) d' = later_both f h (taken h e.conn) c e d' later (mail_waits h e m none first) in
+    subst (λ (x : Client). IsWrittenOutLater f c g x) (sym same) (subst (λ (x : FrontState). IsWrittenOutLater f c x d') (sym front) step)
 
 -- what stays where the next mail is taken
 pub next_keeps : (f h g : FrontState) (conn : ℕ) → KeepsFront f h → g ≡ taken h conn → KeepsFront f g
@@ -320,51 +320,51 @@ pub quiet_all_emptied : (f : FrontState) (cs ds : List Client) → AreQuiet f cs
 quiet_all_emptied f [] ds quiet = refl
 quiet_all_emptied f (c ∷ cs) ds quiet = ap (λ (g : FrontState). all_emptied g (cs ++ ds)) (nothing_emptied f c.conn quiet.0.box) ∙ quiet_all_emptied f cs ds quiet.1
 
-pub quiet_all_told : (f : FrontState) (cs ds : List Client) → AreQuiet f cs → all_told f (cs ++ ds) ≡ cs ++ all_told f ds
-quiet_all_told f [] ds quiet = refl
-quiet_all_told f (c ∷ cs) ds quiet =
-    ap (λ (d : Client). d ∷ all_told (emptied_box f c.conn) (cs ++ ds)) (quiet_told f c quiet.0)
-    ∙ ap (λ (g : FrontState). c ∷ all_told g (cs ++ ds)) (nothing_emptied f c.conn quiet.0.box)
-    ∙ ap (λ (es : List Client). c ∷ es) (quiet_all_told f cs ds quiet.1)
+pub quiet_all_written_out : (f : FrontState) (cs ds : List Client) → AreQuiet f cs → all_written_out f (cs ++ ds) ≡ cs ++ all_written_out f ds
+quiet_all_written_out f [] ds quiet = refl
+quiet_all_written_out f (c ∷ cs) ds quiet =
+    ap (λ (d : Client). d ∷ all_written_out (emptied_box f c.conn) (cs ++ ds)) (quiet_written_out f c quiet.0)
+    ∙ ap (λ (g : FrontState). c ∷ all_written_out g (cs ++ ds)) (nothing_emptied f c.conn quiet.0.box)
+    ∙ ap (λ (es : List Client). c ∷ es) (quiet_all_written_out f cs ds quiet.1)
 
 -- Some clients are done with, and the others are as they were: it comes to what it came to at the beginning.
-pub record IsToldSoFar (begun : FrontState) (first : List Client) (f : FrontState) (done left : List Client) : Type 0 where
+pub record IsWrittenOutSoFar (begun : FrontState) (first : List Client) (f : FrontState) (done left : List Client) : Type 0 where
   pub front : all_emptied f left ≡ all_emptied begun first
-  pub clients : done ++ all_told f left ≡ all_told begun first
+  pub clients : done ++ all_written_out f left ≡ all_written_out begun first
   pub quiet : AreQuiet f done
   pub output : Extends (map output_of first) (map output_of (done ++ left))
 
 -- none is done with at the beginning
-pub none_told : (begun : FrontState) (first : List Client) → IsToldSoFar begun first begun [] first
-none_told begun first = record { front = refl; clients = refl; quiet = tt; output = extends_itself (map output_of first) }
+pub none_written_out : (begun : FrontState) (first : List Client) → IsWrittenOutSoFar begun first begun [] first
+none_written_out begun first = record { front = refl; clients = refl; quiet = tt; output = extends_itself (map output_of first) }
 
 -- a client more
-pub one_told : (begun : FrontState) (first : List Client) (f : FrontState) (done : List Client) (c : Client) (left : List Client) (g : FrontState) (d : Client)
-    → IsToldSoFar begun first f done (c ∷ left) → g ≡ emptied_box f c.conn → d ≡ told f c → IsToldSoFar begun first g (done ++ d ∷ []) left
-one_told begun first f done c left g d far front client =
+pub one_written_out : (begun : FrontState) (first : List Client) (f : FrontState) (done : List Client) (c : Client) (left : List Client) (g : FrontState) (d : Client)
+    → IsWrittenOutSoFar begun first f done (c ∷ left) → g ≡ emptied_box f c.conn → d ≡ written_out f c → IsWrittenOutSoFar begun first g (done ++ d ∷ []) left
+one_written_out begun first f done c left g d far front client =
     let h : FrontState = emptied_box f c.conn in
-    let e : Client = told f c in
+    let e : Client = written_out f c in
     let more : Extends (map output_of (done ++ c ∷ left)) (map output_of (done ++ e ∷ left)) = extends_at done c e left refl (unwritten f c, refl) in
-    let here : IsToldSoFar begun first h (done ++ e ∷ []) left = record {
+    let here : IsWrittenOutSoFar begun first h (done ++ e ∷ []) left = record {
       front = far.front;
-      clients = append_assoc done (e ∷ []) (all_told h left) ∙ far.clients;
+      clients = append_assoc done (e ∷ []) (all_written_out h left) ∙ far.clients;
       quiet = quiet_append h done e (still_quiet f h done (emptied_box-empty f c.conn) far.quiet) (record { reply = refl; box = box_emptied f c.conn });
       output = subst (λ (cs : List Client). Extends (map output_of first) (map output_of cs)) (sym (append_assoc done (e ∷ []) left))
           (extends_both (map output_of first) (map output_of (done ++ c ∷ left)) (map output_of (done ++ e ∷ left)) far.output more);
     } in
-    subst (λ (x : Client). IsToldSoFar begun first g (done ++ x ∷ []) left) (sym client) (subst (λ (x : FrontState). IsToldSoFar begun first x (done ++ e ∷ []) left) (sym front) here)
+    subst (λ (x : Client). IsWrittenOutSoFar begun first g (done ++ x ∷ []) left) (sym client) (subst (λ (x : FrontState). IsWrittenOutSoFar begun first x (done ++ e ∷ []) left) (sym front) here)
 
 -- a client more, of whose mails some are left
 pub rest_later : (begun : FrontState) (first : List Client) (f : FrontState) (done : List Client) (c : Client) (left : List Client) (g : FrontState) (d : Client)
-    → IsToldSoFar begun first f done (c ∷ left) → IsToldLater f c g d → KeepsEmpty f g → AreToldLater begun first g (done ++ d ∷ left)
+    → IsWrittenOutSoFar begun first f done (c ∷ left) → IsWrittenOutLater f c g d → KeepsEmpty f g → AreWrittenOutLater begun first g (done ++ d ∷ left)
 rest_later begun first f done c left g d far later keeps =
     let quiet : AreQuiet g done = still_quiet f g done keeps far.quiet in
     record {
       front = quiet_all_emptied g done (d ∷ left) quiet ∙ ap (λ (x : FrontState). all_emptied x left) later.front ∙ far.front;
       clients =
-          quiet_all_told g done (d ∷ left) quiet
-          ∙ ap (λ (x : Client). done ++ x ∷ all_told (emptied_box g d.conn) left) later.client
-          ∙ ap (λ (x : FrontState). done ++ told f c ∷ all_told x left) later.front
+          quiet_all_written_out g done (d ∷ left) quiet
+          ∙ ap (λ (x : Client). done ++ x ∷ all_written_out (emptied_box g d.conn) left) later.client
+          ∙ ap (λ (x : FrontState). done ++ written_out f c ∷ all_written_out x left) later.front
           ∙ far.clients;
       output = extends_both (map output_of first) (map output_of (done ++ c ∷ left)) (map output_of (done ++ d ∷ left)) far.output (extends_at done c d left later.conn later.output);
     }
@@ -394,28 +394,28 @@ all_alike {B} f ports at p q lt is same =
     ∙ sym (map-append f (take at ports) (drop at ports))
     ∙ ap (λ (ps : List Port). map f ps) (take-append-drop at ports)
 
-abbrev pub IsToldTo : FrontState → List Client → FrontState → List Port → ℕ → Type 0
-IsToldTo begun first f ports at = IsToldSoFar begun first f (map client_of (take at ports)) (map client_of (drop at ports))
+abbrev pub IsWrittenOutTo : FrontState → List Client → FrontState → List Port → ℕ → Type 0
+IsWrittenOutTo begun first f ports at = IsWrittenOutSoFar begun first f (map client_of (take at ports)) (map client_of (drop at ports))
 
 -- a port more
-pub port_told : (begun : FrontState) (first : List Client) (f g : FrontState) (ports : List Port) (at : ℕ) (p q : Port) → at < length ports → p ≡ get_or ports at p → IsToldTo begun first f ports at
-    → g ≡ emptied_box f p.conn → client_of q ≡ told f (client_of p) → IsToldTo begun first g (slice_set ports at q) (at + 1)
-port_told begun first f g ports at p q lt is far front client =
+pub port_written_out : (begun : FrontState) (first : List Client) (f g : FrontState) (ports : List Port) (at : ℕ) (p q : Port) → at < length ports → p ≡ get_or ports at p → IsWrittenOutTo begun first f ports at
+    → g ≡ emptied_box f p.conn → client_of q ≡ written_out f (client_of p) → IsWrittenOutTo begun first g (slice_set ports at q) (at + 1)
+port_written_out begun first f g ports at p q lt is far front client =
     let behind : drop (at + 1) (slice_set ports at q) ≡ drop (at + 1) ports = drop-set-lt (at + 1) ports at q (omega arith) in
     let before : map client_of (take (at + 1) (slice_set ports at q)) ≡ map client_of (take at ports) ++ client_of q ∷ [] =
     ap (λ (ps : List Port). map client_of ps) (take_more_set ports at q lt) ∙ map-append client_of (take at ports) (q ∷ []) in
-    let here : IsToldSoFar begun first f (map client_of (take at ports)) (client_of p ∷ map client_of (drop (at + 1) ports)) =
-    subst (λ (cs : List Client). IsToldSoFar begun first f (map client_of (take at ports)) cs) (from_here client_of ports at p lt is) far in
-    let next : IsToldSoFar begun first g (map client_of (take at ports) ++ client_of q ∷ []) (map client_of (drop (at + 1) ports)) =
-    one_told begun first f (map client_of (take at ports)) (client_of p) (map client_of (drop (at + 1) ports)) g (client_of q) here front client in
-    subst (λ (ps : List Port). IsToldSoFar begun first g (map client_of (take (at + 1) (slice_set ports at q))) (map client_of ps)) (sym behind)
-    (subst (λ (cs : List Client). IsToldSoFar begun first g cs (map client_of (drop (at + 1) ports))) (sym before) next)
+    let here : IsWrittenOutSoFar begun first f (map client_of (take at ports)) (client_of p ∷ map client_of (drop (at + 1) ports)) =
+    subst (λ (cs : List Client). IsWrittenOutSoFar begun first f (map client_of (take at ports)) cs) (from_here client_of ports at p lt is) far in
+    let next : IsWrittenOutSoFar begun first g (map client_of (take at ports) ++ client_of q ∷ []) (map client_of (drop (at + 1) ports)) =
+    one_written_out begun first f (map client_of (take at ports)) (client_of p) (map client_of (drop (at + 1) ports)) g (client_of q) here front client in
+    subst (λ (ps : List Port). IsWrittenOutSoFar begun first g (map client_of (take (at + 1) (slice_set ports at q))) (map client_of ps)) (sym behind)
+    (subst (λ (cs : List Client). IsWrittenOutSoFar begun first g cs (map client_of (drop (at + 1) ports))) (sym before) next)
 
 -- a port of whose mails some are left
-pub port_later : (begun : FrontState) (first : List Client) (f g : FrontState) (ports : List Port) (at : ℕ) (p q : Port) → at < length ports → p ≡ get_or ports at p → IsToldTo begun first f ports at
-    → IsToldLater f (client_of p) g (client_of q) → KeepsEmpty f g → AreToldLater begun first g (map client_of (slice_set ports at q))
+pub port_later : (begun : FrontState) (first : List Client) (f g : FrontState) (ports : List Port) (at : ℕ) (p q : Port) → at < length ports → p ≡ get_or ports at p → IsWrittenOutTo begun first f ports at
+    → IsWrittenOutLater f (client_of p) g (client_of q) → KeepsEmpty f g → AreWrittenOutLater begun first g (map client_of (slice_set ports at q))
 port_later begun first f g ports at p q lt is far later keeps =
-    let here : IsToldSoFar begun first f (map client_of (take at ports)) (client_of p ∷ map client_of (drop (at + 1) ports)) =
-    subst (λ (cs : List Client). IsToldSoFar begun first f (map client_of (take at ports)) cs) (from_here client_of ports at p lt is) far in
-    subst (λ (cs : List Client). AreToldLater begun first g cs) (sym (replaced client_of ports at q lt))
+    let here : IsWrittenOutSoFar begun first f (map client_of (take at ports)) (client_of p ∷ map client_of (drop (at + 1) ports)) =
+    subst (λ (cs : List Client). IsWrittenOutSoFar begun first f (map client_of (take at ports)) cs) (from_here client_of ports at p lt is) far in
+    subst (λ (cs : List Client). AreWrittenOutLater begun first g cs) (sym (replaced client_of ports at q lt))
     (rest_later begun first f (map client_of (take at ports)) (client_of p) (map client_of (drop (at + 1) ports)) g (client_of q) here later keeps)

@@ -8,12 +8,12 @@ use Rattle.fe_disk.specs.declared.disk.Disk.{Ghosts}
 
 module _ {D : Type 0} (model : Ghosts D) (Cause : Fault → Type 0) (fault : Fault) (old new : KeeperState D) where
   -- no memory
-  pub short_told : fault ≡ NoMemory → Fails model Cause old new fault → Cause NoMemory × Refuses old new
-  short_told is fails = subst (Fails model Cause old new) is fails
+  pub short_given : fault ≡ NoMemory → Fails model Cause old new fault → Cause NoMemory × Refuses old new
+  short_given is fails = subst (Fails model Cause old new) is fails
 
   -- the device
-  pub device_told : fault ≡ Device → Fails model Cause old new fault → Cause Device × Breaks model old new
-  device_told is fails = subst (Fails model Cause old new) is fails
+  pub device_fault : fault ≡ Device → Fails model Cause old new fault → Cause Device × Breaks model old new
+  device_fault is fails = subst (Fails model Cause old new) is fails
 
 -- the device alone is left
 pub only_device : {D : Type 0} (model : Ghosts D) (Cause : Fault → Type 0) (fault : Fault) (old new : KeeperState D) → old.store.has_failed ≡ false → (fault ≡ NoMemory → ⊥) → ((place : ℕ) → Cause (Mismatch place) → ⊥)

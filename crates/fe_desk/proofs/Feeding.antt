@@ -8,7 +8,7 @@ use Rattle.fe_front.specs.Front.{FrontState}
 use Rattle.fe_desk.specs.declared.step.Step.{Step}
 use Rattle.fe_desk.specs.declared.step.Step.TheVariants as step
 use Rattle.fe_desk.specs.Mails.{emptied_box}
-use Rattle.fe_desk.specs.Standing.{Client, Standing, emptied, discharged, all_told}
+use Rattle.fe_desk.specs.DeskRunState.{Client, DeskRunState, emptied, discharged, all_written_out}
 use Rattle.fe_desk.specs.Steps.{find, on_client}
 use Rattle.fe_desk.specs.Messages.{read_by, ReadsNone, TellsFed}
 use Rattle.fe_desk.proofs.Reading.{each-on_client}
@@ -60,15 +60,15 @@ find_other k conn change (c ∷ cs) other keeps = by (nat_eq c.conn conn) refl (
 
 -- ---- mails are written
 
-told_streams : (f : FrontState) (cs : List Client) → map stream (all_told f cs) ≡ map stream cs
-told_streams f [] = refl
-told_streams f (c ∷ cs) = ap (λ (ps : List (ℕ × Decoding)). stream c ∷ ps) (told_streams (emptied_box f c.conn) cs)
+written_out_streams : (f : FrontState) (cs : List Client) → map stream (all_written_out f cs) ≡ map stream cs
+written_out_streams f [] = refl
+written_out_streams f (c ∷ cs) = ap (λ (ps : List (ℕ × Decoding)). stream c ∷ ps) (written_out_streams (emptied_box f c.conn) cs)
 
-emptied_reads : (s : Standing) → ReadsNone s (emptied s)
-emptied_reads s k = read_as k s.clients (all_told s.front s.clients) (told_streams s.front s.clients)
+emptied_reads : (s : DeskRunState) → ReadsNone s (emptied s)
+emptied_reads s k = read_as k s.clients (all_written_out s.front s.clients) (written_out_streams s.front s.clients)
 
 -- nothing is read where mails that were owed are written
-pub discharged_reads : (s : Standing) → ReadsNone s (discharged s)
+pub discharged_reads : (s : DeskRunState) → ReadsNone s (discharged s)
 discharged_reads s k = by s.owes
   where
     by : (b : Bool) → read_by (if b then emptied s else s) k ≡ read_by s k
@@ -77,15 +77,15 @@ discharged_reads s k = by s.owes
 
 -- ---- what a step did with its bytes
 
-pub same_reads : (s t : Standing) → t ≡ s → ReadsNone s t
-same_reads s t same k = ap (λ (u : Standing). read_by u k) same
+pub same_reads : (s t : DeskRunState) → t ≡ s → ReadsNone s t
+same_reads s t same k = ap (λ (u : DeskRunState). read_by u k) same
 
 -- mails that are still owed
-pub settling_reads : (s u : Standing) → discharged u ≡ discharged s → ReadsNone s u
+pub settling_reads : (s u : DeskRunState) → discharged u ≡ discharged s → ReadsNone s u
 settling_reads s u same k = sym (discharged_reads u k) ∙ same_reads (discharged s) (discharged u) same k ∙ discharged_reads s k
 
 -- the same from before the mails were written
-pub fed_discharged : (fed : Bool) (s mid : Standing) (step : Step) (t : Standing) → mid ≡ discharged s → TellsFed fed mid step t → TellsFed fed s step t
+pub fed_discharged : (fed : Bool) (s mid : DeskRunState) (step : Step) (t : DeskRunState) → mid ≡ discharged s → TellsFed fed mid step t → TellsFed fed s step t
 fed_discharged false s mid step t is none = λ k. none k ∙ same_reads (discharged s) mid is k ∙ discharged_reads s k
 fed_discharged true s mid (step.Bytes conn piece) t is read = record {
   before = read.before;

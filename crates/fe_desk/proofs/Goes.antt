@@ -9,7 +9,7 @@ use Rattle.fe_keeper.specs.declared.fault.Fault.{Fault}
 use Rattle.fe_keeper.specs.declared.fault.Fault.TheVariants.{Device, Failed, NoMemory, Mismatch, Damaged, Unformatted}
 use Rattle.fe_desk.specs.declared.fault.DeskFault.{DeskFault}
 use Rattle.fe_desk.specs.declared.fault.DeskFault.TheVariants as desk
-use Rattle.fe_desk.specs.Standing.{Standing}
+use Rattle.fe_desk.specs.DeskRunState.{DeskRunState}
 use Rattle.fe_desk.specs.Crash.{DeskState, disk_of}
 use Rattle.fe_desk.specs.Ends.{Tears}
 use Rattle.fe_desk.specs.Stopping.{HasCut}
@@ -19,7 +19,7 @@ use Rattle.fe_desk.specs.Storing.{posted, posted_from}
 use Rattle.fe_desk.specs.within.Keeping.{HasStore}
 use Rattle.fe_desk.specs.within.Desk.{IsDesk}
 use Rattle.fe_desk.specs.within.Goes.{Stores, Faults, Goes, GoesPiece, PieceFaults, IsUnstored, IsShort, Is}
-use Rattle.fe_desk.specs.Messages.{told_as}
+use Rattle.fe_desk.specs.Messages.{desk_fault_of}
 use Rattle.fe_desk.proofs.Advancing.{advances_as, advances_both, advances_then, advances_after, fine_both, fine_as}
 use Rattle.fe_desk.proofs.Growing.{stores_none, stores_both}
 
@@ -38,7 +38,7 @@ module _ {D : Type 0} (k : Ghosts D) where
   both a b c ab bc = record { fine = fine_both k a b c ab.fine bc.fine; grows = stores_both a b c ab.grows bc.grows }
 
   -- a fault after a call that was done
-  faults_then : (Short : DeskState D → Type 0) (Until : Standing → Type 0) (a b c : DeskState D) (fault : Fault) → Stores k a b → Faults k Short Until b c fault → Faults k Short Until a c fault
+  faults_then : (Short : DeskState D → Type 0) (Until : DeskRunState → Type 0) (a b c : DeskState D) (fault : Fault) → Stores k a b → Faults k Short Until b c fault → Faults k Short Until a c fault
   faults_then Short Until a b c Device ab bc = record {
     last = bc.last;
     until = bc.until;
@@ -51,12 +51,12 @@ module _ {D : Type 0} (k : Ghosts D) where
   faults_then Short Until a b c (Damaged offset) ab bc = bc
   faults_then Short Until a b c Unformatted ab bc = bc
 
-  ends_then : (Done : Standing → Type 0) (Short : DeskState D → Type 0) (Until : Standing → Type 0) (r : Result (Unit {0}) Fault) (a b c : DeskState D) → Stores k a b
-      → MatchResult r (λ _. Stores k b c × Done c.standing) (Faults k Short Until b c) → MatchResult r (λ _. Stores k a c × Done c.standing) (Faults k Short Until a c)
+  ends_then : (Done : DeskRunState → Type 0) (Short : DeskState D → Type 0) (Until : DeskRunState → Type 0) (r : Result (Unit {0}) Fault) (a b c : DeskState D) → Stores k a b
+      → MatchResult r (λ _. Stores k b c × Done c.run_state) (Faults k Short Until b c) → MatchResult r (λ _. Stores k a c × Done c.run_state) (Faults k Short Until a c)
   ends_then Done Short Until (Ok x) a b c ab bc = (both a b c ab bc.0, bc.1)
   ends_then Done Short Until (Err fault) a b c ab bc = faults_then Short Until a b c fault ab bc
 
-  faults_weaker : (Short Less : DeskState D → Type 0) (Until Before : Standing → Type 0) (a b : DeskState D) (fault : Fault) → (Short b → Less b) → ((last : Standing) → Until last → Tears last b → Before last)
+  faults_weaker : (Short Less : DeskState D → Type 0) (Until Before : DeskRunState → Type 0) (a b : DeskState D) (fault : Fault) → (Short b → Less b) → ((last : DeskRunState) → Until last → Tears last b → Before last)
       → Faults k Short Until a b fault → Faults k Less Before a b fault
   faults_weaker Short Less Until Before a b Device short until h = record { last = h.last; until = until h.last h.until h.tears; tears = h.tears; failed = h.failed }
   faults_weaker Short Less Until Before a b Failed short until h = h
@@ -65,30 +65,30 @@ module _ {D : Type 0} (k : Ghosts D) where
   faults_weaker Short Less Until Before a b (Damaged offset) short until h = h
   faults_weaker Short Less Until Before a b Unformatted short until h = h
 
-  -- what is told of the fault where a piece is read
-  faults_told : (Short : DeskState D → Type 0) (Less : Bool → Standing → Type 0) (Until Before : Standing → Type 0) (a b : DeskState D) (fault : Fault) (fed : Bool) → (Short b → Less fed b.standing) → ((last : Standing) → Until last → Before last)
-      → Faults k Short Until a b fault → PieceFaults k Less Before a b (told_as fault fed)
-  faults_told Short Less Until Before a b Device fed short until h = (refl, record { last = h.last; until = until h.last h.until; tears = h.tears; failed = h.failed })
-  faults_told Short Less Until Before a b Failed fed short until h = absurd h
-  faults_told Short Less Until Before a b NoMemory fed short until h = (h.0, short h.1)
-  faults_told Short Less Until Before a b (Mismatch place) fed short until h = absurd h
-  faults_told Short Less Until Before a b (Damaged offset) fed short until h = absurd h
-  faults_told Short Less Until Before a b Unformatted fed short until h = absurd h
+  -- the fault that is given where a piece is read
+  faults_given : (Short : DeskState D → Type 0) (Less : Bool → DeskRunState → Type 0) (Until Before : DeskRunState → Type 0) (a b : DeskState D) (fault : Fault) (fed : Bool) → (Short b → Less fed b.run_state) → ((last : DeskRunState) → Until last → Before last)
+      → Faults k Short Until a b fault → PieceFaults k Less Before a b (desk_fault_of fault fed)
+  faults_given Short Less Until Before a b Device fed short until h = (refl, record { last = h.last; until = until h.last h.until; tears = h.tears; failed = h.failed })
+  faults_given Short Less Until Before a b Failed fed short until h = absurd h
+  faults_given Short Less Until Before a b NoMemory fed short until h = (h.0, short h.1)
+  faults_given Short Less Until Before a b (Mismatch place) fed short until h = absurd h
+  faults_given Short Less Until Before a b (Damaged offset) fed short until h = absurd h
+  faults_given Short Less Until Before a b Unformatted fed short until h = absurd h
 
 -- ---- where memory was short
 
-short_weaker : {D : Type 0} {R Until : Standing → Type 0} {b : DeskState D} → ((last : Standing) → R last → Until last) → IsShort R b → IsShort Until b
-short_weaker {D} {R} {Until} {b} until h = record { until = until b.standing h.until; at_hand = h.at_hand }
+short_weaker : {D : Type 0} {R Until : DeskRunState → Type 0} {b : DeskState D} → ((last : DeskRunState) → R last → Until last) → IsShort R b → IsShort Until b
+short_weaker {D} {R} {Until} {b} until h = record { until = until b.run_state h.until; at_hand = h.at_hand }
 
 -- nothing was done
-pub unstored_short : {D : Type 0} {a b : DeskState D} → IsUnstored a b → IsShort (Is a.standing) b
-unstored_short {D} {a} {b} h = record { until = ap (λ (d : DeskState D). d.standing) h.same; at_hand = subst (λ (d : DeskState D). HasCut d.standing) (sym h.same) h.at_hand }
+pub unstored_short : {D : Type 0} {a b : DeskState D} → IsUnstored a b → IsShort (Is a.run_state) b
+unstored_short {D} {a} {b} h = record { until = ap (λ (d : DeskState D). d.run_state) h.same; at_hand = subst (λ (d : DeskState D). HasCut d.run_state) (sym h.same) h.at_hand }
 
 -- ---- calls one after the other
 
 module _ {D : Type 0} {k : Ghosts D} where
   -- a call that was done, and one after it
-  pub then : {P : Standing → Type 0} {Q : DeskState D → Type 0} {R : Standing → Type 0} {x : Unit {0}} {Done : Standing → Type 0} {Short : DeskState D → Type 0} {Until : Standing → Type 0} {r : Result (Unit {0}) Fault} {a b c : DeskState D}
+  pub then : {P : DeskRunState → Type 0} {Q : DeskState D → Type 0} {R : DeskRunState → Type 0} {x : Unit {0}} {Done : DeskRunState → Type 0} {Short : DeskState D → Type 0} {Until : DeskRunState → Type 0} {r : Result (Unit {0}) Fault} {a b c : DeskState D}
       → Goes k P Q R (Ok x) a b → Goes k Done Short Until r b c → Goes k Done Short Until r a c
   then {P} {Q} {R} {x} {Done} {Short} {Until} {r} {a} {b} {c} ab bc = record {
     owes = bc.owes ∙ ab.owes;
@@ -97,8 +97,8 @@ module _ {D : Type 0} {k : Ghosts D} where
   }
 
   -- what does not touch the store
-  pub stays : {P : Standing → Type 0} {Q : DeskState D → Type 0} {R : Standing → Type 0} {a b : DeskState D} → OnlyNow k
-      → IsDesk k a → a.keeper.store.has_failed ≡ false → HasStore a b → b.standing.owes ≡ a.standing.owes → P b.standing → Goes k P Q R (Ok tt) a b
+  pub stays : {P : DeskRunState → Type 0} {Q : DeskState D → Type 0} {R : DeskRunState → Type 0} {a b : DeskState D} → OnlyNow k
+      → IsDesk k a → a.keeper.store.has_failed ≡ false → HasStore a b → b.run_state.owes ≡ a.run_state.owes → P b.run_state → Goes k P Q R (Ok tt) a b
   stays {P} {Q} {R} {a} {b} only_now desk works same owes p = record {
     owes = owes;
     advances = advances_as k only_now a b desk same;
@@ -106,18 +106,18 @@ module _ {D : Type 0} {k : Ghosts D} where
   }
 
   -- memory was short for the batch at hand, and nothing was done
-  pub unstored : {Done Until : Standing → Type 0} {fault : Fault} {a b : DeskState D} → OnlyNow k → fault ≡ NoMemory → IsDesk k a → a.keeper.store.has_failed ≡ false
-      → HasCut a.standing → b ≡ a → Goes k Done (IsUnstored a) Until (Err fault) a b
+  pub unstored : {Done Until : DeskRunState → Type 0} {fault : Fault} {a b : DeskState D} → OnlyNow k → fault ≡ NoMemory → IsDesk k a → a.keeper.store.has_failed ≡ false
+      → HasCut a.run_state → b ≡ a → Goes k Done (IsUnstored a) Until (Err fault) a b
   unstored {Done} {Until} {fault} {a} {b} only_now is desk works cut same =
-      let still : HasStore a b = record { keeper = ap (λ (d : DeskState D). d.keeper) same; groups = ap (λ (d : DeskState D). d.standing.groups) same; synced = ap (λ (d : DeskState D). d.synced) same } in
+      let still : HasStore a b = record { keeper = ap (λ (d : DeskState D). d.keeper) same; groups = ap (λ (d : DeskState D). d.run_state.groups) same; synced = ap (λ (d : DeskState D). d.synced) same } in
       record {
-        owes = ap (λ (d : DeskState D). d.standing.owes) same;
+        owes = ap (λ (d : DeskState D). d.run_state.owes) same;
         advances = advances_as k only_now a b desk still;
         ends = subst (Faults k (IsUnstored a) Until a b) (sym is) (stores_still k a b works still, record { at_hand = cut; same = same });
       }
 
   -- what does not touch the store, before a call or after one that was done
-  pub before : {Done : Standing → Type 0} {Short : DeskState D → Type 0} {Until : Standing → Type 0} {r : Result (Unit {0}) Fault} {a b c : DeskState D} → a.keeper.store.has_failed ≡ false → HasStore a b → b.standing.owes ≡ a.standing.owes
+  pub before : {Done : DeskRunState → Type 0} {Short : DeskState D → Type 0} {Until : DeskRunState → Type 0} {r : Result (Unit {0}) Fault} {a b c : DeskState D} → a.keeper.store.has_failed ≡ false → HasStore a b → b.run_state.owes ≡ a.run_state.owes
       → Goes k Done Short Until r b c → Goes k Done Short Until r a c
   before {Done} {Short} {Until} {r} {a} {b} {c} works same owes bc = record {
     owes = bc.owes ∙ owes;
@@ -125,8 +125,8 @@ module _ {D : Type 0} {k : Ghosts D} where
     ends = ends_then k Done Short Until r a b c (stores_still k a b works same) bc.ends;
   }
 
-  pub after : {P : Standing → Type 0} {Q : DeskState D → Type 0} {R : Standing → Type 0} {x y : Unit {0}} {Done : Standing → Type 0} {Short : DeskState D → Type 0} {Until : Standing → Type 0} {a b c : DeskState D}
-      → Goes k P Q R (Ok x) a b → HasStore b c → c.standing.owes ≡ b.standing.owes → Done c.standing → Goes k Done Short Until (Ok y) a c
+  pub after : {P : DeskRunState → Type 0} {Q : DeskState D → Type 0} {R : DeskRunState → Type 0} {x y : Unit {0}} {Done : DeskRunState → Type 0} {Short : DeskState D → Type 0} {Until : DeskRunState → Type 0} {a b c : DeskState D}
+      → Goes k P Q R (Ok x) a b → HasStore b c → c.run_state.owes ≡ b.run_state.owes → Done c.run_state → Goes k Done Short Until (Ok y) a c
   after {P} {Q} {R} {x} {y} {Done} {Short} {Until} {a} {b} {c} ab same owes d = record {
     owes = owes ∙ ab.owes;
     advances = advances_then k a b c ab.advances same;
@@ -135,26 +135,26 @@ module _ {D : Type 0} {k : Ghosts D} where
 
   -- ---- the same call, said otherwise
 
-  pub weaker : {P : Standing → Type 0} {Q : DeskState D → Type 0} {R Done : Standing → Type 0} {Short : DeskState D → Type 0} {Until : Standing → Type 0} {r : Result (Unit {0}) Fault} {a b : DeskState D}
-      → (P b.standing → Done b.standing) → (Q b → Short b) → ((last : Standing) → R last → Tears last b → Until last) → Goes k P Q R r a b → Goes k Done Short Until r a b
+  pub weaker : {P : DeskRunState → Type 0} {Q : DeskState D → Type 0} {R Done : DeskRunState → Type 0} {Short : DeskState D → Type 0} {Until : DeskRunState → Type 0} {r : Result (Unit {0}) Fault} {a b : DeskState D}
+      → (P b.run_state → Done b.run_state) → (Q b → Short b) → ((last : DeskRunState) → R last → Tears last b → Until last) → Goes k P Q R r a b → Goes k Done Short Until r a b
   weaker {P} {Q} {R} {Done} {Short} {Until} {r} {a} {b} more short until h = by r h
     where
       by : (r : Result (Unit {0}) Fault) → Goes k P Q R r a b → Goes k Done Short Until r a b
       by (Ok x) h = record { owes = h.owes; advances = h.advances; ends = (h.ends.0, more h.ends.1) }
       by (Err f) h = record { owes = h.owes; advances = h.advances; ends = faults_weaker k Q Short R Until a b f short until h.ends }
 
-  pub when_done : {P : Standing → Type 0} {Q : DeskState D → Type 0} {R : Standing → Type 0} {X : Type 0} {a b : DeskState D} (r : Result (Unit {0}) Fault) → (P b.standing → X) → Goes k P Q R r a b → OnOk r X
+  pub when_done : {P : DeskRunState → Type 0} {Q : DeskState D → Type 0} {R : DeskRunState → Type 0} {X : Type 0} {a b : DeskState D} (r : Result (Unit {0}) Fault) → (P b.run_state → X) → Goes k P Q R r a b → OnOk r X
   when_done (Ok x) more h = more h.ends.1
   when_done (Err f) more h = tt
 
   -- it is done, which comes to this
-  pub done : {P : Standing → Type 0} {Q : DeskState D → Type 0} {R : Standing → Type 0} {x y : Unit {0}} {Done : Standing → Type 0} {Short : DeskState D → Type 0} {Until : Standing → Type 0} {a b : DeskState D}
-      → (P b.standing → Done b.standing) → Goes k P Q R (Ok x) a b → Goes k Done Short Until (Ok y) a b
+  pub done : {P : DeskRunState → Type 0} {Q : DeskState D → Type 0} {R : DeskRunState → Type 0} {x y : Unit {0}} {Done : DeskRunState → Type 0} {Short : DeskState D → Type 0} {Until : DeskRunState → Type 0} {a b : DeskState D}
+      → (P b.run_state → Done b.run_state) → Goes k P Q R (Ok x) a b → Goes k Done Short Until (Ok y) a b
   done more h = record { owes = h.owes; advances = h.advances; ends = (h.ends.0, more h.ends.1) }
 
   -- it is at fault, which `?` passes on
-  pub passed : {P : Standing → Type 0} {Q : DeskState D → Type 0} {R Done : Standing → Type 0} {Short : DeskState D → Type 0} {Until : Standing → Type 0} {fault : Fault} {r : Result (Unit {0}) Fault} {a b : DeskState D}
-      → IsErrAnd r (λ f. f ≡ fault) → (Q b → Short b) → ((last : Standing) → R last → Tears last b → Until last) → Goes k P Q R (Err fault) a b → Goes k Done Short Until r a b
+  pub passed : {P : DeskRunState → Type 0} {Q : DeskState D → Type 0} {R Done : DeskRunState → Type 0} {Short : DeskState D → Type 0} {Until : DeskRunState → Type 0} {fault : Fault} {r : Result (Unit {0}) Fault} {a b : DeskState D}
+      → IsErrAnd r (λ f. f ≡ fault) → (Q b → Short b) → ((last : DeskRunState) → R last → Tears last b → Until last) → Goes k P Q R (Err fault) a b → Goes k Done Short Until r a b
   passed {P} {Q} {R} {Done} {Short} {Until} {fault} {r} {a} {b} is short until h = by r is
     where
       by : (r : Result (Unit {0}) Fault) → IsErrAnd r (λ f. f ≡ fault) → Goes k Done Short Until r a b
@@ -162,37 +162,37 @@ module _ {D : Type 0} {k : Ghosts D} where
       by (Err f) is = record { owes = h.owes; advances = h.advances; ends = faults_weaker k Q Short R Until a b f short until (subst (Faults k Q R a b) (sym is) h.ends) }
 
   -- where it stops for either fault alike
-  pub passed_on : {P R Done Until : Standing → Type 0} {fault : Fault} {r : Result (Unit {0}) Fault} {a b : DeskState D}
-      → IsErrAnd r (λ f. f ≡ fault) → ((last : Standing) → R last → Until last) → Goes k P (IsShort R) R (Err fault) a b → Goes k Done (IsShort Until) Until r a b
+  pub passed_on : {P R Done Until : DeskRunState → Type 0} {fault : Fault} {r : Result (Unit {0}) Fault} {a b : DeskState D}
+      → IsErrAnd r (λ f. f ≡ fault) → ((last : DeskRunState) → R last → Until last) → Goes k P (IsShort R) R (Err fault) a b → Goes k Done (IsShort Until) Until r a b
   passed_on is until h = passed is (short_weaker until) (λ last here tears. until last here) h
 
-  pub weaker_on : {P R Done Until : Standing → Type 0} {r : Result (Unit {0}) Fault} {a b : DeskState D}
-      → (P b.standing → Done b.standing) → ((last : Standing) → R last → Until last) → Goes k P (IsShort R) R r a b → Goes k Done (IsShort Until) Until r a b
+  pub weaker_on : {P R Done Until : DeskRunState → Type 0} {r : Result (Unit {0}) Fault} {a b : DeskState D}
+      → (P b.run_state → Done b.run_state) → ((last : DeskRunState) → R last → Until last) → Goes k P (IsShort R) R r a b → Goes k Done (IsShort Until) Until r a b
   weaker_on more until h = weaker more (short_weaker until) (λ last here tears. until last here) h
 
   -- ---- where a piece is read
 
-  pub unread : {Done : Standing → Type 0} {Short : Bool → Standing → Type 0} {Until : Standing → Type 0} {a : DeskState D} → OnlyNow k
-      → IsDesk k a → a.keeper.store.has_failed ≡ false → Done a.standing → GoesPiece k Done Short Until (Ok tt) a a
+  pub unread : {Done : DeskRunState → Type 0} {Short : Bool → DeskRunState → Type 0} {Until : DeskRunState → Type 0} {a : DeskState D} → OnlyNow k
+      → IsDesk k a → a.keeper.store.has_failed ≡ false → Done a.run_state → GoesPiece k Done Short Until (Ok tt) a a
   unread {Done} {Short} {Until} {a} only_now desk works done =
       let same : HasStore a a = record { keeper = refl; groups = refl; synced = refl } in
       record { owes = refl; advances = advances_as k only_now a a desk same; ends = (stores_still k a a works same, done) }
 
-  pub piece_done : {P : Standing → Type 0} {Q : DeskState D → Type 0} {R : Standing → Type 0} {x y : Unit {0}} {Done : Standing → Type 0} {Short : Bool → Standing → Type 0} {Until : Standing → Type 0} {a b c : DeskState D}
-      → Goes k P Q R (Ok x) a b → HasStore b c → c.standing.owes ≡ b.standing.owes → Done c.standing → GoesPiece k Done Short Until (Ok y) a c
+  pub piece_done : {P : DeskRunState → Type 0} {Q : DeskState D → Type 0} {R : DeskRunState → Type 0} {x y : Unit {0}} {Done : DeskRunState → Type 0} {Short : Bool → DeskRunState → Type 0} {Until : DeskRunState → Type 0} {a b c : DeskState D}
+      → Goes k P Q R (Ok x) a b → HasStore b c → c.run_state.owes ≡ b.run_state.owes → Done c.run_state → GoesPiece k Done Short Until (Ok y) a c
   piece_done {P} {Q} {R} {x} {y} {Done} {Short} {Until} {a} {b} {c} ab same owes d =
       let all : Goes k Done (λ e. ⊤) (λ s. ⊤) (Ok tt) a c = after ab same owes d in
       record { owes = all.owes; advances = all.advances; ends = all.ends }
 
   -- memory was short after it was done
-  pub piece_short : {P : Standing → Type 0} {Q : DeskState D → Type 0} {R : Standing → Type 0} {x : Unit {0}} {Done : Standing → Type 0} {Short : Bool → Standing → Type 0} {Until : Standing → Type 0} {a b : DeskState D} {fed : Bool}
-      → Goes k P Q R (Ok x) a b → Short fed b.standing → GoesPiece k Done Short Until (Err (desk.NoMemory fed)) a b
+  pub piece_short : {P : DeskRunState → Type 0} {Q : DeskState D → Type 0} {R : DeskRunState → Type 0} {x : Unit {0}} {Done : DeskRunState → Type 0} {Short : Bool → DeskRunState → Type 0} {Until : DeskRunState → Type 0} {a b : DeskState D} {fed : Bool}
+      → Goes k P Q R (Ok x) a b → Short fed b.run_state → GoesPiece k Done Short Until (Err (desk.NoMemory fed)) a b
   piece_short h is = record { owes = h.owes; advances = h.advances; ends = (h.ends.0, is) }
 
-  pub piece_told : {P : Standing → Type 0} {Q : DeskState D → Type 0} {R Done : Standing → Type 0} {Short : Bool → Standing → Type 0} {Until : Standing → Type 0} {fault : Fault} {told : DeskFault} {a b : DeskState D} (fed : Bool)
-      → told ≡ told_as fault fed → (Q b → Short fed b.standing) → ((last : Standing) → R last → Until last) → Goes k P Q R (Err fault) a b → GoesPiece k Done Short Until (Err told) a b
-  piece_told {P} {Q} {R} {Done} {Short} {Until} {fault} {told} {a} {b} fed is short until h =
-      record { owes = h.owes; advances = h.advances; ends = subst (PieceFaults k Short Until a b) (sym is) (faults_told k Q Short R Until a b fault fed short until h.ends) }
+  pub piece_faulty : {P : DeskRunState → Type 0} {Q : DeskState D → Type 0} {R Done : DeskRunState → Type 0} {Short : Bool → DeskRunState → Type 0} {Until : DeskRunState → Type 0} {fault : Fault} {written_out : DeskFault} {a b : DeskState D} (fed : Bool)
+      → written_out ≡ desk_fault_of fault fed → (Q b → Short fed b.run_state) → ((last : DeskRunState) → R last → Until last) → Goes k P Q R (Err fault) a b → GoesPiece k Done Short Until (Err written_out) a b
+  piece_faulty {P} {Q} {R} {Done} {Short} {Until} {fault} {written_out} {a} {b} fed is short until h =
+      record { owes = h.owes; advances = h.advances; ends = subst (PieceFaults k Short Until a b) (sym is) (faults_given k Q Short R Until a b fault fed short until h.ends) }
 
 -- ---- room that was begun
 
@@ -206,7 +206,7 @@ making_not (Some n) conn b is off = let e : nat_eq n conn ≡ false = sym is ∙
 
 -- ---- what is posted
 
-pub posted_owes : (s : Standing) → (posted s).owes ≡ s.owes
+pub posted_owes : (s : DeskRunState) → (posted s).owes ≡ s.owes
 posted_owes s = by s.handed
   where
     by : (h : Handed) → (posted_from h s).owes ≡ s.owes

@@ -22,7 +22,7 @@ use Rattle.fe_keeper.specs.Stands.{StandsFor, StandsForEither, EachStandsFor}
 use Rattle.fe_keeper.specs.Prefix.{LeavesPrefix}
 use Rattle.fe_desk.specs.declared.handed.Handed.{Handed}
 use Rattle.fe_desk.specs.declared.handed.Handed.TheVariants.{Nothing, Cut, Stored}
-use Rattle.fe_desk.specs.Standing.{Standing}
+use Rattle.fe_desk.specs.DeskRunState.{DeskRunState}
 use Rattle.fe_desk.specs.Storing.{handing, stored, stored_from}
 use Rattle.fe_desk.specs.Steps.{find}
 use Rattle.fe_desk.proofs.Advancing.{prefix_more}
@@ -68,7 +68,7 @@ no_mismatch s first entries place begins some legal (Illegal lead rest e begins2
 
 -- ---- what ties the front to the replica, where a batch is stored
 
-pub tied_stored : (s : Standing) (groups : List (List Entry)) (replica next : ServerState) (batch : Batch) → next ≡ after_all replica batch.entries → IsAhead (handing s (Cut batch)) replica
+pub tied_stored : (s : DeskRunState) (groups : List (List Entry)) (replica next : ServerState) (batch : Batch) → next ≡ after_all replica batch.entries → IsAhead (handing s (Cut batch)) replica
     → IsAhead (record (handing s (Stored batch)) { groups = groups }) next
 tied_stored s groups replica next batch is tied =
     let pending : List Entry = s.front.service.pending in
@@ -79,14 +79,14 @@ tied_stored s groups replica next batch is tied =
     }
 
 -- and where none is, whatever becomes of the groups
-pub tied_cut : (s : Standing) (groups : List (List Entry)) (replica next : ServerState) (batch back : Batch) → back ≡ batch → next ≡ replica → IsAhead (handing s (Cut batch)) replica
+pub tied_cut : (s : DeskRunState) (groups : List (List Entry)) (replica next : ServerState) (batch back : Batch) → back ≡ batch → next ≡ replica → IsAhead (handing s (Cut batch)) replica
     → IsAhead (record (handing s (Cut back)) { groups = groups }) next
 tied_cut s groups replica next batch back same is tied =
     subst (λ (r : ServerState). IsAhead (record (handing s (Cut back)) { groups = groups }) r) (sym is)
     (subst (λ (b : Batch). IsAhead (record (handing s (Cut b)) { groups = groups }) replica) (sym same) (record { handed = tied.handed; legal = tied.legal; state = tied.state }))
 
 -- no batch is cut: there is none to store
-pub not_cut : (s : Standing) → ((batch : Batch) → s.handed ≡ Cut batch → ⊥) → stored s ≡ s
+pub not_cut : (s : DeskRunState) → ((batch : Batch) → s.handed ≡ Cut batch → ⊥) → stored s ≡ s
 not_cut s none = by s.handed none
   where
     by : (h : Handed) → ((batch : Batch) → h ≡ Cut batch → ⊥) → stored_from h s ≡ s
@@ -101,7 +101,7 @@ pub posts : {T E : Type 0} (r : Result T E) (f g : FrontState) (batch : Batch) �
 posts (Ok x) f g batch refused clause out = clause
 posts (Err e) f g batch refused clause out = absurd (refused.0 refl out)
 
-pub tied_posted : (s t : Standing) (replica : ServerState) (batch : Batch) → s.handed ≡ Stored batch → t.handed ≡ Nothing → t.front ≡ posted s.front batch → IsAhead s replica → IsAhead t replica
+pub tied_posted : (s t : DeskRunState) (replica : ServerState) (batch : Batch) → s.handed ≡ Stored batch → t.handed ≡ Nothing → t.front ≡ posted s.front batch → IsAhead s replica → IsAhead t replica
 tied_posted s t replica batch handed after is tied =
     let pending : t.front.service.pending ≡ s.front.service.pending = pending-posted s.front t.front batch is in
     let state : t.front.service.state ≡ s.front.service.state = ap (λ (f : FrontState). f.service.state) is ∙ (posted_all-keeps s.front batch.entries batch.first).state in
@@ -190,20 +190,20 @@ leaves_all begun groups k image s is few stands = record {
 }
 
 -- where all groups are stored, the replica is the state after them
-all_stored : {D : Type 0} (begun : ServerState) (d : DeskState D) → d.synced ≡ length d.standing.groups → IsFrom begun d → d.keeper.state ≡ after_groups begun d.standing.groups
-all_stored begun d all from = from.replica ∙ ap (λ (gs : List (List Entry)). after_groups begun gs) (take_all d.synced d.standing.groups (omega arith))
+all_stored : {D : Type 0} (begun : ServerState) (d : DeskState D) → d.synced ≡ length d.run_state.groups → IsFrom begun d → d.keeper.state ≡ after_groups begun d.run_state.groups
+all_stored begun d all from = from.replica ∙ ap (λ (gs : List (List Entry)). after_groups begun gs) (take_all d.synced d.run_state.groups (omega arith))
 
 -- ---- a group comes to the history
 
 -- the group is not known to be stored, and the replica stays; or it is stored, and the replica goes on
 abbrev pub GoesOn : {D : Type 0} → DeskState D → DeskState D → List Entry → Type 0
 GoesOn old new entries =
-    ((new.synced ≡ old.synced) × (new.keeper.state ≡ old.keeper.state)) ⊎ ((new.synced ≡ length new.standing.groups) × (new.keeper.state ≡ after_all old.keeper.state entries))
+    ((new.synced ≡ old.synced) × (new.keeper.state ≡ old.keeper.state)) ⊎ ((new.synced ≡ length new.run_state.groups) × (new.keeper.state ≡ after_all old.keeper.state entries))
 
-group_from : {D : Type 0} (begun : ServerState) (old new : DeskState D) (entries : List Entry) → new.standing.groups ≡ old.standing.groups ++ entries ∷ [] → old.synced ≡ length old.standing.groups
+group_from : {D : Type 0} (begun : ServerState) (old new : DeskState D) (entries : List Entry) → new.run_state.groups ≡ old.run_state.groups ++ entries ∷ [] → old.synced ≡ length old.run_state.groups
     → 0 < length entries → AreLegal old.keeper.state entries → GoesOn old new entries → IsFrom begun old → IsFrom begun new
 group_from {D} begun old new entries groups all some legal goes from =
-    let before : List (List Entry) = old.standing.groups in
+    let before : List (List Entry) = old.run_state.groups in
     let replica : old.keeper.state ≡ after_groups begun before = all_stored begun old all from in
     let next : AreLegal (after_groups begun before) entries = subst (λ (s : ServerState). AreLegal s entries) replica legal in
     let history : IsHistory begun (before ++ entries ∷ []) = history-append begun before (entries ∷ []) from.history (some, next, tt) in
@@ -213,17 +213,17 @@ group_from {D} begun old new entries groups all some legal goes from =
           ⊎_elim
           (λ (kept : (new.synced ≡ old.synced) × (new.keeper.state ≡ old.keeper.state)).
           kept.1 ∙ from.replica ∙ ap (λ (gs : List (List Entry)). after_groups begun gs) (sym (take-append-le old.synced before (entries ∷ []) (omega arith)))
-          ∙ ap (λ (gs : List (List Entry)). after_groups begun (take old.synced gs)) (sym groups) ∙ ap (λ (n : ℕ). after_groups begun (take n new.standing.groups)) (sym kept.0))
-          (λ (stored : (new.synced ≡ length new.standing.groups) × (new.keeper.state ≡ after_all old.keeper.state entries)).
+          ∙ ap (λ (gs : List (List Entry)). after_groups begun (take old.synced gs)) (sym groups) ∙ ap (λ (n : ℕ). after_groups begun (take n new.run_state.groups)) (sym kept.0))
+          (λ (stored : (new.synced ≡ length new.run_state.groups) × (new.keeper.state ≡ after_all old.keeper.state entries)).
           stored.1 ∙ ap (λ (s : ServerState). after_all s entries) replica ∙ sym (after_group begun before entries) ∙ ap (λ (gs : List (List Entry)). after_groups begun gs) (sym groups)
-          ∙ ap (λ (gs : List (List Entry)). after_groups begun gs) (sym (take_all new.synced new.standing.groups (let e = stored.0 in omega arith)))) goes;
+          ∙ ap (λ (gs : List (List Entry)). after_groups begun gs) (sym (take_all new.synced new.run_state.groups (let e = stored.0 in omega arith)))) goes;
     }
 
 -- the images that an append leaves
-either_leaves : {D : Type 0} (begun : ServerState) (old : DeskState D) (groups : List (List Entry)) (entries : List Entry) → groups ≡ old.standing.groups ++ entries ∷ [] → old.synced ≡ length old.standing.groups
+either_leaves : {D : Type 0} (begun : ServerState) (old : DeskState D) (groups : List (List Entry)) (entries : List Entry) → groups ≡ old.run_state.groups ++ entries ∷ [] → old.synced ≡ length old.run_state.groups
     → IsFrom begun old → (image : List ℕ) → StandsForEither old.keeper.state (after_all old.keeper.state entries) image → LeavesPrefix begun groups old.synced image
 either_leaves {D} begun old groups entries same all from image stands =
-    let before : List (List Entry) = old.standing.groups in
+    let before : List (List Entry) = old.run_state.groups in
     subst (λ (gs : List (List Entry)). LeavesPrefix begun gs old.synced image) (sym same)
     (⊎_elim
     (λ (s : StandsFor image old.keeper.state).
@@ -234,7 +234,7 @@ either_leaves {D} begun old groups entries same all from image stands =
     stands)
 
 module _ {D : Type 0} (model : Ghosts D) where
-  pub advances_group : (old new : DeskState D) (entries : List Entry) → new.standing.groups ≡ old.standing.groups ++ entries ∷ [] → old.synced ≡ length old.standing.groups
+  pub advances_group : (old new : DeskState D) (entries : List Entry) → new.run_state.groups ≡ old.run_state.groups ++ entries ∷ [] → old.synced ≡ length old.run_state.groups
       → 0 < length entries → AreLegal old.keeper.state entries → GoesOn old new entries
       → (model.honest (disk_of old) → old.keeper.store.has_failed ≡ false
       → LeavesOnly model (disk_of old) (disk_of new) (StandsForEither old.keeper.state (after_all old.keeper.state entries)))
@@ -245,37 +245,37 @@ module _ {D : Type 0} (model : Ghosts D) where
     synced =
         let n = ap (λ (gs : List (List Entry)). length gs) groups in
         ⊎_elim (λ (kept : (new.synced ≡ old.synced) × (new.keeper.state ≡ old.keeper.state)). let e = kept.0 in omega arith)
-        (λ (stored : (new.synced ≡ length new.standing.groups) × (new.keeper.state ≡ after_all old.keeper.state entries)).
-        let e = stored.0 in omega (arith, length-append old.standing.groups (entries ∷ []))) goes;
+        (λ (stored : (new.synced ≡ length new.run_state.groups) × (new.keeper.state ≡ after_all old.keeper.state entries)).
+        let e = stored.0 in omega (arith, length-append old.run_state.groups (entries ∷ []))) goes;
     from = λ begun from. group_from begun old new entries groups all some legal goes from;
     any_moment = λ h works begun from.
-        weaker model (disk_of old) (disk_of new) (StandsForEither old.keeper.state (after_all old.keeper.state entries)) (LeavesPrefix begun new.standing.groups old.synced)
-        (either_leaves begun old new.standing.groups entries groups all from) (run h works);
+        weaker model (disk_of old) (disk_of new) (StandsForEither old.keeper.state (after_all old.keeper.state entries)) (LeavesPrefix begun new.run_state.groups old.synced)
+        (either_leaves begun old new.run_state.groups entries groups all from) (run h works);
     honesty = honesty;
   }
 
   -- the group is stored
-  pub desk_stored : (new : DeskState D) → IsAhead new.standing new.keeper.state → ((conn : ℕ) → is_connected new.standing.front conn ≡ true → is_some (find conn new.standing.clients) ≡ true)
-      → new.synced ≡ length new.standing.groups → (model.honest (disk_of new) → EachStandsFor model (disk_of new) new.keeper.state) → IsDesk model new
+  pub desk_stored : (new : DeskState D) → IsAhead new.run_state new.keeper.state → ((conn : ℕ) → is_connected new.run_state.front conn ≡ true → is_some (find conn new.run_state.clients) ≡ true)
+      → new.synced ≡ length new.run_state.groups → (model.honest (disk_of new) → EachStandsFor model (disk_of new) new.keeper.state) → IsDesk model new
   desk_stored new tied known all stands = record {
     tied = tied;
     known = known;
     few = omega arith;
     all = λ works. all;
-    upheld = λ h begun from image may. leaves_at begun new.standing.groups new.synced image new.keeper.state from.replica (omega arith) (stands h image may);
+    upheld = λ h begun from image may. leaves_at begun new.run_state.groups new.synced image new.keeper.state from.replica (omega arith) (stands h image may);
   }
 
   -- the device failed, and the group may be stored or not
   pub desk_torn : ((disk : D) (t : ℕ) (image : List ℕ) → model.honest disk → t ≤ model.moment disk → model.may_leave disk image → model.left_since disk t image) → (old new : DeskState D) (entries : List Entry)
-      → old.keeper.store.has_failed ≡ false → new.standing.groups ≡ old.standing.groups ++ entries ∷ [] → old.synced ≡ length old.standing.groups
+      → old.keeper.store.has_failed ≡ false → new.run_state.groups ≡ old.run_state.groups ++ entries ∷ [] → old.synced ≡ length old.run_state.groups
       → new.synced ≡ old.synced → new.keeper.state ≡ old.keeper.state → new.keeper.store.has_failed ≡ true
       → (model.honest (disk_of old) → old.keeper.store.has_failed ≡ false
       → LeavesOnly model (disk_of old) (disk_of new) (StandsForEither old.keeper.state (after_all old.keeper.state entries)))
-      → (model.honest (disk_of new) ↔ model.honest (disk_of old)) → IsAhead new.standing new.keeper.state
-      → ((conn : ℕ) → is_connected new.standing.front conn ≡ true → is_some (find conn new.standing.clients) ≡ true) → IsDesk model new
+      → (model.honest (disk_of new) ↔ model.honest (disk_of old)) → IsAhead new.run_state new.keeper.state
+      → ((conn : ℕ) → is_connected new.run_state.front conn ≡ true → is_some (find conn new.run_state.clients) ≡ true) → IsDesk model new
   desk_torn counts_now old new entries works groups all synced state failed run honesty tied known =
       let n = ap (λ (gs : List (List Entry)). length gs) groups in
-      let few : new.synced ≤ length new.standing.groups = omega (arith, length-append old.standing.groups (entries ∷ [])) in
+      let few : new.synced ≤ length new.run_state.groups = omega (arith, length-append old.run_state.groups (entries ∷ [])) in
       record {
         tied = tied;
         known = known;
@@ -283,51 +283,51 @@ module _ {D : Type 0} (model : Ghosts D) where
         all = λ fine. absurd (cc (failed, fine));
         upheld = λ h begun from image may.
             let ran = run (honesty.0 h) works in
-            let front : take new.synced new.standing.groups ≡ old.standing.groups =
-            ap (λ (gs : List (List Entry)). take new.synced gs) groups ∙ ap (λ (n : ℕ). take n (old.standing.groups ++ entries ∷ [])) synced
-            ∙ take-append-le old.synced old.standing.groups (entries ∷ []) (omega arith) ∙ take_all old.synced old.standing.groups (omega arith) in
-            let replica : old.keeper.state ≡ after_groups begun old.standing.groups = sym state ∙ from.replica ∙ ap (λ (gs : List (List Entry)). after_groups begun gs) front in
+            let front : take new.synced new.run_state.groups ≡ old.run_state.groups =
+            ap (λ (gs : List (List Entry)). take new.synced gs) groups ∙ ap (λ (n : ℕ). take n (old.run_state.groups ++ entries ∷ [])) synced
+            ∙ take-append-le old.synced old.run_state.groups (entries ∷ []) (omega arith) ∙ take_all old.synced old.run_state.groups (omega arith) in
+            let replica : old.keeper.state ≡ after_groups begun old.run_state.groups = sym state ∙ from.replica ∙ ap (λ (gs : List (List Entry)). after_groups begun gs) front in
             ⊎_elim
-            (λ (s : StandsFor image old.keeper.state). leaves_at begun new.standing.groups new.synced image old.keeper.state (sym state ∙ from.replica) few s)
+            (λ (s : StandsFor image old.keeper.state). leaves_at begun new.run_state.groups new.synced image old.keeper.state (sym state ∙ from.replica) few s)
             (λ (s : StandsFor image (after_all old.keeper.state entries)).
-            leaves_all begun new.standing.groups new.synced image (after_all old.keeper.state entries)
-            (ap (λ (s : ServerState). after_all s entries) replica ∙ sym (after_group begun old.standing.groups entries) ∙ ap (λ (gs : List (List Entry)). after_groups begun gs) (sym groups)) few s)
+            leaves_all begun new.run_state.groups new.synced image (after_all old.keeper.state entries)
+            (ap (λ (s : ServerState). after_all s entries) replica ∙ sym (after_group begun old.run_state.groups entries) ∙ ap (λ (gs : List (List Entry)). after_groups begun gs) (sym groups)) few s)
             (ran.each image (counts_now (disk_of new) (model.moment (disk_of old)) image h ran.later may));
       }
 
   -- ---- calls that leave the replica and the groups as they are
 
-  pub advances_kept : (old new : DeskState D) → new.standing.groups ≡ old.standing.groups → new.synced ≡ old.synced → new.keeper.state ≡ old.keeper.state → old.synced ≤ length old.standing.groups
+  pub advances_kept : (old new : DeskState D) → new.run_state.groups ≡ old.run_state.groups → new.synced ≡ old.synced → new.keeper.state ≡ old.keeper.state → old.synced ≤ length old.run_state.groups
       → (model.honest (disk_of old) → old.keeper.store.has_failed ≡ false → LeavesOnly model (disk_of old) (disk_of new) (λ image. StandsFor image old.keeper.state))
       → (model.honest (disk_of new) ↔ model.honest (disk_of old)) → Advances model old new
   advances_kept old new groups synced state few run honesty = record {
     more = [];
-    groups = groups ∙ sym (append-nil old.standing.groups);
+    groups = groups ∙ sym (append-nil old.run_state.groups);
     synced = omega arith;
     from = λ begun from.
         record {
           history = subst (λ (gs : List (List Entry)). IsHistory begun gs) (sym groups) from.history;
           replica =
               state ∙ from.replica ∙ ap (λ (gs : List (List Entry)). after_groups begun (take old.synced gs)) (sym groups)
-              ∙ ap (λ (n : ℕ). after_groups begun (take n new.standing.groups)) (sym synced);
+              ∙ ap (λ (n : ℕ). after_groups begun (take n new.run_state.groups)) (sym synced);
         };
     any_moment = λ h works begun from.
-        weaker model (disk_of old) (disk_of new) (λ image. StandsFor image old.keeper.state) (LeavesPrefix begun new.standing.groups old.synced)
+        weaker model (disk_of old) (disk_of new) (λ image. StandsFor image old.keeper.state) (LeavesPrefix begun new.run_state.groups old.synced)
         (λ image s.
-        subst (λ (gs : List (List Entry)). LeavesPrefix begun gs old.synced image) (sym groups) (leaves_at begun old.standing.groups old.synced image old.keeper.state from.replica few s))
+        subst (λ (gs : List (List Entry)). LeavesPrefix begun gs old.synced image) (sym groups) (leaves_at begun old.run_state.groups old.synced image old.keeper.state from.replica few s))
         (run h works);
     honesty = honesty;
   }
 
   pub desk_kept : ((disk : D) (t : ℕ) (image : List ℕ) → model.honest disk → t ≤ model.moment disk → model.may_leave disk image → model.left_since disk t image) → (old new : DeskState D) → IsDesk model old
-      → old.keeper.store.has_failed ≡ false → new.standing.groups ≡ old.standing.groups → new.synced ≡ old.synced → new.keeper.state ≡ old.keeper.state
+      → old.keeper.store.has_failed ≡ false → new.run_state.groups ≡ old.run_state.groups → new.synced ≡ old.synced → new.keeper.state ≡ old.keeper.state
       → (model.honest (disk_of old) → old.keeper.store.has_failed ≡ false → LeavesOnly model (disk_of old) (disk_of new) (λ image. StandsFor image old.keeper.state))
-      → (model.honest (disk_of new) ↔ model.honest (disk_of old)) → IsAhead new.standing new.keeper.state
-      → ((conn : ℕ) → is_connected new.standing.front conn ≡ true → is_some (find conn new.standing.clients) ≡ true) → IsDesk model new
+      → (model.honest (disk_of new) ↔ model.honest (disk_of old)) → IsAhead new.run_state new.keeper.state
+      → ((conn : ℕ) → is_connected new.run_state.front conn ≡ true → is_some (find conn new.run_state.clients) ≡ true) → IsDesk model new
   desk_kept counts_now old new desk works groups synced state run honesty tied known =
       let n = ap (λ (gs : List (List Entry)). length gs) groups in
-      let all : old.synced ≡ length old.standing.groups = desk.all works in
-      let few : new.synced ≤ length new.standing.groups = omega arith in
+      let all : old.synced ≡ length old.run_state.groups = desk.all works in
+      let few : new.synced ≤ length new.run_state.groups = omega arith in
       record {
         tied = tied;
         known = known;
@@ -335,6 +335,6 @@ module _ {D : Type 0} (model : Ghosts D) where
         all = λ fine. omega arith;
         upheld = λ h begun from image may.
             let ran = run (honesty.0 h) works in
-            leaves_at begun new.standing.groups new.synced image old.keeper.state (sym state ∙ from.replica) few
+            leaves_at begun new.run_state.groups new.synced image old.keeper.state (sym state ∙ from.replica) few
             (ran.each image (counts_now (disk_of new) (model.moment (disk_of old)) image h ran.later may));
       }

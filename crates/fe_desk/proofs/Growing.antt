@@ -22,17 +22,17 @@ appended_both {D} a b c (x ∷ xs) ys h k = (h.0, h.1, appended_both h.0 b c xs 
 
 -- nothing is stored
 pub stores_none : {D : Type 0} (a b : DeskState D) → HasStore a b → StoresMore a b
-stores_none a b same = record { more = []; groups = same.groups ∙ sym (append-nil a.standing.groups); appends = same.keeper }
+stores_none a b same = record { more = []; groups = same.groups ∙ sym (append-nil a.run_state.groups); appends = same.keeper }
 
 -- a group is stored
-pub stores_one : {D : Type 0} (a b : DeskState D) (group : List Entry) → b.standing.groups ≡ a.standing.groups ++ group ∷ [] → b.keeper.state ≡ after_all a.keeper.state group
+pub stores_one : {D : Type 0} (a b : DeskState D) (group : List Entry) → b.run_state.groups ≡ a.run_state.groups ++ group ∷ [] → b.keeper.state ≡ after_all a.keeper.state group
     → IsStoreNow (appended (made_room a.keeper.store group) group) b.keeper.store → StoresMore a b
 stores_one a b group groups state store = record { more = group ∷ []; groups = groups; appends = (b.keeper, record { state = state; store = store }, refl) }
 
 pub stores_both : {D : Type 0} (a b c : DeskState D) → StoresMore a b → StoresMore b c → StoresMore a c
 stores_both a b c ab bc = record {
   more = ab.more ++ bc.more;
-  groups = bc.groups ∙ ap (λ (gs : List (List Entry)). gs ++ bc.more) ab.groups ∙ append_assoc a.standing.groups ab.more bc.more;
+  groups = bc.groups ∙ ap (λ (gs : List (List Entry)). gs ++ bc.more) ab.groups ∙ append_assoc a.run_state.groups ab.more bc.more;
   appends = appended_both a.keeper b.keeper c.keeper ab.more bc.more ab.appends bc.appends;
 }
 
@@ -61,9 +61,9 @@ checks_as {D} x a b c d before behind checked = by x checked
     by step.Post h = of (λ k j. j ≡ k) h
 
 -- a batch that was not stored is at hand as it was
-pub handed_back : {D : Type 0} (d : DeskState D) (back batch : Batch) (groups : List (List Entry)) (k : KeeperState D) → back ≡ batch → groups ≡ d.standing.groups → k ≡ d.keeper
-    → record (with_handed d (Cut back)) { standing = record (handing d.standing (Cut back)) { groups = groups }; keeper = k } ≡ with_handed d (Cut batch)
+pub handed_back : {D : Type 0} (d : DeskState D) (back batch : Batch) (groups : List (List Entry)) (k : KeeperState D) → back ≡ batch → groups ≡ d.run_state.groups → k ≡ d.keeper
+    → record (with_handed d (Cut back)) { run_state = record (handing d.run_state (Cut back)) { groups = groups }; keeper = k } ≡ with_handed d (Cut batch)
 handed_back {D} d back batch groups k same unpushed kept =
-    ap (λ (j : KeeperState D). record (with_handed d (Cut back)) { standing = record (handing d.standing (Cut back)) { groups = groups }; keeper = j }) kept
-    ∙ ap (λ (gs : List (List Entry)). record (with_handed d (Cut back)) { standing = record (handing d.standing (Cut back)) { groups = gs } }) unpushed
+    ap (λ (j : KeeperState D). record (with_handed d (Cut back)) { run_state = record (handing d.run_state (Cut back)) { groups = groups }; keeper = j }) kept
+    ∙ ap (λ (gs : List (List Entry)). record (with_handed d (Cut back)) { run_state = record (handing d.run_state (Cut back)) { groups = gs } }) unpushed
     ∙ ap (λ (b : Batch). with_handed d (Cut b)) same

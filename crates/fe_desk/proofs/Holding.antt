@@ -16,11 +16,11 @@ use Rattle.fe_messages.specs.Answers.{AreAnswered}
 use Rattle.fe_messages.specs.Asking.{HasOnly}
 use Rattle.fe_messages.specs.Mails.{reply_of, spelled}
 use Rattle.fe_messages.proofs.Boxes.{AllIn, all_append, boxes-taken}
-use Rattle.fe_messages.proofs.Seated.{Loses, itself as loses_nothing, taken_loses, has_lost, both_lose}
+use Rattle.fe_messages.proofs.AttachmentLaws.{Loses, itself as loses_nothing, taken_loses, has_lost, both_lose}
 use Rattle.fe_desk.specs.declared.handed.Handed.{Handed}
 use Rattle.fe_desk.specs.declared.handed.Handed.TheVariants.{Nothing, Cut, Stored}
 use Rattle.fe_desk.specs.Mails.{taken_times, emptied_box}
-use Rattle.fe_desk.specs.Standing.{Client, Standing, told, all_told, all_emptied, emptied, discharged}
+use Rattle.fe_desk.specs.DeskRunState.{Client, DeskRunState, written_out, all_written_out, all_emptied, emptied, discharged}
 use Rattle.fe_desk.specs.Acknowledged.{StandsOn, IsOnItsWay, AsksFor, entries_of, cut_entries, made_entries}
 use Rattle.fe_desk.specs.Writing.{StopsWriting, WritesSome}
 use Rattle.fe_desk.specs.within.Keeping.{KeepsFront}
@@ -51,7 +51,7 @@ pub record Holds (begun : ServerState) (asked : ℕ → ℕ → Bool) (f : Front
   pub tell : AllTell begun groups asked clients
   pub has : HasOnly (MayAsk asked) f
 
-abbrev pub HoldsAt : ServerState → (ℕ → ℕ → Bool) → Standing → Type 0
+abbrev pub HoldsAt : ServerState → (ℕ → ℕ → Bool) → DeskRunState → Type 0
 HoldsAt begun asked s = Holds begun asked s.front s.clients s.handed s.groups
 
 -- ---- what is let go
@@ -135,14 +135,14 @@ module _ (begun : ServerState) (groups : List (List Entry)) (asked : ℕ → ℕ
             ∙ ap (λ (bs : List ℕ). bs ++ spelled (w.0 ++ first)) t.spelling ∙ bytes t.mails (w.0 ++ first),
       )
 
-  told_tells : (f : FrontState) (c : Client) → Stand f → Tells begun groups asked c → Tells begun groups asked (told f c)
-  told_tells f c all t =
+  written_out_tells : (f : FrontState) (c : Client) → Stand f → Tells begun groups asked c → Tells begun groups asked (written_out f c)
+  written_out_tells f c all t =
       let more = tells_more c (mails_on f.connections c.conn) (all c.conn) t.0 in
       (record { waits = tt; mails = more.0; stand = more.1; spelling = more.2 }, t.1)
 
-  all_tell : (f : FrontState) (cs : List Client) → Stand f → AllTell begun groups asked cs → AllTell begun groups asked (all_told f cs)
+  all_tell : (f : FrontState) (cs : List Client) → Stand f → AllTell begun groups asked cs → AllTell begun groups asked (all_written_out f cs)
   all_tell f [] all tell = tt
-  all_tell f (c ∷ cs) all tell = (told_tells f c all tell.0, all_tell (emptied_box f c.conn) cs (box_stands f c.conn all) tell.1)
+  all_tell f (c ∷ cs) all tell = (written_out_tells f c all tell.0, all_tell (emptied_box f c.conn) cs (box_stands f c.conn all) tell.1)
 
   -- some of them are
   all_split : (cs ds : List Client) → AllTell begun groups asked (cs ++ ds) → AllTell begun groups asked cs × AllTell begun groups asked ds
@@ -180,29 +180,29 @@ module _ (begun : ServerState) (groups : List (List Entry)) (asked : ℕ → ℕ
         tells = subst (λ (x : Client). Tells begun groups asked x) (sym at.client) here;
       }
 
-pub emptied_holds : (begun : ServerState) (asked : ℕ → ℕ → Bool) (s : Standing) → HoldsAt begun asked s → HoldsAt begun asked (emptied s)
+pub emptied_holds : (begun : ServerState) (asked : ℕ → ℕ → Bool) (s : DeskRunState) → HoldsAt begun asked s → HoldsAt begun asked (emptied s)
 emptied_holds begun asked s h =
     let keeps = all_emptied-keeps s.front s.clients in
-    remains_hold begun asked s.front (all_emptied s.front s.clients) s.clients (all_told s.front s.clients) s.handed s.groups
+    remains_hold begun asked s.front (all_emptied s.front s.clients) s.clients (all_written_out s.front s.clients) s.handed s.groups
     (record { state = keeps.state; pending = keeps.pending; out = keeps.out; durable = keeps.durable }) (all_emptied_loses s.front s.clients)
     (all_stand begun s.groups asked s.front s.clients h.boxes) (all_tell begun s.groups asked s.front s.clients h.boxes h.tell) h
 
-pub some_holds : (begun : ServerState) (asked : ℕ → ℕ → Bool) (s t : Standing) → WritesSome s t → HoldsAt begun asked s → HoldsAt begun asked t
+pub some_holds : (begun : ServerState) (asked : ℕ → ℕ → Bool) (s t : DeskRunState) → WritesSome s t → HoldsAt begun asked s → HoldsAt begun asked t
 some_holds begun asked s t some h =
     let w = some.writes in
     let f : FrontState = all_emptied s.front w.before in
     let tells = all_split begun s.groups asked w.before (w.client ∷ w.behind) (subst (λ (cs : List Client). AllTell begun s.groups asked cs) w.all h.tell) in
     let keeps = all_emptied-keeps s.front w.before in
     let stops = stops_holds begun s.groups asked f w.client some.front w.last w.stops (all_stand begun s.groups asked s.front w.before h.boxes) tells.1.0 in
-    let told : AllTell begun s.groups asked (all_told s.front w.before ++ w.last ∷ w.behind) =
-    all_append (Tells begun s.groups asked) (all_told s.front w.before) (w.last ∷ w.behind) (all_tell begun s.groups asked s.front w.before h.boxes tells.0) (stops.tells, tells.1.1) in
-    subst (λ (x : Standing). HoldsAt begun asked x) (sym some.after)
+    let written_out : AllTell begun s.groups asked (all_written_out s.front w.before ++ w.last ∷ w.behind) =
+    all_append (Tells begun s.groups asked) (all_written_out s.front w.before) (w.last ∷ w.behind) (all_tell begun s.groups asked s.front w.before h.boxes tells.0) (stops.tells, tells.1.1) in
+    subst (λ (x : DeskRunState). HoldsAt begun asked x) (sym some.after)
     (remains_hold begun asked s.front some.front s.clients some.clients s.handed s.groups
     (record { state = stops.keeps.state ∙ keeps.state; pending = stops.keeps.pending ∙ keeps.pending; out = stops.keeps.out ∙ keeps.out; durable = stops.keeps.durable ∙ keeps.durable })
     (both_lose s.front f some.front (all_emptied_loses s.front w.before) stops.loses)
-    stops.stand (subst (λ (cs : List Client). AllTell begun s.groups asked cs) (sym w.now) told) h)
+    stops.stand (subst (λ (cs : List Client). AllTell begun s.groups asked cs) (sym w.now) written_out) h)
 
-pub discharged_holds : (begun : ServerState) (asked : ℕ → ℕ → Bool) (s : Standing) → HoldsAt begun asked s → HoldsAt begun asked (discharged s)
+pub discharged_holds : (begun : ServerState) (asked : ℕ → ℕ → Bool) (s : DeskRunState) → HoldsAt begun asked s → HoldsAt begun asked (discharged s)
 discharged_holds begun asked s h = by s.owes
   where
     by : (b : Bool) → HoldsAt begun asked (if b then emptied s else s)

@@ -11,7 +11,7 @@ use Rattle.fe_state.specs.declared.entry.Entry.{Entry}
 use Rattle.fe_state.proofs.Histories.{legal-append, after-append}
 use Rattle.fe_wire.specs.declared.client_message.ClientMessage.{ClientMessage}
 use Rattle.fe_front.specs.Front.{FrontState}
-use Rattle.fe_desk.specs.Standing.{Client, Standing}
+use Rattle.fe_desk.specs.DeskRunState.{Client, DeskRunState}
 use Rattle.fe_desk.specs.Storing.{roomy}
 use Rattle.fe_messages.specs.Taking.{Takes}
 use Rattle.fe_desk.specs.Taking.{TakesOne, TakesAll}
@@ -32,7 +32,7 @@ use Rattle.fe_desk.proofs.Goes.{OnlyNow, then, stays, after}
 
 -- ---- the store side of a desk whose front entries entered
 
-tied_enters : (s t : Standing) (replica : ServerState) (es : List Entry) → t.handed ≡ s.handed → Enters s.front es t.front → IsAhead s replica → IsAhead t replica
+tied_enters : (s t : DeskRunState) (replica : ServerState) (es : List Entry) → t.handed ≡ s.handed → Enters s.front es t.front → IsAhead s replica → IsAhead t replica
 tied_enters s t replica es handed enters tied =
     let more : unstored t ≡ unstored s ++ es =
     ap (λ h. cut_entries h ++ t.front.service.pending) handed ∙ ap (λ (xs : List Entry). cut_entries s.handed ++ xs) enters.pending
@@ -49,13 +49,13 @@ tied_enters s t replica es handed enters tied =
 
 -- a desk where entries entered and a client changed
 pub desk_enters : {D : Type 0} (model : Ghosts D) (old new : DeskState D) (es : List Entry) (conn : ℕ) (change : Client → Client)
-    → HasStore old new → new.standing.handed ≡ old.standing.handed → Enters old.standing.front es new.standing.front → new.standing.clients ≡ on_client conn change old.standing.clients
+    → HasStore old new → new.run_state.handed ≡ old.run_state.handed → Enters old.run_state.front es new.run_state.front → new.run_state.clients ≡ on_client conn change old.run_state.clients
     → ((c : Client) → (change c).conn ≡ c.conn) → IsDesk model old → IsDesk model new
 desk_enters {D} model old new es conn change same handed enters clients keeps desk =
-    let tied : IsAhead new.standing new.keeper.state =
-    subst (λ (k : KeeperState D). IsAhead new.standing k.state) (sym same.keeper) (tied_enters old.standing new.standing old.keeper.state es handed enters desk.tied) in
+    let tied : IsAhead new.run_state new.keeper.state =
+    subst (λ (k : KeeperState D). IsAhead new.run_state k.state) (sym same.keeper) (tied_enters old.run_state new.run_state old.keeper.state es handed enters desk.tied) in
     desk_as model old new desk same tied
-    (λ k on. ap (λ (cs : List Client). is_some (find k cs)) clients ∙ found-on_client conn change old.standing.clients k keeps ∙ desk.known k (enters.none_comes k on))
+    (λ k on. ap (λ (cs : List Client). is_some (find k cs)) clients ∙ found-on_client conn change old.run_state.clients k keeps ∙ desk.known k (enters.none_comes k on))
 
 -- ---- the port of a client
 
@@ -80,7 +80,7 @@ pub none_left_here : (ports : List Port) (conn at : ℕ) (p : Port) (b : Bool) �
 none_left_here ports conn at p b place is has off = left_here ports conn at p place is ∙ none_of (client_of p).left b has off
 
 -- the first message left of a port was taken
-pub port_next : (s : Standing) (ports : List Port) (conn at : ℕ) (p q : Port) (m : ClientMessage) (es : List Entry) (g : FrontState) → s.clients ≡ map client_of ports
+pub port_next : (s : DeskRunState) (ports : List Port) (conn at : ℕ) (p q : Port) (m : ClientMessage) (es : List Entry) (g : FrontState) → s.clients ≡ map client_of ports
     → IsFirstAt (map client_of ports) conn at → p ≡ get_or ports at p → (client_of p).left ≡ m ∷ (client_of q).left → client_of q ≡ relieved (client_of q).left (client_of p)
     → Takes s.front conn m es g → TakesNext s conn (record s { front = g; clients = map client_of (slice_set ports at q) })
 port_next s ports conn at p q m es g clients place is first client takes =
@@ -99,29 +99,29 @@ port_next s ports conn at p q m es g clients place is first client takes =
 -- ---- one message
 
 -- a message that is left was taken where room was made
-pub next_one : (s r t : Standing) (conn : ℕ) → r ≡ roomy s conn → (next : TakesNext r conn t)
+pub next_one : (s r t : DeskRunState) (conn : ℕ) → r ≡ roomy s conn → (next : TakesNext r conn t)
     → TakesOne (with_left s conn []) conn next.message (with_left t conn [])
 next_one s r t conn room next =
     let cs = on_client conn (relieved []) s.clients in
-    let roomy_is : roomy (with_left s conn []) conn ≡ with_clients r cs = roomy-clients s conn cs ∙ ap (λ (u : Standing). with_clients u cs) (sym room) in
+    let roomy_is : roomy (with_left s conn []) conn ≡ with_clients r cs = roomy-clients s conn cs ∙ ap (λ (u : DeskRunState). with_clients u cs) (sym room) in
     let clients : on_client conn (relieved []) (on_client conn (relieved next.left) r.clients) ≡ cs =
     on_client-twice conn (relieved next.left) (relieved []) r.clients (λ c. refl)
-    ∙ ap (on_client conn (relieved [])) (ap (λ (u : Standing). u.clients) room ∙ roomy-keeps s conn) in
+    ∙ ap (on_client conn (relieved [])) (ap (λ (u : DeskRunState). u.clients) room ∙ roomy-keeps s conn) in
     record {
       entries = next.entries;
       front = next.front;
-      takes = subst (λ (u : Standing). Takes u.front conn next.message next.entries next.front) (sym roomy_is) next.takes;
+      takes = subst (λ (u : DeskRunState). Takes u.front conn next.message next.entries next.front) (sym roomy_is) next.takes;
       after =
-          ap (λ (u : Standing). with_left u conn []) next.after
+          ap (λ (u : DeskRunState). with_left u conn []) next.after
           ∙ ap (λ (ds : List Client). record r { clients = ds; front = next.front }) clients
-          ∙ ap (λ (u : Standing). record u { front = next.front }) (sym roomy_is);
+          ∙ ap (λ (u : DeskRunState). record u { front = next.front }) (sym roomy_is);
     }
 
 -- ---- as far as messages were taken
 
 -- Messages of a connection that were left were taken as far as to a standing: those that are left there are taken on.
-pub record IsTaken (conn : ℕ) (s t : Standing) : Type 0 where
-  pub again : (v : Standing) → TakesAll (with_left t conn []) conn (left_of t conn) v → TakesAll (with_left s conn []) conn (left_of s conn) v
+pub record IsTaken (conn : ℕ) (s t : DeskRunState) : Type 0 where
+  pub again : (v : DeskRunState) → TakesAll (with_left t conn []) conn (left_of t conn) v → TakesAll (with_left s conn []) conn (left_of s conn) v
   pub clients : t.clients ≡ on_client conn (relieved (left_of t conn)) s.clients
   pub rest : EndsWith (left_of s conn) (left_of t conn)
   pub took : TakesAll (with_left s conn []) conn rest.0 (with_left t conn [])
@@ -134,7 +134,7 @@ left-relieved conn left cs here = ap left_among (find-on_client conn (relieved l
     by None e = absurd (true≢false (sym e))
     by (Some c) e = refl
 
-pub taken_none : (conn : ℕ) (s : Standing) → IsTaken conn s s
+pub taken_none : (conn : ℕ) (s : DeskRunState) → IsTaken conn s s
 taken_none conn s = record {
   again = λ v h. h;
   clients = sym (on_client-stays conn (relieved (left_of s conn)) s.clients (λ c here. ap (λ (left : List ClientMessage). relieved left c) (ap left_among here)));
@@ -144,12 +144,12 @@ taken_none conn s = record {
 }
 
 -- one message more
-pub taken_next : (conn : ℕ) (s a r t : Standing) → is_some (find conn s.clients) ≡ true → r ≡ roomy a conn → r.owes ≡ a.owes → IsTaken conn s a → TakesNext r conn t → IsTaken conn s t
+pub taken_next : (conn : ℕ) (s a r t : DeskRunState) → is_some (find conn s.clients) ≡ true → r ≡ roomy a conn → r.owes ≡ a.owes → IsTaken conn s a → TakesNext r conn t → IsTaken conn s t
 taken_next conn s a r t here room owes taken next =
-    let room_clients : r.clients ≡ a.clients = ap (λ (u : Standing). u.clients) room ∙ roomy-keeps a conn in
+    let room_clients : r.clients ≡ a.clients = ap (λ (u : DeskRunState). u.clients) room ∙ roomy-keeps a conn in
     let before : left_of a conn ≡ next.message ∷ next.left = ap (λ (cs : List Client). left_among (find conn cs)) (sym room_clients) ∙ next.first in
     let clients : t.clients ≡ on_client conn (relieved next.left) s.clients =
-    ap (λ (u : Standing). u.clients) next.after ∙ ap (on_client conn (relieved next.left)) (room_clients ∙ taken.clients)
+    ap (λ (u : DeskRunState). u.clients) next.after ∙ ap (on_client conn (relieved next.left)) (room_clients ∙ taken.clients)
     ∙ on_client-twice conn (relieved (left_of a conn)) (relieved next.left) s.clients (λ c. refl) in
     let left : left_of t conn ≡ next.left = ap (λ (cs : List Client). left_among (find conn cs)) clients ∙ left-relieved conn next.left s.clients here in
     record {
@@ -162,43 +162,43 @@ taken_next conn s a r t here room owes taken next =
       took =
           takes_all-append (with_left s conn []) conn taken.rest.0 (next.message ∷ []) (with_left a conn []) (with_left t conn []) taken.took
           (with_left t conn [], next_one a r t conn room next, refl);
-      owes = ap (λ (u : Standing). u.owes) next.after ∙ owes ∙ taken.owes;
+      owes = ap (λ (u : DeskRunState). u.owes) next.after ∙ owes ∙ taken.owes;
     }
 
 -- and one is left less
-pub fewer_left : (a r t : Standing) (conn : ℕ) → r.clients ≡ a.clients → is_some (find conn a.clients) ≡ true → TakesNext r conn t → length (left_of t conn) < length (left_of a conn)
+pub fewer_left : (a r t : DeskRunState) (conn : ℕ) → r.clients ≡ a.clients → is_some (find conn a.clients) ≡ true → TakesNext r conn t → length (left_of t conn) < length (left_of a conn)
 fewer_left a r t conn clients here next =
     let before : left_of a conn ≡ next.message ∷ next.left = ap (λ (cs : List Client). left_among (find conn cs)) (sym clients) ∙ next.first in
     let now : left_of t conn ≡ next.left =
-    ap (λ (u : Standing). left_of u conn) next.after ∙ left-relieved conn next.left r.clients (ap (λ (cs : List Client). is_some (find conn cs)) clients ∙ here) in
+    ap (λ (u : DeskRunState). left_of u conn) next.after ∙ left-relieved conn next.left r.clients (ap (λ (cs : List Client). is_some (find conn cs)) clients ∙ here) in
     omega (arith, ap length before, ap length now)
 
-again_by : (conn : ℕ) (a u : Standing) (ms : List ClientMessage) (v : Standing) → 0 < length ms → roomy (with_left a conn []) conn ≡ roomy (with_left u conn []) conn
+again_by : (conn : ℕ) (a u : DeskRunState) (ms : List ClientMessage) (v : DeskRunState) → 0 < length ms → roomy (with_left a conn []) conn ≡ roomy (with_left u conn []) conn
     → TakesAll (with_left u conn []) conn ms v → TakesAll (with_left a conn []) conn ms v
 again_by conn a u [] v some same h = absurd (omega arith)
 again_by conn a u (m ∷ ms) v some same h = (h.0, takes_one_of (with_left u conn []) (with_left a conn []) conn m h.0 same h.1, h.2)
 
 -- room was not made, and comes to the same later
-pub taken_still : (conn : ℕ) (s a u : Standing) → 0 < length (left_of a conn) → roomy u conn ≡ roomy a conn → u.clients ≡ a.clients → IsTaken conn s a
-    → (v : Standing) → TakesAll (with_left u conn []) conn (left_of u conn) v → TakesAll (with_left s conn []) conn (left_of s conn) v
+pub taken_still : (conn : ℕ) (s a u : DeskRunState) → 0 < length (left_of a conn) → roomy u conn ≡ roomy a conn → u.clients ≡ a.clients → IsTaken conn s a
+    → (v : DeskRunState) → TakesAll (with_left u conn []) conn (left_of u conn) v → TakesAll (with_left s conn []) conn (left_of s conn) v
 taken_still conn s a u some same clients taken v h =
     let cs = on_client conn (relieved []) in
     let left : left_of u conn ≡ left_of a conn = ap (λ (ds : List Client). left_among (find conn ds)) clients in
     let room : roomy (with_left a conn []) conn ≡ roomy (with_left u conn []) conn =
-    roomy-clients a conn (cs a.clients) ∙ ap (λ (x : Standing). with_clients x (cs a.clients)) (sym same)
+    roomy-clients a conn (cs a.clients) ∙ ap (λ (x : DeskRunState). with_clients x (cs a.clients)) (sym same)
     ∙ ap (λ (ds : List Client). with_clients (roomy u conn) (cs ds)) (sym clients) ∙ sym (roomy-clients u conn (cs u.clients)) in
     taken.again v (again_by conn a u (left_of a conn) v some room (subst (λ (ms : List ClientMessage). TakesAll (with_left u conn []) conn ms v) left h))
 
 -- no message is left
-pub taken_all : (conn : ℕ) (s t : Standing) → left_of t conn ≡ [] → IsTaken conn s t → TakesAll (with_left s conn []) conn (left_of s conn) t
+pub taken_all : (conn : ℕ) (s t : DeskRunState) → left_of t conn ≡ [] → IsTaken conn s t → TakesAll (with_left s conn []) conn (left_of s conn) t
 taken_all conn s t none taken =
     taken.again t (subst (λ (ms : List ClientMessage). TakesAll (with_left t conn []) conn ms t) (sym none) (sym (none_left t conn none)))
 
-pub clients_then : (conn : ℕ) (s a u : Standing) → u.clients ≡ a.clients → IsTaken conn s a → u.clients ≡ (with_left s conn (left_of u conn)).clients
+pub clients_then : (conn : ℕ) (s a u : DeskRunState) → u.clients ≡ a.clients → IsTaken conn s a → u.clients ≡ (with_left s conn (left_of u conn)).clients
 clients_then conn s a u clients taken =
     clients ∙ taken.clients ∙ ap (λ (cs : List Client). on_client conn (relieved (left_among (find conn cs))) s.clients) (sym clients)
 
-pub rest_then : (conn : ℕ) (s a u : Standing) → u.clients ≡ a.clients → IsTaken conn s a → EndsWith (left_of s conn) (left_of u conn)
+pub rest_then : (conn : ℕ) (s a u : DeskRunState) → u.clients ≡ a.clients → IsTaken conn s a → EndsWith (left_of s conn) (left_of u conn)
 rest_then conn s a u clients taken = subst (λ (cs : List Client). EndsWith (left_of s conn) (left_among (find conn cs))) (sym clients) taken.rest
 
 -- ---- the loop
@@ -206,26 +206,26 @@ rest_then conn s a u clients taken = subst (λ (cs : List Client). EndsWith (lef
 -- messages of the connection whose client is there were taken as far as to a desk
 pub record Going {D : Type 0} (k : Ghosts D) (conn at : ℕ) (old new : DeskState D) : Type 0 where
   pub desk : IsDesk k new
-  pub place : IsFirstAt new.standing.clients conn at
-  pub taken : IsTaken conn old.standing new.standing
+  pub place : IsFirstAt new.run_state.clients conn at
+  pub taken : IsTaken conn old.run_state new.run_state
   pub goes : Goes k (λ s. ⊤) (λ d. ⊤) (λ s. ⊤) (Ok tt) old new
 
 pub place_as : (clients others : List Client) (conn at : ℕ) → others ≡ clients → IsFirstAt clients conn at → IsFirstAt others conn at
 place_as clients others conn at same place = subst (λ (cs : List Client). IsFirstAt cs conn at) (sym same) place
 
 module _ {D : Type 0} {k : Ghosts D} (conn at : ℕ) where
-  pub going_first : (d : DeskState D) → OnlyNow k → IsDesk k d → d.keeper.store.has_failed ≡ false → IsFirstAt d.standing.clients conn at → Going k conn at d d
-  going_first d only_now desk works place = record { desk = desk; place = place; taken = taken_none conn d.standing; goes = stays only_now desk works (store_itself d) refl tt }
+  pub going_first : (d : DeskState D) → OnlyNow k → IsDesk k d → d.keeper.store.has_failed ≡ false → IsFirstAt d.run_state.clients conn at → Going k conn at d d
+  going_first d only_now desk works place = record { desk = desk; place = place; taken = taken_none conn d.run_state; goes = stays only_now desk works (store_itself d) refl tt }
 
-  pub going_on : {Q : DeskState D → Type 0} {R : Standing → Type 0} {x : Unit {0}} (old a r t : DeskState D) → is_some (find conn old.standing.clients) ≡ true → Going k conn at old a
-      → Goes k (Is (roomy a.standing conn)) Q R (Ok x) a r → TakesNext r.standing conn t.standing → HasStore r t → IsDesk k t → Going k conn at old t
+  pub going_on : {Q : DeskState D → Type 0} {R : DeskRunState → Type 0} {x : Unit {0}} (old a r t : DeskState D) → is_some (find conn old.run_state.clients) ≡ true → Going k conn at old a
+      → Goes k (Is (roomy a.run_state conn)) Q R (Ok x) a r → TakesNext r.run_state conn t.run_state → HasStore r t → IsDesk k t → Going k conn at old t
   going_on old a r t here going room next same desk =
-      let clients : r.standing.clients ≡ a.standing.clients = ap (λ (u : Standing). u.clients) room.ends.1 ∙ roomy-keeps a.standing conn in
-      let changed : numbers t.standing.clients ≡ numbers a.standing.clients =
-      ap (λ (u : Standing). numbers u.clients) next.after ∙ numbers_changed r.standing.clients conn (relieved next.left) (λ c. refl) ∙ ap numbers clients in
+      let clients : r.run_state.clients ≡ a.run_state.clients = ap (λ (u : DeskRunState). u.clients) room.ends.1 ∙ roomy-keeps a.run_state conn in
+      let changed : numbers t.run_state.clients ≡ numbers a.run_state.clients =
+      ap (λ (u : DeskRunState). numbers u.clients) next.after ∙ numbers_changed r.run_state.clients conn (relieved next.left) (λ c. refl) ∙ ap numbers clients in
       record {
         desk = desk;
-        place = first_by_numbers a.standing.clients t.standing.clients conn at changed going.place;
-        taken = taken_next conn old.standing a.standing r.standing t.standing here room.ends.1 room.owes going.taken next;
-        goes = after (then going.goes room) same (ap (λ (u : Standing). u.owes) next.after) tt;
+        place = first_by_numbers a.run_state.clients t.run_state.clients conn at changed going.place;
+        taken = taken_next conn old.run_state a.run_state r.run_state t.run_state here room.ends.1 room.owes going.taken next;
+        goes = after (then going.goes room) same (ap (λ (u : DeskRunState). u.owes) next.after) tt;
       }

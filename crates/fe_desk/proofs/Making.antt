@@ -11,7 +11,7 @@ use Rattle.fe_keeper.specs.Keeper.{KeeperState}
 use Rattle.fe_keeper.specs.Stands.{StandsFor}
 use Rattle.fe_desk.specs.declared.handed.Handed.{Handed}
 use Rattle.fe_desk.specs.declared.handed.Handed.TheVariants.{Nothing, Cut, Stored}
-use Rattle.fe_desk.specs.Standing.{Standing}
+use Rattle.fe_desk.specs.DeskRunState.{DeskRunState}
 use Rattle.fe_desk.specs.Storing.{cut, cleared, committed, made, is_making, with_room, begun_room, roomy}
 use Rattle.fe_desk.specs.Crash.{DeskState, Advances, disk_of}
 use Rattle.fe_desk.specs.within.Desk.{IsDesk, IsAhead, IsHanded}
@@ -22,7 +22,7 @@ use Rattle.fe_disk.specs.declared.disk.Disk.{Ghosts}
 -- ---- room
 
 -- what is out is posted, and then none is
-cleared_out : (s : Standing) → IsHanded s.handed s.front.out → (cleared s).front.out ≡ None
+cleared_out : (s : DeskRunState) → IsHanded s.handed s.front.out → (cleared s).front.out ≡ None
 cleared_out s handed = by s.handed handed
   where
     by : (h : Handed) → IsHanded h s.front.out → (cleared (record s { handed = h })).front.out ≡ None
@@ -31,7 +31,7 @@ cleared_out s handed = by s.handed handed
     by (Stored batch) out = refl
 
 -- what is pending stays so
-pub cleared_pending : (s : Standing) → (cleared s).front.service.pending ≡ s.front.service.pending
+pub cleared_pending : (s : DeskRunState) → (cleared s).front.service.pending ≡ s.front.service.pending
 cleared_pending s = by s.handed
   where
     by : (h : Handed) → (cleared (record s { handed = h })).front.service.pending ≡ s.front.service.pending
@@ -52,32 +52,32 @@ cut_pending f none = by (front.has_no_cut f) refl
     by true is = zero_by (length f.service.pending) (ap (λ o. is_some o || nat_eq (length f.service.pending) 0) (sym none) ∙ is)
 
 -- there is room where what is out was posted, and then what was pending
-pub committed_room : (s : Standing) → IsHanded s.handed s.front.out → has_room (committed (cleared s)).front ≡ true
+pub committed_room : (s : DeskRunState) → IsHanded s.handed s.front.out → has_room (committed (cleared s)).front ≡ true
 committed_room s handed =
-    let mid : Standing = cleared s in
+    let mid : DeskRunState = cleared s in
     let none : length (committed mid).front.service.pending ≡ 0 = ap (λ (es : List Entry). length es) (cleared_pending (cut mid)) ∙ cut_pending mid.front (cleared_out s handed) in
     ap (λ (n : ℕ). nat_le n 2048) none
 
-pub begun_by : (s : Standing) (conn : ℕ) (b : Bool) → is_making s conn ≡ b → begun_room s conn ≡ (if b then made (cleared s) else s)
+pub begun_by : (s : DeskRunState) (conn : ℕ) (b : Bool) → is_making s conn ≡ b → begun_room s conn ≡ (if b then made (cleared s) else s)
 begun_by s conn b is = ap (λ (c : Bool). if c then made (cleared s) else s) is
 
 -- room that was begun is gone on with once
-begun_twice : (s : Standing) (conn : ℕ) → begun_room (begun_room s conn) conn ≡ begun_room s conn
+begun_twice : (s : DeskRunState) (conn : ℕ) → begun_room (begun_room s conn) conn ≡ begun_room s conn
 begun_twice s conn = by (is_making s conn) refl
   where
     by : (b : Bool) → is_making s conn ≡ b → begun_room (begun_room s conn) conn ≡ begun_room s conn
-    by true is = let done = begun_by s conn true is in ap (λ (t : Standing). begun_room t conn) done ∙ sym done
-    by false is = ap (λ (t : Standing). begun_room t conn) (begun_by s conn false is)
+    by true is = let done = begun_by s conn true is in ap (λ (t : DeskRunState). begun_room t conn) done ∙ sym done
+    by false is = ap (λ (t : DeskRunState). begun_room t conn) (begun_by s conn false is)
 
-pub room_by : (s : Standing) (b : Bool) → has_room s.front ≡ b → with_room s ≡ (if b then s else made (committed (cleared s)))
+pub room_by : (s : DeskRunState) (b : Bool) → has_room s.front ≡ b → with_room s ≡ (if b then s else made (committed (cleared s)))
 room_by s b is = ap (λ (c : Bool). if c then s else made (committed (cleared s))) is
 
 -- because memory is short nothing was done, or what was done is gone on with
-pub roomy_later : (s mid t : Standing) (conn : ℕ) → mid ≡ begun_room s conn → IsHanded mid.handed mid.front.out → has_room mid.front ≡ false
+pub roomy_later : (s mid t : DeskRunState) (conn : ℕ) → mid ≡ begun_room s conn → IsHanded mid.handed mid.front.out → has_room mid.front ≡ false
     → (t ≡ mid) ⊎ (begun_room t conn ≡ made (committed (cleared mid))) → roomy t conn ≡ roomy s conn
-roomy_later s mid t conn begun handed none (inl is) = ap (λ (u : Standing). roomy u conn) (is ∙ begun) ∙ ap with_room (begun_twice s conn)
+roomy_later s mid t conn begun handed none (inl is) = ap (λ (u : DeskRunState). roomy u conn) (is ∙ begun) ∙ ap with_room (begun_twice s conn)
 roomy_later s mid t conn begun handed none (inr is) =
-    let last : Standing = made (committed (cleared mid)) in
+    let last : DeskRunState = made (committed (cleared mid)) in
     ap with_room is ∙ room_by last true (committed_room mid handed) ∙ sym (room_by mid false none) ∙ ap with_room begun
 
 -- ---- a call of the keeper that keeps the replica
@@ -89,7 +89,7 @@ module _ {D : Type 0} (model : Ghosts D) (d : DeskState D) (k : KeeperState D) w
       → (model.honest k.store.disk ↔ model.honest (disk_of d)) → IsDesk model (record d { keeper = k })
   desk_checked counts_now desk works state run honesty =
       desk_kept model counts_now d (record d { keeper = k }) desk works refl refl state run honesty
-      (subst (λ (s : ServerState). IsAhead d.standing s) (sym state) desk.tied) desk.known
+      (subst (λ (s : ServerState). IsAhead d.run_state s) (sym state) desk.tied) desk.known
 
   pub advances_checked : IsDesk model d → k.state ≡ d.keeper.state
       → (model.honest (disk_of d) → d.keeper.store.has_failed ≡ false → LeavesOnly model (disk_of d) k.store.disk (λ image. StandsFor image d.keeper.state))

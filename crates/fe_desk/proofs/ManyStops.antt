@@ -26,7 +26,7 @@ use Rattle.fe_desk.specs.Acknowledged.{AnswersStand, StandsOn, IsWritten, IsAckn
 use Rattle.fe_desk.specs.Crash.{DeskState}
 use Rattle.fe_desk.specs.Laws.{Life, AreLives, kept_groups}
 use Rattle.fe_desk.specs.Lives.{Stop, all_groups, handed_by, stored_by, IsStopOf, AreStops, FinishOnceIn, AreOneStore, StopsAreLives}
-use Rattle.fe_desk.specs.Standing.{Standing}
+use Rattle.fe_desk.specs.DeskRunState.{DeskRunState}
 use Rattle.fe_desk.proofs.Acknowledging.{entries-append, stands_behind}
 use Rattle.fe_desk.proofs.Lives.{lives_join}
 
@@ -114,7 +114,7 @@ waits_weaker : (P Q : Mail → Type 0) → ((m : Mail) → P m → Q m) → (o :
 waits_weaker P Q weaker None waits = tt
 waits_weaker P Q weaker (Some r) (m, is, such) = (m, is, weaker m such)
 
-written_weaker : (begun other : ServerState) (groups more : List (List Entry)) (asked : ℕ → ℕ → Bool) → ((mine : ℕ → Bool) (m : Mail) → StandsOn begun groups mine m → StandsOn other more mine m) → (s : Standing)
+written_weaker : (begun other : ServerState) (groups more : List (List Entry)) (asked : ℕ → ℕ → Bool) → ((mine : ℕ → Bool) (m : Mail) → StandsOn begun groups mine m → StandsOn other more mine m) → (s : DeskRunState)
     → AnswersStand begun groups asked s → AnswersStand other more asked s
 written_weaker begun other groups more asked weaker s written =
     all_weaker (IsWritten begun groups asked) (IsWritten other more asked)
@@ -133,11 +133,11 @@ once_in s groups history before between behind session number first second one o
     finishes_once s before between behind session number first second one other (subst (λ (es : List Entry). AreLegal s es) is (legal-flat s groups history))
 
 abbrev Later : Type 0 → ServerState → ServerState → List (List Entry) → Type 0
-Later D begun s front = (asked : ℕ → ℕ → Bool) (d : DeskState D) → IsAcknowledged s asked d → AnswersStand begun (front ++ stored_groups d) asked d.standing
+Later D begun s front = (asked : ℕ → ℕ → Bool) (d : DeskState D) → IsAcknowledged s asked d → AnswersStand begun (front ++ stored_groups d) asked d.run_state
 
 module _ {D : Type 0} where
   lived : (begun s : ServerState) (stops : List (Stop D)) (lives : List Life) → map handed_by lives ≡ map stored_by stops → AreLives begun lives s
-      → AllByRecursion (λ (x : Stop D). AnswersStand begun (kept_groups lives) x.asked x.last.standing) stops → Later D begun s (kept_groups lives) → AreOneStore begun stops s
+      → AllByRecursion (λ (x : Stop D). AnswersStand begun (kept_groups lives) x.asked x.last.run_state) stops → Later D begun s (kept_groups lives) → AreOneStore begun stops s
   lived begun s stops lives same are answers later = record {
     lives = lives;
     same = same;
@@ -158,20 +158,20 @@ module _ {D : Type 0} where
       let all : AreAnswered begun (entries_of front) = history_answered begun front history in
       let stored = is.stored in
       let first : List (List Entry) = stored_groups x.last in
-      let past = take_within x.last.synced x.last.standing.groups x.under_way kept is.few (omega (arith, stored, least)) in
+      let past = take_within x.last.synced x.last.run_state.groups x.under_way kept is.few (omega (arith, stored, least)) in
       let whole : first ++ (past.0 ++ kept_groups rest.lives) ≡ front ++ kept_groups rest.lives =
       sym (append_assoc first past.0 (kept_groups rest.lives)) ∙ ap (λ (gs : List (List Entry)). gs ++ kept_groups rest.lives) (sym past.1) in
-      let own : AnswersStand begun (front ++ kept_groups rest.lives) x.asked x.last.standing =
-      subst (λ (gs : List (List Entry)). AnswersStand begun gs x.asked x.last.standing) whole
-      (written_weaker begun begun first (first ++ (past.0 ++ kept_groups rest.lives)) x.asked (stands_behind begun first (past.0 ++ kept_groups rest.lives)) x.last.standing is.lived.answers) in
+      let own : AnswersStand begun (front ++ kept_groups rest.lives) x.asked x.last.run_state =
+      subst (λ (gs : List (List Entry)). AnswersStand begun gs x.asked x.last.run_state) whole
+      (written_weaker begun begun first (first ++ (past.0 ++ kept_groups rest.lives)) x.asked (stands_behind begun first (past.0 ++ kept_groups rest.lives)) x.last.run_state is.lived.answers) in
       lived begun s (x ∷ xs) (life ∷ rest.lives) (ap (λ (ls : List (List (List Entry) × ℕ)). (all_groups x, x.synced) ∷ ls) rest.same) (is.history, least, most, rest.are) (
         own,
-        all_weaker (λ (y : Stop D). AnswersStand (after_groups begun front) (kept_groups rest.lives) y.asked y.last.standing) (λ (y : Stop D). AnswersStand begun (front ++ kept_groups rest.lives) y.asked y.last.standing)
-            (λ y w. written_weaker (after_groups begun front) begun (kept_groups rest.lives) (front ++ kept_groups rest.lives) y.asked (stands_after begun below front all (kept_groups rest.lives)) y.last.standing w) xs rest.answers,
+        all_weaker (λ (y : Stop D). AnswersStand (after_groups begun front) (kept_groups rest.lives) y.asked y.last.run_state) (λ (y : Stop D). AnswersStand begun (front ++ kept_groups rest.lives) y.asked y.last.run_state)
+            (λ y w. written_weaker (after_groups begun front) begun (kept_groups rest.lives) (front ++ kept_groups rest.lives) y.asked (stands_after begun below front all (kept_groups rest.lives)) y.last.run_state w) xs rest.answers,
       )
       (λ asked d now.
-      subst (λ (gs : List (List Entry)). AnswersStand begun gs asked d.standing) (sym (append_assoc front (kept_groups rest.lives) (stored_groups d)))
-      (written_weaker (after_groups begun front) begun (kept_groups rest.lives ++ stored_groups d) (front ++ (kept_groups rest.lives ++ stored_groups d)) asked (stands_after begun below front all (kept_groups rest.lives ++ stored_groups d)) d.standing
+      subst (λ (gs : List (List Entry)). AnswersStand begun gs asked d.run_state) (sym (append_assoc front (kept_groups rest.lives) (stored_groups d)))
+      (written_weaker (after_groups begun front) begun (kept_groups rest.lives ++ stored_groups d) (front ++ (kept_groups rest.lives ++ stored_groups d)) asked (stands_after begun below front all (kept_groups rest.lives ++ stored_groups d)) d.run_state
       (rest.later asked d now)))
 
   module _ (for_one : StandsForOne) where

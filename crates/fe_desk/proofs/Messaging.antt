@@ -28,7 +28,7 @@ use Rattle.fe_messages.specs.Asking.{HasOnly}
 use Rattle.fe_messages.specs.Taking.{Takes}
 use Rattle.fe_messages.proofs.Boxes.{AllIn}
 use Rattle.fe_messages.proofs.Boxing.{again, sent_again, message_boxes}
-use Rattle.fe_messages.proofs.Seated.{addressed_has}
+use Rattle.fe_messages.proofs.AttachmentLaws.{addressed_has}
 use Rattle.fe_desk.specs.Acknowledged.{StandsOn, entries_of}
 use Rattle.fe_desk.proofs.Answered.{turns_answered}
 

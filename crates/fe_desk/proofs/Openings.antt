@@ -9,7 +9,7 @@ use Rattle.fe_state.specs.History.{IsHistory, AreLegal, after_groups}
 use Rattle.fe_state.specs.declared.entry.Entry.{Entry}
 use Rattle.fe_front.specs.Front.{FrontState, IsFirst, is_connected}
 use Rattle.fe_disk.specs.Disk.{Rises}
-use Rattle.fe_disk.specs.Runs.{told}
+use Rattle.fe_disk.specs.Runs.{without_disk}
 use Rattle.fe_journal.specs.Found.{AsksToOpen}
 use Rattle.fe_disk.specs.declared.calls.Calls.{Calls}
 use Rattle.fe_keeper.specs.Keeper.{KeeperState}
@@ -21,19 +21,19 @@ use Rattle.fe_desk.specs.declared.fault.DeskFault.TheVariants.{Store, NoMemory}
 use Rattle.fe_keeper.specs.Damage as store
 use Rattle.fe_keeper.proofs.Damages.{lacks_standing}
 use Rattle.fe_keeper.specs.Prefix.{LeavesPrefix}
-use Rattle.fe_desk.specs.Messages.{told_as}
+use Rattle.fe_desk.specs.Messages.{desk_fault_of}
 use Rattle.fe_desk.specs.Opened.{disk_after, TellsOpening}
 use Rattle.fe_desk.specs.declared.handed.Handed.{Handed}
-use Rattle.fe_desk.specs.declared.parts.Parts.{Parts}
+use Rattle.fe_desk.specs.declared.desk_inner.DeskInner.{DeskInner}
 use Rattle.fe_desk.specs.declared.port.Port.{Port}
 use Rattle.fe_desk.specs.Traces.{IsTraceOf}
-use Rattle.fe_desk.specs.Standing.{Client, Standing, IsFirstStanding}
+use Rattle.fe_desk.specs.DeskRunState.{Client, DeskRunState, IsFirstRunState}
 use Rattle.fe_desk.specs.Crash.{DeskState, IsFrom, disk_of}
 use Rattle.fe_desk.specs.Acknowledged.{cut_entries}
-use Rattle.fe_desk.specs.within.Desk.{IsDesk, IsAhead, IsHanded, unstored, client_of, standing_of}
+use Rattle.fe_desk.specs.within.Desk.{IsDesk, IsAhead, IsHanded, unstored, client_of, run_state_of}
 use Rattle.fe_disk.specs.declared.disk.Disk.{Ghosts}
 
-first_tied : (begun : ServerState) (s : Standing) → IsFirstStanding begun s → IsAhead s begun
+first_tied : (begun : ServerState) (s : DeskRunState) → IsFirstRunState begun s → IsAhead s begun
 first_tied begun s first =
     let none : unstored s ≡ [] =
     ap (λ (h : Handed). cut_entries h ++ s.front.service.pending) first.handed ∙ first.front.pending in
@@ -54,26 +54,26 @@ none_both fault {cause} short is = cc
 
 module _ {D : Type 0} where
   -- no group is there, so the history begins with the state
-  pub first_from : (begun : ServerState) (d : DeskState D) → d.keeper.state ≡ begun → d.standing.groups ≡ [] → d.synced ≡ 0 → IsFrom begun d
+  pub first_from : (begun : ServerState) (d : DeskState D) → d.keeper.state ≡ begun → d.run_state.groups ≡ [] → d.synced ≡ 0 → IsFrom begun d
   first_from begun d is groups synced =
       record {
         history = subst (λ (gs : List (List Entry)). IsHistory begun gs) (sym groups) tt;
-        replica = is ∙ sym (ap (λ (n : ℕ). after_groups begun (take n d.standing.groups)) synced);
+        replica = is ∙ sym (ap (λ (n : ℕ). after_groups begun (take n d.run_state.groups)) synced);
       }
 
   -- an image that stands for the replica stands for what is stored of the history
-  pub stands_at : (begun : ServerState) (d : DeskState D) (image : List ℕ) → IsFrom begun d → d.synced ≤ length d.standing.groups → StandsFor image d.keeper.state
-      → LeavesPrefix begun d.standing.groups d.synced image
+  pub stands_at : (begun : ServerState) (d : DeskState D) (image : List ℕ) → IsFrom begun d → d.synced ≤ length d.run_state.groups → StandsFor image d.keeper.state
+      → LeavesPrefix begun d.run_state.groups d.synced image
   stands_at begun d image from few stands =
       record { state = d.keeper.state; stands = stands; prefix = record { kept = d.synced; least = omega arith; most = few; state_is = from.replica } }
 
-  pub first_desk : (model : Ghosts D) (d : DeskState D) → IsFirstStanding d.keeper.state d.standing → d.synced ≡ 0
+  pub first_desk : (model : Ghosts D) (d : DeskState D) → IsFirstRunState d.keeper.state d.run_state → d.synced ≡ 0
       → (model.honest (disk_of d) → EachStandsFor model (disk_of d) d.keeper.state) → IsDesk model d
   first_desk model d first synced stands =
-      let few : d.synced ≤ length d.standing.groups = omega (arith, synced) in
+      let few : d.synced ≤ length d.run_state.groups = omega (arith, synced) in
       record {
-        tied = first_tied d.keeper.state d.standing first;
-        known = λ conn is. absurd (none_connected d.keeper.state d.standing.front conn first.front is);
+        tied = first_tied d.keeper.state d.run_state first;
+        known = λ conn is. absurd (none_connected d.keeper.state d.run_state.front conn first.front is);
         few = few;
         all = λ works. synced ∙ sym (ap (λ (gs : List (List Entry)). length gs) first.groups);
         upheld = λ h begun from image may. stands_at begun d image from few (stands h image may);
@@ -91,8 +91,8 @@ module _ {D : Type 0} (r : Result (DeskState D) (DeskFault × D)) (k : KeeperSta
       by (Err e) none same = same
 
   -- and the device has the size of a store
-  pub size_told : (A : Type 0) → A → IfErr r (λ e. e.0 ≡ NoMemory false) → IfErr r (λ e. (e.0 ≡ Store keeper.Unformatted) ↔ (A → ⊥))
-  size_told A size = by r
+  pub size_faulty : (A : Type 0) → A → IfErr r (λ e. e.0 ≡ NoMemory false) → IfErr r (λ e. (e.0 ≡ Store keeper.Unformatted) ↔ (A → ⊥))
+  size_faulty A size = by r
     where
       by : (x : Result (DeskState D) (DeskFault × D)) → IfErr x (λ e. e.0 ≡ NoMemory false) → IfErr x (λ e. (e.0 ≡ Store keeper.Unformatted) ↔ (A → ⊥))
       by (Ok d) fault = tt
@@ -114,30 +114,30 @@ asks_as {model = model} {other = other} {old = old} s again is same asks =
     })
 
 -- the desk's fault is the device's where the keeper's is
-device_told : (f : Fault) → (told_as f false ≡ Store keeper.Device) ↔ (f ≡ keeper.Device)
-device_told keeper.Device = (λ e. refl, λ e. refl)
-device_told keeper.Failed = (λ e. cc, λ e. cc)
-device_told keeper.NoMemory = (λ e. cc, λ e. cc)
-device_told (keeper.Mismatch place) = (λ e. cc, λ e. cc)
-device_told (keeper.Damaged offset) = (λ e. cc, λ e. cc)
-device_told keeper.Unformatted = (λ e. cc, λ e. cc)
+device_fault : (f : Fault) → (desk_fault_of f false ≡ Store keeper.Device) ↔ (f ≡ keeper.Device)
+device_fault keeper.Device = (λ e. refl, λ e. refl)
+device_fault keeper.Failed = (λ e. cc, λ e. cc)
+device_fault keeper.NoMemory = (λ e. cc, λ e. cc)
+device_fault (keeper.Mismatch place) = (λ e. cc, λ e. cc)
+device_fault (keeper.Damaged offset) = (λ e. cc, λ e. cc)
+device_fault keeper.Unformatted = (λ e. cc, λ e. cc)
 
 module _ {D : Type 0} {model : Ghosts D} {old : D} where
   -- over a keeper that was opened, whether there was memory for the desk or not
   pub asks_over : (r : Result (DeskState D) (DeskFault × D)) (k : KeeperState D) → IfOk r (λ d. d.keeper ≡ k) → IfErr r (λ e. e.0 ≡ NoMemory false) → IfErr r (λ e. e.1 ≡ k.store.disk)
-      → AsksToOpen model keeper.Device (Ok k) old k.store.disk → AsksToOpen model (Store keeper.Device) (told r) old (disk_after r)
+      → AsksToOpen model keeper.Device (Ok k) old k.store.disk → AsksToOpen model (Store keeper.Device) (without_disk r) old (disk_after r)
   asks_over r k = by r
     where
       by : (x : Result (DeskState D) (DeskFault × D)) → IfOk x (λ d. d.keeper ≡ k) → IfErr x (λ e. e.0 ≡ NoMemory false) → IfErr x (λ e. e.1 ≡ k.store.disk)
-          → AsksToOpen model keeper.Device (Ok k) old k.store.disk → AsksToOpen model (Store keeper.Device) (told x) old (disk_after x)
+          → AsksToOpen model keeper.Device (Ok k) old k.store.disk → AsksToOpen model (Store keeper.Device) (without_disk x) old (disk_after x)
       by (Ok d) same short disk asks = asks_as (Ok d) (disk_of d) (ap (λ (x : KeeperState D). x.store.disk) same) (λ e. cc, λ e. cc) asks
       by (Err e) same short disk asks = asks_as (Err e.0) e.1 disk (λ is. let fault : e.0 ≡ Store keeper.Device = cc in absurd (none_both e.0 short fault), λ is. cc) asks
 
   -- over a store that the keeper refused
-  pub asks_refused : {T U : Type 0} {new : D} (f : Fault) (fault : DeskFault) → fault ≡ told_as f false → AsksToOpen {T = T} model keeper.Device (Err f) old new
+  pub asks_refused : {T U : Type 0} {new : D} (f : Fault) (fault : DeskFault) → fault ≡ desk_fault_of f false → AsksToOpen {T = T} model keeper.Device (Err f) old new
       → AsksToOpen {T = U} model (Store keeper.Device) (Err fault) old new
   asks_refused {new = new} f fault is asks =
-      asks_as (Err fault) new refl (λ e. let told_is : told_as f false ≡ Store keeper.Device = cc in ap (λ x. Err x) ((device_told f).0 told_is), λ e. let same : f ≡ keeper.Device = cc in ap (λ x. Err x) (is ∙ (device_told f).1 same)) asks
+      asks_as (Err fault) new refl (λ e. let fault_is : desk_fault_of f false ≡ Store keeper.Device = cc in ap (λ x. Err x) ((device_fault f).0 fault_is), λ e. let same : f ≡ keeper.Device = cc in ap (λ x. Err x) (is ∙ (device_fault f).1 same)) asks
 
   -- which fault the device's is, and that no call failed at another
   pub device_alone : {T : Type 0} {new : D} (fault : DeskFault) → AsksToOpen {T = T} model (Store keeper.Device) (Err fault) old new
@@ -151,12 +151,12 @@ written_as : (ps : List Port) → map {B = ℕ × List ℕ} (λ (p : Port). (p.c
 written_as [] = refl
 written_as (p ∷ ps) = let here : ℕ × List ℕ = (p.conn, p.written) in ap (λ (ws : List (ℕ × List ℕ)). here ∷ ws) (written_as ps)
 
-pub is_trace : {D : Type 0} (p : Parts D) → IsTraceOf p.trace (standing_of p) p.trace.synced
+pub is_trace : {D : Type 0} (p : DeskInner D) → IsTraceOf p.trace (run_state_of p) p.trace.synced
 is_trace p = record { groups = refl; written = written_as p.trace.ports.items; synced_is = refl }
 
 -- ---- what is reported of a store
 
-pub tells_opening : (image : List ℕ) (before now : Calls) (fault : Fault) → store.TellsStore fault image before now → TellsOpening (told_as fault false) image before now
+pub tells_opening : (image : List ℕ) (before now : Calls) (fault : Fault) → store.TellsStore fault image before now → TellsOpening (desk_fault_of fault false) image before now
 tells_opening image before now keeper.Device tells = tells
 tells_opening image before now keeper.Failed tells = tells
 tells_opening image before now keeper.NoMemory tells = tells

@@ -11,7 +11,7 @@ use Rattle.fe_desk.specs.declared.step.Step.TheVariants as step
 use Rattle.fe_desk.specs.Mails.{emptied_box}
 use Rattle.fe_desk.specs.Messages.{outputs}
 use Rattle.fe_desk.specs.Output.{output_of, Extends}
-use Rattle.fe_desk.specs.Standing.{Client, Standing, unwritten, all_told}
+use Rattle.fe_desk.specs.DeskRunState.{Client, DeskRunState, unwritten, all_written_out}
 use Rattle.fe_desk.specs.Storing.{stored, stored_from, posted, posted_from, is_making}
 use Rattle.fe_desk.specs.Steps.{find, on_client, with_left, with_decoder, new_client, clients_with, unmade, Connects, gone, TakesPiece, TakesFrom, TakesBytes, after_frame, Acts}
 use Rattle.fe_desk.proofs.Reading.{each-on_client, takes_all-keeps}
@@ -44,9 +44,9 @@ extends_behind [] d = tt
 extends_behind (c ∷ cs) d = (refl, ([], sym (append-nil c.written)), extends_behind cs d)
 
 -- each is written its mails
-pub all_told-extends : (f : FrontState) (cs : List Client) → Extends (map output_of cs) (map output_of (all_told f cs))
-all_told-extends f [] = tt
-all_told-extends f (c ∷ cs) = (refl, (unwritten f c, refl), all_told-extends (emptied_box f c.conn) cs)
+pub all_written_out-extends : (f : FrontState) (cs : List Client) → Extends (map output_of cs) (map output_of (all_written_out f cs))
+all_written_out-extends f [] = tt
+all_written_out-extends f (c ∷ cs) = (refl, (unwritten f c, refl), all_written_out-extends (emptied_box f c.conn) cs)
 
 -- ---- the clients over what a step does
 
@@ -58,17 +58,17 @@ came cs conn d = by (is_some (find conn cs))
     by false = extends_behind cs (new_client conn d)
 
 -- the parts of a step that leave the clients
-pub stored_clients : (h : Handed) (s : Standing) → (stored_from h s).clients ≡ s.clients
+pub stored_clients : (h : Handed) (s : DeskRunState) → (stored_from h s).clients ≡ s.clients
 stored_clients Nothing s = refl
 stored_clients (Cut batch) s = refl
 stored_clients (Stored batch) s = refl
 
-pub posted_clients : (h : Handed) (s : Standing) → (posted_from h s).clients ≡ s.clients
+pub posted_clients : (h : Handed) (s : DeskRunState) → (posted_from h s).clients ≡ s.clients
 posted_clients Nothing s = refl
 posted_clients (Cut batch) s = refl
 posted_clients (Stored batch) s = refl
 
-pub unmade_clients : (s : Standing) (conn : ℕ) → (unmade s conn).clients ≡ s.clients
+pub unmade_clients : (s : DeskRunState) (conn : ℕ) → (unmade s conn).clients ≡ s.clients
 unmade_clients s conn = by (is_making s conn)
   where
     by : (b : Bool) → (if b then record s { making = None } else s).clients ≡ s.clients
@@ -78,20 +78,20 @@ unmade_clients s conn = by (is_making s conn)
 -- ---- output over what a step does
 
 -- the clients of one standing are those of another
-same : (s t : Standing) → t.clients ≡ s.clients → outputs t ≡ outputs s
+same : (s t : DeskRunState) → t.clients ≡ s.clients → outputs t ≡ outputs s
 same s t clients = ap (λ (cs : List Client). map output_of cs) clients
 
-left_output : (s : Standing) (conn : ℕ) (left : List ClientMessage) → outputs (with_left s conn left) ≡ outputs s
+left_output : (s : DeskRunState) (conn : ℕ) (left : List ClientMessage) → outputs (with_left s conn left) ≡ outputs s
 left_output s conn left = each-on_client output_of conn (λ c. record c { left = left }) s.clients (λ c. refl)
 
-gone_output : (s : Standing) (conn : ℕ) → outputs (gone s conn) ≡ outputs s
+gone_output : (s : DeskRunState) (conn : ℕ) → outputs (gone s conn) ≡ outputs s
 gone_output s conn = left_output (unmade s conn) conn [] ∙ same s (unmade s conn) (unmade_clients s conn)
 
-frame_output : (bad : Bool) (s : Standing) (conn : ℕ) → outputs (after_frame bad s conn) ≡ outputs s
+frame_output : (bad : Bool) (s : DeskRunState) (conn : ℕ) → outputs (after_frame bad s conn) ≡ outputs s
 frame_output true s conn = gone_output s conn
 frame_output false s conn = refl
 
-piece_output : (s : Standing) (conn : ℕ) (before : Decoding) (piece : List ℕ) (t : Standing) → TakesPiece s conn before piece t → outputs t ≡ outputs s
+piece_output : (s : DeskRunState) (conn : ℕ) (before : Decoding) (piece : List ℕ) (t : DeskRunState) → TakesPiece s conn before piece t → outputs t ≡ outputs s
 piece_output s conn before piece t p =
     let read = with_decoder s conn p.decoder in
     ap outputs p.after
@@ -99,7 +99,7 @@ piece_output s conn before piece t p =
     ∙ same read p.last (takes_all-keeps read conn p.more p.last p.takes)
     ∙ each-on_client output_of conn (λ c. record c { decoder = p.decoder }) s.clients (λ c. refl)
 
-from_output : (s : Standing) (conn : ℕ) (left : List ClientMessage) (before : Decoding) (piece : List ℕ) (t : Standing) → TakesFrom s conn left before piece t → outputs t ≡ outputs s
+from_output : (s : DeskRunState) (conn : ℕ) (left : List ClientMessage) (before : Decoding) (piece : List ℕ) (t : DeskRunState) → TakesFrom s conn left before piece t → outputs t ≡ outputs s
 from_output s conn left before piece t p =
     by (is_connected p.mid.front conn) p.reading
     ∙ same (with_left s conn []) p.mid (takes_all-keeps (with_left s conn []) conn left p.mid p.leftovers)
@@ -109,17 +109,17 @@ from_output s conn left before piece t p =
     by true r = piece_output p.mid conn before piece t r
     by false r = ap outputs r
 
-bytes_output : (s : Standing) (o : Option Client) (piece : List ℕ) (t : Standing) → TakesBytes s o piece t → outputs t ≡ outputs s
+bytes_output : (s : DeskRunState) (o : Option Client) (piece : List ℕ) (t : DeskRunState) → TakesBytes s o piece t → outputs t ≡ outputs s
 bytes_output s None piece t e = ap outputs e
 bytes_output s (Some c) piece t e = from_output s c.conn c.left c.decoder piece t e
 
 -- a step writes nothing before its end
-pub acts_extends : (s : Standing) (x : Step) (t : Standing) → Acts s x t → Extends (outputs s) (outputs t)
+pub acts_extends : (s : DeskRunState) (x : Step) (t : DeskRunState) → Acts s x t → Extends (outputs s) (outputs t)
 acts_extends s (step.Connect conn) t e = by (is_connected s.front conn) e
   where
     by : (b : Bool) → MatchBool b (t ≡ s) (Connects s conn t) → Extends (outputs s) (outputs t)
     by true r = extends_as (outputs s) (outputs t) (ap outputs r)
-    by false r = subst (λ (u : Standing). Extends (outputs s) (outputs u)) (sym r.after) (came s.clients conn r.decoder)
+    by false r = subst (λ (u : DeskRunState). Extends (outputs s) (outputs u)) (sym r.after) (came s.clients conn r.decoder)
 acts_extends s (step.Bytes conn piece) t e = extends_as (outputs s) (outputs t) (bytes_output s (find conn s.clients) piece.items t e)
 acts_extends s (step.Gone conn) t e = extends_as (outputs s) (outputs t) (ap outputs e ∙ gone_output s conn)
 acts_extends s step.Cut t e = extends_as (outputs s) (outputs t) (ap outputs e)

@@ -7,7 +7,7 @@ use Rattle.fe_wire.specs.Stream.{Decoding, CompletesMessage}
 use Rattle.fe_wire.specs.declared.client_message.ClientMessage.{ClientMessage}
 use Rattle.fe_front.specs.Front.{is_connected}
 use Rattle.fe_desk.specs.declared.port.Port.{Port}
-use Rattle.fe_desk.specs.Standing.{Client, Standing}
+use Rattle.fe_desk.specs.DeskRunState.{Client, DeskRunState}
 use Rattle.fe_desk.specs.Storing.{is_making}
 use Rattle.fe_desk.specs.Taking.{TakesAll}
 use Rattle.fe_desk.specs.Steps.{find, on_client, with_left, with_decoder, gone, after_frame, Reads, TakesPiece, TakesFrom, TakesBytes}
@@ -25,32 +25,32 @@ use Rattle.fe_disk.specs.declared.disk.Disk.{Ghosts}
 
 -- ---- the client of a connection number
 
-pub record IsHere (s : Standing) (conn : ℕ) (c : Client) : Type 0 where
+pub record IsHere (s : DeskRunState) (conn : ℕ) (c : Client) : Type 0 where
   pub found : find conn s.clients ≡ Some c
   pub number : c.conn ≡ conn
 
-same_here : (s : Standing) (conn : ℕ) (c d : Client) → IsHere s conn c → IsHere s conn d → c ≡ d
+same_here : (s : DeskRunState) (conn : ℕ) (c d : Client) → IsHere s conn c → IsHere s conn d → c ≡ d
 same_here s conn c d here there = same_Some c d (sym here.found ∙ there.found)
 
-here_changed : (s t : Standing) (conn : ℕ) (c : Client) (change : Client → Client) → ((d : Client) → (change d).conn ≡ d.conn) → t.clients ≡ on_client conn change s.clients → IsHere s conn c → IsHere t conn (change c)
+here_changed : (s t : DeskRunState) (conn : ℕ) (c : Client) (change : Client → Client) → ((d : Client) → (change d).conn ≡ d.conn) → t.clients ≡ on_client conn change s.clients → IsHere s conn c → IsHere t conn (change c)
 here_changed s t conn c change keeps clients here =
     record {
       found = ap (find conn) clients ∙ find-on_client conn change s.clients keeps ∙ ap (option_map change) here.found;
       number = keeps c ∙ here.number;
     }
 
-bytes_from : (s : Standing) (conn : ℕ) (c : Client) (piece : List ℕ) (t : Standing) → IsHere s conn c → TakesFrom s conn (left_of s conn) c.decoder piece t → TakesBytes s (find conn s.clients) piece t
+bytes_from : (s : DeskRunState) (conn : ℕ) (c : Client) (piece : List ℕ) (t : DeskRunState) → IsHere s conn c → TakesFrom s conn (left_of s conn) c.decoder piece t → TakesBytes s (find conn s.clients) piece t
 bytes_from s conn c piece t here h =
     subst (λ (o : Option Client). TakesBytes s o piece t) (sym here.found)
     (subst (λ (n : ℕ). TakesFrom s n c.left c.decoder piece t) (sym here.number)
     (subst (λ (ms : List ClientMessage). TakesFrom s conn ms c.decoder piece t) (ap left_among here.found) h))
 
-from_bytes : (s : Standing) (conn : ℕ) (c : Client) (piece : List ℕ) (t : Standing) → IsHere s conn c → TakesBytes s (find conn s.clients) piece t → TakesFrom s conn (left_of s conn) c.decoder piece t
+from_bytes : (s : DeskRunState) (conn : ℕ) (c : Client) (piece : List ℕ) (t : DeskRunState) → IsHere s conn c → TakesBytes s (find conn s.clients) piece t → TakesFrom s conn (left_of s conn) c.decoder piece t
 from_bytes s conn c piece t here h =
     subst (λ (ms : List ClientMessage). TakesFrom s conn ms c.decoder piece t) (sym (ap left_among here.found))
     (subst (λ (n : ℕ). TakesFrom s n c.left c.decoder piece t) here.number (subst (λ (o : Option Client). TakesBytes s o piece t) here.found h))
 
-outputs_changed : (s t : Standing) (conn : ℕ) (change : Client → Client) → ((d : Client) → (change d).conn ≡ d.conn) → ((d : Client) → (change d).written ≡ d.written) → t.clients ≡ on_client conn change s.clients → outputs t ≡ outputs s
+outputs_changed : (s t : DeskRunState) (conn : ℕ) (change : Client → Client) → ((d : Client) → (change d).conn ≡ d.conn) → ((d : Client) → (change d).written ≡ d.written) → t.clients ≡ on_client conn change s.clients → outputs t ≡ outputs s
 outputs_changed s t conn change keeps stays clients =
     let part : Client → ℕ × List ℕ = λ c. (c.conn, c.written) in
     let same : (c : Client) → part (change c) ≡ part c = λ c. let n = keeps c in let w = stays c in cc in
@@ -61,25 +61,25 @@ abbrev pub reading : Decoding → List ClientMessage → Client → Client
 reading decoder more c = record c { decoder = decoder; left = more }
 
 -- what of a connection that is gone stays
-pub record StaysBehind (s t : Standing) : Type 0 where
+pub record StaysBehind (s t : DeskRunState) : Type 0 where
   pub owes : t.owes ≡ s.owes
   pub outputs_are : outputs t ≡ outputs s
 
-pub frame_stays : (bad : Bool) (s : Standing) (conn : ℕ) → StaysBehind s (after_frame bad s conn)
+pub frame_stays : (bad : Bool) (s : DeskRunState) (conn : ℕ) → StaysBehind s (after_frame bad s conn)
 frame_stays false s conn = record { owes = refl; outputs_are = refl }
 frame_stays true s conn = by (is_making s conn)
   where
-    left : (u : Standing) → outputs (with_left u conn []) ≡ outputs u
+    left : (u : DeskRunState) → outputs (with_left u conn []) ≡ outputs u
     left u = outputs_changed u (with_left u conn []) conn (relieved []) (λ d. refl) (λ d. refl) refl
 
-    of : (u : Standing) → u.owes ≡ s.owes → outputs u ≡ outputs s → StaysBehind s (record (with_left u conn []) { front = (gone s conn).front })
+    of : (u : DeskRunState) → u.owes ≡ s.owes → outputs u ≡ outputs s → StaysBehind s (record (with_left u conn []) { front = (gone s conn).front })
     of u owes same = record { owes = owes; outputs_are = left u ∙ same }
 
     by : (b : Bool) → StaysBehind s (record (with_left (if b then record s { making = None } else s) conn []) { front = (gone s conn).front })
     by true = of (record s { making = None }) refl refl
     by false = of s refl refl
 
-pub gone_groups : (s : Standing) (conn : ℕ) → (gone s conn).groups ≡ s.groups
+pub gone_groups : (s : DeskRunState) (conn : ℕ) → (gone s conn).groups ≡ s.groups
 gone_groups s conn = by (is_making s conn)
   where
     by : (b : Bool) → (if b then record s { making = None } else s).groups ≡ s.groups
@@ -88,7 +88,7 @@ gone_groups s conn = by (is_making s conn)
 
 -- ---- the port of the client
 
-pub port_is_here : (s : Standing) (ports : List Port) (conn at : ℕ) (p : Port) → s.clients ≡ map client_of ports → IsFirstAt (map client_of ports) conn at → p ≡ get_or ports at p → IsHere s conn (client_of p)
+pub port_is_here : (s : DeskRunState) (ports : List Port) (conn at : ℕ) (p : Port) → s.clients ≡ map client_of ports → IsFirstAt (map client_of ports) conn at → p ≡ get_or ports at p → IsHere s conn (client_of p)
 port_is_here s ports conn at p clients place is =
     let here = port_here ports conn at p place is in
     record {
@@ -108,32 +108,32 @@ fed_place ports conn at p q place is client =
 
 -- what is always true of a desk does not change with what a client read
 pub desk_reads : {D : Type 0} (model : Ghosts D) (b : DeskState D) (conn : ℕ) (change : Client → Client) (cs : List Client) → ((c : Client) → (change c).conn ≡ c.conn)
-    → cs ≡ on_client conn change b.standing.clients → IsDesk model b → IsDesk model (record b { standing = record b.standing { clients = cs } })
+    → cs ≡ on_client conn change b.run_state.clients → IsDesk model b → IsDesk model (record b { run_state = record b.run_state { clients = cs } })
 desk_reads model b conn change cs keeps clients is =
-    let new = record b { standing = record b.standing { clients = cs } } in
+    let new = record b { run_state = record b.run_state { clients = cs } } in
     desk_as model b new is (record { keeper = refl; groups = refl; synced = refl })
     (record { handed = is.tied.handed; legal = is.tied.legal; state = is.tied.state })
-    (λ k on. ap (λ (ds : List Client). is_some (find k ds)) clients ∙ found-on_client conn change b.standing.clients k keeps ∙ is.known k on)
+    (λ k on. ap (λ (ds : List Client). is_some (find k ds)) clients ∙ found-on_client conn change b.run_state.clients k keeps ∙ is.known k on)
 
 -- ---- what connections have read
 
 -- nothing else, where only messages were taken
-left_reads_none : (s t : Standing) (conn : ℕ) (left : List ClientMessage) → t.clients ≡ on_client conn (relieved left) s.clients → ReadsNone s t
+left_reads_none : (s t : DeskRunState) (conn : ℕ) (left : List ClientMessage) → t.clients ≡ on_client conn (relieved left) s.clients → ReadsNone s t
 left_reads_none s t conn left clients k = ap (λ (cs : List Client). read_among k cs) clients ∙ read_kept k conn (relieved left) s.clients (λ c. refl) (λ c. refl)
 
 -- another than the connection that did
-others_read : (s t : Standing) (conn : ℕ) (change : Client → Client) → ((c : Client) → (change c).conn ≡ c.conn) → t.clients ≡ on_client conn change s.clients → (k : ℕ) → k ≢ conn → read_by t k ≡ read_by s k
+others_read : (s t : DeskRunState) (conn : ℕ) (change : Client → Client) → ((c : Client) → (change c).conn ≡ c.conn) → t.clients ≡ on_client conn change s.clients → (k : ℕ) → k ≢ conn → read_by t k ≡ read_by s k
 others_read s t conn change keeps clients k other = ap (λ (cs : List Client). read_among k cs) clients ∙ ap (option_map (λ (c : Client). c.decoder)) (find_other k conn change s.clients other keeps)
 
 -- ---- the messages that were left are taken
 
 -- the connection's client is there, and messages of it were taken; of the clients nothing else changed
-pub record IsRelieved (conn : ℕ) (s u : Standing) : Type 0 where
+pub record IsRelieved (conn : ℕ) (s u : DeskRunState) : Type 0 where
   pub client : Client
   pub here : IsHere s conn client
   pub clients : u.clients ≡ on_client conn (relieved (left_of u conn)) s.clients
 
-pub relieves : (s u : Standing) (conn at : ℕ) → IsFirstAt s.clients conn at → u.clients ≡ (with_left s conn (left_of u conn)).clients → IsRelieved conn s u
+pub relieves : (s u : DeskRunState) (conn at : ℕ) → IsFirstAt s.clients conn at → u.clients ≡ (with_left s conn (left_of u conn)).clients → IsRelieved conn s u
 relieves s u conn at place clients =
     let (client, is) = client_there s.clients at place.within in
     record {
@@ -143,16 +143,16 @@ relieves s u conn at place clients =
     }
 
 -- all of them
-pub all_taken : (conn : ℕ) (s u : Standing) → TakesLeft s conn u → left_of u conn ≡ []
+pub all_taken : (conn : ℕ) (s u : DeskRunState) → TakesLeft s conn u → left_of u conn ≡ []
 all_taken conn s u taken = ap (λ (cs : List Client). left_among (find conn cs)) (takes_all-keeps (with_left s conn []) conn (left_of s conn) u taken) ∙ left_emptied conn s.clients
 
-pub stream_unknown : (s : Standing) (conn : ℕ) (piece : List ℕ) → find conn s.clients ≡ None → TakesStream s conn piece s
+pub stream_unknown : (s : DeskRunState) (conn : ℕ) (piece : List ℕ) → find conn s.clients ≡ None → TakesStream s conn piece s
 stream_unknown s conn piece none = subst (λ (o : Option Client). TakesBytes s o piece s) (sym none) refl
 
-pub left_outputs : (conn : ℕ) (s u : Standing) → u.clients ≡ (with_left s conn (left_of u conn)).clients → outputs u ≡ outputs s
+pub left_outputs : (conn : ℕ) (s u : DeskRunState) → u.clients ≡ (with_left s conn (left_of u conn)).clients → outputs u ≡ outputs s
 left_outputs conn s u clients = outputs_changed s u conn (relieved (left_of u conn)) (λ d. refl) (λ d. refl) clients
 
-module _ {conn : ℕ} {s u : Standing} (piece : List ℕ) (is : IsRelieved conn s u) where
+module _ {conn : ℕ} {s u : DeskRunState} (piece : List ℕ) (is : IsRelieved conn s u) where
   here_left : IsHere u conn (relieved (left_of u conn) is.client)
   here_left = here_changed s u conn is.client (relieved (left_of u conn)) (λ d. refl) is.clients is.here
 
@@ -197,14 +197,14 @@ module _ {conn : ℕ} {s u : Standing} (piece : List ℕ) (is : IsRelieved conn 
 -- ---- the piece is read
 
 -- the messages that were left are taken, the piece was read, and the messages that it completes are left
-pub record HasFed (conn : ℕ) (piece : List ℕ) (s u m : Standing) (decoder : Decoding) (more : List ClientMessage) : Type 0 where
+pub record HasFed (conn : ℕ) (piece : List ℕ) (s u m : DeskRunState) (decoder : Decoding) (more : List ClientMessage) : Type 0 where
   pub relieved_is : IsRelieved conn s u
   pub taken : TakesLeft s conn u
   pub there : is_connected u.front conn ≡ true
   pub reads : Reads relieved_is.client.decoder decoder piece more
-  pub standing_is : m ≡ record u { clients = on_client conn (reading decoder more) u.clients }
+  pub run_state_is : m ≡ record u { clients = on_client conn (reading decoder more) u.clients }
 
-pub has_fed : (conn at : ℕ) (piece : List ℕ) (s u : Standing) (ports : List Port) (p q : Port) → IsRelieved conn s u → TakesLeft s conn u → is_connected u.front conn ≡ true
+pub has_fed : (conn at : ℕ) (piece : List ℕ) (s u : DeskRunState) (ports : List Port) (p q : Port) → IsRelieved conn s u → TakesLeft s conn u → is_connected u.front conn ≡ true
     → u.clients ≡ map client_of ports → IsFirstAt (map client_of ports) conn at → p ≡ get_or ports at p
     → Reads p.decoder q.decoder piece (client_of q).left → client_of q ≡ reading q.decoder (client_of q).left (client_of p)
     → HasFed conn piece s u (record u { clients = map client_of (slice_set ports at q) }) q.decoder (client_of q).left
@@ -215,16 +215,16 @@ has_fed conn at piece s u ports p q is taken on clients place value reads client
       taken = taken;
       there = on;
       reads = subst (λ (d : Decoding). Reads d q.decoder piece (client_of q).left) (port_reads piece is ports at p clients place value) reads;
-      standing_is =
+      run_state_is =
           ap (λ (cs : List Client). record u { clients = cs }) (port_changed ports conn at p q change place value client ∙ ap (on_client conn change) (sym clients));
     }
 
-module _ {conn : ℕ} {piece : List ℕ} {s u m : Standing} {decoder : Decoding} {more : List ClientMessage} (fed : HasFed conn piece s u m decoder more) where
+module _ {conn : ℕ} {piece : List ℕ} {s u m : DeskRunState} {decoder : Decoding} {more : List ClientMessage} (fed : HasFed conn piece s u m decoder more) where
   abbrev here : Client
   here = fed.relieved_is.client
 
   clients_are : m.clients ≡ on_client conn (reading decoder more) u.clients
-  clients_are = ap (λ (v : Standing). v.clients) fed.standing_is
+  clients_are = ap (λ (v : DeskRunState). v.clients) fed.run_state_is
 
   now : IsHere m conn (reading decoder more (relieved (left_of u conn) here))
   now = here_changed u m conn (relieved (left_of u conn) here) (reading decoder more) (λ d. refl) clients_are (here_left piece fed.relieved_is)
@@ -240,16 +240,16 @@ module _ {conn : ℕ} {piece : List ℕ} {s u m : Standing} {decoder : Decoding}
       on_client-twice conn (reading decoder more) (relieved []) u.clients (λ d. refl) in
       let alike : on_client conn (reading decoder []) u.clients ≡ on_client conn (λ c. record c { decoder = decoder }) u.clients =
       on_client-alike conn (reading decoder []) (λ c. record c { decoder = decoder }) u.clients (λ c found. ap (λ (ms : List ClientMessage). reading decoder ms c) (sym (sym (ap left_among found) ∙ none))) in
-      ap (λ (v : Standing). with_left v conn []) fed.standing_is ∙ ap (λ (cs : List Client). record u { clients = cs }) (gave ∙ alike)
+      ap (λ (v : DeskRunState). with_left v conn []) fed.run_state_is ∙ ap (λ (cs : List Client). record u { clients = cs }) (gave ∙ alike)
 
-  took_more : (v : Standing) → TakesLeft m conn v → TakesAll (with_decoder u conn decoder) conn more v
+  took_more : (v : DeskRunState) → TakesLeft m conn v → TakesAll (with_decoder u conn decoder) conn more v
   took_more v h =
-      subst (λ (t : Standing). TakesAll t conn more v) begins (subst (λ (ms : List ClientMessage). TakesAll (with_left m conn []) conn ms v) left_now h)
+      subst (λ (t : DeskRunState). TakesAll t conn more v) begins (subst (λ (ms : List ClientMessage). TakesAll (with_left m conn []) conn ms v) left_now h)
 
   pub fed_outputs : outputs m ≡ outputs s
   fed_outputs = outputs_changed u m conn (reading decoder more) (λ d. refl) (λ d. refl) clients_are ∙ left_outputs conn s u fed.relieved_is.clients
 
-  pub fed_stops : (v : Standing) → StopsBefore m conn v → StopsBehind s conn piece v
+  pub fed_stops : (v : DeskRunState) → StopsBefore m conn v → StopsBehind s conn piece v
   fed_stops v h = record {
     mid = u;
     before = here.decoder;
@@ -258,11 +258,11 @@ module _ {conn : ℕ} {piece : List ℕ} {s u m : Standing} {decoder : Decoding}
     unread = record { leftovers = fed.taken; there = fed.there };
     was = ap (option_map (λ (d : Client). d.decoder)) fed.relieved_is.here.found;
     reads = fed.reads;
-    first = subst (λ (t : Standing). TakesFirst t conn more v) begins (subst (λ (ms : List ClientMessage). TakesFirst (with_left m conn []) conn ms v) left_now h);
+    first = subst (λ (t : DeskRunState). TakesFirst t conn more v) begins (subst (λ (ms : List ClientMessage). TakesFirst (with_left m conn []) conn ms v) left_now h);
   }
 
   -- not all messages of the piece were taken
-  pub stream_more : (n : Standing) → n.clients ≡ (with_left m conn (left_of n conn)).clients → EndsWith (left_of m conn) (left_of n conn) → LeavesSome m conn n → LeavesStream s conn piece true n
+  pub stream_more : (n : DeskRunState) → n.clients ≡ (with_left m conn (left_of n conn)).clients → EndsWith (left_of m conn) (left_of n conn) → LeavesSome m conn n → LeavesStream s conn piece true n
   stream_more n clients rest still =
       let last = relieved (left_of n conn) (reading decoder more (relieved (left_of u conn) here)) in
       let there : IsHere n conn last = here_changed m n conn (reading decoder more (relieved (left_of u conn) here)) (relieved (left_of n conn)) (λ d. refl) clients now in
@@ -287,7 +287,7 @@ module _ {conn : ℕ} {piece : List ℕ} {s u m : Standing} {decoder : Decoding}
       }
 
   -- all messages of the piece were taken
-  pub stream_all : (n p : Standing) → TakesLeft m conn n → p ≡ after_frame decoder.is_bad n conn → TakesStream s conn piece p
+  pub stream_all : (n p : DeskRunState) → TakesLeft m conn n → p ≡ after_frame decoder.is_bad n conn → TakesStream s conn piece p
   stream_all n p taken after =
       let piece_is : TakesPiece u conn here.decoder piece p = record { decoder = decoder; more = more; last = n; reads = fed.reads; takes = took_more n taken; after = after } in
       bytes_from s conn here piece p fed.relieved_is.here

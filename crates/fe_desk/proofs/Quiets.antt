@@ -12,17 +12,17 @@ use Rattle.fe_front.specs.Steps as front
 use Rattle.fe_front.specs.Steps.{has_no_cut}
 use Rattle.fe_desk.specs.declared.handed.Handed.{Handed}
 use Rattle.fe_desk.specs.declared.handed.Handed.TheVariants.{Nothing, Cut, Stored}
-use Rattle.fe_desk.specs.declared.parts.Parts.{Parts}
+use Rattle.fe_desk.specs.declared.desk_inner.DeskInner.{DeskInner}
 use Rattle.fe_desk.specs.declared.step.Step.{Step}
 use Rattle.fe_desk.specs.declared.step.Step.TheVariants as step
 use Rattle.fe_desk.specs.Mails.{emptied_box}
-use Rattle.fe_desk.specs.Standing.{Client, Standing, all_emptied, all_told, emptied, discharged}
+use Rattle.fe_desk.specs.DeskRunState.{Client, DeskRunState, all_emptied, all_written_out, emptied, discharged}
 use Rattle.fe_desk.specs.Steps.{find, on_client, Acts, Connects, new_client, unmade}
 use Rattle.fe_desk.specs.Storing.{stored_from, is_making}
 use Rattle.fe_desk.specs.Quiet.{HasNoMail, AreWritten, mails_nothing}
-use Rattle.fe_desk.specs.within.Desk.{client_of, standing_of}
-use Rattle.fe_desk.proofs.Emptying.{AreQuiet, quiet_all_emptied, quiet_all_told}
-use Rattle.fe_desk.specs.within.Keeping.{AreToldLater, KeepsFront}
+use Rattle.fe_desk.specs.within.Desk.{client_of, run_state_of}
+use Rattle.fe_desk.proofs.Emptying.{AreQuiet, quiet_all_emptied, quiet_all_written_out}
+use Rattle.fe_desk.specs.within.Keeping.{AreWrittenOutLater, KeepsFront}
 use Rattle.fe_desk.specs.within.Goes.{Empties}
 use Rattle.fe_desk.specs.Writing.{WritesFirst}
 use Rattle.fe_desk.proofs.StepParts.{all_written, some_written, none_boxed, discharged_at}
@@ -34,45 +34,45 @@ are_quiet : (f : FrontState) (cs : List Client) → ((conn : ℕ) → mails_on f
 are_quiet f [] boxes replies = tt
 are_quiet f (c ∷ cs) boxes replies = (record { reply = replies.0; box = boxes c.conn }, are_quiet f cs boxes replies.1)
 
-same_parts : (s : Standing) (f : FrontState) (cs : List Client) → s.front ≡ f → s.clients ≡ cs → s.owes ≡ false → s ≡ record s { front = f; clients = cs; owes = false }
+same_parts : (s : DeskRunState) (f : FrontState) (cs : List Client) → s.front ≡ f → s.clients ≡ cs → s.owes ≡ false → s ≡ record s { front = f; clients = cs; owes = false }
 same_parts s f cs front clients owes =
     ap (λ (g : FrontState). record s { front = g }) front ∙ ap (λ (ds : List Client). record s { front = f; clients = ds }) clients
     ∙ ap (λ (b : Bool). record s { front = f; clients = cs; owes = b }) owes
 
 -- emptying the boxes changes nothing
-pub quiet_emptied : (s : Standing) → HasNoMail s → s ≡ emptied s
+pub quiet_emptied : (s : DeskRunState) → HasNoMail s → s ≡ emptied s
 quiet_emptied s quiet =
     let are = are_quiet s.front s.clients quiet.boxes quiet.replies in
     let nil : s.clients ++ [] ≡ s.clients = append-nil s.clients in
     let front : all_emptied s.front s.clients ≡ s.front = ap (λ (cs : List Client). all_emptied s.front cs) (sym nil) ∙ quiet_all_emptied s.front s.clients [] are in
-    let clients : all_told s.front s.clients ≡ s.clients = ap (λ (cs : List Client). all_told s.front cs) (sym nil) ∙ quiet_all_told s.front s.clients [] are ∙ nil in
-    same_parts s (all_emptied s.front s.clients) (all_told s.front s.clients) (sym front) (sym clients) quiet.owes
+    let clients : all_written_out s.front s.clients ≡ s.clients = ap (λ (cs : List Client). all_written_out s.front cs) (sym nil) ∙ quiet_all_written_out s.front s.clients [] are ∙ nil in
+    same_parts s (all_emptied s.front s.clients) (all_written_out s.front s.clients) (sym front) (sym clients) quiet.owes
 
--- no reply waits once all are told
-pub none_waits : (f : FrontState) (cs : List Client) → AreWritten (all_told f cs)
+-- no reply waits once all is written out
+pub none_waits : (f : FrontState) (cs : List Client) → AreWritten (all_written_out f cs)
 none_waits f [] = tt
 none_waits f (c ∷ cs) = (refl, none_waits (emptied_box f c.conn) cs)
 
 -- nothing is left where the boxes were emptied
-pub all_quiet : {D : Type 0} (p q : Parts D) (r : Result (Unit {0}) AllocError) → OnOk r ((conn : ℕ) → mails_on q.front.connections conn ≡ [])
-    → OnOk r (map client_of q.trace.ports.items ≡ all_told p.front (map client_of p.trace.ports.items)) → q.owes ≡ is_err r → OnOk r (HasNoMail (standing_of q))
-all_quiet p q (Ok x) boxes told owes = record {
+pub all_quiet : {D : Type 0} (p q : DeskInner D) (r : Result (Unit {0}) AllocError) → OnOk r ((conn : ℕ) → mails_on q.front.connections conn ≡ [])
+    → OnOk r (map client_of q.trace.ports.items ≡ all_written_out p.front (map client_of p.trace.ports.items)) → q.owes ≡ is_err r → OnOk r (HasNoMail (run_state_of q))
+all_quiet p q (Ok x) boxes written_out owes = record {
   boxes = boxes;
-  replies = subst AreWritten (sym told) (none_waits p.front (map client_of p.trace.ports.items));
+  replies = subst AreWritten (sym written_out) (none_waits p.front (map client_of p.trace.ports.items));
   owes = owes;
 }
-all_quiet p q (Err e) boxes told owes = tt
+all_quiet p q (Err e) boxes written_out owes = tt
 
 -- how the boxes were emptied
-pub empties : {D : Type 0} (p q : Parts D) (r : Result (Unit {0}) AllocError) → ((conn : ℕ) → is_connected p.front conn ≡ true → is_some (find conn (map client_of p.trace.ports.items)) ≡ true) → KeepsFront p.front q.front
-    → OnOk r (map client_of q.trace.ports.items ≡ all_told p.front (map client_of p.trace.ports.items)) → OnOk r (q.front ≡ all_emptied p.front (map client_of p.trace.ports.items))
-    → OnErr r (AreToldLater p.front (map client_of p.trace.ports.items) q.front (map client_of q.trace.ports.items)) → OnErr r (WritesFirst p.front (map client_of p.trace.ports.items) q.front (map client_of q.trace.ports.items))
-    → q.owes ≡ is_err r → q.handed ≡ p.handed → q.making ≡ p.making → q.trace.groups ≡ p.trace.groups → Empties r (standing_of p) (standing_of q)
-empties p q (Ok x) known kept told emptied later writes owes handed making groups = record {
-  after = all_written p q (Ok x) told emptied owes handed making groups;
-  quiet = all_quiet p q (Ok x) (none_boxed p q (Ok x) known kept emptied) told owes;
+pub empties : {D : Type 0} (p q : DeskInner D) (r : Result (Unit {0}) AllocError) → ((conn : ℕ) → is_connected p.front conn ≡ true → is_some (find conn (map client_of p.trace.ports.items)) ≡ true) → KeepsFront p.front q.front
+    → OnOk r (map client_of q.trace.ports.items ≡ all_written_out p.front (map client_of p.trace.ports.items)) → OnOk r (q.front ≡ all_emptied p.front (map client_of p.trace.ports.items))
+    → OnErr r (AreWrittenOutLater p.front (map client_of p.trace.ports.items) q.front (map client_of q.trace.ports.items)) → OnErr r (WritesFirst p.front (map client_of p.trace.ports.items) q.front (map client_of q.trace.ports.items))
+    → q.owes ≡ is_err r → q.handed ≡ p.handed → q.making ≡ p.making → q.trace.groups ≡ p.trace.groups → Empties r (run_state_of p) (run_state_of q)
+empties p q (Ok x) known kept written_out emptied later writes owes handed making groups = record {
+  after = all_written p q (Ok x) written_out emptied owes handed making groups;
+  quiet = all_quiet p q (Ok x) (none_boxed p q (Ok x) known kept emptied) written_out owes;
 }
-empties p q (Err e) known kept told emptied later writes owes handed making groups =
+empties p q (Err e) known kept written_out emptied later writes owes handed making groups =
     let some = some_written p q (Err e) later owes handed making groups in
     record { later = some.0; owes = some.1; writes = writes_some p q (Err e) writes owes handed making groups }
 
@@ -98,14 +98,14 @@ one_more : (cs : List Client) (c : Client) → AreWritten cs → c.reply ≡ Non
 one_more [] c all none = (none, tt)
 one_more (d ∷ ds) c all none = (all.0, one_more ds c all.1 none)
 
-unmade_keeps : (s : Standing) (conn : ℕ) → ((unmade s conn).owes ≡ s.owes) × ((unmade s conn).clients ≡ s.clients)
+unmade_keeps : (s : DeskRunState) (conn : ℕ) → ((unmade s conn).owes ≡ s.owes) × ((unmade s conn).clients ≡ s.clients)
 unmade_keeps s conn = by (is_making s conn)
   where
     by : (b : Bool) → ((if b then record s { making = None } else s).owes ≡ s.owes) × ((if b then record s { making = None } else s).clients ≡ s.clients)
     by true = (refl, refl)
     by false = (refl, refl)
 
-connects_quiet : (s t : Standing) (conn : ℕ) → HasNoMail s → Connects s conn t → HasNoMail t
+connects_quiet : (s t : DeskRunState) (conn : ℕ) → HasNoMail s → Connects s conn t → HasNoMail t
 connects_quiet s t conn quiet comes = subst HasNoMail (sym comes.after) (record {
   boxes = boxes_joined s.front conn quiet.boxes;
   replies = by (is_some (find conn s.clients));
@@ -123,12 +123,12 @@ cut_boxes f = by (has_no_cut f)
     by true = refl
     by false = refl
 
-stored_quiet : (h : Handed) (s : Standing) → HasNoMail s → HasNoMail (stored_from h s)
+stored_quiet : (h : Handed) (s : DeskRunState) → HasNoMail s → HasNoMail (stored_from h s)
 stored_quiet Nothing s quiet = quiet
 stored_quiet (Cut batch) s quiet = record { boxes = quiet.boxes; replies = quiet.replies; owes = quiet.owes }
 stored_quiet (Stored batch) s quiet = quiet
 
-quiet_kept : (x : Step) (s t : Standing) → mails_nothing x ≡ true → HasNoMail s → Acts s x t → HasNoMail t
+quiet_kept : (x : Step) (s t : DeskRunState) → mails_nothing x ≡ true → HasNoMail s → Acts s x t → HasNoMail t
 quiet_kept (step.Connect conn) s t none quiet acts = by (is_connected s.front conn) acts
   where
     by : (b : Bool) → MatchBool b (t ≡ s) (Connects s conn t) → HasNoMail t
@@ -148,6 +148,6 @@ quiet_kept step.CheckStep s t none quiet acts = subst HasNoMail (sym acts) quiet
 quiet_kept step.CheckFinish s t none quiet acts = subst HasNoMail (sym acts) quiet
 
 -- after what settles and acts
-pub still_quiet_after : (s mid t : Standing) (x : Step) → mid ≡ discharged s → mails_nothing x ≡ true → HasNoMail s → Acts mid x t → HasNoMail t
+pub still_quiet_after : (s mid t : DeskRunState) (x : Step) → mid ≡ discharged s → mails_nothing x ≡ true → HasNoMail s → Acts mid x t → HasNoMail t
 still_quiet_after s mid t x is none quiet acts =
-    quiet_kept x s t none quiet (subst (λ (m : Standing). Acts m x t) (is ∙ discharged_at s quiet.owes) acts)
+    quiet_kept x s t none quiet (subst (λ (m : DeskRunState). Acts m x t) (is ∙ discharged_at s quiet.owes) acts)

@@ -9,7 +9,7 @@ use Rattle.fe_front.specs.Front.{FrontState, is_connected, has_room}
 use Rattle.fe_front.specs.Steps.{unboxed, departed, dropped}
 use Rattle.fe_desk.specs.declared.handed.Handed.{Handed}
 use Rattle.fe_desk.specs.declared.handed.Handed.TheVariants.{Nothing, Cut, Stored}
-use Rattle.fe_desk.specs.Standing.{Client, Standing}
+use Rattle.fe_desk.specs.DeskRunState.{Client, DeskRunState}
 use Rattle.fe_desk.specs.Storing.{cut, stored, stored_from, posted, posted_from, cleared, committed, is_making, made, with_room, begun_room, roomy}
 use Rattle.fe_messages.specs.Taking.{Takes}
 use Rattle.fe_desk.specs.Taking.{TakesOne, TakesAll}
@@ -92,7 +92,7 @@ left_among found = option_map_or (λ c. c.left) found []
 abbrev pub relieved : List ClientMessage → Client → Client
 relieved left c = record c { left = left }
 
-pub none_left : (s : Standing) (conn : ℕ) → left_of s conn ≡ [] → with_left s conn [] ≡ s
+pub none_left : (s : DeskRunState) (conn : ℕ) → left_of s conn ≡ [] → with_left s conn [] ≡ s
 none_left s conn none = ap (λ (cs : List Client). record s { clients = cs }) (on_client-stays conn (relieved []) s.clients stays)
   where
     stays : (c : Client) → find conn s.clients ≡ Some c → relieved [] c ≡ c
@@ -107,10 +107,10 @@ left_emptied conn cs = ap left_among (find-on_client conn (relieved []) cs (λ c
 
 -- ---- room is made whatever stands among the clients
 
-abbrev pub with_clients : Standing → List Client → Standing
+abbrev pub with_clients : DeskRunState → List Client → DeskRunState
 with_clients s cs = record s { clients = cs }
 
-stored-clients : (s : Standing) (cs : List Client) → stored (with_clients s cs) ≡ with_clients (stored s) cs
+stored-clients : (s : DeskRunState) (cs : List Client) → stored (with_clients s cs) ≡ with_clients (stored s) cs
 stored-clients s cs = by s.handed
   where
     by : (h : Handed) → stored_from h (with_clients s cs) ≡ with_clients (stored_from h s) cs
@@ -118,7 +118,7 @@ stored-clients s cs = by s.handed
     by (Cut batch) = refl
     by (Stored batch) = refl
 
-posted-clients : (s : Standing) (cs : List Client) → posted (with_clients s cs) ≡ with_clients (posted s) cs
+posted-clients : (s : DeskRunState) (cs : List Client) → posted (with_clients s cs) ≡ with_clients (posted s) cs
 posted-clients s cs = by s.handed
   where
     by : (h : Handed) → posted_from h (with_clients s cs) ≡ with_clients (posted_from h s) cs
@@ -126,35 +126,35 @@ posted-clients s cs = by s.handed
     by (Cut batch) = refl
     by (Stored batch) = refl
 
-pub cleared-clients : (s : Standing) (cs : List Client) → cleared (with_clients s cs) ≡ with_clients (cleared s) cs
+pub cleared-clients : (s : DeskRunState) (cs : List Client) → cleared (with_clients s cs) ≡ with_clients (cleared s) cs
 cleared-clients s cs = ap posted (stored-clients s cs) ∙ posted-clients (stored s) cs
 
-committed-clients : (s : Standing) (cs : List Client) → committed (with_clients s cs) ≡ with_clients (committed s) cs
+committed-clients : (s : DeskRunState) (cs : List Client) → committed (with_clients s cs) ≡ with_clients (committed s) cs
 committed-clients s cs = cleared-clients (cut s) cs
 
-with_room-clients : (s : Standing) (cs : List Client) → with_room (with_clients s cs) ≡ with_clients (with_room s) cs
+with_room-clients : (s : DeskRunState) (cs : List Client) → with_room (with_clients s cs) ≡ with_clients (with_room s) cs
 with_room-clients s cs = by (has_room s.front)
   where
     by : (b : Bool) → (if b then with_clients s cs else made (committed (cleared (with_clients s cs)))) ≡ with_clients (if b then s else made (committed (cleared s))) cs
     by true = refl
-    by false = ap (λ (t : Standing). made (committed t)) (cleared-clients s cs) ∙ ap made (committed-clients (cleared s) cs)
+    by false = ap (λ (t : DeskRunState). made (committed t)) (cleared-clients s cs) ∙ ap made (committed-clients (cleared s) cs)
 
-pub begun_room-clients : (s : Standing) (conn : ℕ) (cs : List Client) → begun_room (with_clients s cs) conn ≡ with_clients (begun_room s conn) cs
+pub begun_room-clients : (s : DeskRunState) (conn : ℕ) (cs : List Client) → begun_room (with_clients s cs) conn ≡ with_clients (begun_room s conn) cs
 begun_room-clients s conn cs = by (is_making s conn)
   where
     by : (b : Bool) → (if b then made (cleared (with_clients s cs)) else with_clients s cs) ≡ with_clients (if b then made (cleared s) else s) cs
     by true = ap made (cleared-clients s cs)
     by false = refl
 
-pub roomy-clients : (s : Standing) (conn : ℕ) (cs : List Client) → roomy (with_clients s cs) conn ≡ with_clients (roomy s conn) cs
+pub roomy-clients : (s : DeskRunState) (conn : ℕ) (cs : List Client) → roomy (with_clients s cs) conn ≡ with_clients (roomy s conn) cs
 roomy-clients s conn cs = ap with_room (begun_room-clients s conn cs) ∙ with_room-clients (begun_room s conn) cs
 
 -- and leaves the clients
-pub roomy-keeps : (s : Standing) (conn : ℕ) → (roomy s conn).clients ≡ s.clients
-roomy-keeps s conn = ap (λ (t : Standing). t.clients) (roomy-clients s conn s.clients)
+pub roomy-keeps : (s : DeskRunState) (conn : ℕ) → (roomy s conn).clients ≡ s.clients
+roomy-keeps s conn = ap (λ (t : DeskRunState). t.clients) (roomy-clients s conn s.clients)
 
 -- where room was made for a connection's message, none is being made for it
-roomy_is_made : (s : Standing) (conn : ℕ) → is_making (roomy s conn) conn ≡ false
+roomy_is_made : (s : DeskRunState) (conn : ℕ) → is_making (roomy s conn) conn ≡ false
 roomy_is_made s conn = behind (has_room (begun_room s conn).front)
   where
     begun : (b : Bool) → is_making s conn ≡ b → is_making (if b then made (cleared s) else s) conn ≡ false
@@ -168,55 +168,55 @@ roomy_is_made s conn = behind (has_room (begun_room s conn).front)
 -- ---- messages are taken whatever stands among the clients
 
 -- what room comes to is all that a message's taking looks at
-pub takes_one_of : (s u : Standing) (conn : ℕ) (m : ClientMessage) (t : Standing) → roomy u conn ≡ roomy s conn → TakesOne s conn m t → TakesOne u conn m t
+pub takes_one_of : (s u : DeskRunState) (conn : ℕ) (m : ClientMessage) (t : DeskRunState) → roomy u conn ≡ roomy s conn → TakesOne s conn m t → TakesOne u conn m t
 takes_one_of s u conn m t same h =
     record {
       entries = h.entries;
       front = h.front;
-      takes = subst (λ (r : Standing). Takes r.front conn m h.entries h.front) (sym same) h.takes;
-      after = h.after ∙ ap (λ (r : Standing). record r { front = h.front }) (sym same);
+      takes = subst (λ (r : DeskRunState). Takes r.front conn m h.entries h.front) (sym same) h.takes;
+      after = h.after ∙ ap (λ (r : DeskRunState). record r { front = h.front }) (sym same);
     }
 
-pub takes_one-clients : (s : Standing) (conn : ℕ) (m : ClientMessage) (t : Standing) (cs : List Client) → TakesOne s conn m t → TakesOne (with_clients s cs) conn m (with_clients t cs)
+pub takes_one-clients : (s : DeskRunState) (conn : ℕ) (m : ClientMessage) (t : DeskRunState) (cs : List Client) → TakesOne s conn m t → TakesOne (with_clients s cs) conn m (with_clients t cs)
 takes_one-clients s conn m t cs h =
     record {
       entries = h.entries;
       front = h.front;
-      takes = subst (λ (r : Standing). Takes r.front conn m h.entries h.front) (sym (roomy-clients s conn cs)) h.takes;
-      after = ap (λ (u : Standing). with_clients u cs) h.after ∙ ap (λ (r : Standing). record r { front = h.front }) (sym (roomy-clients s conn cs));
+      takes = subst (λ (r : DeskRunState). Takes r.front conn m h.entries h.front) (sym (roomy-clients s conn cs)) h.takes;
+      after = ap (λ (u : DeskRunState). with_clients u cs) h.after ∙ ap (λ (r : DeskRunState). record r { front = h.front }) (sym (roomy-clients s conn cs));
     }
 
-pub takes_all-clients : (s : Standing) (conn : ℕ) (ms : List ClientMessage) (t : Standing) (cs : List Client) → TakesAll s conn ms t → TakesAll (with_clients s cs) conn ms (with_clients t cs)
-takes_all-clients s conn [] t cs h = ap (λ (u : Standing). with_clients u cs) h
+pub takes_all-clients : (s : DeskRunState) (conn : ℕ) (ms : List ClientMessage) (t : DeskRunState) (cs : List Client) → TakesAll s conn ms t → TakesAll (with_clients s cs) conn ms (with_clients t cs)
+takes_all-clients s conn [] t cs h = ap (λ (u : DeskRunState). with_clients u cs) h
 takes_all-clients s conn (m ∷ ms) t cs h = (with_clients h.0 cs, takes_one-clients s conn m h.0 cs h.1, takes_all-clients h.0 conn ms t cs h.2)
 
-pub takes_all-keeps : (s : Standing) (conn : ℕ) (ms : List ClientMessage) (t : Standing) → TakesAll s conn ms t → t.clients ≡ s.clients
-takes_all-keeps s conn [] t h = ap (λ (u : Standing). u.clients) h
-takes_all-keeps s conn (m ∷ ms) t h = takes_all-keeps h.0 conn ms t h.2 ∙ ap (λ (u : Standing). u.clients) h.1.after ∙ roomy-keeps s conn
+pub takes_all-keeps : (s : DeskRunState) (conn : ℕ) (ms : List ClientMessage) (t : DeskRunState) → TakesAll s conn ms t → t.clients ≡ s.clients
+takes_all-keeps s conn [] t h = ap (λ (u : DeskRunState). u.clients) h
+takes_all-keeps s conn (m ∷ ms) t h = takes_all-keeps h.0 conn ms t h.2 ∙ ap (λ (u : DeskRunState). u.clients) h.1.after ∙ roomy-keeps s conn
 
-pub takes_all-append : (s : Standing) (conn : ℕ) (ms ns : List ClientMessage) (u t : Standing) → TakesAll s conn ms u → TakesAll u conn ns t → TakesAll s conn (ms ++ ns) t
-takes_all-append s conn [] ns u t h k = subst (λ (v : Standing). TakesAll v conn ns t) h k
+pub takes_all-append : (s : DeskRunState) (conn : ℕ) (ms ns : List ClientMessage) (u t : DeskRunState) → TakesAll s conn ms u → TakesAll u conn ns t → TakesAll s conn (ms ++ ns) t
+takes_all-append s conn [] ns u t h k = subst (λ (v : DeskRunState). TakesAll v conn ns t) h k
 takes_all-append s conn (m ∷ ms) ns u t h k = (h.0, h.1, takes_all-append h.0 conn ms ns u t h.2 k)
 
 -- room is not being made for a connection of which messages were taken
-still_made : (s : Standing) (conn : ℕ) (ms : List ClientMessage) (t : Standing) → is_making s conn ≡ false → TakesAll s conn ms t → is_making t conn ≡ false
-still_made s conn [] t is h = ap (λ (u : Standing). is_making u conn) h ∙ is
+still_made : (s : DeskRunState) (conn : ℕ) (ms : List ClientMessage) (t : DeskRunState) → is_making s conn ≡ false → TakesAll s conn ms t → is_making t conn ≡ false
+still_made s conn [] t is h = ap (λ (u : DeskRunState). is_making u conn) h ∙ is
 still_made s conn (m ∷ ms) t is h =
-    still_made h.0 conn ms t (ap (λ (u : Standing). is_making u conn) h.1.after ∙ roomy_is_made s conn) h.2
+    still_made h.0 conn ms t (ap (λ (u : DeskRunState). is_making u conn) h.1.after ∙ roomy_is_made s conn) h.2
 
-made_after : (s : Standing) (conn : ℕ) (ms : List ClientMessage) (t : Standing) → 0 < length ms → TakesAll s conn ms t → is_making t conn ≡ false
+made_after : (s : DeskRunState) (conn : ℕ) (ms : List ClientMessage) (t : DeskRunState) → 0 < length ms → TakesAll s conn ms t → is_making t conn ≡ false
 made_after s conn [] t some h = absurd (omega arith)
 made_after s conn (m ∷ ms) t some h =
-    still_made h.0 conn ms t (ap (λ (u : Standing). is_making u conn) h.1.after ∙ roomy_is_made s conn) h.2
+    still_made h.0 conn ms t (ap (λ (u : DeskRunState). is_making u conn) h.1.after ∙ roomy_is_made s conn) h.2
 
 -- ---- a connection that is not there is gone already
 
-pub gone_already : (s : Standing) (conn : ℕ) → is_connected s.front conn ≡ false → is_making s conn ≡ false → left_of s conn ≡ [] → gone s conn ≡ s
+pub gone_already : (s : DeskRunState) (conn : ℕ) → is_connected s.front conn ≡ false → is_making s conn ≡ false → left_of s conn ≡ [] → gone s conn ≡ s
 gone_already s conn off unmaking none =
     let no_room : unmade s conn ≡ s = ap (λ (b : Bool). if b then record s { making = None } else s) unmaking in
     let front : dropped s.front conn ≡ s.front = ap (λ (b : Bool). if b then unboxed (departed s.front conn) conn else s.front) off in
-    ap (λ (u : Standing). record (with_left u conn []) { front = dropped s.front conn }) no_room
-    ∙ ap (λ (u : Standing). record u { front = dropped s.front conn }) (none_left s conn none)
+    ap (λ (u : DeskRunState). record (with_left u conn []) { front = dropped s.front conn }) no_room
+    ∙ ap (λ (u : DeskRunState). record u { front = dropped s.front conn }) (none_left s conn none)
     ∙ ap (λ (f : FrontState). record s { front = f }) front
 
 -- ---- pieces
@@ -235,30 +235,30 @@ reads_both a b c piece more others one two =
         (subst (λ (bytes : List ℕ). HasReadFrom start c bytes ((earlier ++ more) ++ others)) (append-nil (before ++ piece)) h)
 
 -- where the messages that were left go on later, the piece is taken after them
-pub first_again : (s u : Standing) (conn : ℕ) (ms ns : List ClientMessage) (d : Decoding) (piece : List ℕ) (t : Standing)
-    → ((v : Standing) → TakesAll (with_left u conn []) conn ns v → TakesAll (with_left s conn []) conn ms v) → TakesFrom u conn ns d piece t → TakesFrom s conn ms d piece t
+pub first_again : (s u : DeskRunState) (conn : ℕ) (ms ns : List ClientMessage) (d : Decoding) (piece : List ℕ) (t : DeskRunState)
+    → ((v : DeskRunState) → TakesAll (with_left u conn []) conn ns v → TakesAll (with_left s conn []) conn ms v) → TakesFrom u conn ns d piece t → TakesFrom s conn ms d piece t
 first_again s u conn ms ns d piece t again h = record { mid = h.mid; leftovers = again h.mid h.leftovers; reading = h.reading }
 
 -- where they were taken and the piece is not read, it is read later
-pub piece_again : (s mid : Standing) (conn : ℕ) (ms : List ClientMessage) (d : Decoding) (piece : List ℕ) (t : Standing)
+pub piece_again : (s mid : DeskRunState) (conn : ℕ) (ms : List ClientMessage) (d : Decoding) (piece : List ℕ) (t : DeskRunState)
     → TakesAll (with_left s conn []) conn ms mid → left_of mid conn ≡ [] → TakesFrom mid conn [] d piece t → TakesFrom s conn ms d piece t
 piece_again s mid conn ms d piece t taken none h =
     let same : h.mid ≡ mid = h.leftovers ∙ none_left mid conn none in
     record {
       mid = mid;
       leftovers = taken;
-      reading = subst (λ (v : Standing). MatchBool (is_connected v.front conn) (TakesPiece v conn d piece t) (t ≡ v)) same h.reading;
+      reading = subst (λ (v : DeskRunState). MatchBool (is_connected v.front conn) (TakesPiece v conn d piece t) (t ≡ v)) same h.reading;
     }
 
 -- where the piece is read and not all of its messages are taken, those that are left are taken later
-pub record IsRead (mid : Standing) (conn : ℕ) (before : Decoding) (piece : List ℕ) (u : Standing) (left : List ClientMessage) (now : Decoding) : Type 0 where
+pub record IsRead (mid : DeskRunState) (conn : ℕ) (before : Decoding) (piece : List ℕ) (u : DeskRunState) (left : List ClientMessage) (now : Decoding) : Type 0 where
   pub more : List ClientMessage
   pub reads : Reads before now piece more
   pub some : 0 < length left
-  pub again : (v : Standing) → TakesAll (with_left u conn []) conn left v → TakesAll (with_decoder mid conn now) conn more v
+  pub again : (v : DeskRunState) → TakesAll (with_left u conn []) conn left v → TakesAll (with_decoder mid conn now) conn more v
 
 -- the decoder of a client goes on while its messages are taken
-takes_with : (mid : Standing) (conn : ℕ) (a b : Decoding) (ms : List ClientMessage) (v : Standing) → TakesAll (with_decoder mid conn a) conn ms v → TakesAll (with_decoder mid conn b) conn ms (with_decoder v conn b)
+takes_with : (mid : DeskRunState) (conn : ℕ) (a b : Decoding) (ms : List ClientMessage) (v : DeskRunState) → TakesAll (with_decoder mid conn a) conn ms v → TakesAll (with_decoder mid conn b) conn ms (with_decoder v conn b)
 takes_with mid conn a b ms v h =
     let f : Client → Client = λ c. record c { decoder = a } in
     let g : Client → Client = λ c. record c { decoder = b } in
@@ -267,7 +267,7 @@ takes_with mid conn a b ms v h =
     subst (λ (cs : List Client). TakesAll (with_clients mid cs) conn ms (with_decoder v conn b)) clients
     (takes_all-clients (with_decoder mid conn a) conn ms v (on_client conn g v.clients) h)
 
-rest_again : (mid u : Standing) (conn : ℕ) (ns : List ClientMessage) (d e : Decoding) (piece : List ℕ) (t : Standing)
+rest_again : (mid u : DeskRunState) (conn : ℕ) (ns : List ClientMessage) (d e : Decoding) (piece : List ℕ) (t : DeskRunState)
     → IsRead mid conn d piece u ns e → TakesFrom u conn ns e [] t → TakesPiece mid conn d piece t
 rest_again mid u conn ns d e piece t is h = by (is_connected h.mid.front conn) refl h.reading
   where
@@ -293,7 +293,7 @@ rest_again mid u conn ns d e piece t is h = by (is_connected h.mid.front conn) r
         }
     by false off p = record { decoder = e; more = is.more; last = h.mid; reads = is.reads; takes = taken; after = p ∙ stays e.is_bad off }
 
-pub later_again : (s mid u : Standing) (conn : ℕ) (ms ns : List ClientMessage) (d e : Decoding) (piece : List ℕ) (t : Standing)
+pub later_again : (s mid u : DeskRunState) (conn : ℕ) (ms ns : List ClientMessage) (d e : Decoding) (piece : List ℕ) (t : DeskRunState)
     → TakesAll (with_left s conn []) conn ms mid → is_connected mid.front conn ≡ true → IsRead mid conn d piece u ns e → TakesFrom u conn ns e [] t → TakesFrom s conn ms d piece t
 later_again s mid u conn ms ns d e piece t taken on is h =
     record {

@@ -49,9 +49,9 @@ module _ {D : Type 0} (model : Ghosts D) where
   -- a store was opened, and the desk's steps went on from there
   pub run_moments : (disk : D) (first last : DeskState D) (begun : ServerState) → EachStandsFor model disk begun → LeavesOnly model disk (disk_of first) (model.may_leave disk)
       → model.honest (disk_of first) → first.keeper.store.has_failed ≡ false → IsFrom begun first → Advances model first last
-      → LeavesOnly model disk (disk_of last) (LeavesPrefix begun last.standing.groups 0)
+      → LeavesOnly model disk (disk_of last) (LeavesPrefix begun last.run_state.groups 0)
   run_moments disk first last begun each opening h works from run =
-      let groups = last.standing.groups in
+      let groups = last.run_state.groups in
       joined model disk (disk_of first) (disk_of last) (LeavesPrefix begun groups 0)
       (weaker model disk (disk_of first) (model.may_leave disk) (LeavesPrefix begun groups 0) (λ image may. stands_begun begun groups image (each image may)) opening)
       (weaker model (disk_of first) (disk_of last) (LeavesPrefix begun groups first.synced) (LeavesPrefix begun groups 0)
@@ -64,16 +64,16 @@ module _ {D : Type 0} (model : Ghosts D) where
 
   -- no step was taken
   pub no_step : ((disk : D) (image : List ℕ) → model.honest disk → model.left_since disk (model.moment disk) image → model.may_leave disk image) → (d : DeskState D)
-      → (model.honest (disk_of d) → (begun : ServerState) → IsFrom begun d → (image : List ℕ) → model.may_leave (disk_of d) image → LeavesPrefix begun d.standing.groups d.synced image)
+      → (model.honest (disk_of d) → (begun : ServerState) → IsFrom begun d → (image : List ℕ) → model.may_leave (disk_of d) image → LeavesPrefix begun d.run_state.groups d.synced image)
       → Advances model d d
   no_step only_now d upheld =
       record {
         more = [];
-        groups = sym (append-nil d.standing.groups);
+        groups = sym (append-nil d.run_state.groups);
         synced = omega arith;
         from = λ begun from. from;
         any_moment = λ h works begun from.
-            started model (disk_of d) (LeavesPrefix begun d.standing.groups d.synced) (λ image left. upheld h begun from image (only_now (disk_of d) image h left));
+            started model (disk_of d) (LeavesPrefix begun d.run_state.groups d.synced) (λ image left. upheld h begun from image (only_now (disk_of d) image h left));
         honesty = (λ h. h, λ h. h);
       }
 

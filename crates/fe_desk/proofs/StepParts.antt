@@ -5,18 +5,18 @@ use Rattle.std.specs.declared.alloc.AllocError.{AllocError}
 use Rattle.fe_mail.specs.Connections.{mails_on}
 use Rattle.fe_front.specs.Front.{FrontState, is_connected}
 use Rattle.fe_keeper.specs.Keeper.{KeeperState}
-use Rattle.fe_desk.specs.declared.parts.Parts.{Parts}
+use Rattle.fe_desk.specs.declared.desk_inner.DeskInner.{DeskInner}
 use Rattle.fe_desk.specs.declared.port.Port.{Port}
 use Rattle.fe_desk.specs.declared.step.Step.{Step}
 use Rattle.fe_desk.specs.Output.{output_of, Extends}
-use Rattle.fe_desk.specs.Standing.{Client, Standing, emptied, discharged, all_told, all_emptied}
+use Rattle.fe_desk.specs.DeskRunState.{Client, DeskRunState, emptied, discharged, all_written_out, all_emptied}
 use Rattle.fe_desk.specs.Steps.{find, Acts, DeskStep}
 use Rattle.fe_desk.specs.Messages.{outputs}
-use Rattle.fe_desk.specs.within.Keeping.{AreToldLater, HasStore, KeepsFront}
+use Rattle.fe_desk.specs.within.Keeping.{AreWrittenOutLater, HasStore, KeepsFront}
 use Rattle.fe_desk.specs.within.Goes.{Empties, HasEmptied, Settles, StillHolds}
-use Rattle.fe_desk.specs.within.Desk.{IsDesk, IsAhead, client_of, desk_of, standing_of}
+use Rattle.fe_desk.specs.within.Desk.{IsDesk, IsAhead, client_of, desk_of, run_state_of}
 use Rattle.fe_desk.proofs.Advancing.{desk_as, tied_as}
-use Rattle.fe_desk.proofs.Outputs.{all_told-extends}
+use Rattle.fe_desk.proofs.Outputs.{all_written_out-extends}
 use Rattle.fe_desk.proofs.Emptying.{boxes_empty, no_box}
 use Rattle.fe_disk.specs.declared.disk.Disk.{Ghosts}
 
@@ -47,14 +47,14 @@ numbers_as ps qs same = numbers qs ∙ same ∙ sym (numbers ps)
 -- ---- mails that are owed
 
 -- a desk that owes nothing is discharged
-pub discharged_at : (s : Standing) → s.owes ≡ false → discharged s ≡ s
+pub discharged_at : (s : DeskRunState) → s.owes ≡ false → discharged s ≡ s
 discharged_at s none = ap (λ (b : Bool). if b then emptied s else s) none
 
-pub discharged_owing : (s : Standing) → s.owes ≡ true → discharged s ≡ emptied s
+pub discharged_owing : (s : DeskRunState) → s.owes ≡ true → discharged s ≡ emptied s
 discharged_owing s owing = ap (λ (b : Bool). if b then emptied s else s) owing
 
 -- what is discharged owes nothing
-pub owes_discharged : (s : Standing) → (discharged s).owes ≡ false
+pub owes_discharged : (s : DeskRunState) → (discharged s).owes ≡ false
 owes_discharged s = by s.owes refl
   where
     by : (b : Bool) → s.owes ≡ b → (if b then emptied s else s).owes ≡ false
@@ -62,7 +62,7 @@ owes_discharged s = by s.owes refl
     by false is = is
 
 -- discharged later comes to the same
-pub emptied_later : (s t : Standing) → AreToldLater s.front s.clients t.front t.clients → t.handed ≡ s.handed → t.making ≡ s.making → t.groups ≡ s.groups → emptied t ≡ emptied s
+pub emptied_later : (s t : DeskRunState) → AreWrittenOutLater s.front s.clients t.front t.clients → t.handed ≡ s.handed → t.making ≡ s.making → t.groups ≡ s.groups → emptied t ≡ emptied s
 emptied_later s t later handed making groups =
     let front = later.front in
     let clients = later.clients in
@@ -70,38 +70,38 @@ emptied_later s t later handed making groups =
 
 -- ---- the boxes are emptied
 
-abbrev clients_in : {D : Type 0} → Parts D → List Client
+abbrev clients_in : {D : Type 0} → DeskInner D → List Client
 clients_in p = map client_of p.trace.ports.items
 
-module _ {D : Type 0} (p q : Parts D) where
+module _ {D : Type 0} (p q : DeskInner D) where
   -- a desk is one still
   pub emptied_desk : (model : Ghosts D) → IsDesk model (desk_of p) → HasStore (desk_of p) (desk_of q) → q.handed ≡ p.handed → KeepsFront p.front q.front
       → map (λ (port : Port). port.conn) q.trace.ports.items ≡ map (λ (port : Port). port.conn) p.trace.ports.items → IsDesk model (desk_of q)
   emptied_desk model desk same handed kept numbers =
       desk_as model (desk_of p) (desk_of q) desk same
-      (subst (λ (k : KeeperState D). IsAhead (standing_of q) k.state) (sym same.keeper)
-      (tied_as (standing_of p) (standing_of q) p.keeper.state handed kept.out kept.pending kept.state desk.tied))
+      (subst (λ (k : KeeperState D). IsAhead (run_state_of q) k.state) (sym same.keeper)
+      (tied_as (run_state_of p) (run_state_of q) p.keeper.state handed kept.out kept.pending kept.state desk.tied))
       (λ conn there.
       found_as conn (clients_in p) (clients_in q) (numbers_as p.trace.ports.items q.trace.ports.items numbers) ∙ desk.known conn (kept.none_comes conn there))
 
-  pub all_written : (r : Result (Unit {0}) AllocError) → OnOk r (clients_in q ≡ all_told p.front (clients_in p)) → OnOk r (q.front ≡ all_emptied p.front (clients_in p))
-      → q.owes ≡ is_err r → q.handed ≡ p.handed → q.making ≡ p.making → q.trace.groups ≡ p.trace.groups → OnOk r (standing_of q ≡ emptied (standing_of p))
-  all_written (Ok x) told front owes handed making groups = cc
-  all_written (Err e) told front owes handed making groups = tt
+  pub all_written : (r : Result (Unit {0}) AllocError) → OnOk r (clients_in q ≡ all_written_out p.front (clients_in p)) → OnOk r (q.front ≡ all_emptied p.front (clients_in p))
+      → q.owes ≡ is_err r → q.handed ≡ p.handed → q.making ≡ p.making → q.trace.groups ≡ p.trace.groups → OnOk r (run_state_of q ≡ emptied (run_state_of p))
+  all_written (Ok x) written_out front owes handed making groups = cc
+  all_written (Err e) written_out front owes handed making groups = tt
 
-  pub some_written : (r : Result (Unit {0}) AllocError) → OnErr r (AreToldLater p.front (clients_in p) q.front (clients_in q))
+  pub some_written : (r : Result (Unit {0}) AllocError) → OnErr r (AreWrittenOutLater p.front (clients_in p) q.front (clients_in q))
       → q.owes ≡ is_err r → q.handed ≡ p.handed → q.making ≡ p.making → q.trace.groups ≡ p.trace.groups
-      → OnErr r ((emptied (standing_of q) ≡ emptied (standing_of p)) × (q.owes ≡ true))
+      → OnErr r ((emptied (run_state_of q) ≡ emptied (run_state_of p)) × (q.owes ≡ true))
   some_written (Ok x) later owes handed making groups = tt
   some_written (Err e) later owes handed making groups =
-      (emptied_later (standing_of p) (standing_of q) later handed making (ap (λ gs. map (λ g. g.items) gs.items) groups), owes)
+      (emptied_later (run_state_of p) (run_state_of q) later handed making (ap (λ gs. map (λ g. g.items) gs.items) groups), owes)
 
   -- what is written goes on from what was
-  pub written_more : (r : Result (Unit {0}) AllocError) → OnOk r (clients_in q ≡ all_told p.front (clients_in p)) → OnErr r (AreToldLater p.front (clients_in p) q.front (clients_in q))
-      → Extends (outputs (standing_of p)) (outputs (standing_of q))
-  written_more (Ok x) told later =
-      subst (λ (cs : List Client). Extends (map output_of (clients_in p)) (map output_of cs)) (sym told) (all_told-extends p.front (clients_in p))
-  written_more (Err e) told later = later.output
+  pub written_more : (r : Result (Unit {0}) AllocError) → OnOk r (clients_in q ≡ all_written_out p.front (clients_in p)) → OnErr r (AreWrittenOutLater p.front (clients_in p) q.front (clients_in q))
+      → Extends (outputs (run_state_of p)) (outputs (run_state_of q))
+  written_more (Ok x) written_out later =
+      subst (λ (cs : List Client). Extends (map output_of (clients_in p)) (map output_of cs)) (sym written_out) (all_written_out-extends p.front (clients_in p))
+  written_more (Err e) written_out later = later.output
 
   -- no box has a mail: those of connections were emptied, and there is no other
   pub none_boxed : (r : Result (Unit {0}) AllocError) → ((conn : ℕ) → is_connected p.front conn ≡ true → is_some (find conn (clients_in p)) ≡ true) → KeepsFront p.front q.front
@@ -125,41 +125,41 @@ when_err (Ok x) some p = absurd (true≢false (sym some))
 when_err (Err e) some p = p
 
 -- the same of how the boxes were emptied
-pub settles_ok : (r : Result (Unit {0}) AllocError) (s t : Standing) → is_err r ≡ false → Settles r s t → t ≡ discharged s
+pub settles_ok : (r : Result (Unit {0}) AllocError) (s t : DeskRunState) → is_err r ≡ false → Settles r s t → t ≡ discharged s
 settles_ok (Ok x) s t none h = h
 settles_ok (Err e) s t none h = absurd (true≢false none)
 
-pub settles_err : (r : Result (Unit {0}) AllocError) (s t : Standing) → is_err r ≡ true → Settles r s t → (s.owes ≡ true) × StillHolds s t
+pub settles_err : (r : Result (Unit {0}) AllocError) (s t : DeskRunState) → is_err r ≡ true → Settles r s t → (s.owes ≡ true) × StillHolds s t
 settles_err (Ok x) s t some h = absurd (true≢false (sym some))
 settles_err (Err e) s t some h = h
 
-pub empties_ok : (r : Result (Unit {0}) AllocError) (s t : Standing) → is_err r ≡ false → Empties r s t → HasEmptied s t
+pub empties_ok : (r : Result (Unit {0}) AllocError) (s t : DeskRunState) → is_err r ≡ false → Empties r s t → HasEmptied s t
 empties_ok (Ok x) s t none h = h
 empties_ok (Err e) s t none h = absurd (true≢false none)
 
-pub empties_err : (r : Result (Unit {0}) AllocError) (s t : Standing) → is_err r ≡ true → Empties r s t → StillHolds s t
+pub empties_err : (r : Result (Unit {0}) AllocError) (s t : DeskRunState) → is_err r ≡ true → Empties r s t → StillHolds s t
 empties_err (Ok x) s t some h = absurd (true≢false (sym some))
 empties_err (Err e) s t some h = h
 
 -- mails that were owed are written, where all are
-pub settles_all : (r : Result (Unit {0}) AllocError) (s t : Standing) → s.owes ≡ true → Empties r s t → Settles r s t
+pub settles_all : (r : Result (Unit {0}) AllocError) (s t : DeskRunState) → s.owes ≡ true → Empties r s t → Settles r s t
 settles_all (Ok x) s t owing h = h.after ∙ sym (discharged_owing s owing)
 settles_all (Err e) s t owing h = (owing, h)
 
 -- ---- a step from its parts
 
-pub stepped : (s mid last t : Standing) (step : Step) → mid ≡ discharged s → Acts mid step last → t ≡ emptied last → DeskStep s step t
-stepped s mid last t step is acts after = record { last = last; acts = subst (λ (m : Standing). Acts m step last) is acts; after = after }
+pub stepped : (s mid last t : DeskRunState) (step : Step) → mid ≡ discharged s → Acts mid step last → t ≡ emptied last → DeskStep s step t
+stepped s mid last t step is acts after = record { last = last; acts = subst (λ (m : DeskRunState). Acts m step last) is acts; after = after }
 
 -- mails that were owed are still owed
-pub stepped_settling : (s u t : Standing) (step : Step) → discharged u ≡ discharged s → DeskStep u step t → DeskStep s step t
-stepped_settling s u t step same d = record { last = d.last; acts = subst (λ (m : Standing). Acts m step d.last) same d.acts; after = d.after }
+pub stepped_settling : (s u t : DeskRunState) (step : Step) → discharged u ≡ discharged s → DeskStep u step t → DeskStep s step t
+stepped_settling s u t step same d = record { last = d.last; acts = subst (λ (m : DeskRunState). Acts m step d.last) same d.acts; after = d.after }
 
 -- what was done of a step stands, and the rest is done from there
-pub stepped_again : (s mid u t : Standing) (step next : Step) → mid ≡ discharged s → u.owes ≡ false → ((last : Standing) → Acts u next last → Acts mid step last) → DeskStep u next t → DeskStep s step t
+pub stepped_again : (s mid u t : DeskRunState) (step next : Step) → mid ≡ discharged s → u.owes ≡ false → ((last : DeskRunState) → Acts u next last → Acts mid step last) → DeskStep u next t → DeskStep s step t
 stepped_again s mid u t step next is none again d =
-    stepped s mid d.last t step is (again d.last (subst (λ (m : Standing). Acts m next d.last) (discharged_at u none) d.acts)) d.after
+    stepped s mid d.last t step is (again d.last (subst (λ (m : DeskRunState). Acts m next d.last) (discharged_at u none) d.acts)) d.after
 
 -- a step whose mails are owed took effect but for them
-pub stepped_owing : (s mid last u : Standing) (step : Step) → mid ≡ discharged s → Acts mid step last → emptied u ≡ emptied last → u.owes ≡ true → DeskStep s step (discharged u)
+pub stepped_owing : (s mid last u : DeskRunState) (step : Step) → mid ≡ discharged s → Acts mid step last → emptied u ≡ emptied last → u.owes ≡ true → DeskStep s step (discharged u)
 stepped_owing s mid last u step is acts later owing = stepped s mid last (discharged u) step is acts (discharged_owing u owing ∙ later)

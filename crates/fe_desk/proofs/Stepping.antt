@@ -10,7 +10,7 @@ use Rattle.fe_desk.specs.declared.step.Step.{Step}
 use Rattle.fe_desk.specs.Crash.{DeskState}
 use Rattle.fe_desk.specs.Ends.{discharged_desk}
 use Rattle.fe_desk.specs.Messages.{outputs}
-use Rattle.fe_desk.specs.Standing.{Standing, discharged}
+use Rattle.fe_desk.specs.DeskRunState.{DeskRunState, discharged}
 use Rattle.fe_desk.specs.Steps.{Acts, DeskStep}
 use Rattle.fe_desk.specs.Taken.{Ends, IsSound, IsStep}
 use Rattle.fe_desk.specs.within.Desk.{IsDesk}
@@ -24,20 +24,20 @@ use Rattle.fe_keeper.specs.Ends.{Works}
 
 -- of a fault nothing is said that is said of what is done
 pub of_fault : {T E : Type 0} (P : Type 0) (r : Result T E) (e : E) → IsErrAnd r (λ f. f ≡ e) → OnOk r P
-of_fault P (Ok x) e told = absurd told
-of_fault P (Err f) e told = tt
+of_fault P (Ok x) e refused_so = absurd refused_so
+of_fault P (Err f) e refused_so = tt
 
 -- where the store works
 pub ends_of : {D : Type 0} (model : Ghosts D) (old : DeskState D) (step : Step) (new : DeskState D) (r : Result (Unit {0}) DeskFault) → old.keeper.store.has_failed ≡ false → IsStep model old step r new → Ends model old step r new
 ends_of model old step new r works is = subst (λ (b : Bool). MatchBool b ((r ≡ Err (Store keeper.Failed)) × (new ≡ old)) (Ends model old step r new)) works is
 
 -- a desk of which all parts are the same
-pub same_desk : {D : Type 0} (a b : DeskState D) → b.standing ≡ a.standing → b.keeper ≡ a.keeper → b.synced ≡ a.synced → b ≡ a
-same_desk {D} a b standing keeper synced =
-    ap (λ (s : Standing). record b { standing = s }) standing ∙ ap (λ (k : KeeperState D). record b { standing = a.standing; keeper = k }) keeper ∙ ap (λ (n : ℕ). record a { synced = n }) synced
+pub same_desk : {D : Type 0} (a b : DeskState D) → b.run_state ≡ a.run_state → b.keeper ≡ a.keeper → b.synced ≡ a.synced → b ≡ a
+same_desk {D} a b run_state keeper synced =
+    ap (λ (s : DeskRunState). record b { run_state = s }) run_state ∙ ap (λ (k : KeeperState D). record b { run_state = a.run_state; keeper = k }) keeper ∙ ap (λ (n : ℕ). record a { synced = n }) synced
 
 -- a desk whose mails that were owed are written
-pub settled : {D : Type 0} (a mid : DeskState D) → mid.standing ≡ discharged a.standing → HasStore a mid → mid ≡ discharged_desk a
+pub settled : {D : Type 0} (a mid : DeskState D) → mid.run_state ≡ discharged a.run_state → HasStore a mid → mid ≡ discharged_desk a
 settled a mid is same = same_desk (discharged_desk a) mid is same.keeper same.synced
 
 module _ {D : Type 0} (k : Ghosts D) (x : Step) (a : DeskState D) where
@@ -47,21 +47,21 @@ module _ {D : Type 0} (k : Ghosts D) (x : Step) (a : DeskState D) where
   -- the device had failed
   pub refused : a.keeper.store.has_failed ≡ true → IsStep k a x (Err (Store keeper.Failed)) a
   refused failed =
-      let told : Result (Unit {0}) DeskFault = Err (Store keeper.Failed) in
-      subst (λ (c : Bool). MatchBool c ((told ≡ Err (Store keeper.Failed)) × (a ≡ a)) (Ends k a x told a)) (sym failed) (refl, refl)
+      let refused_so : Result (Unit {0}) DeskFault = Err (Store keeper.Failed) in
+      subst (λ (c : Bool). MatchBool c ((refused_so ≡ Err (Store keeper.Failed)) × (a ≡ a)) (Ends k a x refused_so a)) (sym failed) (refl, refl)
 
   sound : {b : DeskState D} → IsDesk k b → Works k a.keeper b.keeper → IsSound k a b
   sound desk fine = record { fine = fine; stored = desk.all fine.after }
 
   -- memory was short for mails that were owed
-  pub step_settling : {b : DeskState D} → a.keeper.store.has_failed ≡ false → IsDesk k b → HasStore a b → (a.standing.owes ≡ true) × StillHolds a.standing b.standing
+  pub step_settling : {b : DeskState D} → a.keeper.store.has_failed ≡ false → IsDesk k b → HasStore a b → (a.run_state.owes ≡ true) × StillHolds a.run_state b.run_state
       → IsStep k a x (Err (NoMemory false)) b
   step_settling {b} works desk same still =
-      let later : discharged b.standing ≡ discharged a.standing = discharged_owing b.standing still.1.owes ∙ still.1.later ∙ sym (discharged_owing a.standing still.0) in
+      let later : discharged b.run_state ≡ discharged a.run_state = discharged_owing b.run_state still.1.owes ∙ still.1.later ∙ sym (discharged_owing a.run_state still.0) in
       step_at (Err (NoMemory false)) b works (record {
         finds = inl (refl, record { owed = still.0; writes = still.1.writes; keeper = same.keeper; synced = same.synced });
-        read = settling_reads a.standing b.standing later;
-        again = λ next t again h. stepped_settling a.standing b.standing t x later (subst (λ (y : Step). DeskStep b.standing y t) again h);
+        read = settling_reads a.run_state b.run_state later;
+        again = λ next t again h. stepped_settling a.run_state b.run_state t x later (subst (λ (y : Step). DeskStep b.run_state y t) again h);
         silent = λ none. absurd (true≢false (sym still.0 ∙ none));
         sound = sound desk (fine_as k a b works same);
       })
@@ -69,31 +69,31 @@ module _ {D : Type 0} (k : Ghosts D) (x : Step) (a : DeskState D) where
   -- what it does after them is at fault
   pub step_fault : {mid b : DeskState D} {fault : DeskFault} (r : Result (Unit {0}) DeskFault) → IsErrAnd r (λ f. f ≡ fault) → a.keeper.store.has_failed ≡ false → mid ≡ discharged_desk a → IsDesk k b
       → GoesAct k mid x (Err fault) b → IsStep k a x r b
-  step_fault {mid} {b} {fault} r told works is desk goes = by r told
+  step_fault {mid} {b} {fault} r refused_so works is desk goes = by r refused_so
     where
-      none : b.standing.owes ≡ false
-      none = goes.owes ∙ ap (λ (d : DeskState D). d.standing.owes) is ∙ owes_discharged a.standing
+      none : b.run_state.owes ≡ false
+      none = goes.owes ∙ ap (λ (d : DeskState D). d.run_state.owes) is ∙ owes_discharged a.run_state
 
       of : (f : DeskFault) → ActEnds k (discharged_desk a) x b (Err f) → Ends k a x (Err f) b
       of (Store cause) h = (h.0, record { breaks = h.1.breaks; silent = h.1.silent; failed = record { before = h.1.failed.before; failed = h.1.failed.failed; rises = h.1.failed.rises } })
       of (NoMemory fed) h = record {
         finds = inr h.lacks;
-        read = fed_discharged fed a.standing (discharged a.standing) x b.standing refl h.read;
-        again = λ next t again d. stepped_again a.standing (discharged a.standing) b.standing t x next refl none (λ last. h.again next last again) d;
-        silent = λ clear. h.silent ∙ ap outputs (discharged_at a.standing clear);
+        read = fed_discharged fed a.run_state (discharged a.run_state) x b.run_state refl h.read;
+        again = λ next t again d. stepped_again a.run_state (discharged a.run_state) b.run_state t x next refl none (λ last. h.again next last again) d;
+        silent = λ clear. h.silent ∙ ap outputs (discharged_at a.run_state clear);
         sound = sound desk (record { before = h.fine.before; after = h.fine.after; still = h.fine.still });
       }
       of Unwritten h = absurd h
 
       by : (r : Result (Unit {0}) DeskFault) → IsErrAnd r (λ f. f ≡ fault) → IsStep k a x r b
-      by (Ok y) told = absurd told
-      by (Err f) told = step_at (Err f) b works (of f (subst (λ (d : DeskState D). ActEnds k d x b (Err f)) is (subst (λ (g : DeskFault). ActEnds k mid x b (Err g)) (sym told) goes.ends)))
+      by (Ok y) refused_so = absurd refused_so
+      by (Err f) refused_so = step_at (Err f) b works (of f (subst (λ (d : DeskState D). ActEnds k d x b (Err f)) is (subst (λ (g : DeskFault). ActEnds k mid x b (Err g)) (sym refused_so) goes.ends)))
 
   -- it writes nothing then
-  pub act_silent : {b : DeskState D} {fault : DeskFault} → GoesAct k a x (Err fault) b → outputs b.standing ≡ outputs a.standing
+  pub act_silent : {b : DeskState D} {fault : DeskFault} → GoesAct k a x (Err fault) b → outputs b.run_state ≡ outputs a.run_state
   act_silent {b} {fault} goes = by fault goes.ends
     where
-      by : (f : DeskFault) → ActEnds k a x b (Err f) → outputs b.standing ≡ outputs a.standing
+      by : (f : DeskFault) → ActEnds k a x b (Err f) → outputs b.run_state ≡ outputs a.run_state
       by (Store cause) h = h.1.silent
       by (NoMemory fed) h = h.silent
       by Unwritten h = absurd h
@@ -102,23 +102,23 @@ module _ {D : Type 0} (k : Ghosts D) (x : Step) (a : DeskState D) where
   fine_to {mid} {last} {b} works before fine behind = fine_both k a last b (fine_both k a mid last (fine_as k a mid works before) fine) (fine_as k last b fine.after behind)
 
   -- memory was short for its mails
-  pub step_owing : {mid last b : DeskState D} {y : Unit {0}} → a.keeper.store.has_failed ≡ false → mid.standing ≡ discharged a.standing → HasStore a mid → GoesAct k mid x (Ok y) last
-      → HasStore last b → StillHolds last.standing b.standing → IsDesk k b → IsStep k a x (Err Unwritten) b
+  pub step_owing : {mid last b : DeskState D} {y : Unit {0}} → a.keeper.store.has_failed ≡ false → mid.run_state ≡ discharged a.run_state → HasStore a mid → GoesAct k mid x (Ok y) last
+      → HasStore last b → StillHolds last.run_state b.run_state → IsDesk k b → IsStep k a x (Err Unwritten) b
   step_owing {mid} {last} {b} works is before goes behind still desk =
       step_at (Err Unwritten) b works (record {
-        last = last.standing;
-        acts = subst (λ (s : Standing). Acts s x last.standing) is goes.ends.acts;
+        last = last.run_state;
+        acts = subst (λ (s : DeskRunState). Acts s x last.run_state) is goes.ends.acts;
         writes = still.writes;
-        took = stepped_owing a.standing mid.standing last.standing b.standing x is goes.ends.acts still.later still.owes;
+        took = stepped_owing a.run_state mid.run_state last.run_state b.run_state x is goes.ends.acts still.later still.owes;
         checked = checks_as x a mid last b before behind goes.ends.checked;
         sound = sound desk (fine_to works before goes.ends.fine behind);
       })
 
-  pub step_whole : {mid last b : DeskState D} {y : Unit {0}} → a.keeper.store.has_failed ≡ false → mid.standing ≡ discharged a.standing → HasStore a mid → GoesAct k mid x (Ok y) last
-      → HasStore last b → HasEmptied last.standing b.standing → IsDesk k b → IsStep k a x (Ok tt) b
+  pub step_whole : {mid last b : DeskState D} {y : Unit {0}} → a.keeper.store.has_failed ≡ false → mid.run_state ≡ discharged a.run_state → HasStore a mid → GoesAct k mid x (Ok y) last
+      → HasStore last b → HasEmptied last.run_state b.run_state → IsDesk k b → IsStep k a x (Ok tt) b
   step_whole {mid} {last} {b} works is before goes behind empty desk =
       step_at (Ok tt) b works (record {
-        took = stepped a.standing mid.standing last.standing b.standing x is goes.ends.acts empty.after;
+        took = stepped a.run_state mid.run_state last.run_state b.run_state x is goes.ends.acts empty.after;
         boxes = empty.quiet.boxes;
         checked = checks_as x a mid last b before behind goes.ends.checked;
         sound = sound desk (fine_to works before goes.ends.fine behind);

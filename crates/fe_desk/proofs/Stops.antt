@@ -7,7 +7,7 @@ use Rattle.fe_front.specs.Front.{has_room}
 use Rattle.fe_wire.specs.declared.client_message.ClientMessage.{ClientMessage}
 use Rattle.fe_desk.specs.declared.handed.Handed.{Handed}
 use Rattle.fe_desk.specs.declared.handed.Handed.TheVariants.{Nothing, Cut, Stored}
-use Rattle.fe_desk.specs.Standing.{Client, Standing}
+use Rattle.fe_desk.specs.DeskRunState.{Client, DeskRunState}
 use Rattle.fe_desk.specs.Storing.{cut, cleared, committed, made, begun_room, roomy, is_making}
 use Rattle.fe_desk.specs.Steps.{on_client, with_left}
 use Rattle.fe_desk.specs.Messages.{left_of}
@@ -25,7 +25,7 @@ same_number : (n : ℕ) → nat_eq n n ≡ true
 same_number n = grind (arith, nat_tests)
 
 -- which connection room is made for tells nothing once it is made
-pub made_alike : (s : Standing) (m : Option ℕ) → made (cleared (record s { making = m })) ≡ made (cleared s)
+pub made_alike : (s : DeskRunState) (m : Option ℕ) → made (cleared (record s { making = m })) ≡ made (cleared s)
 made_alike s m = by s.handed
   where
     by : (h : Handed) → made (cleared (record s { handed = h; making = m })) ≡ made (cleared (record s { handed = h }))
@@ -34,17 +34,17 @@ made_alike s m = by s.handed
     by (Stored batch) = refl
 
 -- room that is begun is made by what is left of it
-begun_made : (s : Standing) (conn : ℕ) → begun_room (room_begun s conn) conn ≡ made (committed (cleared s))
+begun_made : (s : DeskRunState) (conn : ℕ) → begun_room (room_begun s conn) conn ≡ made (committed (cleared s))
 begun_made s conn = begun_by (room_begun s conn) conn true (same_number conn) ∙ made_alike (cut (cleared s)) (Some conn)
 
 -- where the making of room stops, it comes to the same later
-pub stops_later : (s mid t : Standing) (conn : ℕ) → mid ≡ begun_room s conn → IsHanded mid.handed mid.front.out → has_room mid.front ≡ false → MayBegin mid conn t → roomy t conn ≡ roomy s conn
+pub stops_later : (s mid t : DeskRunState) (conn : ℕ) → mid ≡ begun_room s conn → IsHanded mid.handed mid.front.out → has_room mid.front ≡ false → MayBegin mid conn t → roomy t conn ≡ roomy s conn
 stops_later s mid t conn begun handed none (inl is) = roomy_later s mid t conn begun handed none (inl is)
 stops_later s mid t conn begun handed none (inr is) =
-    roomy_later s mid t conn begun handed none (inr (ap (λ (u : Standing). begun_room u conn) is ∙ begun_made mid conn))
+    roomy_later s mid t conn begun handed none (inr (ap (λ (u : DeskRunState). begun_room u conn) is ∙ begun_made mid conn))
 
 -- what is pending is not touched by room that was begun
-begun_pending : (s : Standing) (conn : ℕ) → (begun_room s conn).front.service.pending ≡ s.front.service.pending
+begun_pending : (s : DeskRunState) (conn : ℕ) → (begun_room s conn).front.service.pending ≡ s.front.service.pending
 begun_pending s conn = by (is_making s conn)
   where
     by : (b : Bool) → (if b then made (cleared s) else s).front.service.pending ≡ s.front.service.pending
@@ -52,13 +52,13 @@ begun_pending s conn = by (is_making s conn)
     by false = refl
 
 -- room was made as far as to there
-pub stops_room : (s mid t : Standing) (conn : ℕ) → mid ≡ begun_room s conn → has_room mid.front ≡ false → MayBegin mid conn t → StopsMaking s conn t
+pub stops_room : (s mid t : DeskRunState) (conn : ℕ) → mid ≡ begun_room s conn → has_room mid.front ≡ false → MayBegin mid conn t → StopsMaking s conn t
 stops_room s mid t conn begun none may =
-    let pending : mid.front.service.pending ≡ s.front.service.pending = ap (λ (u : Standing). u.front.service.pending) begun ∙ begun_pending s conn in
+    let pending : mid.front.service.pending ≡ s.front.service.pending = ap (λ (u : DeskRunState). u.front.service.pending) begun ∙ begun_pending s conn in
     let full : has_room s.front ≡ false = ap (λ (es : List Entry). nat_le (length es) 2048) (sym pending) ∙ none in
-    inr (full, subst (λ (u : Standing). MayBegin u conn t) begun may)
+    inr (full, subst (λ (u : DeskRunState). MayBegin u conn t) begun may)
 
-begun_handed : (s : Standing) (conn : ℕ) → IsHanded s.handed s.front.out → IsHanded (begun_room s conn).handed (begun_room s conn).front.out
+begun_handed : (s : DeskRunState) (conn : ℕ) → IsHanded s.handed s.front.out → IsHanded (begun_room s conn).handed (begun_room s conn).front.out
 begun_handed s conn handed = by (is_making s conn)
   where
     gone : (h : Handed) → IsHanded h s.front.out → IsHanded (cleared (record s { handed = h })).handed (cleared (record s { handed = h })).front.out
@@ -71,30 +71,30 @@ begun_handed s conn handed = by (is_making s conn)
     by false = handed
 
 -- where the making of room stopped, it comes to the same later
-pub roomy_stops : (s t : Standing) (conn : ℕ) → IsHanded s.handed s.front.out → StopsMaking s conn t → roomy t conn ≡ roomy s conn
-roomy_stops s t conn handed (inl still) = ap (λ (u : Standing). roomy u conn) still.1
+pub roomy_stops : (s t : DeskRunState) (conn : ℕ) → IsHanded s.handed s.front.out → StopsMaking s conn t → roomy t conn ≡ roomy s conn
+roomy_stops s t conn handed (inl still) = ap (λ (u : DeskRunState). roomy u conn) still.1
 roomy_stops s t conn handed (inr begins) =
     let none : has_room (begun_room s conn).front ≡ false = ap (λ (es : List Entry). nat_le (length es) 2048) (begun_pending s conn) ∙ begins.0 in
     stops_later s (begun_room s conn) t conn refl (begun_handed s conn handed) none begins.1
 
 -- ---- room is made whatever stands among the clients
 
-room_begun-clients : (s : Standing) (conn : ℕ) (cs : List Client) → room_begun (with_clients s cs) conn ≡ with_clients (room_begun s conn) cs
-room_begun-clients s conn cs = ap (λ (t : Standing). record (cut t) { making = Some conn }) (cleared-clients s cs)
+room_begun-clients : (s : DeskRunState) (conn : ℕ) (cs : List Client) → room_begun (with_clients s cs) conn ≡ with_clients (room_begun s conn) cs
+room_begun-clients s conn cs = ap (λ (t : DeskRunState). record (cut t) { making = Some conn }) (cleared-clients s cs)
 
-begins-clients : (s t : Standing) (conn : ℕ) (cs : List Client) → MayBegin s conn t → MayBegin (with_clients s cs) conn (with_clients t cs)
-begins-clients s t conn cs (inl is) = inl (ap (λ (u : Standing). with_clients u cs) is)
-begins-clients s t conn cs (inr is) = inr (ap (λ (u : Standing). with_clients u cs) is ∙ sym (room_begun-clients s conn cs))
+begins-clients : (s t : DeskRunState) (conn : ℕ) (cs : List Client) → MayBegin s conn t → MayBegin (with_clients s cs) conn (with_clients t cs)
+begins-clients s t conn cs (inl is) = inl (ap (λ (u : DeskRunState). with_clients u cs) is)
+begins-clients s t conn cs (inr is) = inr (ap (λ (u : DeskRunState). with_clients u cs) is ∙ sym (room_begun-clients s conn cs))
 
-stops-clients : (s t : Standing) (conn : ℕ) (cs : List Client) → StopsMaking s conn t → StopsMaking (with_clients s cs) conn (with_clients t cs)
-stops-clients s t conn cs (inl still) = inl (still.0, ap (λ (u : Standing). with_clients u cs) still.1)
+stops-clients : (s t : DeskRunState) (conn : ℕ) (cs : List Client) → StopsMaking s conn t → StopsMaking (with_clients s cs) conn (with_clients t cs)
+stops-clients s t conn cs (inl still) = inl (still.0, ap (λ (u : DeskRunState). with_clients u cs) still.1)
 stops-clients s t conn cs (inr begins) =
-    inr (begins.0, subst (λ (u : Standing). MayBegin u conn (with_clients t cs)) (sym (begun_room-clients s conn cs)) (begins-clients (begun_room s conn) t conn cs begins.1))
+    inr (begins.0, subst (λ (u : DeskRunState). MayBegin u conn (with_clients t cs)) (sym (begun_room-clients s conn cs)) (begins-clients (begun_room s conn) t conn cs begins.1))
 
 -- ---- messages
 
 -- messages were taken as far as to there, and room for the next is not made
-pub first_stops : (conn : ℕ) (s a t : Standing) → 0 < length (left_of a conn) → t.clients ≡ a.clients → StopsMaking a conn t → HasCut t → IsTaken conn s a → StopsBefore s conn t
+pub first_stops : (conn : ℕ) (s a t : DeskRunState) → 0 < length (left_of a conn) → t.clients ≡ a.clients → StopsMaking a conn t → HasCut t → IsTaken conn s a → StopsBefore s conn t
 first_stops conn s a t some clients stops at_hand taken = by (left_of a conn) some refl
   where
     emptied : List Client
@@ -122,5 +122,5 @@ first_stops conn s a t some clients stops at_hand taken = by (left_of a conn) so
     }
 
 -- the device failed there
-pub first_tears : {D : Type 0} (conn : ℕ) (s a last : Standing) (new : DeskState D) → 0 < length (left_of a conn) → new.standing.clients ≡ a.clients → StopsMaking a conn last → IsTaken conn s a → Tears last new → StopsBefore s conn last
-first_tears conn s a last new some clients stops taken tears = first_stops conn s a last some (sym (ap (λ (u : Standing). u.clients) tears.standing) ∙ clients) stops tears.at_hand taken
+pub first_tears : {D : Type 0} (conn : ℕ) (s a last : DeskRunState) (new : DeskState D) → 0 < length (left_of a conn) → new.run_state.clients ≡ a.clients → StopsMaking a conn last → IsTaken conn s a → Tears last new → StopsBefore s conn last
+first_tears conn s a last new some clients stops taken tears = first_stops conn s a last some (sym (ap (λ (u : DeskRunState). u.clients) tears.run_state) ∙ clients) stops tears.at_hand taken

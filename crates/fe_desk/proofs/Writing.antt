@@ -12,12 +12,12 @@ use Rattle.fe_mail.specs.declared.mail.Mail.{Mail}
 use Rattle.fe_front.specs.Front.{FrontState}
 use Rattle.fe_front.specs.Steps.{taken}
 use Rattle.fe_messages.specs.Mails.{reply_of, spelled}
-use Rattle.fe_desk.specs.declared.parts.Parts.{Parts}
+use Rattle.fe_desk.specs.declared.desk_inner.DeskInner.{DeskInner}
 use Rattle.fe_desk.specs.declared.port.Port.{Port}
 use Rattle.fe_desk.specs.Mails.{taken_times, emptied_box}
-use Rattle.fe_desk.specs.Standing.{Client, told, all_told, all_emptied}
+use Rattle.fe_desk.specs.DeskRunState.{Client, written_out, all_written_out, all_emptied}
 use Rattle.fe_desk.specs.Writing.{StopsWriting, WritesFirst, WritesSome}
-use Rattle.fe_desk.specs.within.Desk.{client_of, standing_of}
+use Rattle.fe_desk.specs.within.Desk.{client_of, run_state_of}
 use Rattle.fe_desk.proofs.Emptying.{box_of, left_in, replaced}
 
 -- ---- mail by mail
@@ -107,28 +107,28 @@ pub record AreWrittenSoFar (f : FrontState) (cs : List Client) (g : FrontState) 
   pub before : List Client
   pub all : cs ≡ before ++ left
   pub front : g ≡ all_emptied f before
-  pub told : done ≡ all_told f before
+  pub written_out : done ≡ all_written_out f before
 
 pub none_done : (f : FrontState) (cs : List Client) → AreWrittenSoFar f cs f [] cs
-none_done f cs = record { before = []; all = refl; front = refl; told = refl }
+none_done f cs = record { before = []; all = refl; front = refl; written_out = refl }
 
 emptied_more : (f : FrontState) (cs : List Client) (c : Client) → all_emptied f (cs ++ c ∷ []) ≡ emptied_box (all_emptied f cs) c.conn
 emptied_more f [] c = refl
 emptied_more f (x ∷ xs) c = emptied_more (emptied_box f x.conn) xs c
 
-told_more : (f : FrontState) (cs : List Client) (c : Client) → all_told f (cs ++ c ∷ []) ≡ all_told f cs ++ told (all_emptied f cs) c ∷ []
-told_more f [] c = refl
-told_more f (x ∷ xs) c = ap (λ (ds : List Client). told f x ∷ ds) (told_more (emptied_box f x.conn) xs c)
+written_out_more : (f : FrontState) (cs : List Client) (c : Client) → all_written_out f (cs ++ c ∷ []) ≡ all_written_out f cs ++ written_out (all_emptied f cs) c ∷ []
+written_out_more f [] c = refl
+written_out_more f (x ∷ xs) c = ap (λ (ds : List Client). written_out f x ∷ ds) (written_out_more (emptied_box f x.conn) xs c)
 
 -- a client more
 one_done : (f : FrontState) (cs : List Client) (h : FrontState) (done : List Client) (c : Client) (left : List Client) (g : FrontState) (d : Client) → AreWrittenSoFar f cs h done (c ∷ left)
-    → g ≡ emptied_box h c.conn → d ≡ told h c → AreWrittenSoFar f cs g (done ++ d ∷ []) left
+    → g ≡ emptied_box h c.conn → d ≡ written_out h c → AreWrittenSoFar f cs g (done ++ d ∷ []) left
 one_done f cs h done c left g d far front client = record {
   before = far.before ++ c ∷ [];
   all = far.all ∙ sym (append_assoc far.before (c ∷ []) left);
   front = front ∙ ap (λ (x : FrontState). emptied_box x c.conn) far.front ∙ sym (emptied_more f far.before c);
-  told = ap (λ (ds : List Client). ds ++ d ∷ []) far.told ∙ ap (λ (x : Client). all_told f far.before ++ x ∷ []) (client ∙ ap (λ (x : FrontState). told x c) far.front)
-      ∙ sym (told_more f far.before c);
+  written_out = ap (λ (ds : List Client). ds ++ d ∷ []) far.written_out ∙ ap (λ (x : Client). all_written_out f far.before ++ x ∷ []) (client ∙ ap (λ (x : FrontState). written_out x c) far.front)
+      ∙ sym (written_out_more f far.before c);
 }
 
 -- a client that is not written all its mails
@@ -141,7 +141,7 @@ one_stops f cs h done c left g d far stops = record {
   last = d;
   all = far.all;
   stops = subst (λ (x : FrontState). StopsWriting x c g d) far.front stops;
-  now = ap (λ (ds : List Client). ds ++ d ∷ left) far.told;
+  now = ap (λ (ds : List Client). ds ++ d ∷ left) far.written_out;
 }
 
 -- ---- port by port
@@ -153,7 +153,7 @@ from_here : (ports : List Port) (at : ℕ) (p : Port) → at < length ports → 
 from_here ports at p lt is = ap (λ (ps : List Port). map client_of ps) (drop_more ports at p lt ∙ ap (λ (x : Port). x ∷ drop (at + 1) ports) (sym is))
 
 pub port_done : (f : FrontState) (cs : List Client) (h g : FrontState) (ports : List Port) (at : ℕ) (p q : Port) → at < length ports → p ≡ get_or ports at p → AreWrittenTo f cs h ports at
-    → g ≡ emptied_box h p.conn → client_of q ≡ told h (client_of p) → AreWrittenTo f cs g (slice_set ports at q) (at + 1)
+    → g ≡ emptied_box h p.conn → client_of q ≡ written_out h (client_of p) → AreWrittenTo f cs g (slice_set ports at q) (at + 1)
 port_done f cs h g ports at p q lt is far front client =
     let behind : drop (at + 1) (slice_set ports at q) ≡ drop (at + 1) ports = drop-set-lt (at + 1) ports at q (omega arith) in
     let before : map client_of (take (at + 1) (slice_set ports at q)) ≡ map client_of (take at ports) ++ client_of q ∷ [] =
@@ -174,11 +174,11 @@ port_stops f cs h g ports at p q lt is far stops =
 
 -- ---- the boxes of a desk
 
-abbrev clients_in : {D : Type 0} → Parts D → List Client
+abbrev clients_in : {D : Type 0} → DeskInner D → List Client
 clients_in p = map client_of p.trace.ports.items
 
-pub writes_some : {D : Type 0} (p q : Parts D) (r : Result (Unit {0}) AllocError) → OnErr r (WritesFirst p.front (clients_in p) q.front (clients_in q)) → q.owes ≡ is_err r
-    → q.handed ≡ p.handed → q.making ≡ p.making → q.trace.groups ≡ p.trace.groups → OnErr r (WritesSome (standing_of p) (standing_of q))
+pub writes_some : {D : Type 0} (p q : DeskInner D) (r : Result (Unit {0}) AllocError) → OnErr r (WritesFirst p.front (clients_in p) q.front (clients_in q)) → q.owes ≡ is_err r
+    → q.handed ≡ p.handed → q.making ≡ p.making → q.trace.groups ≡ p.trace.groups → OnErr r (WritesSome (run_state_of p) (run_state_of q))
 writes_some p q (Ok x) writes owes handed making groups = tt
 writes_some p q (Err e) writes owes handed making groups = record {
   front = q.front;

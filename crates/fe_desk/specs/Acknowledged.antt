@@ -8,7 +8,7 @@ use Rattle.fe_state.specs.declared.entry.Entry.TheVariants.{Attached, Closed, Se
 use Rattle.fe_mail.specs.Connections.{mails_on, session_on}
 use Rattle.fe_mail.specs.declared.mail.Mail.{Mail}
 use Rattle.fe_mail.specs.declared.mail.Mail.TheVariants as mail
-use Rattle.fe_seats.specs.Seating.{holder_of}
+use Rattle.fe_attachments.specs.AttachmentsState.{holder_of}
 use Rattle.fe_wire.specs.Stream.{Decoding}
 use Rattle.fe_wire.specs.declared.client_message.ClientMessage.{ClientMessage}
 use Rattle.fe_front.specs.Front.{FrontState}
@@ -22,7 +22,7 @@ use Rattle.fe_desk.specs.declared.step.Step.{Step}
 use Rattle.fe_desk.specs.declared.step.Step.TheVariants as step
 use Rattle.fe_desk.specs.Crash.{DeskState}
 use Rattle.fe_desk.specs.Messages.{read_by}
-use Rattle.fe_desk.specs.Standing.{Client, Standing, IsFirstStanding}
+use Rattle.fe_desk.specs.DeskRunState.{Client, DeskRunState, IsFirstRunState}
 use Rattle.fe_desk.specs.Steps.{Reads}
 use Rattle.fe_desk.specs.Taken.{IsStep}
 use Rattle.fe_disk.specs.declared.disk.Disk.{Ghosts}
@@ -31,9 +31,9 @@ use Rattle.fe_disk.specs.declared.disk.Disk.{Ghosts}
 abbrev pub entries_of : List (List Entry) → List Entry
 entries_of groups = flat_map (λ group. group) groups
 
--- What a mail to a connection tells of the history is in the groups that were stored, and of a session that the connection may
+-- What a mail to a connection says of the history is in the groups that were stored, and of a session that the connection may
 -- ask for: the entry of the session, or an answer with its place, where that was not kept already. A refusal, a withdrawal and
--- a report tell nothing of it.
+-- a report say nothing of it.
 abbrev pub StandsOn : ServerState → List (List Entry) → (ℕ → Bool) → Mail → Type 0
 StandsOn begun groups asked (mail.Welcome session floor) = (asked session ≡ true) × Contains (entries_of groups) (Attached session floor)
 StandsOn begun groups asked (mail.Answer session number answer place) =
@@ -53,10 +53,10 @@ pub record IsWritten (begun : ServerState) (groups : List (List Entry)) (asked :
 
 -- the groups that are known to be stored
 abbrev pub stored_groups : {D : Type 0} → DeskState D → List (List Entry)
-stored_groups d = take d.synced d.standing.groups
+stored_groups d = take d.synced d.run_state.groups
 
 -- All that was written in a run is on these groups.
-abbrev pub AnswersStand : ServerState → List (List Entry) → (ℕ → ℕ → Bool) → Standing → Type 0
+abbrev pub AnswersStand : ServerState → List (List Entry) → (ℕ → ℕ → Bool) → DeskRunState → Type 0
 AnswersStand begun groups asked s = AllByRecursion (IsWritten begun groups asked) s.clients
 
 -- ---- what is asked for
@@ -67,7 +67,7 @@ AsksFor asked m = AsksOnly (λ session. asked session ≡ true) m
 
 -- so does each message that a step's bytes complete
 abbrev pub StepAsksFor : {D : Type 0} → (ℕ → ℕ → Bool) → DeskState D → Step → Type 0
-StepAsksFor asked d (step.Bytes conn piece) = (before after : Decoding) (more : List ClientMessage) → read_by d.standing conn ≡ Some before
+StepAsksFor asked d (step.Bytes conn piece) = (before after : Decoding) (more : List ClientMessage) → read_by d.run_state conn ≡ Some before
     → Reads before after piece.items more → AllByRecursion (AsksFor (asked conn)) more
 StepAsksFor asked d other = Unit {0}
 
@@ -105,15 +105,15 @@ IsOnItsWay begun groups f (Stored batch) = IsLast begun groups f.durable batch �
 -- sessions that it may ask for; the front is ahead of the groups by what was made since, each entry of it answered as the
 -- table says; and only what is stored is posted.
 pub record IsAcknowledged {D : Type 0} (begun : ServerState) (asked : ℕ → ℕ → Bool) (d : DeskState D) : Type 0 where
-  pub answers : AnswersStand begun (stored_groups d) asked d.standing
-  pub boxed : (conn : ℕ) → AllByRecursion (StandsOn begun (stored_groups d) (asked conn)) (mails_on d.standing.front.connections conn)
-  pub left : AllByRecursion (λ c. AllByRecursion (AsksFor (asked c.conn)) c.left) d.standing.clients
-  pub holders : (session conn : ℕ) → holder_of d.standing.front.service.seats session ≡ Some conn → asked conn session ≡ true
-  pub sessions : (conn session : ℕ) → session_on d.standing.front.connections conn ≡ Some session → asked conn session ≡ true
-  pub state : d.standing.front.service.state ≡ after_all begun (made_entries (stored_groups d) d.standing.handed d.standing.front)
-  pub answered : AreAnswered begun (made_entries (stored_groups d) d.standing.handed d.standing.front)
-  pub way : IsOnItsWay begun (stored_groups d) d.standing.front d.standing.handed
-  pub all : d.keeper.store.has_failed ≡ false → d.synced ≡ length d.standing.groups
+  pub answers : AnswersStand begun (stored_groups d) asked d.run_state
+  pub boxed : (conn : ℕ) → AllByRecursion (StandsOn begun (stored_groups d) (asked conn)) (mails_on d.run_state.front.connections conn)
+  pub left : AllByRecursion (λ c. AllByRecursion (AsksFor (asked c.conn)) c.left) d.run_state.clients
+  pub holders : (session conn : ℕ) → holder_of d.run_state.front.service.attachments session ≡ Some conn → asked conn session ≡ true
+  pub sessions : (conn session : ℕ) → session_on d.run_state.front.connections conn ≡ Some session → asked conn session ≡ true
+  pub state : d.run_state.front.service.state ≡ after_all begun (made_entries (stored_groups d) d.run_state.handed d.run_state.front)
+  pub answered : AreAnswered begun (made_entries (stored_groups d) d.run_state.handed d.run_state.front)
+  pub way : IsOnItsWay begun (stored_groups d) d.run_state.front d.run_state.handed
+  pub all : d.keeper.store.has_failed ≡ false → d.synced ≡ length d.run_state.groups
 
 -- steps one after another, each with its answer, which ask for such sessions alone
 abbrev pub AreStepsFor : {D : Type 0} → Ghosts D → (ℕ → ℕ → Bool) → DeskState D → List (Step × Result (Unit {0}) DeskFault) → DeskState D → Type 0
@@ -124,4 +124,4 @@ AreStepsFor {D} model asked old (given ∷ more) new =
 -- so is a desk that was opened, and what any steps make of it
 abbrev pub AcknowledgedStand : {D : Type 0} → Ghosts D → Type 0
 AcknowledgedStand {D} model = (begun : ServerState) (asked : ℕ → ℕ → Bool) (first last : DeskState D) (steps : List (Step × Result (Unit {0}) DeskFault)) → IsWithinLimits begun
-    → IsFirstStanding begun first.standing → first.synced ≡ 0 → AreStepsFor model asked first steps last → IsAcknowledged begun asked last
+    → IsFirstRunState begun first.run_state → first.synced ≡ 0 → AreStepsFor model asked first steps last → IsAcknowledged begun asked last

@@ -1,15 +1,15 @@
 -- A desk whose trace begins anew.
 use Rattle.std.specs.Prelude.{[], map}
 use Rattle.fe_desk.specs.Crash.{DeskState}
-use Rattle.fe_desk.specs.Standing.{Client, Standing}
+use Rattle.fe_desk.specs.DeskRunState.{Client, DeskRunState}
 
 -- a client to which nothing is written
 abbrev pub unwritten_to : Client → Client
 unwritten_to c = record c { written = [] }
 
 -- no group is there, and nothing is written to a client
-abbrev pub anew : Standing → Standing
+abbrev pub anew : DeskRunState → DeskRunState
 anew s = record s { groups = []; clients = map unwritten_to s.clients }
 
 abbrev pub desk_anew : {D : Type 0} → DeskState D → DeskState D
-desk_anew d = record d { standing = anew d.standing; synced = 0 }
+desk_anew d = record d { run_state = anew d.run_state; synced = 0 }

@@ -28,7 +28,7 @@ AreAppended {D} old (group ∷ groups) new = (mid : KeeperState D) × IsAppended
 -- the groups that came after the others were appended, and nothing else was done
 pub record StoresMore {D : Type 0} (old new : DeskState D) : Type 0 where
   pub more : List (List Entry)
-  pub groups : new.standing.groups ≡ old.standing.groups ++ more
+  pub groups : new.run_state.groups ≡ old.run_state.groups ++ more
   pub appends : AreAppended old.keeper more new.keeper
 
 -- ---- steps

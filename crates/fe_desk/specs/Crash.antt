@@ -12,13 +12,13 @@ use Rattle.fe_keeper.specs.declared.fault.Fault.TheVariants as keeper
 use Rattle.fe_desk.specs.declared.fault.DeskFault.{DeskFault}
 use Rattle.fe_desk.specs.declared.fault.DeskFault.TheVariants as desk
 use Rattle.fe_desk.specs.declared.handed.Handed.{Handed}
-use Rattle.fe_desk.specs.Standing.{Standing}
+use Rattle.fe_desk.specs.DeskRunState.{DeskRunState}
 use Rattle.fe_desk.specs.Storing.{handing}
 use Rattle.fe_disk.specs.declared.disk.Disk.{Ghosts}
 
 -- a desk as its callers see it: where its run stands, its keeper, and how many of the groups are known to be stored
 pub record DeskState (D : Type 0) : Type 0 where
-  pub standing : Standing
+  pub run_state : DeskRunState
   pub keeper : KeeperState D
   pub synced : ℕ
 
@@ -27,27 +27,27 @@ disk_of d = d.keeper.store.disk
 
 -- a desk with this batch on its way to the store
 abbrev pub with_handed : {D : Type 0} → DeskState D → Handed → DeskState D
-with_handed d handed = record d { standing = handing d.standing handed }
+with_handed d handed = record d { run_state = handing d.run_state handed }
 
 -- The groups are a history from the state that was opened, and those that are stored lead to the replica.
 pub record IsFrom {D : Type 0} (begun : ServerState) (d : DeskState D) : Type 0 where
-  pub history : IsHistory begun d.standing.groups
-  pub replica : d.keeper.state ≡ after_groups begun (take d.synced d.standing.groups)
+  pub history : IsHistory begun d.run_state.groups
+  pub replica : d.keeper.state ≡ after_groups begun (take d.synced d.run_state.groups)
 
 -- Calls go on with the store: the groups get more after them, no fewer are stored, and at every moment each image that a
 -- stop leaves stands for a prefix of the history, which holds all groups that were stored before.
 pub record Advances {D : Type 0} (model : Ghosts D) (old new : DeskState D) : Type 0 where
   pub more : List (List Entry)
-  pub groups : new.standing.groups ≡ old.standing.groups ++ more
+  pub groups : new.run_state.groups ≡ old.run_state.groups ++ more
   pub synced : old.synced ≤ new.synced
   pub from : (begun : ServerState) → IsFrom begun old → IsFrom begun new
   pub any_moment : model.honest (disk_of old) → old.keeper.store.has_failed ≡ false → (begun : ServerState) → IsFrom begun old
-      → LeavesOnly model (disk_of old) (disk_of new) (LeavesPrefix begun new.standing.groups old.synced)
+      → LeavesOnly model (disk_of old) (disk_of new) (LeavesPrefix begun new.run_state.groups old.synced)
   pub honesty : model.honest (disk_of new) ↔ model.honest (disk_of old)
 
 -- ---- what calls answer of the store
 
--- what the keeper tells, where it had not failed
+-- what the keeper's fault says, where it had not failed
 abbrev pub TellsCall : {D : Type 0} → Ghosts D → DeskState D → DeskState D → Fault → Type 0
 TellsCall model old new keeper.Device = Breaks model old.keeper new.keeper
 TellsCall model old new keeper.Failed = ⊥
@@ -56,7 +56,7 @@ TellsCall model old new (keeper.Mismatch place) = ⊥
 TellsCall model old new (keeper.Damaged offset) = ⊥
 TellsCall model old new keeper.Unformatted = ⊥
 
--- what a step tells, where the keeper had not failed
+-- what a step's fault says, where the keeper had not failed
 abbrev pub TellsStep : {D : Type 0} → Ghosts D → DeskState D → DeskState D → DeskFault → Type 0
 TellsStep model old new (desk.Store cause) = (cause ≡ keeper.Device) × Breaks model old.keeper new.keeper
 TellsStep model old new (desk.NoMemory fed) = Works model old.keeper new.keeper

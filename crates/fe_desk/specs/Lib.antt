@@ -1,6 +1,6 @@
 pub mod Frames
 pub mod Mails
-pub mod Standing
+pub mod DeskRunState
 pub mod Writing
 pub mod Output
 pub mod Quiet

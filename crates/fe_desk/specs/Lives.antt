@@ -13,7 +13,7 @@ use Rattle.fe_desk.specs.declared.step.Step.{Step}
 use Rattle.fe_desk.specs.Acknowledged.{AnswersStand, IsAcknowledged, stored_groups}
 use Rattle.fe_desk.specs.Crash.{DeskState}
 use Rattle.fe_desk.specs.Laws.{Life, AreLives, AreOne, kept_groups}
-use Rattle.fe_desk.specs.Standing.{Standing, discharged}
+use Rattle.fe_desk.specs.DeskRunState.{DeskRunState, discharged}
 use Rattle.fe_desk.specs.Steps.{DeskStep, DeskRun, IsAgain}
 
 -- ---- stops
@@ -30,7 +30,7 @@ pub record Stop (D : Type 0) : Type 0 where
 
 -- all groups that were handed to the store
 abbrev pub all_groups : {D : Type 0} → Stop D → List (List Entry)
-all_groups x = x.last.standing.groups ++ x.under_way
+all_groups x = x.last.run_state.groups ++ x.under_way
 
 -- what a life handed to the store, and how much of it was stored
 abbrev pub handed_by : Life → List (List Entry) × ℕ
@@ -44,7 +44,7 @@ stored_by x = (all_groups x, x.synced)
 pub record IsStopOf {D : Type 0} (begun : ServerState) (x : Stop D) : Type 0 where
   pub lived : IsAcknowledged begun x.asked x.last
   pub history : IsHistory begun (all_groups x)
-  pub few : x.last.synced ≤ length x.last.standing.groups
+  pub few : x.last.synced ≤ length x.last.run_state.groups
   pub stored : x.last.synced ≤ x.synced
   pub leaves : LeavesPrefix begun (all_groups x) x.synced x.image
 
@@ -69,8 +69,8 @@ pub record AreOneStore {D : Type 0} (begun : ServerState) (stops : List (Stop D)
   pub are : AreLives begun lives s
   pub one : (next : List (List Entry)) → IsHistory s next → AreOne begun lives s next
   pub once : (next : List (List Entry)) → IsHistory s next → FinishOnceIn (kept_groups lives ++ next)
-  pub answers : AllByRecursion (λ x. AnswersStand begun (kept_groups lives) x.asked x.last.standing) stops
-  pub later : (asked : ℕ → ℕ → Bool) (d : DeskState D) → IsAcknowledged s asked d → AnswersStand begun (kept_groups lives ++ stored_groups d) asked d.standing
+  pub answers : AllByRecursion (λ x. AnswersStand begun (kept_groups lives) x.asked x.last.run_state) stops
+  pub later : (asked : ℕ → ℕ → Bool) (d : DeskState D) → IsAcknowledged s asked d → AnswersStand begun (kept_groups lives ++ stored_groups d) asked d.run_state
 
 abbrev pub StopsAreLives : Type 0 → Type 0
 StopsAreLives D = (begun s : ServerState) (stops : List (Stop D)) → IsWithinLimits begun → AreStops begun stops s → AreOneStore begun stops s
@@ -78,19 +78,19 @@ StopsAreLives D = (begun s : ServerState) (stops : List (Stop D)) → IsWithinLi
 -- ---- steps that are given again
 
 -- What the step comes to where it is given again, it comes to.
-abbrev pub LeavesForAgain : Standing → Step → Bool → Standing → Type 0
-LeavesForAgain s step fed t = (next : Step) (u : Standing) → IsAgain fed step next → DeskStep t next u → DeskStep s step u
+abbrev pub LeavesForAgain : DeskRunState → Step → Bool → DeskRunState → Type 0
+LeavesForAgain s step fed t = (next : Step) (u : DeskRunState) → IsAgain fed step next → DeskStep t next u → DeskStep s step u
 
 -- A step is given until it is taken, each time that it found no memory again. Its mails may be owed then.
-abbrev pub IsTakenAtLast : Standing → Step → List Bool → Standing → Type 0
+abbrev pub IsTakenAtLast : DeskRunState → Step → List Bool → DeskRunState → Type 0
 IsTakenAtLast s step [] t = DeskStep s step t ⊎ DeskStep s step (discharged t)
-IsTakenAtLast s step (fed ∷ more) t = (u : Standing) × (next : Step) × LeavesForAgain s step fed u × IsAgain fed step next × IsTakenAtLast u next more t
+IsTakenAtLast s step (fed ∷ more) t = (u : DeskRunState) × (next : Step) × LeavesForAgain s step fed u × IsAgain fed step next × IsTakenAtLast u next more t
 
 -- steps one after another, each given until it is taken
-abbrev pub RunsOn : Standing → List (Step × List Bool) → Standing → Type 0
+abbrev pub RunsOn : DeskRunState → List (Step × List Bool) → DeskRunState → Type 0
 RunsOn s [] t = t ≡ s
-RunsOn s (given ∷ more) t = (u : Standing) × IsTakenAtLast s given.0 given.1 u × RunsOn u more t
+RunsOn s (given ∷ more) t = (u : DeskRunState) × IsTakenAtLast s given.0 given.1 u × RunsOn u more t
 
 -- Such steps are a run, once what is owed is written.
 abbrev pub GivenAgain : Type 0
-GivenAgain = (s t : Standing) (given : List (Step × List Bool)) → s.owes ≡ false → RunsOn s given t → DeskRun s (map (λ g. g.0) given) (discharged t)
+GivenAgain = (s t : DeskRunState) (given : List (Step × List Bool)) → s.owes ≡ false → RunsOn s given t → DeskRun s (map (λ g. g.0) given) (discharged t)

@@ -1,4 +1,4 @@
--- What of a client a step may leave, what it never touches before its end, and what it tells.
+-- What of a client a step may leave, what it never touches before its end, and what it says.
 use Rattle.std.specs.Prelude.{◌≡◌, ◌≢◌, ℕ, ◌<◌, Bool, true, false, List, [], ◌∷◌, ◌++◌, length, map, Option, Some}
 use Rattle.std.specs.Option.{option_map, option_map_or}
 use Rattle.fe_state.specs.declared.entry.Entry.{Entry}
@@ -11,16 +11,16 @@ use Rattle.fe_desk.specs.declared.fault.DeskFault.{DeskFault}
 use Rattle.fe_desk.specs.declared.fault.DeskFault.TheVariants as desk
 use Rattle.fe_desk.specs.declared.step.Step.{Step}
 use Rattle.fe_desk.specs.declared.step.Step.TheVariants as step
-use Rattle.fe_desk.specs.Standing.{Standing}
+use Rattle.fe_desk.specs.DeskRunState.{DeskRunState}
 use Rattle.fe_desk.specs.Steps.{find, with_left, Reads}
 use Rattle.fe_messages.specs.Taking.{Takes}
 
 -- the messages of a connection number that came whole and are not taken
-abbrev pub left_of : Standing → ℕ → List ClientMessage
+abbrev pub left_of : DeskRunState → ℕ → List ClientMessage
 left_of s conn = option_map_or (λ c. c.left) (find conn s.clients) []
 
 -- The first message that is left of a connection goes to the front.
-pub record TakesNext (s : Standing) (conn : ℕ) (t : Standing) : Type 0 where
+pub record TakesNext (s : DeskRunState) (conn : ℕ) (t : DeskRunState) : Type 0 where
   pub message : ClientMessage
   pub left : List ClientMessage
   pub entries : List Entry
@@ -30,16 +30,16 @@ pub record TakesNext (s : Standing) (conn : ℕ) (t : Standing) : Type 0 where
   pub after : t ≡ record (with_left s conn left) { front = front }
 
 -- what was written to each connection number
-abbrev pub outputs : Standing → List (ℕ × List ℕ)
+abbrev pub outputs : DeskRunState → List (ℕ × List ℕ)
 outputs s = map (λ c. (c.conn, c.written)) s.clients
 
--- what a step tells where the keeper told this
-abbrev pub told_as : Fault → Bool → DeskFault
-told_as keeper.NoMemory fed = desk.NoMemory fed
-told_as fault fed = desk.Store fault
+-- the fault of a step where the keeper gave this one
+abbrev pub desk_fault_of : Fault → Bool → DeskFault
+desk_fault_of keeper.NoMemory fed = desk.NoMemory fed
+desk_fault_of fault fed = desk.Store fault
 
 -- what a connection number has read of its stream
-abbrev pub read_by : Standing → ℕ → Option Decoding
+abbrev pub read_by : DeskRunState → ℕ → Option Decoding
 read_by s conn = option_map (λ c. c.decoder) (find conn s.clients)
 
 -- these messages are the last of those
@@ -47,12 +47,12 @@ abbrev pub EndsWith : List ClientMessage → List ClientMessage → Type 0
 EndsWith all last = (first : List ClientMessage) × (all ≡ first ++ last)
 
 -- no connection has read anything since
-abbrev pub ReadsNone : Standing → Standing → Type 0
+abbrev pub ReadsNone : DeskRunState → DeskRunState → Type 0
 ReadsNone s t = (conn : ℕ) → read_by t conn ≡ read_by s conn
 
 -- The piece of a connection was read after what was read before, and nothing of another one. Of the messages that it
 -- completes the first were taken, and the others, one at least, are left.
-pub record ReadsPiece (s : Standing) (conn : ℕ) (piece : List ℕ) (t : Standing) : Type 0 where
+pub record ReadsPiece (s : DeskRunState) (conn : ℕ) (piece : List ℕ) (t : DeskRunState) : Type 0 where
   pub before : Decoding
   pub after : Decoding
   pub taken : List ClientMessage
@@ -63,7 +63,7 @@ pub record ReadsPiece (s : Standing) (conn : ℕ) (piece : List ℕ) (t : Standi
   pub others : (other : ℕ) → other ≢ conn → read_by t other ≡ read_by s other
 
 -- what a step that found no memory did with its bytes: their piece was read, or else nothing was
-abbrev pub TellsFed : Bool → Standing → Step → Standing → Type 0
+abbrev pub TellsFed : Bool → DeskRunState → Step → DeskRunState → Type 0
 TellsFed false s step t = ReadsNone s t
 TellsFed true s (step.Bytes conn piece) t = ReadsPiece s conn piece.items t
 TellsFed true s step t = ⊥

@@ -1,6 +1,6 @@
 -- What is written to connections goes on.
 use Rattle.std.specs.Prelude.{◌≡◌, ℕ, List, [], ◌∷◌, ◌++◌}
-use Rattle.fe_desk.specs.Standing.{Client}
+use Rattle.fe_desk.specs.DeskRunState.{Client}
 
 -- a client's connection number, and what was written to it
 abbrev pub output_of : Client → ℕ × List ℕ

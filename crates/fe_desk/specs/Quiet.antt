@@ -3,7 +3,7 @@ use Rattle.std.specs.Prelude.{◌≡◌, ⊤, ℕ, Bool, true, false, List, [], 
 use Rattle.fe_mail.specs.Connections.{mails_on}
 use Rattle.fe_desk.specs.declared.step.Step.{Step}
 use Rattle.fe_desk.specs.declared.step.Step.TheVariants as step
-use Rattle.fe_desk.specs.Standing.{Client, Standing}
+use Rattle.fe_desk.specs.DeskRunState.{Client, DeskRunState}
 
 -- no reply of these waits
 abbrev pub AreWritten : List Client → Type 0
@@ -11,7 +11,7 @@ AreWritten [] = ⊤
 AreWritten (c ∷ cs) = (c.reply ≡ None) × AreWritten cs
 
 -- no box has a mail, no reply waits, and no step owes its mails
-pub record HasNoMail (s : Standing) : Type 0 where
+pub record HasNoMail (s : DeskRunState) : Type 0 where
   pub boxes : (conn : ℕ) → mails_on s.front.connections conn ≡ []
   pub replies : AreWritten s.clients
   pub owes : s.owes ≡ false

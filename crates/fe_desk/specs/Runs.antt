@@ -14,7 +14,7 @@ use Rattle.fe_desk.specs.declared.running.Ran.{Ran}
 use Rattle.fe_desk.specs.declared.step.Step.{Step}
 use Rattle.fe_desk.specs.Crash.{DeskState, disk_of}
 use Rattle.fe_desk.specs.Opened.{IsOpenFault, TellsOpening}
-use Rattle.fe_desk.specs.Standing.{IsFirstStanding}
+use Rattle.fe_desk.specs.DeskRunState.{IsFirstRunState}
 use Rattle.fe_desk.specs.Taken.{AreSteps}
 use Rattle.fe_desk.specs.Traces.{IsTraceOf, groups_of, written_of}
 use Rattle.fe_disk.specs.declared.disk.Disk.{Ghosts}
@@ -36,11 +36,11 @@ IsPastOpening None = ⊤
 IsPastOpening (Some (zero, fault)) = ⊥
 IsPastOpening (Some (suc n, fault)) = ⊤
 
--- The opening was at fault, and what it tells of the disk is so. Nothing else was done: the disk was synced and read, and
+-- The opening was at fault, and what it says of the disk is so. Nothing else was done: the disk was synced and read, and
 -- never written.
 pub record IsNotOpened {D : Type 0} (model : Ghosts D) (disk : D) (ran : Ran D) (fault : DeskFault) : Type 0 where
   pub is_fault : IsOpenFault fault
-  pub told : model.honest disk → TellsOpening fault (model.seen disk) (model.calls disk) (model.calls ran.disk)
+  pub says : model.honest disk → TellsOpening fault (model.seen disk) (model.calls disk) (model.calls ran.disk)
   pub refused : model.honest disk → (s : ServerState) → StandsFor (model.seen disk) s → (fault ≡ Store keeper.Device) ⊎ (fault ≡ NoMemory false)
   pub unformatted : model.honest disk → IsUnformatted (model.seen disk) → (fault ≡ Store keeper.Unformatted) ⊎ (fault ≡ Store keeper.Device)
   pub device : (fault ≡ Store keeper.Device) ↔ Rises (model.failures disk) (model.failures ran.disk)
@@ -57,13 +57,13 @@ pub record IsOpened {D : Type 0} (model : Ghosts D) (disk : D) (steps : List Ste
   pub first : DeskState D
   pub last : DeskState D
   pub opened : model.honest disk → StandsFor (model.seen disk) first.keeper.state
-  pub begins : IsFirstStanding first.keeper.state first.standing
+  pub begins : IsFirstRunState first.keeper.state first.run_state
   pub none_stored : first.synced ≡ 0
   pub works : first.keeper.store.has_failed ≡ false
   pub still : model.failures (disk_of first) ≡ model.failures disk
   pub goes : GoesTo model first steps ran.fault last
-  pub history : IsHistory first.keeper.state last.standing.groups
-  pub trace : IsTraceOf ran.trace last.standing last.synced
+  pub history : IsHistory first.keeper.state last.run_state.groups
+  pub trace : IsTraceOf ran.trace last.run_state last.synced
   pub disk_is : ran.disk ≡ disk_of last
 
 -- a run, by the fault that ended it

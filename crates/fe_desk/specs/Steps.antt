@@ -7,7 +7,7 @@ use Rattle.fe_front.specs.Front.{is_connected}
 use Rattle.fe_front.specs.Steps as front
 use Rattle.fe_desk.specs.declared.step.Step.{Step}
 use Rattle.fe_desk.specs.declared.step.Step.TheVariants as step
-use Rattle.fe_desk.specs.Standing.{Client, Standing, emptied, discharged}
+use Rattle.fe_desk.specs.DeskRunState.{Client, DeskRunState, emptied, discharged}
 use Rattle.fe_desk.specs.Storing.{cut, stored, posted, is_making}
 use Rattle.fe_desk.specs.Taking.{TakesAll}
 
@@ -22,10 +22,10 @@ abbrev pub on_client : ℕ → (Client → Client) → List Client → List Clie
 on_client conn change [] = []
 on_client conn change (c ∷ cs) = if nat_eq c.conn conn then change c ∷ cs else c ∷ on_client conn change cs
 
-abbrev pub with_left : Standing → ℕ → List ClientMessage → Standing
+abbrev pub with_left : DeskRunState → ℕ → List ClientMessage → DeskRunState
 with_left s conn left = record s { clients = on_client conn (λ c. record c { left = left }) s.clients }
 
-abbrev pub with_decoder : Standing → ℕ → Decoding → Standing
+abbrev pub with_decoder : DeskRunState → ℕ → Decoding → DeskRunState
 with_decoder s conn d = record s { clients = on_client conn (λ c. record c { decoder = d }) s.clients }
 
 -- ---- connections come and go
@@ -45,17 +45,17 @@ clients_with cs conn d =
     if is_some (find conn cs) then on_client conn (λ c. record c { decoder = d; left = [] }) cs else cs ++ new_client conn d ∷ []
 
 -- no room is being made for a connection any more
-abbrev pub unmade : Standing → ℕ → Standing
+abbrev pub unmade : DeskRunState → ℕ → DeskRunState
 unmade s conn = if is_making s conn then record s { making = None } else s
 
 -- a connection came, with a stream of its own
-pub record Connects (s : Standing) (conn : ℕ) (t : Standing) : Type 0 where
+pub record Connects (s : DeskRunState) (conn : ℕ) (t : DeskRunState) : Type 0 where
   pub decoder : Decoding
   pub begins : BeginsStream decoder
   pub after : t ≡ record (unmade s conn) { front = front.connected s.front conn; clients = clients_with s.clients conn decoder }
 
 -- a connection is gone, with the messages that were left
-abbrev pub gone : Standing → ℕ → Standing
+abbrev pub gone : DeskRunState → ℕ → DeskRunState
 gone s conn = record (with_left (unmade s conn) conn []) { front = front.dropped s.front conn }
 
 -- ---- bytes of a connection
@@ -67,32 +67,32 @@ pub record Reads (old new : Decoding) (piece : List ℕ) (more : List ClientMess
       → HasReadFrom start new (before ++ piece) (earlier ++ more)
 
 -- a bad frame makes the connection gone
-abbrev pub after_frame : Bool → Standing → ℕ → Standing
+abbrev pub after_frame : Bool → DeskRunState → ℕ → DeskRunState
 after_frame bad s conn = if bad then gone s conn else s
 
 -- The piece is read, and the messages that it completes are taken.
-pub record TakesPiece (s : Standing) (conn : ℕ) (before : Decoding) (piece : List ℕ) (t : Standing) : Type 0 where
+pub record TakesPiece (s : DeskRunState) (conn : ℕ) (before : Decoding) (piece : List ℕ) (t : DeskRunState) : Type 0 where
   pub decoder : Decoding
   pub more : List ClientMessage
-  pub last : Standing
+  pub last : DeskRunState
   pub reads : Reads before decoder piece more
   pub takes : TakesAll (with_decoder s conn decoder) conn more last
   pub after : t ≡ after_frame decoder.is_bad last conn
 
 -- The messages that were left of a connection are taken, and then the piece, if it is still there.
-pub record TakesFrom (s : Standing) (conn : ℕ) (left : List ClientMessage) (before : Decoding) (piece : List ℕ) (t : Standing) : Type 0 where
-  pub mid : Standing
+pub record TakesFrom (s : DeskRunState) (conn : ℕ) (left : List ClientMessage) (before : Decoding) (piece : List ℕ) (t : DeskRunState) : Type 0 where
+  pub mid : DeskRunState
   pub leftovers : TakesAll (with_left s conn []) conn left mid
   pub reading : MatchBool (is_connected mid.front conn) (TakesPiece mid conn before piece t) (t ≡ mid)
 
-abbrev pub TakesBytes : Standing → Option Client → List ℕ → Standing → Type 0
+abbrev pub TakesBytes : DeskRunState → Option Client → List ℕ → DeskRunState → Type 0
 TakesBytes s None piece t = t ≡ s
 TakesBytes s (Some c) piece t = TakesFrom s c.conn c.left c.decoder piece t
 
 -- ---- steps
 
 -- what a step does before the boxes are emptied
-abbrev pub Acts : Standing → Step → Standing → Type 0
+abbrev pub Acts : DeskRunState → Step → DeskRunState → Type 0
 Acts s (step.Connect conn) t = MatchBool (is_connected s.front conn) (t ≡ s) (Connects s conn t)
 Acts s (step.Bytes conn piece) t = TakesBytes s (find conn s.clients) piece.items t
 Acts s (step.Gone conn) t = t ≡ gone s conn
@@ -104,15 +104,15 @@ Acts s step.CheckStep t = t ≡ s
 Acts s step.CheckFinish t = t ≡ s
 
 -- A step: what an earlier one left unwritten is written, the step acts, and every box is emptied.
-pub record DeskStep (s : Standing) (step : Step) (t : Standing) : Type 0 where
-  pub last : Standing
+pub record DeskStep (s : DeskRunState) (step : Step) (t : DeskRunState) : Type 0 where
+  pub last : DeskRunState
   pub acts : Acts (discharged s) step last
   pub after : t ≡ emptied last
 
 -- steps, one after another
-abbrev pub DeskRun : Standing → List Step → Standing → Type 0
+abbrev pub DeskRun : DeskRunState → List Step → DeskRunState → Type 0
 DeskRun s [] t = t ≡ s
-DeskRun s (step ∷ steps) t = (u : Standing) × DeskStep s step u × DeskRun u steps t
+DeskRun s (step ∷ steps) t = (u : DeskRunState) × DeskStep s step u × DeskRun u steps t
 
 -- how a step is given again that found no memory: as it was, or with an empty piece where its bytes were taken
 abbrev pub IsAgain : Bool → Step → Step → Type 0

@@ -5,37 +5,37 @@ use Rattle.fe_front.specs.Front.{is_connected, has_room}
 use Rattle.fe_wire.specs.Stream.{Decoding, CompletesMessage}
 use Rattle.fe_wire.specs.declared.client_message.ClientMessage.{ClientMessage}
 use Rattle.fe_desk.specs.declared.handed.Handed.TheVariants as handed
-use Rattle.fe_desk.specs.Standing.{Standing}
+use Rattle.fe_desk.specs.DeskRunState.{DeskRunState}
 use Rattle.fe_desk.specs.Storing.{cut, cleared, begun_room, is_making}
 use Rattle.fe_desk.specs.Taking.{TakesAll}
 use Rattle.fe_desk.specs.Steps.{with_left, with_decoder, Reads}
 use Rattle.fe_desk.specs.Messages.{left_of, read_by}
 
 -- a batch is cut and not stored: it is at hand
-pub record HasCut (s : Standing) : Type 0 where
+pub record HasCut (s : DeskRunState) : Type 0 where
   pub batch : Batch
   pub handed : s.handed ≡ handed.Cut batch
 
 -- room is begun for a message of a connection, or not: what is out is stored and posted, and what is pending is cut
-abbrev pub room_begun : Standing → ℕ → Standing
+abbrev pub room_begun : DeskRunState → ℕ → DeskRunState
 room_begun s conn = record (cut (cleared s)) { making = Some conn }
 
-abbrev pub MayBegin : Standing → ℕ → Standing → Type 0
+abbrev pub MayBegin : DeskRunState → ℕ → DeskRunState → Type 0
 MayBegin s conn t = (t ≡ s) ⊎ (t ≡ room_begun s conn)
 
 -- Room for a message of a connection is not made yet: it was begun for this one before, and nothing more is done; or there is
 -- none, and what was begun is made, and room is begun or not.
-abbrev pub StopsMaking : Standing → ℕ → Standing → Type 0
+abbrev pub StopsMaking : DeskRunState → ℕ → DeskRunState → Type 0
 StopsMaking s conn t = ((is_making s conn ≡ true) × (t ≡ s)) ⊎ ((has_room s.front ≡ false) × MayBegin (begun_room s conn) conn t)
 
 -- The first of a connection's messages are taken. The next has no room, since the batch at hand is not stored: it did nothing, and it
 -- and those after it are left.
-pub record TakesFirst (s : Standing) (conn : ℕ) (messages : List ClientMessage) (t : Standing) : Type 0 where
+pub record TakesFirst (s : DeskRunState) (conn : ℕ) (messages : List ClientMessage) (t : DeskRunState) : Type 0 where
   pub taken : List ClientMessage
   pub next : ClientMessage
   pub behind : List ClientMessage
-  pub before : Standing
-  pub last : Standing
+  pub before : DeskRunState
+  pub last : DeskRunState
   pub all : messages ≡ taken ++ next ∷ behind
   pub takes : TakesAll s conn taken before
   pub stops : StopsMaking before conn last
@@ -43,24 +43,24 @@ pub record TakesFirst (s : Standing) (conn : ℕ) (messages : List ClientMessage
   pub after : t ≡ with_left last conn (next ∷ behind)
 
 -- of the messages that were left of a connection the first are taken
-abbrev pub StopsBefore : Standing → ℕ → Standing → Type 0
+abbrev pub StopsBefore : DeskRunState → ℕ → DeskRunState → Type 0
 StopsBefore s conn t = TakesFirst (with_left s conn []) conn (left_of s conn) t
 
 -- they are all taken, and the connection is there: its piece is next
-pub record StopsUnread (s : Standing) (conn : ℕ) (t : Standing) : Type 0 where
+pub record StopsUnread (s : DeskRunState) (conn : ℕ) (t : DeskRunState) : Type 0 where
   pub leftovers : TakesAll (with_left s conn []) conn (left_of s conn) t
   pub there : is_connected t.front conn ≡ true
 
 -- the piece completes a message, for which there is no memory: none of it is read
-pub record StopsUnfed (s : Standing) (conn : ℕ) (piece : List ℕ) (t : Standing) : Type 0 where
+pub record StopsUnfed (s : DeskRunState) (conn : ℕ) (piece : List ℕ) (t : DeskRunState) : Type 0 where
   pub unread : StopsUnread s conn t
   pub before : Decoding
   pub was : read_by s conn ≡ Some before
   pub completes : CompletesMessage before piece
 
 -- the piece is read then, and of the messages that it completes the first are taken
-pub record StopsBehind (s : Standing) (conn : ℕ) (piece : List ℕ) (t : Standing) : Type 0 where
-  pub mid : Standing
+pub record StopsBehind (s : DeskRunState) (conn : ℕ) (piece : List ℕ) (t : DeskRunState) : Type 0 where
+  pub mid : DeskRunState
   pub before : Decoding
   pub decoder : Decoding
   pub more : List ClientMessage
@@ -70,6 +70,6 @@ pub record StopsBehind (s : Standing) (conn : ℕ) (piece : List ℕ) (t : Stand
   pub first : TakesFirst (with_decoder mid conn decoder) conn more t
 
 -- where bytes stop when memory is short: after their piece was read (`fed`), or before
-abbrev pub StopsShort : Bool → Standing → ℕ → List ℕ → Standing → Type 0
+abbrev pub StopsShort : Bool → DeskRunState → ℕ → List ℕ → DeskRunState → Type 0
 StopsShort true s conn piece t = StopsBehind s conn piece t
 StopsShort false s conn piece t = StopsBefore s conn t ⊎ StopsUnfed s conn piece t

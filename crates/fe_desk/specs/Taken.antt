@@ -9,7 +9,7 @@ use Rattle.fe_desk.specs.Checks.{Checks}
 use Rattle.fe_desk.specs.Crash.{DeskState}
 use Rattle.fe_desk.specs.Ends.{FindsNoMemory, TearsStep, discharged_desk}
 use Rattle.fe_desk.specs.Messages.{outputs, TellsFed}
-use Rattle.fe_desk.specs.Standing.{Standing, discharged}
+use Rattle.fe_desk.specs.DeskRunState.{DeskRunState, discharged}
 use Rattle.fe_desk.specs.Steps.{Acts, DeskStep, IsAgain}
 use Rattle.fe_desk.specs.Writing.{WritesSome}
 use Rattle.fe_disk.specs.declared.disk.Disk.{Ghosts}
@@ -20,21 +20,21 @@ use Rattle.fe_keeper.specs.Ends.{Works, Breaks}
 -- the disk works, no call of it failed, and all groups are stored
 pub record IsSound {D : Type 0} (model : Ghosts D) (old new : DeskState D) : Type 0 where
   pub fine : Works model old.keeper new.keeper
-  pub stored : new.synced ≡ length new.standing.groups
+  pub stored : new.synced ≡ length new.run_state.groups
 
 -- The step was taken, and every box is empty.
 pub record EndsWhole {D : Type 0} (model : Ghosts D) (old : DeskState D) (step : Step) (new : DeskState D) : Type 0 where
-  pub took : DeskStep old.standing step new.standing
-  pub boxes : (conn : ℕ) → mails_on new.standing.front.connections conn ≡ []
+  pub took : DeskStep old.run_state step new.run_state
+  pub boxes : (conn : ℕ) → mails_on new.run_state.front.connections conn ≡ []
   pub checked : Checks step old new
   pub sound : IsSound model old new
 
 -- The step took effect. Memory was short for its mails, which are owed now.
 pub record EndsOwing {D : Type 0} (model : Ghosts D) (old : DeskState D) (step : Step) (new : DeskState D) : Type 0 where
-  pub last : Standing
-  pub acts : Acts (discharged old.standing) step last
-  pub writes : WritesSome last new.standing
-  pub took : DeskStep old.standing step (discharged new.standing)
+  pub last : DeskRunState
+  pub acts : Acts (discharged old.run_state) step last
+  pub writes : WritesSome last new.run_state
+  pub took : DeskStep old.run_state step (discharged new.run_state)
   pub checked : Checks step old new
   pub sound : IsSound model old new
 
@@ -42,15 +42,15 @@ pub record EndsOwing {D : Type 0} (model : Ghosts D) (old : DeskState D) (step :
 -- the same as one step.
 pub record EndsByMemory {D : Type 0} (model : Ghosts D) (fed : Bool) (old : DeskState D) (step : Step) (new : DeskState D) : Type 0 where
   pub finds : FindsNoMemory fed step old new
-  pub read : TellsFed fed old.standing step new.standing
-  pub again : (next : Step) (u : Standing) → IsAgain fed step next → DeskStep new.standing next u → DeskStep old.standing step u
-  pub silent : old.standing.owes ≡ false → outputs new.standing ≡ outputs old.standing
+  pub read : TellsFed fed old.run_state step new.run_state
+  pub again : (next : Step) (u : DeskRunState) → IsAgain fed step next → DeskStep new.run_state next u → DeskStep old.run_state step u
+  pub silent : old.run_state.owes ≡ false → outputs new.run_state ≡ outputs old.run_state
   pub sound : IsSound model old new
 
 -- The device failed in the step: mails that were owed are written, and nothing of the step is.
 pub record EndsByDevice {D : Type 0} (model : Ghosts D) (old : DeskState D) (step : Step) (new : DeskState D) : Type 0 where
   pub breaks : TearsStep step (discharged_desk old) new
-  pub silent : outputs new.standing ≡ outputs (discharged old.standing)
+  pub silent : outputs new.run_state ≡ outputs (discharged old.run_state)
   pub failed : Breaks model old.keeper new.keeper
 
 abbrev pub Ends : {D : Type 0} → Ghosts D → DeskState D → Step → Result (Unit {0}) DeskFault → DeskState D → Type 0

@@ -2,7 +2,7 @@
 use Rattle.std.specs.Prelude.{◌≡◌, ℕ, List, map}
 use Rattle.fe_state.specs.declared.entry.Entry.{Entry}
 use Rattle.fe_desk.specs.Messages.{outputs}
-use Rattle.fe_desk.specs.Standing.{Standing}
+use Rattle.fe_desk.specs.DeskRunState.{DeskRunState}
 use Rattle.fe_desk.specs.declared.trace.Trace.{Trace}
 
 abbrev pub groups_of : Trace → List (List Entry)
@@ -13,7 +13,7 @@ abbrev pub written_of : Trace → List (ℕ × List ℕ)
 written_of t = map (λ p. (p.conn, p.written)) t.ports.items
 
 -- the trace is that of a run which stands here
-pub record IsTraceOf (t : Trace) (s : Standing) (synced : ℕ) : Type 0 where
+pub record IsTraceOf (t : Trace) (s : DeskRunState) (synced : ℕ) : Type 0 where
   pub groups : groups_of t ≡ s.groups
   pub written : written_of t ≡ outputs s
   pub synced_is : t.synced ≡ synced

@@ -7,7 +7,7 @@ use Rattle.fe_wire.specs.Spelling.{reply_spelling}
 use Rattle.fe_front.specs.Front.{FrontState}
 use Rattle.fe_messages.specs.Mails.{reply_of, spelled}
 use Rattle.fe_desk.specs.Mails.{taken_times}
-use Rattle.fe_desk.specs.Standing.{Client, Standing, all_told, all_emptied}
+use Rattle.fe_desk.specs.DeskRunState.{Client, DeskRunState, all_written_out, all_emptied}
 
 -- The first mails of a client are written. For the next one memory is short: it has left its box, and its reply waits.
 pub record StopsAtMail (f : FrontState) (c : Client) (g : FrontState) (d : Client) : Type 0 where
@@ -30,10 +30,10 @@ pub record WritesFirst (f : FrontState) (cs : List Client) (g : FrontState) (ds 
   pub last : Client
   pub all : cs ≡ before ++ client ∷ behind
   pub stops : StopsWriting (all_emptied f before) client g last
-  pub now : ds ≡ all_told f before ++ last ∷ behind
+  pub now : ds ≡ all_written_out f before ++ last ∷ behind
 
 -- The boxes are not all emptied. Mails are owed, and of one the reply waits.
-pub record WritesSome (s t : Standing) : Type 0 where
+pub record WritesSome (s t : DeskRunState) : Type 0 where
   pub front : FrontState
   pub clients : List Client
   pub writes : WritesFirst s.front s.clients front clients

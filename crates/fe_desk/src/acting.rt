@@ -2,36 +2,36 @@
 
 ghost use Rattle.std.specs.Prelude.{◌≡◌, ◌⊎◌, ℕ, true, false, IsTrue, OnOk, MatchResult};
 ghost use Rattle.fe_desk.specs.Output.{Extends};
-ghost use Rattle.fe_desk.specs.Messages.{outputs, told_as};
+ghost use Rattle.fe_desk.specs.Messages.{outputs, desk_fault_of};
 ghost use Rattle.fe_desk.specs.Crash.{Advances};
 ghost use Rattle.fe_front.specs.ConnectionSet.{may_have};
 ghost use Rattle.fe_front.specs.Noting.{HasItsBox};
 ghost use Rattle.fe_desk.specs.Quiet.{HasNoMail};
 ghost use Rattle.fe_desk.specs.Taken.{IsStep};
 ghost use Rattle.fe_desk.specs.within.WithMail.{HasAllWithMail};
-ghost use Rattle.fe_desk.specs.within.Desk.{desk_of, standing_of, IsDesk};
+ghost use Rattle.fe_desk.specs.within.Desk.{desk_of, run_state_of, IsDesk};
 ghost use Rattle.fe_desk.specs.within.Goes.{Empties, GoesAct, Settles};
 ghost use Rattle.fe_desk.specs.within.Keeping.{HasStore};
 
+use crate::box_emptying::{add_mailed, empty_boxes};
+use crate::desk_inner::DeskInner;
 use crate::fault::DeskFault;
-use crate::messages::told;
-use crate::parts::Parts;
+use crate::messages::desk_fault;
 use crate::step::Step;
-use crate::telling::{add_mailed, empty_boxes};
 use fe_disk::Disk;
 use fe_front::ConnectionSet;
 use fe_keeper::Fault;
 use std::alloc::AllocError;
 
-impl<D: Disk> Parts<D> {
+impl<D: Disk> DeskInner<D> {
     /// Takes a step. With `quiet`, there is no mail before it.
     pub(crate) fn step(&mut self, step: &Step, quiet: bool) -> Result<(), DeskFault>
         requires desk { IsDesk D.Disk (desk_of self.old) }
-        requires quiet { quiet ≡ true → HasNoMail (standing_of self.old) }
+        requires quiet { quiet ≡ true → HasNoMail (run_state_of self.old) }
         ensures desk { IsDesk D.Disk (desk_of self.new) }
         ensures is_step { IsStep D.Disk (desk_of self.old) step.now result (desk_of self.new) }
-        ensures quiet { OnOk result (HasNoMail (standing_of self.new)) }
-        ensures extends { Extends (outputs (standing_of self.old)) (outputs (standing_of self.new)) }
+        ensures quiet { OnOk result (HasNoMail (run_state_of self.new)) }
+        ensures extends { Extends (outputs (run_state_of self.old)) (outputs (run_state_of self.new)) }
         ensures advances { Advances D.Disk (desk_of self.old) (desk_of self.new) }
     {
         if self.keeper.has_failed() {
@@ -53,9 +53,9 @@ impl<D: Disk> Parts<D> {
     fn settle(&mut self) -> Result<(), AllocError>
         requires desk { IsDesk D.Disk (desk_of self.old) }
         ensures desk { IsDesk D.Disk (desk_of self.new) }
-        ensures settles { Settles result (standing_of self.old) (standing_of self.new) }
+        ensures settles { Settles result (run_state_of self.old) (run_state_of self.new) }
         ensures store { HasStore (desk_of self.old) (desk_of self.new) }
-        ensures extends { Extends (outputs (standing_of self.old)) (outputs (standing_of self.new)) }
+        ensures extends { Extends (outputs (run_state_of self.old)) (outputs (run_state_of self.new)) }
     {
         if self.owes {
             let mut all = ConnectionSet::new();
@@ -68,12 +68,12 @@ impl<D: Disk> Parts<D> {
     /// Ends a step: every box is emptied. With `still`, there is no mail.
     fn finish(&mut self, still: bool, mailed: &ConnectionSet) -> Result<(), AllocError>
         requires desk { IsDesk D.Disk (desk_of self.old) }
-        requires still { still ≡ true → HasNoMail (standing_of self.old) }
+        requires still { still ≡ true → HasNoMail (run_state_of self.old) }
         requires mailed { HasAllWithMail self.old.front mailed.now }
         ensures desk { IsDesk D.Disk (desk_of self.new) }
-        ensures empties { Empties result (standing_of self.old) (standing_of self.new) }
+        ensures empties { Empties result (run_state_of self.old) (run_state_of self.new) }
         ensures store { HasStore (desk_of self.old) (desk_of self.new) }
-        ensures extends { Extends (outputs (standing_of self.old)) (outputs (standing_of self.new)) }
+        ensures extends { Extends (outputs (run_state_of self.old)) (outputs (run_state_of self.new)) }
     {
         if still {
             return Ok(());
@@ -86,9 +86,9 @@ impl<D: Disk> Parts<D> {
         requires desk { IsDesk D.Disk (desk_of self.old) }
         requires mailed { HasAllWithMail self.old.front mailed.now }
         ensures desk { IsDesk D.Disk (desk_of self.new) }
-        ensures empties { Empties result (standing_of self.old) (standing_of self.new) }
+        ensures empties { Empties result (run_state_of self.old) (run_state_of self.new) }
         ensures store { HasStore (desk_of self.old) (desk_of self.new) }
-        ensures extends { Extends (outputs (standing_of self.old)) (outputs (standing_of self.new)) }
+        ensures extends { Extends (outputs (run_state_of self.old)) (outputs (run_state_of self.new)) }
     {
         let outcome = empty_boxes(&mut self.front, &mut self.trace.ports, mailed);
         self.owes = outcome.is_err();
@@ -120,24 +120,24 @@ impl<D: Disk> Parts<D> {
                 self.cut();
                 Ok(())
             }
-            Step::Append => told_by(self.store()),
+            Step::Append => desk_outcome(self.store()),
             Step::Post => {
                 self.post(changed);
                 Ok(())
             }
-            Step::CheckBegin => told_by(self.keeper.checkpoint_begin()),
-            Step::CheckStep => told_by(self.keeper.checkpoint_step()),
-            Step::CheckFinish => told_by(self.keeper.checkpoint_finish()),
+            Step::CheckBegin => desk_outcome(self.keeper.checkpoint_begin()),
+            Step::CheckStep => desk_outcome(self.keeper.checkpoint_step()),
+            Step::CheckFinish => desk_outcome(self.keeper.checkpoint_finish()),
         }
     }
 }
 
-/// What a step that reads no bytes tells where the keeper answered this.
-fn told_by<T: Drop>(outcome: Result<T, Fault>) -> Result<(), DeskFault>
-    ensures { MatchResult outcome (λ _. result ≡ Ok tt) (λ fault. result ≡ Err (told_as fault false)) }
+/// The result of a step that reads no bytes, where the keeper answered this.
+fn desk_outcome<T: Drop>(outcome: Result<T, Fault>) -> Result<(), DeskFault>
+    ensures { MatchResult outcome (λ _. result ≡ Ok tt) (λ fault. result ≡ Err (desk_fault_of fault false)) }
 {
     match outcome {
         Ok(_) => Ok(()),
-        Err(fault) => Err(told(fault, false)),
+        Err(fault) => Err(desk_fault(fault, false)),
     }
 }

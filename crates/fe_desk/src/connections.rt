@@ -5,14 +5,14 @@ ghost use Rattle.fe_front.specs.Front.{is_connected};
 ghost use Rattle.fe_desk.specs.Steps as steps;
 ghost use Rattle.fe_desk.specs.Steps.{find, with_left, Connects};
 ghost use Rattle.fe_desk.specs.within.Places.{IsFirstAt, Joins};
-ghost use Rattle.fe_desk.specs.within.Desk.{client_of, desk_of, standing_of, IsDesk};
+ghost use Rattle.fe_desk.specs.within.Desk.{client_of, desk_of, run_state_of, IsDesk};
 
-use crate::parts::Parts;
+use crate::desk_inner::DeskInner;
 use crate::port::Port;
 use fe_disk::Disk;
 use std::alloc::AllocError;
 
-impl<D: Disk> Parts<D> {
+impl<D: Disk> DeskInner<D> {
     /// The index of a connection number's port, if there is one.
     pub(crate) fn place_of(&self, conn: u64) -> Option<usize>
         ensures place { IfSome result (λ at. IsFirstAt (map client_of self.now.trace.ports.items) conn at) }
@@ -26,9 +26,9 @@ impl<D: Disk> Parts<D> {
         requires desk { IsDesk D.Disk (desk_of self.old) }
         ensures desk { IsDesk D.Disk (desk_of self.new) }
         ensures connected { OnOk result
-            (MatchBool (is_connected self.old.front conn) (standing_of self.new
-            ≡ standing_of self.old) (Connects (standing_of self.old) conn (standing_of self.new))) }
-        ensures err { OnErr result (standing_of self.new ≡ standing_of self.old) }
+            (MatchBool (is_connected self.old.front conn) (run_state_of self.new
+            ≡ run_state_of self.old) (Connects (run_state_of self.old) conn (run_state_of self.new))) }
+        ensures err { OnErr result (run_state_of self.new ≡ run_state_of self.old) }
         ensures unconnected { OnErr result (is_connected self.old.front conn ≡ false) }
         ensures keeper { self.new.keeper ≡ self.old.keeper }
         ensures synced { self.new.trace.synced ≡ self.old.trace.synced }
@@ -44,8 +44,8 @@ impl<D: Disk> Parts<D> {
     /// A number that is not connected is connected, for the first time or again.
     fn join(&mut self, conn: u64) -> Result<(), AllocError>
         requires unconnected { is_connected self.old.front conn ≡ false }
-        ensures joined { OnOk result (Joins (standing_of self.old) conn (standing_of self.new)) }
-        ensures err { OnErr result (standing_of self.new ≡ standing_of self.old) }
+        ensures joined { OnOk result (Joins (run_state_of self.old) conn (run_state_of self.new)) }
+        ensures err { OnErr result (run_state_of self.new ≡ run_state_of self.old) }
         ensures keeper { self.new.keeper ≡ self.old.keeper }
         ensures synced { self.new.trace.synced ≡ self.old.trace.synced }
     {
@@ -57,10 +57,10 @@ impl<D: Disk> Parts<D> {
 
     /// A number that was connected before is connected again.
     fn connect_again(&mut self, at: usize, conn: u64) -> Result<(), AllocError>
-        requires place { IsFirstAt (standing_of self.old).clients conn at }
+        requires place { IsFirstAt (run_state_of self.old).clients conn at }
         requires unconnected { is_connected self.old.front conn ≡ false }
-        ensures joined { OnOk result (Joins (standing_of self.old) conn (standing_of self.new)) }
-        ensures err { OnErr result (standing_of self.new ≡ standing_of self.old) }
+        ensures joined { OnOk result (Joins (run_state_of self.old) conn (run_state_of self.new)) }
+        ensures err { OnErr result (run_state_of self.new ≡ run_state_of self.old) }
         ensures keeper { self.new.keeper ≡ self.old.keeper }
         ensures synced { self.new.trace.synced ≡ self.old.trace.synced }
     {
@@ -73,10 +73,10 @@ impl<D: Disk> Parts<D> {
 
     /// A number is connected for the first time.
     fn connect_first(&mut self, conn: u64) -> Result<(), AllocError>
-        requires new { find conn (standing_of self.old).clients ≡ None }
+        requires new { find conn (run_state_of self.old).clients ≡ None }
         requires unconnected { is_connected self.old.front conn ≡ false }
-        ensures joined { OnOk result (Joins (standing_of self.old) conn (standing_of self.new)) }
-        ensures err { OnErr result (standing_of self.new ≡ standing_of self.old) }
+        ensures joined { OnOk result (Joins (run_state_of self.old) conn (run_state_of self.new)) }
+        ensures err { OnErr result (run_state_of self.new ≡ run_state_of self.old) }
         ensures keeper { self.new.keeper ≡ self.old.keeper }
         ensures synced { self.new.trace.synced ≡ self.old.trace.synced }
     {
@@ -92,7 +92,7 @@ impl<D: Disk> Parts<D> {
     pub(crate) fn leave(&mut self, conn: u64)
         requires desk { IsDesk D.Disk (desk_of self.old) }
         ensures desk { IsDesk D.Disk (desk_of self.new) }
-        ensures gone { standing_of self.new ≡ steps.gone (standing_of self.old) conn }
+        ensures gone { run_state_of self.new ≡ steps.gone (run_state_of self.old) conn }
         ensures keeper { self.new.keeper ≡ self.old.keeper }
         ensures synced { self.new.trace.synced ≡ self.old.trace.synced }
     {
@@ -103,7 +103,7 @@ impl<D: Disk> Parts<D> {
 
     /// The messages of a connection number that are left are dropped.
     fn forget(&mut self, conn: u64)
-        ensures left { standing_of self.new ≡ with_left (standing_of self.old) conn [] }
+        ensures left { run_state_of self.new ≡ with_left (run_state_of self.old) conn [] }
         ensures keeper { self.new.keeper ≡ self.old.keeper }
         ensures synced { self.new.trace.synced ≡ self.old.trace.synced }
     {
@@ -114,7 +114,7 @@ impl<D: Disk> Parts<D> {
 
     /// No room is being made for a connection any more.
     fn unmake(&mut self, conn: u64)
-        ensures unmade { standing_of self.new ≡ steps.unmade (standing_of self.old) conn }
+        ensures unmade { run_state_of self.new ≡ steps.unmade (run_state_of self.old) conn }
         ensures keeper { self.new.keeper ≡ self.old.keeper }
         ensures trace { self.new.trace ≡ self.old.trace }
         ensures front { self.new.front ≡ self.old.front }

@@ -5,7 +5,7 @@ ghost use Rattle.fe_front.specs.Front.{IsFirst};
 ghost use Rattle.fe_keeper.specs.Stands.{EachStandsFor};
 ghost use Rattle.fe_keeper.specs.Prefix.{LeavesPrefix};
 ghost use Rattle.fe_desk.specs.Output.{Extends};
-ghost use Rattle.fe_desk.specs.Standing.{IsFirstStanding};
+ghost use Rattle.fe_desk.specs.DeskRunState.{IsFirstRunState};
 ghost use Rattle.fe_desk.specs.Messages.{outputs};
 ghost use Rattle.fe_desk.specs.Crash.{DeskState, Advances, IsFrom, disk_of};
 ghost use Rattle.fe_desk.specs.Anew.{desk_anew};
@@ -13,9 +13,9 @@ ghost use Rattle.fe_desk.specs.Taken.{IsStep};
 ghost use Rattle.fe_desk.specs.Acknowledged.{IsAcknowledged, StepAsksFor};
 ghost use Rattle.fe_desk.specs.Traces.{IsTraceOf};
 
+use crate::desk_inner::DeskInner;
 use crate::fault::DeskFault;
 use crate::handed::Handed;
-use crate::parts::Parts;
 use crate::step::Step;
 use crate::trace::Trace;
 use fe_disk::Disk;
@@ -29,15 +29,15 @@ use std::marker::Model;
 /// Mails are written at the end of a step, or if memory was short, at the beginning of the next one. So each answer that is
 /// written was synced before.
 pub struct Desk<D: Disk> {
-    parts: Parts<D>,
+    inner: DeskInner<D>,
     /// No box has a mail, and no reply waits. False where that is not known.
     quiet: bool,
 }
 
 impl<D: Disk + Drop> Drop for Desk<D> {
     fn drop(self) {
-        let Desk { parts, quiet: _ } = self;
-        drop(parts);
+        let Desk { inner, quiet: _ } = self;
+        drop(inner);
     }
 }
 
@@ -52,13 +52,13 @@ impl<D: Disk> Model for Desk<D> {
     ghost coded = { Prim.hlevel (codes, state_code, front_code) };
 
     ghost use Rattle.std.specs.Prelude.{◌≡◌, true};
-    ghost use Rattle.fe_desk.specs.within.Desk.{desk_of, standing_of, IsDesk};
+    ghost use Rattle.fe_desk.specs.within.Desk.{desk_of, run_state_of, IsDesk};
     ghost use Rattle.fe_desk.specs.Quiet.{HasNoMail};
 
-    ghost view = { λ d. desk_of d.parts };
+    ghost view = { λ d. desk_of d.inner };
 
-    ghost invariant = { λ d. IsDesk D.Disk (desk_of d.parts)
-        × (d.quiet ≡ true → HasNoMail (standing_of d.parts)) };
+    ghost invariant = { λ d. IsDesk D.Disk (desk_of d.inner)
+        × (d.quiet ≡ true → HasNoMail (run_state_of d.inner)) };
 }
 
 impl<D: Disk> Desk<D> {
@@ -66,12 +66,12 @@ impl<D: Disk> Desk<D> {
     pub(crate) fn over(alloc: Global, front: Front, keeper: Keeper<D>) -> Desk<D>
         requires first { IsFirst keeper.state front }
         requires stands { D.honest keeper.store.disk → EachStandsFor D.Disk keeper.store.disk keeper.state }
-        ensures first { IsFirstStanding keeper.state result.standing }
+        ensures first { IsFirstRunState keeper.state result.run_state }
         ensures acknowledged { (asked : ℕ → ℕ → Bool) → IsAcknowledged keeper.state asked result }
         ensures keeper { result.keeper ≡ keeper }
         ensures synced { result.synced ≡ 0 }
     {
-        let parts = Parts {
+        let inner = DeskInner {
             front,
             keeper,
             trace: Trace::new(alloc),
@@ -81,7 +81,7 @@ impl<D: Disk> Desk<D> {
             alloc,
         };
         Desk {
-            parts,
+            inner,
             quiet: false,
         }
     }
@@ -93,16 +93,16 @@ impl<D: Disk> Desk<D> {
         // What it answers and what it did: of a schedule, of faults, and to the store.
         ensures is_step { IsStep D.Disk self.old step.now result self.new }
         // What is written goes on from what was.
-        ensures extends { Extends (outputs self.old.standing) (outputs self.new.standing) }
+        ensures extends { Extends (outputs self.old.run_state) (outputs self.new.run_state) }
 
         // Of a crash: the groups are a history from the state that was opened. A stop at any moment leaves a prefix of it, with
         // all groups that were stored before.
         ensures advances { Advances D.Disk self.old self.new }
         ensures stands { D.honest (disk_of self.new) → (begun : ServerState) → IsFrom begun self.new → (image : List ℕ)
             → D.may_leave (disk_of self.new) image
-            → LeavesPrefix begun self.new.standing.groups self.new.synced image }
-        ensures few { self.new.synced ≤ length self.new.standing.groups }
-        ensures synced { self.new.keeper.store.has_failed ≡ false → self.new.synced ≡ length self.new.standing.groups }
+            → LeavesPrefix begun self.new.run_state.groups self.new.synced image }
+        ensures few { self.new.synced ≤ length self.new.run_state.groups }
+        ensures synced { self.new.keeper.store.has_failed ≡ false → self.new.synced ≡ length self.new.run_state.groups }
 
         // Of answers, whatever the step answers: each mail is that of an entry that is stored, of a session that its connection
         // asked for.
@@ -110,7 +110,7 @@ impl<D: Disk> Desk<D> {
             → StepAsksFor asked self.old step.now
             → IsAcknowledged begun asked self.old → IsAcknowledged begun asked self.new }
     {
-        let outcome = self.parts.step(step, self.quiet);
+        let outcome = self.inner.step(step, self.quiet);
         self.quiet = outcome.is_ok();
         outcome
     }
@@ -121,40 +121,40 @@ impl<D: Disk> Desk<D> {
             → EachStandsFor D.Disk (disk_of self.old) self.old.keeper.state }
         ensures { self.new ≡ desk_anew self.old }
     {
-        self.parts.trace.clear();
+        self.inner.trace.clear();
     }
 
     /// What the desk did since it was opened, or since its trace was cleared.
     pub fn trace(&self) -> &Trace
-        ensures { IsTraceOf result.now self.now.standing self.now.synced }
+        ensures { IsTraceOf result.now self.now.run_state self.now.synced }
     {
-        &self.parts.trace
+        &self.inner.trace
     }
 
     /// The keeper of the store.
     pub fn keeper(&self) -> &Keeper<D>
         ensures { result.now ≡ self.now.keeper }
     {
-        &self.parts.keeper
+        &self.inner.keeper
     }
 
     /// The trace and the disk.
     pub(crate) fn into_parts(self) -> (Trace, D)
-        ensures trace { IsTraceOf result.0 self.standing self.synced }
+        ensures trace { IsTraceOf result.0 self.run_state self.synced }
         ensures disk { result.1 ≡ disk_of self }
         ensures size { D.size result.1 ≡ device_bytes }
         ensures stands { D.honest (disk_of self) → (begun : ServerState) → IsFrom begun self → (image : List ℕ)
             → D.may_leave (disk_of self) image
-            → LeavesPrefix begun self.standing.groups self.synced image }
+            → LeavesPrefix begun self.run_state.groups self.synced image }
     {
-        let Desk { parts, quiet: _ } = self;
-        let Parts {
+        let Desk { inner, quiet: _ } = self;
+        let DeskInner {
             keeper,
             trace,
             front,
             handed,
             ..
-        } = parts;
+        } = inner;
         drop(front);
         drop(handed);
         (trace, keeper.into_disk())

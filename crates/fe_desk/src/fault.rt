@@ -3,12 +3,13 @@ use fe_keeper::Fault;
 /// Why a step did nothing, or not all; and why a store was not opened or formatted.
 #[derive(Clone, Copy, PartialEq, Eq)]
 pub enum DeskFault {
-    /// The store is at fault. Of a step: `Device` where the device failed in it, and `Failed` in each step after that, until the
-    /// store is opened again. Of opening and formatting: `Device`, `Unformatted` and `Damaged`, as `fe_keeper` tells them.
+    /// The store is at fault. Of a step: `Device` where the device failed in it, and `Failed` in each step after that,
+    /// until the store is opened again. Of opening and formatting: `Device`, `Unformatted` and `Damaged`, as
+    /// `fe_keeper` gives them.
     Store(Fault),
-    /// Memory ran out while a store was opened or formatted; or in a step, for mails that are owed, a connection, a batch, a
-    /// message that the piece completes, or the beginning of a checkpoint. What the step did before stays done. The step may be
-    /// given again: as it was, or with an empty piece if its bytes were read (`fed`).
+    /// Memory ran out while a store was opened or formatted; or in a step, for mails that are owed, a connection, a
+    /// batch, a message that the piece completes, or the beginning of a checkpoint. What the step did before stays
+    /// done. The step may be given again: as it was, or with an empty piece if its bytes were read (`fed`).
     NoMemory { fed: bool },
     /// The step took effect, but memory ran out for some of its mails. The next step writes them first.
     Unwritten,

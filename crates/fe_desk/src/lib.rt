@@ -5,19 +5,19 @@
 #![tactic(auto)]
 
 mod acting;
+mod box_emptying;
 mod connections;
 mod desk;
+mod desk_inner;
 mod fault;
 mod handed;
 mod laws;
 mod messages;
 mod opening;
-mod parts;
 mod port;
 mod running;
 mod step;
 mod storing;
-mod telling;
 mod trace;
 mod written;
 

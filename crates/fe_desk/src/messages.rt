@@ -4,36 +4,36 @@ ghost use Rattle.std.specs.Prelude.{◌≡◌, ◌<◌, false, ◌∷◌, length
 ghost use Rattle.fe_front.specs.Front.{has_room};
 ghost use Rattle.fe_desk.specs.Steps.{with_left};
 ghost use Rattle.fe_desk.specs.within.Places.{IsFirstAt};
-ghost use Rattle.fe_desk.specs.Messages.{left_of, outputs, told_as, TakesNext, EndsWith};
+ghost use Rattle.fe_desk.specs.Messages.{left_of, outputs, desk_fault_of, TakesNext, EndsWith};
 ghost use Rattle.fe_desk.specs.Stopping.{StopsBefore};
-ghost use Rattle.fe_desk.specs.within.Desk.{client_of, desk_of, standing_of, IsDesk};
+ghost use Rattle.fe_desk.specs.within.Desk.{client_of, desk_of, run_state_of, IsDesk};
 ghost use Rattle.fe_desk.specs.within.Goes.{Goes, GoesPiece, LeavesSome, LeavesStream, StopsStream, TakesLeft, TakesStream};
 
+use crate::desk_inner::DeskInner;
 use crate::fault::DeskFault;
-use crate::parts::Parts;
 use crate::port::Port;
 use fe_disk::Disk;
 use fe_keeper::Fault;
 use fe_messages::take_message;
 use fe_wire::ClientMessage;
 
-impl<D: Disk> Parts<D> {
+impl<D: Disk> DeskInner<D> {
     /// Takes the bytes of a connection: first the messages of it that are left, then those that the piece completes, if it
     /// is there.
     pub(crate) fn bytes(&mut self, conn: u64, piece: &[u8]) -> Result<(), DeskFault>
         requires desk { IsDesk D.Disk (desk_of self.old) }
         requires works { self.old.keeper.store.has_failed ≡ false }
         ensures desk { IsDesk D.Disk (desk_of self.new) }
-        ensures outputs { outputs (standing_of self.new) ≡ outputs (standing_of self.old) }
-        ensures goes { GoesPiece D.Disk (TakesStream (standing_of self.old) conn piece.now)
-            (LeavesStream (standing_of self.old) conn piece.now) (StopsStream (standing_of self.old) conn piece.now)
+        ensures outputs { outputs (run_state_of self.new) ≡ outputs (run_state_of self.old) }
+        ensures goes { GoesPiece D.Disk (TakesStream (run_state_of self.old) conn piece.now)
+            (LeavesStream (run_state_of self.old) conn piece.now) (StopsStream (run_state_of self.old) conn piece.now)
             result (desk_of self.old) (desk_of self.new) }
     {
         let Some(at) = self.place_of(conn) else {
             return Ok(());
         };
         if let Err(fault) = self.take_left(at, conn) {
-            return Err(told(fault, false));
+            return Err(desk_fault(fault, false));
         }
         // The messages that were left may have made the connection gone, as one that meets a full box does.
         if !self.front.connected(conn) {
@@ -43,7 +43,7 @@ impl<D: Disk> Parts<D> {
             return Err(DeskFault::NoMemory { fed: false });
         };
         if let Err(fault) = self.take_left(at, conn) {
-            return Err(told(fault, true));
+            return Err(desk_fault(fault, true));
         }
         if bad {
             self.leave(conn);
@@ -55,14 +55,14 @@ impl<D: Disk> Parts<D> {
     fn take_left(&mut self, at: usize, conn: u64) -> Result<(), Fault>
         requires desk { IsDesk D.Disk (desk_of self.old) }
         requires works { self.old.keeper.store.has_failed ≡ false }
-        requires place { IsFirstAt (standing_of self.old).clients conn at }
+        requires place { IsFirstAt (run_state_of self.old).clients conn at }
         ensures desk { IsDesk D.Disk (desk_of self.new) }
-        ensures place { IsFirstAt (standing_of self.new).clients conn at }
-        ensures clients { (standing_of self.new).clients
-            ≡ (with_left (standing_of self.old) conn (left_of (standing_of self.new) conn)).clients }
-        ensures rest { EndsWith (left_of (standing_of self.old) conn) (left_of (standing_of self.new) conn) }
-        ensures goes { Goes D.Disk (TakesLeft (standing_of self.old) conn)
-            (λ d. LeavesSome (standing_of self.old) conn d.standing) (StopsBefore (standing_of self.old) conn) result
+        ensures place { IsFirstAt (run_state_of self.new).clients conn at }
+        ensures clients { (run_state_of self.new).clients
+            ≡ (with_left (run_state_of self.old) conn (left_of (run_state_of self.new) conn)).clients }
+        ensures rest { EndsWith (left_of (run_state_of self.old) conn) (left_of (run_state_of self.new) conn) }
+        ensures goes { Goes D.Disk (TakesLeft (run_state_of self.old) conn)
+            (λ d. LeavesSome (run_state_of self.old) conn d.run_state) (StopsBefore (run_state_of self.old) conn) result
             (desk_of self.old) (desk_of self.new) }
     {
         while self.trace.ports[at].has_left() {
@@ -76,10 +76,10 @@ impl<D: Disk> Parts<D> {
     fn take_next(&mut self, at: usize, conn: u64)
         requires desk { IsDesk D.Disk (desk_of self.old) }
         requires room { IsTrue (has_room self.old.front) }
-        requires place { IsFirstAt (standing_of self.old).clients conn at }
-        requires some { 0 < length (left_of (standing_of self.old) conn) }
+        requires place { IsFirstAt (run_state_of self.old).clients conn at }
+        requires some { 0 < length (left_of (run_state_of self.old) conn) }
         ensures desk { IsDesk D.Disk (desk_of self.new) }
-        ensures next { TakesNext (standing_of self.old) conn (standing_of self.new) }
+        ensures next { TakesNext (run_state_of self.old) conn (run_state_of self.new) }
         ensures keeper { self.new.keeper ≡ self.old.keeper }
         ensures synced { self.new.trace.synced ≡ self.old.trace.synced }
     {
@@ -99,9 +99,9 @@ fn first_left(port: &mut Port) -> ClientMessage
     message
 }
 
-/// What a step tells where the keeper told this.
-pub(crate) fn told(fault: Fault, fed: bool) -> DeskFault
-    ensures { result ≡ told_as fault fed }
+/// The fault of a step where the keeper gave this one.
+pub(crate) fn desk_fault(fault: Fault, fed: bool) -> DeskFault
+    ensures { result ≡ desk_fault_of fault fed }
 {
     match fault {
         Fault::NoMemory => DeskFault::NoMemory { fed },

@@ -1,6 +1,6 @@
 ghost use Rattle.std.specs.Prelude.{◌≡◌, ◌≢◌, ◌⊎◌, ◌↔◌, ℕ, Bool, false, None, IfOk, IfErr, IsErrAnd};
 ghost use Rattle.fe_disk.specs.Disk.{Rises};
-ghost use Rattle.fe_disk.specs.Runs.{told as outcome};
+ghost use Rattle.fe_disk.specs.Runs.{written_out as outcome};
 ghost use Rattle.fe_state.specs.State.{ServerState, first_state};
 ghost use Rattle.fe_journal.specs.Damage.{IsUnformatted};
 ghost use Rattle.fe_journal.specs.Found.{AsksToOpen};
@@ -10,14 +10,14 @@ ghost use Rattle.fe_keeper.specs.Keeper.{first_store};
 ghost use Rattle.fe_keeper.specs.Stands.{StandsFor, EachStandsFor};
 ghost use Rattle.fe_keeper.specs.declared.fault.Fault.TheVariants as keeper;
 ghost use Rattle.fe_desk.specs.declared.fault.DeskFault.TheVariants.{Store, NoMemory};
-ghost use Rattle.fe_desk.specs.Standing.{IsFirstStanding};
+ghost use Rattle.fe_desk.specs.DeskRunState.{IsFirstRunState};
 ghost use Rattle.fe_desk.specs.Acknowledged.{IsAcknowledged};
 ghost use Rattle.fe_desk.specs.Crash.{disk_of};
 ghost use Rattle.fe_desk.specs.Opened.{disk_after, IsOpenFault, TellsOpening};
 
 use crate::desk::Desk;
 use crate::fault::DeskFault;
-use crate::messages::told;
+use crate::messages::desk_fault;
 use fe_disk::Disk;
 use fe_front::Front;
 use fe_keeper::Keeper;
@@ -30,14 +30,14 @@ impl<D: Disk> Desk<D> {
         ensures opened { D.honest disk → IfOk result (λ desk. StandsFor (D.seen disk) desk.keeper.state) }
         ensures stands { D.honest disk
             → IfOk result (λ desk. EachStandsFor D.Disk (disk_of desk) desk.keeper.state) }
-        ensures first { IfOk result (λ desk. IsFirstStanding desk.keeper.state desk.standing × (desk.synced ≡ 0)) }
+        ensures first { IfOk result (λ desk. IsFirstRunState desk.keeper.state desk.run_state × (desk.synced ≡ 0)) }
         ensures acknowledged { (asked : ℕ → ℕ → Bool)
             → IfOk result (λ desk. IsAcknowledged desk.keeper.state asked desk) }
         // A valid store is refused only if the device fails or memory runs out.
         ensures refused { D.honest disk → (s : ServerState) → StandsFor (D.seen disk) s
             → IfErr result (λ e. (e.0 ≡ Store keeper.Device) ⊎ (e.0 ≡ NoMemory false)) }
         // A reported fault is the store's, and an unformatted store is reported as such, however much memory there is.
-        ensures told { D.honest disk → IfErr result (λ e. TellsOpening e.0 (D.seen disk) (D.calls disk) (D.calls e.1)) }
+        ensures says { D.honest disk → IfErr result (λ e. TellsOpening e.0 (D.seen disk) (D.calls disk) (D.calls e.1)) }
         ensures unformatted { D.honest disk → IsUnformatted (D.seen disk)
             → IsErrAnd result (λ e. (e.0 ≡ Store keeper.Unformatted) ⊎ (e.0 ≡ Store keeper.Device)) }
         ensures reads { D.honest disk → OnlyReads D.Disk disk (disk_after result) }
@@ -50,7 +50,7 @@ impl<D: Disk> Desk<D> {
     {
         match Keeper::open(alloc, disk) {
             Ok(keeper) => desk_over(alloc, keeper),
-            Err((fault, disk)) => Err((told(fault, false), disk)),
+            Err((fault, disk)) => Err((desk_fault(fault, false), disk)),
         }
     }
 
@@ -58,7 +58,7 @@ impl<D: Disk> Desk<D> {
     pub fn format(alloc: Global, disk: D) -> Result<Desk<D>, (DeskFault, D)>
         ensures formatted { D.honest disk → IfOk result (λ desk. EachStandsFor D.Disk (disk_of desk) first_state) }
         ensures first { IfOk result
-            (λ desk. IsFirstStanding first_state desk.standing × (desk.keeper.state ≡ first_state)
+            (λ desk. IsFirstRunState first_state desk.run_state × (desk.keeper.state ≡ first_state)
             × (desk.synced ≡ 0)) }
         ensures acknowledged { (asked : ℕ → ℕ → Bool) → IfOk result (λ desk. IsAcknowledged first_state asked desk) }
         ensures store { IfOk result (λ desk. desk.keeper.store ≡ first_store (disk_of desk)) }
@@ -76,7 +76,7 @@ impl<D: Disk> Desk<D> {
     {
         match Keeper::format(alloc, disk) {
             Ok(keeper) => desk_over(alloc, keeper),
-            Err((fault, disk)) => Err((told(fault, false), disk)),
+            Err((fault, disk)) => Err((desk_fault(fault, false), disk)),
         }
     }
 }
@@ -84,7 +84,7 @@ impl<D: Disk> Desk<D> {
 /// A desk over a keeper, with no connection.
 fn desk_over<D: Disk>(alloc: Global, keeper: Keeper<D>) -> Result<Desk<D>, (DeskFault, D)>
     requires works { keeper.store.has_failed ≡ false }
-    ensures first { IfOk result (λ desk. IsFirstStanding keeper.state desk.standing) }
+    ensures first { IfOk result (λ desk. IsFirstRunState keeper.state desk.run_state) }
     ensures acknowledged { (asked : ℕ → ℕ → Bool) → IfOk result (λ desk. IsAcknowledged keeper.state asked desk) }
     ensures keeper { IfOk result (λ desk. desk.keeper ≡ keeper) }
     ensures synced { IfOk result (λ desk. desk.synced ≡ 0) }

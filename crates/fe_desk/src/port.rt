@@ -8,12 +8,12 @@ ghost use Rattle.fe_front.specs.Steps.{taken};
 ghost use Rattle.fe_wire.specs.Spelling.{reply_spelling};
 ghost use Rattle.fe_wire.specs.Stream.{CompletesMessage};
 ghost use Rattle.fe_desk.specs.Mails.{emptied_box};
-ghost use Rattle.fe_desk.specs.Standing.{told};
+ghost use Rattle.fe_desk.specs.DeskRunState.{written_out};
 ghost use Rattle.fe_desk.specs.Steps.{BeginsStream, Reads, new_client};
 ghost use Rattle.fe_desk.specs.Writing.{StopsWriting};
 ghost use Rattle.fe_desk.specs.within.WithMail.{HasAllWithMail};
 ghost use Rattle.fe_desk.specs.within.Desk.{client_of};
-ghost use Rattle.fe_desk.specs.within.Keeping.{KeepsFront, KeepsEmpty, IsToldLater};
+ghost use Rattle.fe_desk.specs.within.Keeping.{KeepsFront, KeepsEmpty, IsWrittenOutLater};
 
 use crate::written::Written;
 use fe_front::{ConnectionSet, Front};
@@ -33,7 +33,7 @@ pub struct Port {
     /// Messages that came whole. Those before `next` are taken.
     pub(crate) left: Vec<ClientMessage>,
     pub(crate) next: usize,
-    /// The reply that tells a mail which was taken out of its box and is not written.
+    /// The reply of a mail that was taken out of its box and is not written.
     pub(crate) reply: Option<Reply>,
 }
 
@@ -96,7 +96,8 @@ impl Port {
 
     /// Whether something may have to be written to the connection: a reply that waits, or a mail, if the set may have it.
     fn may_owe(&self, mailed: &ConnectionSet) -> bool
-        ensures { result ≡ false → ((client_of self.now).reply ≡ None) × (¬ IsTrue (may_have mailed.now self.now.conn)) }
+        ensures { result ≡ false
+            → ((client_of self.now).reply ≡ None) × (¬ IsTrue (may_have mailed.now self.now.conn)) }
     {
         self.reply.is_some() || mailed.may_have(self.conn)
     }
@@ -108,10 +109,10 @@ impl Port {
         mailed: &ConnectionSet,
     ) -> Result<(), AllocError>
         requires { HasAllWithMail front.old mailed.now }
-        ensures told { OnOk result (client_of self.new ≡ told front.old (client_of self.old)) }
+        ensures written_out { OnOk result (client_of self.new ≡ written_out front.old (client_of self.old)) }
         ensures emptied { OnOk result (front.new ≡ emptied_box front.old self.old.conn) }
         // What is not written is written later, to the same effect.
-        ensures later { OnErr result (IsToldLater front.old (client_of self.old) front.new (client_of self.new)) }
+        ensures later { OnErr result (IsWrittenOutLater front.old (client_of self.old) front.new (client_of self.new)) }
         ensures stops { OnErr result (StopsWriting front.old (client_of self.old) front.new (client_of self.new)) }
         ensures front { KeepsFront front.old front.new }
         ensures empty { KeepsEmpty front.old front.new }

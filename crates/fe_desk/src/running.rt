@@ -65,7 +65,7 @@ fn take_steps<D: Disk>(desk: &mut Desk<D>, steps: &[Step]) -> Option<(u64, DeskF
     requires works { desk.old.keeper.store.has_failed ≡ false }
     requires stands { D.honest (disk_of desk.old) → (begun : ServerState) → IsFrom begun desk.old → (image : List ℕ)
         → D.may_leave (disk_of desk.old) image
-        → LeavesPrefix begun desk.old.standing.groups desk.old.synced image }
+        → LeavesPrefix begun desk.old.run_state.groups desk.old.synced image }
     ensures goes { GoesTo D.Disk desk.old steps.now result desk.new }
     ensures advances { Advances D.Disk desk.old desk.new }
 {

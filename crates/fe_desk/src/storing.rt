@@ -9,11 +9,11 @@ ghost use Rattle.fe_desk.specs.Storing as way;
 ghost use Rattle.fe_desk.specs.Storing.{stored, posted, cleared, made, committed, begun_room, roomy};
 ghost use Rattle.fe_desk.specs.Crash.{with_handed};
 ghost use Rattle.fe_desk.specs.Stopping.{MayBegin, StopsMaking};
-ghost use Rattle.fe_desk.specs.within.Desk.{desk_of, standing_of, IsDesk};
+ghost use Rattle.fe_desk.specs.within.Desk.{desk_of, run_state_of, IsDesk};
 ghost use Rattle.fe_desk.specs.within.Goes.{Goes, GoesTo, Is, IsUnstored, WasBegun};
 
+use crate::desk_inner::DeskInner;
 use crate::handed::Handed;
-use crate::parts::Parts;
 use fe_disk::Disk;
 use fe_front::ConnectionSet;
 use fe_keeper::Fault;
@@ -21,12 +21,12 @@ use fe_state::{Batch, Entry};
 use std::alloc::{AllocError, Global};
 use std::mem;
 
-impl<D: Disk> Parts<D> {
+impl<D: Disk> DeskInner<D> {
     /// What is pending becomes the batch that is out, where there is something and no batch is out.
     pub(crate) fn cut(&mut self)
         requires desk { IsDesk D.Disk (desk_of self.old) }
         ensures desk { IsDesk D.Disk (desk_of self.new) }
-        ensures cut { standing_of self.new ≡ way.cut (standing_of self.old) }
+        ensures cut { run_state_of self.new ≡ way.cut (run_state_of self.old) }
         ensures keeper { self.new.keeper ≡ self.old.keeper }
         ensures trace { self.new.trace ≡ self.old.trace }
     {
@@ -40,9 +40,9 @@ impl<D: Disk> Parts<D> {
         requires desk { IsDesk D.Disk (desk_of self.old) }
         requires works { self.old.keeper.store.has_failed ≡ false }
         ensures desk { IsDesk D.Disk (desk_of self.new) }
-        ensures clients { (standing_of self.new).clients ≡ (standing_of self.old).clients }
-        ensures goes { Goes D.Disk (Is (stored (standing_of self.old))) (IsUnstored (desk_of self.old))
-            (Is (standing_of self.old)) result (desk_of self.old) (desk_of self.new) }
+        ensures clients { (run_state_of self.new).clients ≡ (run_state_of self.old).clients }
+        ensures goes { Goes D.Disk (Is (stored (run_state_of self.old))) (IsUnstored (desk_of self.old))
+            (Is (run_state_of self.old)) result (desk_of self.old) (desk_of self.new) }
     {
         match mem::replace(&mut self.handed, Handed::Nothing) {
             Handed::Cut(batch) => {
@@ -62,9 +62,9 @@ impl<D: Disk> Parts<D> {
         requires desk { IsDesk D.Disk (with_handed (desk_of self.old) (Cut batch)) }
         requires works { self.old.keeper.store.has_failed ≡ false }
         ensures desk { IsDesk D.Disk (with_handed (desk_of self.new) result.0) }
-        ensures clients { (standing_of self.new).clients ≡ (standing_of self.old).clients }
+        ensures clients { (run_state_of self.new).clients ≡ (run_state_of self.old).clients }
         ensures goes { let old = with_handed (desk_of self.old) (Cut batch) in
-            Goes D.Disk (Is (stored old.standing)) (IsUnstored old) (Is old.standing) result.1 old
+            Goes D.Disk (Is (stored old.run_state)) (IsUnstored old) (Is old.run_state) result.1 old
             (with_handed (desk_of self.new) result.0) }
     {
         // It names a type for the checker (`docs/DECISIONS.md`, "Toolchain").
@@ -95,8 +95,9 @@ impl<D: Disk> Parts<D> {
     pub(crate) fn post(&mut self, changed: &mut ConnectionSet)
         requires desk { IsDesk D.Disk (desk_of self.old) }
         ensures desk { IsDesk D.Disk (desk_of self.new) }
-        ensures posted { standing_of self.new ≡ posted (standing_of self.old) }
-        ensures changed { (conn : ℕ) → IsTrue (may_have changed.new conn) ⊎ HasItsBox self.old.front self.new.front conn }
+        ensures posted { run_state_of self.new ≡ posted (run_state_of self.old) }
+        ensures changed { (conn : ℕ)
+            → IsTrue (may_have changed.new conn) ⊎ HasItsBox self.old.front self.new.front conn }
         ensures keeper { self.new.keeper ≡ self.old.keeper }
         ensures trace { self.new.trace ≡ self.old.trace }
     {
@@ -115,8 +116,8 @@ impl<D: Disk> Parts<D> {
         requires desk { IsDesk D.Disk (desk_of self.old) }
         requires works { self.old.keeper.store.has_failed ≡ false }
         ensures desk { IsDesk D.Disk (desk_of self.new) }
-        ensures clients { (standing_of self.new).clients ≡ (standing_of self.old).clients }
-        ensures goes { GoesTo D.Disk (cleared (standing_of self.old)) (Is (standing_of self.old)) result
+        ensures clients { (run_state_of self.new).clients ≡ (run_state_of self.old).clients }
+        ensures goes { GoesTo D.Disk (cleared (run_state_of self.old)) (Is (run_state_of self.old)) result
             (desk_of self.old) (desk_of self.new) }
     {
         self.store()?;
@@ -129,9 +130,9 @@ impl<D: Disk> Parts<D> {
         requires desk { IsDesk D.Disk (desk_of self.old) }
         requires works { self.old.keeper.store.has_failed ≡ false }
         ensures desk { IsDesk D.Disk (desk_of self.new) }
-        ensures clients { (standing_of self.new).clients ≡ (standing_of self.old).clients }
+        ensures clients { (run_state_of self.new).clients ≡ (run_state_of self.old).clients }
         ensures room { OnOk result (IsTrue (has_room self.new.front)) }
-        ensures goes { GoesTo D.Disk (roomy (standing_of self.old) conn) (StopsMaking (standing_of self.old) conn)
+        ensures goes { GoesTo D.Disk (roomy (run_state_of self.old) conn) (StopsMaking (run_state_of self.old) conn)
             result (desk_of self.old) (desk_of self.new) }
     {
         self.go_on(conn)?;
@@ -146,8 +147,8 @@ impl<D: Disk> Parts<D> {
         requires desk { IsDesk D.Disk (desk_of self.old) }
         requires works { self.old.keeper.store.has_failed ≡ false }
         ensures desk { IsDesk D.Disk (desk_of self.new) }
-        ensures clients { (standing_of self.new).clients ≡ (standing_of self.old).clients }
-        ensures goes { GoesTo D.Disk (begun_room (standing_of self.old) conn) (WasBegun (standing_of self.old) conn)
+        ensures clients { (run_state_of self.new).clients ≡ (run_state_of self.old).clients }
+        ensures goes { GoesTo D.Disk (begun_room (run_state_of self.old) conn) (WasBegun (run_state_of self.old) conn)
             result (desk_of self.old) (desk_of self.new) }
     {
         if self.making == Some(conn) {
@@ -163,9 +164,9 @@ impl<D: Disk> Parts<D> {
         requires desk { IsDesk D.Disk (desk_of self.old) }
         requires works { self.old.keeper.store.has_failed ≡ false }
         ensures desk { IsDesk D.Disk (desk_of self.new) }
-        ensures clients { (standing_of self.new).clients ≡ (standing_of self.old).clients }
-        ensures goes { GoesTo D.Disk (made (committed (cleared (standing_of self.old))))
-            (MayBegin (standing_of self.old) conn) result (desk_of self.old) (desk_of self.new) }
+        ensures clients { (run_state_of self.new).clients ≡ (run_state_of self.old).clients }
+        ensures goes { GoesTo D.Disk (made (committed (cleared (run_state_of self.old))))
+            (MayBegin (run_state_of self.old) conn) result (desk_of self.old) (desk_of self.new) }
     {
         self.clear()?;
         self.cut();

@@ -4,11 +4,11 @@ use Rattle.fe_disk.specs.declared.calls.Calls.{Calls}
 use Rattle.fe_disk.specs.declared.liar.Liar.{Liar}
 
 -- the bytes that it reads, whatever is written
-abbrev pub told : Liar → List ℕ
-told disk = disk.bytes.items
+abbrev pub liar_bytes : Liar → List ℕ
+liar_bytes disk = disk.bytes.items
 
 abbrev pub byte_count : Liar → ℕ
-byte_count disk = length (told disk)
+byte_count disk = length (liar_bytes disk)
 
 -- the calls that were made of it
 abbrev pub calls_of : Liar → Calls

@@ -2,20 +2,20 @@
 //! sync.
 ghost use Rattle.std.specs.Prelude.{⊤};
 
-use crate::hold::Hold;
+use crate::sync_hold::SyncHold;
 use crate::{Asked, Policy};
 use std::alloc::Global;
 use std::sync::{Arc, Wait};
 
-/// Passes every call on. A sync waits until its `Hold` lets it go, and doesn't return before that.
+/// Passes every call on. A sync waits until its `SyncHold` lets it go, and doesn't return before that.
 #[derive(Drop)]
 pub struct Held<R> {
     rt: R,
-    hold: Arc<Hold, Global>,
+    hold: Arc<SyncHold, Global>,
 }
 
 impl<R: Wait + Drop> Held<R> {
-    pub fn new(rt: R, hold: Arc<Hold, Global>) -> Held<R> {
+    pub fn new(rt: R, hold: Arc<SyncHold, Global>) -> Held<R> {
         Held { rt, hold }
     }
 }

@@ -16,12 +16,12 @@ pub struct Liar {
 }
 
 impl Liar {
-    ghost use Rattle.fe_disk.specs.Liar.{told, calls_of};
+    ghost use Rattle.fe_disk.specs.Liar.{liar_bytes, calls_of};
     ghost use Rattle.fe_disk.specs.Calls.{none};
 
     /// A disk as long as the list.
     pub fn new(bytes: Vec<u8>) -> Liar
-        ensures told { told result ≡ bytes.items }
+        ensures liar_bytes { liar_bytes result ≡ bytes.items }
         ensures calls { calls_of result ≡ none }
     {
         Liar {
@@ -33,7 +33,7 @@ impl Liar {
 }
 
 impl Disk for Liar {
-    ghost use Rattle.fe_disk.specs.Liar.{told, byte_count, calls_of, fault_count};
+    ghost use Rattle.fe_disk.specs.Liar.{liar_bytes, byte_count, calls_of, fault_count};
 
     ghost size = { byte_count };
 
@@ -43,7 +43,7 @@ impl Disk for Liar {
 
     ghost honest = { λ disk. ⊥ };
 
-    ghost seen = { told };
+    ghost seen = { liar_bytes };
 
     ghost may_leave = { λ disk image. ⊥ };
 
@@ -71,8 +71,8 @@ impl Disk for Liar {
 
     fn read_at(&mut self, at: usize, buffer: &mut [u8]) -> Result<(), DeviceFault>
         requires { at + length buffer.old ≤ byte_count self.old }
-        ensures told { OnOk result (buffer.new ≡ bytes_at (told self.old) at (length buffer.old)) }
-        ensures same { told self.new ≡ told self.old }
+        ensures liar_bytes { OnOk result (buffer.new ≡ bytes_at (liar_bytes self.old) at (length buffer.old)) }
+        ensures same { liar_bytes self.new ≡ liar_bytes self.old }
         ensures only_at_top { IsErr result
             → (fault_count self.old ≡ 2 ^ 64 - 1) ⊎ ((calls_of self.old).reads ≡ 2 ^ 64 - 1) }
         ensures device { EndsCall byte_count fault_count calls_of (λ disk. ⊥) 1 0 0 result self.old self.new }
@@ -87,7 +87,7 @@ impl Disk for Liar {
 
     fn write_at(&mut self, _at: usize, bytes: &[u8]) -> Result<(), DeviceFault>
         requires { _at + length bytes.now ≤ byte_count self.old }
-        ensures same { told self.new ≡ told self.old }
+        ensures same { liar_bytes self.new ≡ liar_bytes self.old }
         ensures only_at_top { IsErr result
             → (fault_count self.old ≡ 2 ^ 64 - 1) ⊎ ((calls_of self.old).writes ≡ 2 ^ 64 - 1) }
         ensures device { EndsCall byte_count fault_count calls_of (λ disk. ⊥) 0 1 0 result self.old self.new }
@@ -100,7 +100,7 @@ impl Disk for Liar {
     }
 
     fn sync(&mut self) -> Result<(), DeviceFault>
-        ensures same { told self.new ≡ told self.old }
+        ensures same { liar_bytes self.new ≡ liar_bytes self.old }
         ensures only_at_top { IsErr result
             → (fault_count self.old ≡ 2 ^ 64 - 1) ⊎ ((calls_of self.old).syncs ≡ 2 ^ 64 - 1) }
         ensures device { EndsCall byte_count fault_count calls_of (λ disk. ⊥) 0 0 1 result self.old self.new }

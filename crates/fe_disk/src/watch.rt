@@ -13,7 +13,7 @@ const FOLDER: &[u8; 14] = b"/proc/self/fd/";
 /// A path padded with zeros. The C library needs the last one.
 type CPath = [u8; PATH_MAX];
 
-/// The path that the system has for an open file, and the link by which it tells it.
+/// The path that the system has for an open file, and the link by which it gives it.
 ///
 /// It changes when the file or a folder above it is renamed, and ends in ` (deleted)` once the name is removed.
 #[derive(Drop)]

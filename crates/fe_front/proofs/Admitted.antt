@@ -4,13 +4,13 @@ use Rattle.std.specs.Prelude.{IsSomeAnd, nat_lt, if◌then◌else◌, Result, Ok
 use Rattle.std.specs.Option.{option_map, option_map_or}
 use Rattle.std.specs.FinMap.{get}
 use Rattle.std.proofs.lemmas.Bool.Decides.{nat_tests}
-use Rattle.fe_waits.specs.Waiting.{Waiter}
+use Rattle.fe_waits.specs.Waiting.{WaitingAccess}
 use Rattle.fe_waits.proofs.MemberLemmas.{none_some}
 use Rattle.fe_state.specs.Sessions.{Session, MayRise, kept_in}
 use Rattle.fe_state.specs.SessionEffect.{IsUsable}
 use Rattle.fe_state.specs.declared.kept.Kept.{Kept}
-use Rattle.fe_seats.specs.Seating.{is_closing}
-use Rattle.fe_seats.specs.declared.seat.Seat.{Seat}
+use Rattle.fe_attachments.specs.AttachmentsState.{is_closing}
+use Rattle.fe_attachments.specs.declared.attachment.Attachment.{Attachment}
 use Rattle.fe_service.specs.Service.{request_of}
 use Rattle.fe_service.specs.ServiceState.{IsService}
 use Rattle.fe_service.specs.Events.{MaySettle, IsFree, floor_of}
@@ -43,26 +43,26 @@ both_passed (Ok session) next x e = (session, refl, e)
 -- a connection has a session, which is not closing
 pub record Owns (f : FrontState) (conn session : ℕ) : Type 0 where
   pub has : session_on f.connections conn ≡ Some session
-  pub shut : is_closing f.service.seats session ≡ false
+  pub shut : is_closing f.service.attachments session ≡ false
 
 pub owns : (f : FrontState) (conn session : ℕ) → own f conn ≡ Ok session → Owns f conn session
 owns f conn session e = by (session_on f.connections conn) refl e
   where
-    tested : (s : ℕ) (b : Bool) → is_closing f.service.seats s ≡ b → session_on f.connections conn ≡ Some s → (if b then Err Closing else Ok s) ≡ Ok session → Owns f conn session
+    tested : (s : ℕ) (b : Bool) → is_closing f.service.attachments s ≡ b → session_on f.connections conn ≡ Some s → (if b then Err Closing else Ok s) ≡ Ok session → Owns f conn session
     tested s true closing is e = err_ok Closing session e
     tested s false closing is e = subst (λ s. Owns f conn s) (ok_same s session e) (record { has = is; shut = closing })
 
     by : (o : Option ℕ) → session_on f.connections conn ≡ o → option_map_or (unclosing f) o (Err NotAttached) ≡ Ok session → Owns f conn session
     by None is e = err_ok NotAttached session e
-    by (Some s) is e = tested s (is_closing f.service.seats s) refl is e
+    by (Some s) is e = tested s (is_closing f.service.attachments s) refl is e
 
 -- its session is in the state
-pub own_there : (f : FrontState) (conn session : ℕ) → IsService f.service → Agree f.service.seats f.connections → Owns f conn session → IsSome (get f.service.state.sessions session)
-own_there f conn session h agree o = h.seated session ∙ by (get f.service.seats session) ((agree session conn).1 o.has) o.shut
+pub own_there : (f : FrontState) (conn session : ℕ) → IsService f.service → Agree f.service.attachments f.connections → Owns f conn session → IsSome (get f.service.state.sessions session)
+own_there f conn session h agree o = h.has_attachment session ∙ by (get f.service.attachments session) ((agree session conn).1 o.has) o.shut
   where
-    by : (o : Option Seat) → option_and_then (λ (seat : Seat). seat.holder) o ≡ Some conn → option_map_or (λ (seat : Seat). seat.closing) o false ≡ false → option_map_or (λ (seat : Seat). not seat.closing) o false ≡ true
+    by : (o : Option Attachment) → option_and_then (λ (attachment : Attachment). attachment.holder) o ≡ Some conn → option_map_or (λ (attachment : Attachment). attachment.closing) o false ≡ false → option_map_or (λ (attachment : Attachment). not attachment.closing) o false ≡ true
     by None e shut = none_some e
-    by (Some seat) e shut = ap not shut
+    by (Some attachment) e shut = ap not shut
 
 unspent_ok : (f : FrontState) (s session : ℕ) → unspent f s ≡ Ok session → (is_spent f ≡ false) × (s ≡ session)
 unspent_ok f s session e = by (is_spent f) refl e
@@ -156,7 +156,7 @@ some_none x e = none_some (sym e)
 pub nothing_at : (f : FrontState) (session number : ℕ) → request_at f session number ≡ None → (kept_at f session number ≡ None) × (get f.service.waiting (session, number) ≡ None)
 nothing_at f session number e = by (kept_at f session number) refl e
   where
-    waits : (o : Option Waiter) → get f.service.waiting (session, number) ≡ o → option_map request_of o ≡ None → get f.service.waiting (session, number) ≡ None
+    waits : (o : Option WaitingAccess) → get f.service.waiting (session, number) ≡ o → option_map request_of o ≡ None → get f.service.waiting (session, number) ≡ None
     waits None is e = is
     waits (Some w) is e = some_none _ e
 

@@ -5,8 +5,8 @@ use Rattle.std.specs.Ordering.{nat_cmp}
 use Rattle.std.specs.FinMap.{FinMap, get, insert, remove}
 use Rattle.fe_state.proofs.Maps.{get_inserted, get_beside, get_removed, get_left, same_or_other}
 use Rattle.fe_waits.proofs.MemberLemmas.{none_some, some_same}
-use Rattle.fe_seats.specs.Seating.{holder_of, with_holder, with_closing}
-use Rattle.fe_seats.specs.declared.seat.Seat.{Seat}
+use Rattle.fe_attachments.specs.AttachmentsState.{holder_of, with_holder, with_closing}
+use Rattle.fe_attachments.specs.declared.attachment.Attachment.{Attachment}
 use Rattle.fe_mail.specs.Connections.{first_connection, session_on, with_session, with_mails}
 use Rattle.fe_mail.specs.declared.connection.Connection.{Connection}
 use Rattle.fe_mail.specs.declared.mail.Mail.{Mail}
@@ -16,8 +16,8 @@ use Rattle.fe_mail.proofs.Lookups.{session_on-with_mails, session_on-with_sessio
 abbrev pub AreInverse : (ℕ → Option ℕ) → (ℕ → Option ℕ) → Type 0
 AreInverse h s = (a b : ℕ) → (h a ≡ Some b) ↔ (s b ≡ Some a)
 
-abbrev pub Agree : FinMap nat_cmp Seat → FinMap nat_cmp Connection → Type 0
-Agree seats m = AreInverse (holder_of seats) (session_on m)
+abbrev pub Agree : FinMap nat_cmp Attachment → FinMap nat_cmp Connection → Type 0
+Agree attachments m = AreInverse (holder_of attachments) (session_on m)
 
 module _ (h s h' s' : ℕ → Option ℕ) (inverse : AreInverse h s) where
   pub still : ((a : ℕ) → h' a ≡ h a) → ((b : ℕ) → s' b ≡ s b) → AreInverse h' s'
@@ -78,34 +78,34 @@ module _ (h s h' s' : ℕ → Option ℕ) (inverse : AreInverse h s) where
       pub joined : AreInverse h' s'
       joined a b = (joined_to a b, joined_from a b)
 
--- ---- seats
+-- ---- attachments
 
-module _ (seats : FinMap nat_cmp Seat) (session : ℕ) where
-  pub holder-inserted : (seat : Seat) → holder_of (insert seats session seat) session ≡ seat.holder
-  holder-inserted seat = ap (option_and_then (λ (seat : Seat). seat.holder)) (get_inserted seats session seat)
+module _ (attachments : FinMap nat_cmp Attachment) (session : ℕ) where
+  pub holder-inserted : (attachment : Attachment) → holder_of (insert attachments session attachment) session ≡ attachment.holder
+  holder-inserted attachment = ap (option_and_then (λ (attachment : Attachment). attachment.holder)) (get_inserted attachments session attachment)
 
-  pub holder-beside : (seat : Seat) (q : ℕ) → q ≢ session → holder_of (insert seats session seat) q ≡ holder_of seats q
-  holder-beside seat q other = ap (option_and_then (λ (seat : Seat). seat.holder)) (get_beside seats session seat q other)
+  pub holder-beside : (attachment : Attachment) (q : ℕ) → q ≢ session → holder_of (insert attachments session attachment) q ≡ holder_of attachments q
+  holder-beside attachment q other = ap (option_and_then (λ (attachment : Attachment). attachment.holder)) (get_beside attachments session attachment q other)
 
-  pub holder-removed : holder_of (remove seats session) session ≡ None
-  holder-removed = ap (option_and_then (λ (seat : Seat). seat.holder)) (get_removed seats session)
+  pub holder-removed : holder_of (remove attachments session) session ≡ None
+  holder-removed = ap (option_and_then (λ (attachment : Attachment). attachment.holder)) (get_removed attachments session)
 
-  pub holder-left : (q : ℕ) → q ≢ session → holder_of (remove seats session) q ≡ holder_of seats q
-  holder-left q other = ap (option_and_then (λ (seat : Seat). seat.holder)) (get_left seats session q other)
+  pub holder-left : (q : ℕ) → q ≢ session → holder_of (remove attachments session) q ≡ holder_of attachments q
+  holder-left q other = ap (option_and_then (λ (attachment : Attachment). attachment.holder)) (get_left attachments session q other)
 
-  -- a session that someone has, has a seat
-  pub seat_there : (conn : ℕ) → holder_of seats session ≡ Some conn → IsSome (get seats session)
-  seat_there conn has = by_seat (get seats session) has
+  -- a session that someone has, has an attachment
+  pub attachment_there : (conn : ℕ) → holder_of attachments session ≡ Some conn → IsSome (get attachments session)
+  attachment_there conn has = by_attachment (get attachments session) has
     where
-      by_seat : (o : Option Seat) → option_and_then (λ (seat : Seat). seat.holder) o ≡ Some conn → IsSome o
-      by_seat None e = none_some e
-      by_seat (Some seat) e = refl
+      by_attachment : (o : Option Attachment) → option_and_then (λ (attachment : Attachment). attachment.holder) o ≡ Some conn → IsSome o
+      by_attachment None e = none_some e
+      by_attachment (Some attachment) e = refl
 
 -- a session's closing leaves its holder
-pub holder-closing : (seats : FinMap nat_cmp Seat) (session q : ℕ) → holder_of (with_closing seats session) q ≡ holder_of seats q
-holder-closing seats session q = elim (same_or_other q session) as (λ _. holder_of (with_closing seats session) q ≡ holder_of seats q) [
-  | inl same ↦ ap (holder_of (with_closing seats session)) same ∙ holder-inserted seats session _ ∙ ap (holder_of seats) (sym same)
-  | inr other ↦ holder-beside seats session _ q other
+pub holder-closing : (attachments : FinMap nat_cmp Attachment) (session q : ℕ) → holder_of (with_closing attachments session) q ≡ holder_of attachments q
+holder-closing attachments session q = elim (same_or_other q session) as (λ _. holder_of (with_closing attachments session) q ≡ holder_of attachments q) [
+  | inl same ↦ ap (holder_of (with_closing attachments session)) same ∙ holder-inserted attachments session _ ∙ ap (holder_of attachments) (sym same)
+  | inr other ↦ holder-beside attachments session _ q other
 ]
 
 -- ---- connections
@@ -141,43 +141,43 @@ module _ (m : FinMap nat_cmp Connection) (conn : ℕ) where
 
 -- ---- both
 
-module _ (seats : FinMap nat_cmp Seat) (m : FinMap nat_cmp Connection) (agree : Agree seats m) where
-  pub agree-parted : (conn session : ℕ) → session_on m conn ≡ Some session → Agree (with_holder seats session None) (with_session m conn None)
+module _ (attachments : FinMap nat_cmp Attachment) (m : FinMap nat_cmp Connection) (agree : Agree attachments m) where
+  pub agree-parted : (conn session : ℕ) → session_on m conn ≡ Some session → Agree (with_holder attachments session None) (with_session m conn None)
   agree-parted conn session has =
-      parted (holder_of seats) (session_on m) (holder_of (with_holder seats session None)) (session_on (with_session m conn None)) agree session conn
-      (λ a other. holder-beside seats session _ a other)
+      parted (holder_of attachments) (session_on m) (holder_of (with_holder attachments session None)) (session_on (with_session m conn None)) agree session conn
+      (λ a other. holder-beside attachments session _ a other)
       (λ b other. session_on-with_session-beside m conn None b other)
       has
-      (holder-inserted seats session _)
+      (holder-inserted attachments session _)
       (session_on-with_session m conn None (connection_there m conn session has))
 
-  pub agree-joined : (conn session : ℕ) → holder_of seats session ≡ None → session_on m conn ≡ None → IsSome (get m conn)
-      → Agree (insert seats session (record { holder = Some conn; closing = false })) (with_session m conn (Some session))
+  pub agree-joined : (conn session : ℕ) → holder_of attachments session ≡ None → session_on m conn ≡ None → IsSome (get m conn)
+      → Agree (insert attachments session (record { holder = Some conn; closing = false })) (with_session m conn (Some session))
   agree-joined conn session free_session free_conn there =
-      joined (holder_of seats) (session_on m) _ (session_on (with_session m conn (Some session))) agree session conn
-      (λ a other. holder-beside seats session (record { holder = Some conn; closing = false }) a other)
+      joined (holder_of attachments) (session_on m) _ (session_on (with_session m conn (Some session))) agree session conn
+      (λ a other. holder-beside attachments session (record { holder = Some conn; closing = false }) a other)
       (λ b other. session_on-with_session-beside m conn (Some session) b other)
       free_session
       free_conn
-      (holder-inserted seats session (record { holder = Some conn; closing = false }))
+      (holder-inserted attachments session (record { holder = Some conn; closing = false }))
       (session_on-with_session m conn (Some session) there)
 
-  pub agree-boxed : (conn : ℕ) (mails : List Mail) → Agree seats (with_mails m conn mails)
-  agree-boxed conn mails = still (holder_of seats) (session_on m) (holder_of seats) (session_on (with_mails m conn mails)) agree (λ a. refl) (session_on-with_mails m conn mails)
+  pub agree-boxed : (conn : ℕ) (mails : List Mail) → Agree attachments (with_mails m conn mails)
+  agree-boxed conn mails = still (holder_of attachments) (session_on m) (holder_of attachments) (session_on (with_mails m conn mails)) agree (λ a. refl) (session_on-with_mails m conn mails)
 
-  pub agree-connected : (conn : ℕ) → get m conn ≡ None → Agree seats (insert m conn first_connection)
-  agree-connected conn absent = still (holder_of seats) (session_on m) (holder_of seats) (session_on (insert m conn first_connection)) agree (λ a. refl) (session-connected m conn absent)
+  pub agree-connected : (conn : ℕ) → get m conn ≡ None → Agree attachments (insert m conn first_connection)
+  agree-connected conn absent = still (holder_of attachments) (session_on m) (holder_of attachments) (session_on (insert m conn first_connection)) agree (λ a. refl) (session-connected m conn absent)
 
-  pub agree-removed : (conn : ℕ) → session_on m conn ≡ None → Agree seats (remove m conn)
-  agree-removed conn free = still (holder_of seats) (session_on m) (holder_of seats) (session_on (remove m conn)) agree (λ a. refl) (session-removed m conn free)
+  pub agree-removed : (conn : ℕ) → session_on m conn ≡ None → Agree attachments (remove m conn)
+  agree-removed conn free = still (holder_of attachments) (session_on m) (holder_of attachments) (session_on (remove m conn)) agree (λ a. refl) (session-removed m conn free)
 
-  pub agree-closing : (session : ℕ) → Agree (with_closing seats session) m
-  agree-closing session = still (holder_of seats) (session_on m) (holder_of (with_closing seats session)) (session_on m) agree (holder-closing seats session) (λ b. refl)
+  pub agree-closing : (session : ℕ) → Agree (with_closing attachments session) m
+  agree-closing session = still (holder_of attachments) (session_on m) (holder_of (with_closing attachments session)) (session_on m) agree (holder-closing attachments session) (λ b. refl)
 
-  pub agree-left : (session : ℕ) → holder_of seats session ≡ None → Agree (remove seats session) m
-  agree-left session free = still (holder_of seats) (session_on m) (holder_of (remove seats session)) (session_on m) agree
-      (λ q. elim (same_or_other q session) as (λ _. holder_of (remove seats session) q ≡ holder_of seats q) [
-        | inl same ↦ ap (holder_of (remove seats session)) same ∙ holder-removed seats session ∙ sym free ∙ ap (holder_of seats) (sym same)
-        | inr other ↦ holder-left seats session q other
+  pub agree-left : (session : ℕ) → holder_of attachments session ≡ None → Agree (remove attachments session) m
+  agree-left session free = still (holder_of attachments) (session_on m) (holder_of (remove attachments session)) (session_on m) agree
+      (λ q. elim (same_or_other q session) as (λ _. holder_of (remove attachments session) q ≡ holder_of attachments q) [
+        | inl same ↦ ap (holder_of (remove attachments session)) same ∙ holder-removed attachments session ∙ sym free ∙ ap (holder_of attachments) (sym same)
+        | inr other ↦ holder-left attachments session q other
       ])
       (λ b. refl)

@@ -4,26 +4,26 @@ use Rattle.std.specs.Prelude.{is_some, IsSomeAnd}
 use Rattle.std.specs.Option.{option_map_or}
 use Rattle.std.specs.FinMap.{get}
 use Rattle.std.proofs.lemmas.Bool.{cases_lt}
-use Rattle.fe_waits.specs.Waiting.{Waiter}
+use Rattle.fe_waits.specs.Waiting.{WaitingAccess}
 use Rattle.fe_state.proofs.Maps.{same_or_other}
 use Rattle.fe_state.specs.Sessions.{Session}
 use Rattle.fe_state.specs.SessionEffect.{IsUsable}
-use Rattle.fe_service.specs.Service.{Waiters}
+use Rattle.fe_service.specs.Service.{WaitingAccesses}
 use Rattle.fe_service.specs.ServiceState.{ServiceState, IsService}
 use Rattle.fe_service.specs.Events.{floor_of}
 use Rattle.fe_front.specs.Refusals.{waits_below}
 
 -- nothing of the session waits under a number below this one
-abbrev pub NoneBelow : Waiters → ℕ → ℕ → Type 0
-NoneBelow waiting session n = (number : ℕ) (w : Waiter) → get waiting (session, number) ≡ Some w → n ≤ number
+abbrev pub NoneBelow : WaitingAccesses → ℕ → ℕ → Type 0
+NoneBelow waiting session n = (number : ℕ) (w : WaitingAccess) → get waiting (session, number) ≡ Some w → n ≤ number
 
-pub below-none : (waiting : Waiters) (session n : ℕ) → NoneBelow waiting session n → waits_below waiting session n ≡ false
+pub below-none : (waiting : WaitingAccesses) (session n : ℕ) → NoneBelow waiting session n → waits_below waiting session n ≡ false
 below-none waiting session zero none = refl
 below-none waiting session (suc n) none =
     let rest = below-none waiting session n (λ number w waits. let at = none number w waits in omega (arith, at)) in
     ap (λ b. b || is_some (get waiting (session, n))) rest ∙ by (get waiting (session, n)) refl
   where
-    by : (o : Option Waiter) → get waiting (session, n) ≡ o → is_some (get waiting (session, n)) ≡ false
+    by : (o : Option WaitingAccess) → get waiting (session, n) ≡ o → is_some (get waiting (session, n)) ≡ false
     by None is = ap is_some is
     by (Some w) is = let at = none n w is in absurd (omega (arith, at))
 
@@ -35,7 +35,7 @@ true_or : (a b : Bool) → a ≡ true → (a || b) ≡ true
 true_or true b e = refl
 true_or false b e = cc
 
-pub below-some : (waiting : Waiters) (session number n : ℕ) → number < n → is_some (get waiting (session, number)) ≡ true → waits_below waiting session n ≡ true
+pub below-some : (waiting : WaitingAccesses) (session number n : ℕ) → number < n → is_some (get waiting (session, number)) ≡ true → waits_below waiting session n ≡ true
 below-some waiting session number zero below there = absurd (omega (arith, below))
 below-some waiting session number (suc n) below there = elim (same_or_other number n) as (λ _. waits_below waiting session (suc n) ≡ true) [
   | inl same ↦ ap (λ b. waits_below waiting session n || b) (ap (λ k. is_some (get waiting (session, k))) (sym same) ∙ there) ∙ or_true (waits_below waiting session n)
@@ -45,7 +45,7 @@ below-some waiting session number (suc n) below there = elim (same_or_other numb
 apart : {P : Type 0} → true ≡ false → P
 apart e = cc
 
-pub below-clear : (waiting : Waiters) (session n : ℕ) → waits_below waiting session n ≡ false → NoneBelow waiting session n
+pub below-clear : (waiting : WaitingAccesses) (session n : ℕ) → waits_below waiting session n ≡ false → NoneBelow waiting session n
 below-clear waiting session n clear number w waits = by_order (cases_lt number n)
   where
     by_order : (number < n) ⊎ (n ≤ number) → n ≤ number
@@ -53,7 +53,7 @@ below-clear waiting session n clear number w waits = by_order (cases_lt number n
     by_order (inl below) = apart (sym (below-some waiting session number n below (ap is_some waits)) ∙ clear)
 
 -- one more number under which nothing waits
-pub none_below-next : (waiting : Waiters) (session n : ℕ) → NoneBelow waiting session n → is_some (get waiting (session, n)) ≡ false → NoneBelow waiting session (n + 1)
+pub none_below-next : (waiting : WaitingAccesses) (session n : ℕ) → NoneBelow waiting session n → is_some (get waiting (session, n)) ≡ false → NoneBelow waiting session (n + 1)
 none_below-next waiting session n none here number w waits = elim (same_or_other number n) as (λ _. n + 1 ≤ number) [
   | inl same ↦ apart (sym (ap is_some (ap (λ k. get waiting (session, k)) (sym same) ∙ waits)) ∙ here)
   | inr other ↦ let at = none number w waits in omega (arith, at, other)

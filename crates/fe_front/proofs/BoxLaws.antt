@@ -13,7 +13,7 @@ use Rattle.fe_state.specs.declared.entry.Entry.{Entry}
 use Rattle.fe_state.specs.declared.entry.Entry.TheVariants.{Attached, Closed, Settled, Finished}
 use Rattle.fe_state.specs.declared.kept.Kept.{Kept}
 use Rattle.fe_state.specs.declared.request.Request.{Request}
-use Rattle.fe_seats.specs.Seating.{holder_of, is_closing}
+use Rattle.fe_attachments.specs.AttachmentsState.{holder_of, is_closing}
 use Rattle.fe_service.specs.Events.{left}
 use Rattle.fe_mail.specs.Books.{mail_refused_by_box, mail_taken, call_repeated}
 use Rattle.fe_mail.specs.Connections.{first_connection, session_on, mails_on, with_session, with_mails}
@@ -24,7 +24,7 @@ use Rattle.fe_mail.specs.declared.mail.Mail.TheVariants as mail
 use Rattle.fe_mail.proofs.Lookups.{mails_on-with_session, mails_on-with_mails, mails_on-with_mails-beside}
 use Rattle.fe_front.specs.Boxes.{IsBelow, MailsStayDurable, BoxesStayShort}
 use Rattle.fe_front.specs.Call.{Called, kept_at, repeated}
-use Rattle.fe_front.specs.Event.{Event, Connect, Attach, Call, Settle, Bye, Cancel, Gone, Cut, Post, TakeMail, Tell, IsReportOrRefusal}
+use Rattle.fe_front.specs.Event.{Event, Connect, Attach, Call, Settle, Bye, Cancel, Gone, Cut, Post, TakeMail, GiveMail, IsReportOrRefusal}
 use Rattle.fe_front.specs.Front.{FrontState, IsFront, IsFirst, is_connected}
 use Rattle.fe_front.specs.Posting.{IsOut, delivered, vacated, posted_entry, posted_all}
 use Rattle.fe_front.specs.Step.{FrontStep}
@@ -86,7 +86,7 @@ module _ (mark : ℕ) (P : List Mail → Type 0) (nothing : P []) (less : (ms : 
       by (Some session) = each_with_session f.connections conn None each
 
   freed_box : (f : FrontState) (session : ℕ) → EachBox f → EachBox (freed f session)
-  freed_box f session each = by (holder_of f.service.seats session)
+  freed_box f session each = by (holder_of f.service.attachments session)
     where
       by : (o : Option ℕ) → EachBox (option_map_or (λ conn. parted f conn session) o f)
       by None = each
@@ -139,14 +139,14 @@ module _ (mark : ℕ) (P : List Mail → Type 0) (nothing : P []) (less : (ms : 
   mail_below (Finished session number request answer) place below = below
 
   delivered_box : (f : FrontState) (e : Entry) (place : ℕ) → place < mark → EachBox f → EachBox (delivered f e place)
-  delivered_box f e place below each = by (holder_of f.service.seats (session_of e))
+  delivered_box f e place below each = by (holder_of f.service.attachments (session_of e))
     where
       by : (o : Option ℕ) → EachBox (option_map_or (λ conn. mailed f conn (mail_of e place)) o f)
       by None = each
       by (Some conn) = mailed_box f conn (mail_of e place) (mail_below e place below) each
 
   vacated_box : (f : FrontState) (session : ℕ) → EachBox f → EachBox (vacated f session)
-  vacated_box f session each = by (is_closing f.service.seats session)
+  vacated_box f session each = by (is_closing f.service.attachments session)
     where
       by : (b : Bool) → EachBox (if b then record f { service = left f.service session } else f)
       by true = each
@@ -214,7 +214,7 @@ module _ (mark : ℕ) (P : List Mail → Type 0) (nothing : P []) (less : (ms : 
       let mark_is = ap (λ (g : FrontState). g.durable) step.1.front in
       at_front step.1.front (entries_box f batch.entries batch.first (omega (arith, mark_is, new)) each)
   step_box f f' (TakeMail conn m) es step old new each = at_front step.1.front (taken_box f conn each)
-  step_box f f' (Tell conn m) es step old new each = at_front step.1.front (mailed_box f conn m (told_below m step.0) each)
+  step_box f f' (GiveMail conn m) es step old new each = at_front step.1.front (mailed_box f conn m (told_below m step.0) each)
 
 -- ---- the mark
 
@@ -280,7 +280,7 @@ mark_rises f f' (Post batch) es front step =
     let first = out_first f batch front step.0 in
     omega (arith, mark_is, first)
 mark_rises f f' (TakeMail conn m) es front step = let same = ap (λ (g : FrontState). g.durable) step.1.front ∙ taken_mark f conn in omega (arith, same)
-mark_rises f f' (Tell conn m) es front step = let same = ap (λ (g : FrontState). g.durable) step.1.front ∙ (mailed-keeps f conn m).durable in omega (arith, same)
+mark_rises f f' (GiveMail conn m) es front step = let same = ap (λ (g : FrontState). g.durable) step.1.front ∙ (mailed-keeps f conn m).durable in omega (arith, same)
 
 -- ---- the laws
 

@@ -10,7 +10,7 @@ use Rattle.fe_state.specs.declared.batch.Batch.{Batch}
 use Rattle.fe_state.specs.declared.entry.Entry.{Entry}
 use Rattle.fe_state.specs.declared.entry.Entry.TheVariants.{Attached, Closed, Settled, Finished}
 use Rattle.fe_state.specs.declared.kept.Kept.{Kept}
-use Rattle.fe_seats.specs.Seating.{holder_of, is_closing}
+use Rattle.fe_attachments.specs.AttachmentsState.{holder_of, is_closing}
 use Rattle.fe_service.specs.Events.{left}
 use Rattle.fe_mail.specs.Books.{mail_refused_by_box, mail_taken, call_repeated}
 use Rattle.fe_mail.specs.Connections.{session_on, mails_on, with_mails}
@@ -56,7 +56,7 @@ released-stays f conn = by (session_on f.connections conn)
     by (Some session) = parted-stays f conn session
 
 pub freed-stays : (f : FrontState) (session : ℕ) → Stays f (freed f session)
-freed-stays f session = by (holder_of f.service.seats session)
+freed-stays f session = by (holder_of f.service.attachments session)
   where
     by : (o : Option ℕ) → Stays f (option_map_or (λ conn. parted f conn session) o f)
     by None = itself f
@@ -97,14 +97,14 @@ taken-stays f conn = by (nat_lt 0 (length (mails_on f.connections conn)))
 -- ---- posting
 
 delivered-stays : (f : FrontState) (e : Entry) (place : ℕ) → Stays f (delivered f e place)
-delivered-stays f e place = by (holder_of f.service.seats (session_of e))
+delivered-stays f e place = by (holder_of f.service.attachments (session_of e))
   where
     by : (o : Option ℕ) → Stays f (option_map_or (λ conn. mailed f conn (mail_of e place)) o f)
     by None = itself f
     by (Some conn) = mailed-stays f conn (mail_of e place)
 
 vacated-stays : (f : FrontState) (session : ℕ) → Stays f (vacated f session)
-vacated-stays f session = by (is_closing f.service.seats session)
+vacated-stays f session = by (is_closing f.service.attachments session)
   where
     by : (b : Bool) → Stays f (if b then record f { service = left f.service session } else f)
     by true = record { pending = refl; none_comes = λ q is. is }

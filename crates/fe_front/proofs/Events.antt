@@ -7,7 +7,7 @@ use Rattle.fe_state.specs.declared.batch.Batch.{Batch}
 use Rattle.fe_state.specs.declared.entry.Entry.{Entry}
 use Rattle.fe_state.specs.declared.entry.Entry.TheVariants.{Attached, Closed, Settled}
 use Rattle.fe_service.specs.Events.{floor_of}
-use Rattle.fe_seats.specs.Seating.{is_closing}
+use Rattle.fe_attachments.specs.AttachmentsState.{is_closing}
 use Rattle.fe_mail.specs.Connections.{mails_on}
 use Rattle.fe_mail.specs.declared.mail.Mail.{Mail}
 use Rattle.fe_mail.specs.declared.mail.Mail.TheVariants as mail
@@ -17,7 +17,7 @@ use Rattle.fe_front.specs.Front.{FrontState, is_connected, is_spent}
 use Rattle.fe_front.specs.Event as event
 use Rattle.fe_front.specs.Step.{FrontStep}
 use Rattle.fe_front.specs.Steps.{connected, attached_to, settled_to, closed_by, cancelled_by, dropped, departing, next_batch, cut, taken, mailed}
-use Rattle.fe_front.specs.Refusals.{attaching, settling, leaving, cancelling, has_no_seat}
+use Rattle.fe_front.specs.Refusals.{attaching, settling, leaving, cancelling, has_no_attachment}
 use Rattle.fe_front.specs.Call.{call_refused_by}
 use Rattle.fe_front.specs.Posting.{IsOut, posted}
 use Rattle.fe_front.specs.Rising.{refused_to}
@@ -57,7 +57,7 @@ when_err {A} (Err q) result h f g r p is = record {
 
 -- the session that may be attached is the one that was asked
 attaching_is : (f : FrontState) (conn session s : ℕ) → attaching f conn session ≡ Ok s → attaching f conn session ≡ Ok session
-attaching_is f conn session s = by (is_connected f conn) (is_closing f.service.seats session) (has_no_seat f session) (is_spent f)
+attaching_is f conn session s = by (is_connected f conn) (is_closing f.service.attachments session) (has_no_attachment f session) (is_spent f)
   where
     answer : Bool → Bool → Bool → Bool → Result ℕ Refusal
     answer a b c d = if not a then Err NotAttached else if b then Err Closing else if c then Err SessionLimit else if d then Err Spent else Ok session
@@ -106,10 +106,10 @@ module _ (f g : FrontState) (conn : ℕ) where
   pub take_mail_step : (m : Option Mail) → m ≡ slice_get (mails_on f.connections conn) 0 → g ≡ taken f conn → FrontStep f (event.TakeMail conn m) [] g
   take_mail_step m first is = (first, record { entries = refl; front = is })
 
-  pub report_step : (text : List ℕ) → g ≡ mailed f conn (mail.Report text) → FrontStep f (event.Tell conn (mail.Report text)) [] g
+  pub report_step : (text : List ℕ) → g ≡ mailed f conn (mail.Report text) → FrontStep f (event.GiveMail conn (mail.Report text)) [] g
   report_step text is = (tt, record { entries = refl; front = is })
 
-  pub refusal_step : (number : ℕ) (r : Refusal) → g ≡ mailed f conn (mail.Refused number r) → FrontStep f (event.Tell conn (mail.Refused number r)) [] g
+  pub refusal_step : (number : ℕ) (r : Refusal) → g ≡ mailed f conn (mail.Refused number r) → FrontStep f (event.GiveMail conn (mail.Refused number r)) [] g
   refusal_step number r is = (tt, record { entries = refl; front = is })
 
 module _ (f g : FrontState) where
@@ -139,7 +139,7 @@ module _ (f g : FrontState) where
 module _ (f g k : FrontState) (conn number : ℕ) (r : Refusal) where
   -- an event that was refused, and its refusal after it
   pub refusal_told : {A : Type 0} (x : Result ℕ Refusal) (result : Result A Refusal) (h : ℕ → FrontState) → Answers x result h f g → result ≡ Err r → k ≡ mailed g conn (mail.Refused number r)
-      → (x ≡ Err r) × FrontStep f (event.Tell conn (mail.Refused number r)) [] k
+      → (x ≡ Err r) × FrontStep f (event.GiveMail conn (mail.Refused number r)) [] k
   refusal_told x result h p is told =
       let refuses = when_err x result h f g r p is in
       (refuses.refused, refusal_step f k conn number r (told ∙ ap (λ (y : FrontState). mailed y conn (mail.Refused number r)) refuses.same))

@@ -4,7 +4,7 @@ use Rattle.fe_state.specs.State.{after}
 use Rattle.fe_state.specs.declared.entry.Entry.{Entry}
 use Rattle.fe_state.specs.declared.entry.Entry.TheVariants.{Finished}
 use Rattle.fe_state.specs.declared.request.Request.{Request}
-use Rattle.fe_front.specs.Event.{Event, Connect, Attach, Call, Settle, Bye, Cancel, Gone, Cut, Post, TakeMail, Tell}
+use Rattle.fe_front.specs.Event.{Event, Connect, Attach, Call, Settle, Bye, Cancel, Gone, Cut, Post, TakeMail, GiveMail}
 use Rattle.fe_front.specs.Front.{FrontState, IsFront}
 use Rattle.fe_front.specs.Call.{Called, Repeats}
 use Rattle.fe_front.specs.Step.{FrontStep, OneEntry, NoEntry}
@@ -43,4 +43,4 @@ steps_few f f' (Gone conn count) es front step = none f' _ es step.1
 steps_few f f' (Cut batch) es front step = none f' _ es step.1
 steps_few f f' (Post batch) es front step = none f' _ es step.1
 steps_few f f' (TakeMail conn m) es front step = none f' _ es step.1
-steps_few f f' (Tell conn m) es front step = none f' _ es step.1
+steps_few f f' (GiveMail conn m) es front step = none f' _ es step.1

@@ -5,14 +5,14 @@ use Rattle.std.specs.Option.{option_map}
 use Rattle.std.specs.Ordering.{nat_cmp}
 use Rattle.std.specs.FinMap.{FinMap, empty, get, len, get-empty, len-empty}
 use Rattle.fe_waits.specs.Pair.{pair_cmp}
-use Rattle.fe_waits.specs.Waiting.{Waiter}
+use Rattle.fe_waits.specs.Waiting.{WaitingAccess}
 use Rattle.fe_waits.proofs.MemberLemmas.{none_some}
 use Rattle.fe_state.specs.Sessions.{Session}
 use Rattle.fe_state.specs.State.{ServerState}
 use Rattle.fe_state.specs.declared.entry.Entry.{Entry}
-use Rattle.fe_seats.specs.Seating.{holder_of, free_seat}
-use Rattle.fe_seats.specs.declared.seat.Seat.{Seat}
-use Rattle.fe_service.specs.Events.{IsSeated}
+use Rattle.fe_attachments.specs.AttachmentsState.{holder_of, free_attachment}
+use Rattle.fe_attachments.specs.declared.attachment.Attachment.{Attachment}
+use Rattle.fe_service.specs.Events.{AreFreeAttachments}
 use Rattle.fe_service.specs.ServiceState.{ServiceState}
 use Rattle.fe_mail.specs.Books.{Books, Balances}
 use Rattle.fe_mail.specs.Connections.{session_on, mails_in}
@@ -21,10 +21,10 @@ use Rattle.fe_mail.proofs.MailCounts.{mails_in-empty}
 use Rattle.fe_front.specs.within.Inside.{IsSound}
 
 -- nobody has a session
-nobody : (sessions : FinMap nat_cmp Session) (seats : FinMap nat_cmp Seat) → IsSeated sessions seats → (session : ℕ) → holder_of seats session ≡ None
-nobody sessions seats seated session = ap (option_and_then (λ (seat : Seat). seat.holder)) (seated session) ∙ by (get sessions session)
+nobody : (sessions : FinMap nat_cmp Session) (attachments : FinMap nat_cmp Attachment) → AreFreeAttachments sessions attachments → (session : ℕ) → holder_of attachments session ≡ None
+nobody sessions attachments has_attachment session = ap (option_and_then (λ (attachment : Attachment). attachment.holder)) (has_attachment session) ∙ by (get sessions session)
   where
-    by : (o : Option Session) → option_and_then (λ (seat : Seat). seat.holder) (option_map (λ _. free_seat) o) ≡ None
+    by : (o : Option Session) → option_and_then (λ (attachment : Attachment). attachment.holder) (option_map (λ _. free_attachment) o) ≡ None
     by None = refl
     by (Some x) = refl
 
@@ -32,18 +32,18 @@ no_session : (m : FinMap nat_cmp Connection) → m ≡ empty → (conn : ℕ) �
 no_session m is conn = ap (λ m. session_on m conn) is ∙ ap (option_and_then (λ (c : Connection). c.session)) (get-empty nat_cmp conn)
 
 pub first_sound : (state : ServerState) (service : ServiceState) (connections : FinMap nat_cmp Connection) (books : Books) (durable : ℕ) (spare : List Entry)
-    → service.state ≡ state → IsSeated state.sessions service.seats → service.waiting ≡ empty → service.pending ≡ [] → connections ≡ empty → durable ≡ state.place
+    → service.state ≡ state → AreFreeAttachments state.sessions service.attachments → service.waiting ≡ empty → service.pending ≡ [] → connections ≡ empty → durable ≡ state.place
     → Balances books 0 0 → spare ≡ []
     → IsSound (record { service = service; connections = connections; books = books; durable = durable; out = None; spare = Some spare })
-first_sound state service connections books durable spare same seated waiting pending conns mark balance room = record {
+first_sound state service connections books durable spare same has_attachment waiting pending conns mark balance room = record {
   tied = record {
     agree = λ session conn.
-        (λ e. none_some (sym (nobody state.sessions service.seats seated session) ∙ e), λ e. none_some (sym (no_session connections conns conn) ∙ e));
+        (λ e. none_some (sym (nobody state.sessions service.attachments has_attachment session) ∙ e), λ e. none_some (sym (no_session connections conns conn) ∙ e));
     place = let at = ap (λ s. s.place) same in let none = ap length pending in omega (arith, at, none, mark);
     few_out = omega arith;
     out_first = tt;
     balance =
-        subst (λ n. Balances books n (mails_in connections)) (sym (ap len waiting ∙ len-empty pair_cmp Waiter))
+        subst (λ n. Balances books n (mails_in connections)) (sym (ap len waiting ∙ len-empty pair_cmp WaitingAccess))
         (subst (λ n. Balances books 0 n) (sym (ap mails_in conns ∙ mails_in-empty)) balance);
   };
   spare = λ _. ap Some room;

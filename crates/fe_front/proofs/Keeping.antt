@@ -4,7 +4,7 @@ use Rattle.std.specs.Prelude.{nat_lt, length, if◌then◌else◌}
 use Rattle.std.specs.Option.{option_map_or}
 use Rattle.fe_state.specs.declared.entry.Entry.{Entry}
 use Rattle.fe_state.specs.declared.entry.Entry.TheVariants.{Attached, Closed, Settled, Finished}
-use Rattle.fe_seats.specs.Seating.{holder_of, is_closing}
+use Rattle.fe_attachments.specs.AttachmentsState.{holder_of, is_closing}
 use Rattle.fe_service.specs.Events.{left}
 use Rattle.fe_mail.specs.Books.{mail_refused_by_box}
 use Rattle.fe_mail.specs.Connections.{session_on, mails_on}
@@ -33,7 +33,7 @@ released-keeps f conn = by (session_on f.connections conn)
     by (Some session) = record { state = refl; durable = refl; out = refl }
 
 pub freed-keeps : (f : FrontState) (session : ℕ) → Keeps f (freed f session)
-freed-keeps f session = by (holder_of f.service.seats session)
+freed-keeps f session = by (holder_of f.service.attachments session)
   where
     by : (o : Option ℕ) → Keeps f (option_map_or (λ conn. parted f conn session) o f)
     by None = itself f
@@ -62,14 +62,14 @@ mailed-keeps f conn mail = by (is_connected f conn) (nat_lt (length (mails_on f.
     by true false = both f (record f { books = mail_refused_by_box f.books }) (overflowed f conn) (record { state = refl; durable = refl; out = refl }) (dropped-keeps (record f { books = mail_refused_by_box f.books }) conn)
 
 delivered-keeps : (f : FrontState) (e : Entry) (place : ℕ) → Keeps f (delivered f e place)
-delivered-keeps f e place = by (holder_of f.service.seats (session_of e))
+delivered-keeps f e place = by (holder_of f.service.attachments (session_of e))
   where
     by : (o : Option ℕ) → Keeps f (option_map_or (λ conn. mailed f conn (mail_of e place)) o f)
     by None = itself f
     by (Some conn) = mailed-keeps f conn (mail_of e place)
 
 vacated-keeps : (f : FrontState) (session : ℕ) → Keeps f (vacated f session)
-vacated-keeps f session = by (is_closing f.service.seats session)
+vacated-keeps f session = by (is_closing f.service.attachments session)
   where
     by : (b : Bool) → Keeps f (if b then record f { service = left f.service session } else f)
     by true = record { state = refl; durable = refl; out = refl }

@@ -8,12 +8,12 @@ use Rattle.fe_state.specs.State.{ServerState, IsLegal, IsWithinLimits, after, af
 use Rattle.fe_state.specs.declared.entry.Entry.{Entry}
 use Rattle.fe_state.specs.declared.entry.Entry.TheVariants.{Attached, Closed, Settled, Finished}
 use Rattle.fe_state.specs.declared.request.Request.{Request}
-use Rattle.fe_service.specs.Events.{MaySit, floor_of}
+use Rattle.fe_service.specs.Events.{IsAttachable, floor_of}
 use Rattle.fe_service.specs.ServiceState.{ServiceState, IsService}
-use Rattle.fe_service.proofs.Seating.{attach_legal}
+use Rattle.fe_service.proofs.Attaching.{attach_legal}
 use Rattle.fe_service.proofs.Turns.{finished_usable, serves_legally}
 use Rattle.fe_front.specs.Front.{FrontState, IsFront, is_spent}
-use Rattle.fe_front.specs.Event.{Event, Connect, Attach, Call, Settle, Bye, Cancel, Gone, Cut, Post, TakeMail, Tell}
+use Rattle.fe_front.specs.Event.{Event, Connect, Attach, Call, Settle, Bye, Cancel, Gone, Cut, Post, TakeMail, GiveMail}
 use Rattle.fe_front.specs.Call.{Called, Completed, Repeats, repeated, kept_at}
 use Rattle.fe_front.specs.Refusals.{attaching, addressed, settling, leaving}
 use Rattle.fe_front.specs.Step.{FrontStep, OneEntry, NoEntry, Leads}
@@ -28,7 +28,7 @@ use Rattle.fe_front.specs.declared.outcome.Outcome.TheVariants as outcome
 use Rattle.fe_front.proofs.Admitted.{leaves, settles, own_there, may_settle_to, addresses, free_number}
 use Rattle.fe_front.proofs.Counts.{waiting-served}
 use Rattle.fe_front.proofs.Keeping.{released-keeps, freed-keeps, mailed-keeps, dropped-keeps, posted_all-keeps}
-use Rattle.fe_front.proofs.Sitting.{attaches, left_of}
+use Rattle.fe_front.proofs.Attaching.{attaches, left_of}
 
 -- an event that makes no entry and leaves the state
 still : (f f' g : FrontState) (es : List Entry) → NoEntry f' es g → g.service.state ≡ f.service.state → Leads f es f'
@@ -52,9 +52,9 @@ attach_leads : (f f' : FrontState) (conn session : ℕ) (es : List Entry) → Is
 attach_leads f f' conn session es front e made =
     let found = attaches f conn session session e in
     let s : ServiceState = record f.service { pending = [] } in
-    let service : IsService s = record { usable = front.service.usable; quiet = front.service.quiet; seated = front.service.seated } in
-    let sit : MaySit s session = record { not_closing = found.sit.not_closing; seat = found.sit.seat } in
-    let legal = attach_legal s session service sit (record { places = left_of f.service.state.place found.unspent; few = omega arith }) in
+    let service : IsService s = record { usable = front.service.usable; quiet = front.service.quiet; has_attachment = front.service.has_attachment } in
+    let attachable : IsAttachable s session = record { not_closing = found.attachable.not_closing; attachment = found.attachable.attachment } in
+    let legal = attach_legal s session service attachable (record { places = left_of f.service.state.place found.unspent; few = omega arith }) in
     let mid = released f conn in
     let kept = (freed-keeps mid session).state ∙ (released-keeps f conn).state in
     one f f' (attached_to f conn session) es (Attached session (floor_of f.service session)) made legal
@@ -131,4 +131,4 @@ steps_lead f f' (Gone conn count) es front limits step = still f f' (dropped f c
 steps_lead f f' (Cut batch) es front limits step = still f f' (cut f) es step.1 (unchosen f _ (has_no_cut f) refl)
 steps_lead f f' (Post batch) es front limits step = still f f' (posted f batch) es step.1 (posted_all-keeps f batch.entries batch.first).state
 steps_lead f f' (TakeMail conn m) es front limits step = still f f' (taken f conn) es step.1 (chosen f _ (nat_lt 0 (length (mails_on f.connections conn))) refl)
-steps_lead f f' (Tell conn m) es front limits step = still f f' (mailed f conn m) es step.1 (mailed-keeps f conn m).state
+steps_lead f f' (GiveMail conn m) es front limits step = still f f' (mailed f conn m) es step.1 (mailed-keeps f conn m).state

@@ -14,5 +14,5 @@ pub mod Posted
 pub mod Remainders
 pub mod Repeating
 pub mod Rising
-pub mod Sitting
+pub mod Attaching
 pub mod Ties

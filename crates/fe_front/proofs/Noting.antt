@@ -4,7 +4,7 @@ use Rattle.std.specs.Prelude.{IsTrue, nat_lt, if◌then◌else◌, ◌++◌, ◌
 use Rattle.std.specs.Option.{option_map_or}
 use Rattle.std.specs.FinMap.{get}
 use Rattle.fe_state.proofs.Maps.{get_left, same_or_other}
-use Rattle.fe_seats.specs.Seating.{holder_of, is_closing}
+use Rattle.fe_attachments.specs.AttachmentsState.{holder_of, is_closing}
 use Rattle.fe_service.specs.Events.{left}
 use Rattle.fe_mail.specs.Books.{mail_refused_by_box}
 use Rattle.fe_mail.specs.Connections.{session_on, mails_on}
@@ -31,7 +31,7 @@ module _ (q : ℕ) where
   parted-box f conn session = record { mails = mails_on-with_session f.connections conn None q; there = is_some-with_session f.connections conn None q }
 
   freed-box : (f : FrontState) (session : ℕ) → HasItsBox f (freed f session) q
-  freed-box f session = by (holder_of f.service.seats session)
+  freed-box f session = by (holder_of f.service.attachments session)
     where
       by : (o : Option ℕ) → HasItsBox f (option_map_or (λ conn. parted f conn session) o f) q
       by None = its_own f
@@ -45,7 +45,7 @@ module _ (q : ℕ) where
       by (Some session) = record { mails = mails_on-with_session f.connections conn None q; there = is_some-with_session f.connections conn None q }
 
   vacated-box : (f : FrontState) (session : ℕ) → HasItsBox f (vacated f session) q
-  vacated-box f session = by (is_closing f.service.seats session)
+  vacated-box f session = by (is_closing f.service.attachments session)
     where
       by : (b : Bool) → HasItsBox f (if b then record f { service = left f.service session } else f) q
       by true = record { mails = refl; there = refl }

@@ -9,7 +9,7 @@ use Rattle.fe_state.specs.declared.entry.Entry.{Entry}
 use Rattle.fe_state.specs.declared.entry.Entry.TheVariants.{Attached, Closed, Settled, Finished}
 use Rattle.fe_state.specs.declared.kept.Kept.{Kept}
 use Rattle.fe_state.specs.declared.request.Request.{Request}
-use Rattle.fe_seats.specs.Seating.{holder_of, is_closing}
+use Rattle.fe_attachments.specs.AttachmentsState.{holder_of, is_closing}
 use Rattle.fe_service.specs.Events.{left}
 use Rattle.fe_mail.specs.Books.{Books, Balances, counting, moving, call_completed, call_repeated, waiter_completed, waiters_withdrawn, mail_refused_by_box, mail_taken, box_dropped}
 use Rattle.fe_mail.specs.Connections.{session_on, mails_on, mails_in, with_mails}
@@ -19,7 +19,7 @@ use Rattle.fe_mail.specs.declared.mail.Mail.TheVariants as mail
 use Rattle.fe_mail.specs.declared.refusal.Refusal.{Refusal}
 use Rattle.fe_mail.proofs.MailCounts.{mails_in-take}
 use Rattle.fe_front.specs.Call.{Called, kept_at, repeated, waiters_completed, call_refused_by}
-use Rattle.fe_front.specs.Event.{Event, Connect, Attach, Call, Settle, Bye, Cancel, Gone, Cut, Post, TakeMail, Tell}
+use Rattle.fe_front.specs.Event.{Event, Connect, Attach, Call, Settle, Bye, Cancel, Gone, Cut, Post, TakeMail, GiveMail}
 use Rattle.fe_front.specs.Front.{FrontState, IsFront, out_length, is_connected}
 use Rattle.fe_front.specs.Posting.{IsOut, delivered, vacated, posted_entry, posted_all, posted}
 use Rattle.fe_front.specs.Rising.{HaveRoom, Rise, BooksRise, calls_of, taken_of, most_mails_of, refused_to}
@@ -99,7 +99,7 @@ served_rises (suc n) b unspent = let first = served_rises n b unspent in both fi
 -- ---- fronts
 
 freed_books : (f : FrontState) (session : ℕ) → (freed f session).books ≡ f.books
-freed_books f session = by (holder_of f.service.seats session)
+freed_books f session = by (holder_of f.service.attachments session)
   where
     by : (o : Option ℕ) → (option_map_or (λ conn. parted f conn session) o f).books ≡ f.books
     by None = refl
@@ -113,7 +113,7 @@ released_books f conn = by (session_on f.connections conn)
     by (Some session) = refl
 
 vacated_books : (f : FrontState) (session : ℕ) → (vacated f session).books ≡ f.books
-vacated_books f session = by (is_closing f.service.seats session)
+vacated_books f session = by (is_closing f.service.attachments session)
   where
     by : (b : Bool) → (if b then record f { service = left f.service session } else f).books ≡ f.books
     by true = refl
@@ -158,7 +158,7 @@ mailed_rises f conn m unspent below = by (is_connected f conn) (nat_lt (length (
 -- ---- posting
 
 delivered_rises : (f : FrontState) (e : Entry) (place : ℕ) → f.books.spent ≡ false → f.books.mails < 2 ^ 63 - 1 → Rise f.books 0 0 1 (delivered f e place).books
-delivered_rises f e place unspent below = by (holder_of f.service.seats (session_of e))
+delivered_rises f e place unspent below = by (holder_of f.service.attachments (session_of e))
   where
     by : (o : Option ℕ) → Rise f.books 0 0 1 (option_map_or (λ conn. mailed f conn (mail_of e place)) o f).books
     by None = most (omega arith) (stay f.books unspent)
@@ -275,7 +275,7 @@ events_rise f f' (Gone conn count) es front room step = at_front f f' (dropped f
 events_rise f f' (Cut batch) es front room step = same_rises f f' room.unspent (ap (λ (h : FrontState). h.books) step.1.front ∙ cut_books f)
 events_rise f f' (Post batch) es front room step = at_front f f' (posted f batch) 0 0 (length batch.entries) step.1.front (posted_rises f batch room)
 events_rise f f' (TakeMail conn m) es front room step = at_front f f' (taken f conn) 0 (taken_of (TakeMail conn m)) 0 step.1.front (take_rises f conn m room.unspent front.tied.balance step.0)
-events_rise f f' (Tell conn m) es front room step = at_front f f' (mailed f conn m) 0 0 1 step.1.front (mailed_rises f conn m room.unspent (omega (arith, room.few_mails)))
+events_rise f f' (GiveMail conn m) es front room step = at_front f f' (mailed f conn m) 0 0 1 step.1.front (mailed_rises f conn m room.unspent (omega (arith, room.few_mails)))
 
 few_mails : (f f' : FrontState) (event : Event) (es : List Entry) → IsFront f → FrontStep f event es f' → most_mails_of event ≤ 4097
 few_mails f f' (Post batch) es front step = few_entries f.out batch front.tied.few_out step.0
@@ -288,7 +288,7 @@ few_mails f f' (Cancel conn number) es front step = omega arith
 few_mails f f' (Gone conn count) es front step = omega arith
 few_mails f f' (Cut batch) es front step = omega arith
 few_mails f f' (TakeMail conn m) es front step = omega arith
-few_mails f f' (Tell conn m) es front step = omega arith
+few_mails f f' (GiveMail conn m) es front step = omega arith
 
 few_calls : (event : Event) → calls_of event ≤ 1
 few_calls (Call conn number request o) = omega arith
@@ -301,7 +301,7 @@ few_calls (Gone conn count) = omega arith
 few_calls (Cut batch) = omega arith
 few_calls (Post batch) = omega arith
 few_calls (TakeMail conn m) = omega arith
-few_calls (Tell conn m) = omega arith
+few_calls (GiveMail conn m) = omega arith
 
 -- books that have room for whatever event comes
 pub any_rises : (f f' : FrontState) (event : Event) (es : List Entry) → IsFront f → HaveRoom f.books 1 4097 → FrontStep f event es f' → Rise f.books (calls_of event) (taken_of event) (most_mails_of event) f'.books

@@ -13,7 +13,7 @@ use Rattle.fe_front.proofs.Agreement.{Agree}
 -- an event that makes this many entries
 pub made_sound : (t : Inside) (service : ServiceState) (connections : FinMap nat_cmp Connection) (books : Books) (made : ℕ) → IsSound t
     → service.state.place ≡ t.service.state.place + made → length service.pending ≡ length t.service.pending + made
-    → Agree service.seats connections → Balances books (len service.waiting) (mails_in connections)
+    → Agree service.attachments connections → Balances books (len service.waiting) (mails_in connections)
     → IsSound (record { service = service; connections = connections; books = books; durable = t.durable; out = t.out; spare = t.spare })
 made_sound t service connections books made sound place pending agree balance = record {
   tied = record {
@@ -29,7 +29,7 @@ made_sound t service connections books made sound place pending agree balance = 
 -- an event that makes no entry
 pub quiet_sound : (t : Inside) (service : ServiceState) (connections : FinMap nat_cmp Connection) (books : Books) → IsSound t
     → service.state.place ≡ t.service.state.place → length service.pending ≡ length t.service.pending
-    → Agree service.seats connections → Balances books (len service.waiting) (mails_in connections)
+    → Agree service.attachments connections → Balances books (len service.waiting) (mails_in connections)
     → IsSound (record { service = service; connections = connections; books = books; durable = t.durable; out = t.out; spare = t.spare })
 quiet_sound t service connections books sound place pending =
     made_sound t service connections books 0 sound (omega (arith, place)) (omega (arith, pending))

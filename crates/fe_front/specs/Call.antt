@@ -2,7 +2,7 @@
 use Rattle.std.specs.Prelude.{◌≡◌, ◌≢◌, ℕ, ◌+◌, zero, suc, nat_lt, if◌then◌else◌, true, false, List, [], ◌∷◌, length, Option, Some, None, Ok, MatchOption, MatchResult}
 use Rattle.std.specs.Option.{option_map, option_map_or}
 use Rattle.std.specs.FinMap.{get}
-use Rattle.fe_waits.specs.Waiting.{Waiter}
+use Rattle.fe_waits.specs.Waiting.{WaitingAccess}
 use Rattle.fe_state.specs.Sessions.{kept_in}
 use Rattle.fe_state.specs.State.{reply, MakesArray}
 use Rattle.fe_state.specs.declared.answer.Answer.{Answer}
@@ -93,7 +93,7 @@ pub record Completed (f : FrontState) (session number : ℕ) (request : Request)
 
 -- a new request waits from now on
 pub record Waits (f : FrontState) (session number : ℕ) (request : Request) (es : List Entry) (f' : FrontState) : Type 0 where
-  pub waiter : Waiter
+  pub waiter : WaitingAccess
   pub new : request_at f session number ≡ None
   pub unspent : is_spent f ≡ false
   pub idle : reply f.service.state request ≡ None

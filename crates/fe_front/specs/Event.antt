@@ -27,7 +27,7 @@ pub data Event : Type 0 where
   -- a connection, and its first mail, if it had one
   TakeMail : ℕ → Option Mail → Event
   -- a connection and the mail that it gets: a report or a refusal (`IsReportOrRefusal`)
-  Tell : ℕ → Mail → Event
+  GiveMail : ℕ → Mail → Event
 
 -- a mail that answers at once: a report or a refusal
 abbrev pub IsReportOrRefusal : Mail → Type 0

@@ -3,9 +3,9 @@ use Rattle.std.specs.Prelude.{◌≡◌, ◌↔◌, ℕ, ◌+◌, ◌≤◌, ref
 use Rattle.std.specs.Ordering.{nat_cmp}
 use Rattle.std.specs.Coded.{Coded, code_by, coded×, coded_ℕ, coded_option}
 use Rattle.std.specs.FinMap.{FinMap, code, empty, get, len}
-use Rattle.fe_seats.specs.Seating.{holder_of, is_closing}
+use Rattle.fe_attachments.specs.AttachmentsState.{holder_of, is_closing}
 use Rattle.fe_state.specs.State.{ServerState}
-use Rattle.fe_service.specs.Events.{IsSeated}
+use Rattle.fe_service.specs.Events.{AreFreeAttachments}
 use Rattle.fe_service.specs.ServiceState.{ServiceState, IsService, service_code}
 use Rattle.fe_mail.specs.Books.{Books, Balances, first_books, books_code}
 use Rattle.fe_mail.specs.Connections.{session_on, mails_in}
@@ -15,8 +15,8 @@ use Rattle.fe_front.specs.declared.out.Out.{Out}
 use Rattle.fe_front.specs.contracts.out.Out.{the_row as out_row}
 use Rattle.fe_state.specs.Limits.{most_batch_entries, most_event_entries, greatest_place, most_waiting}
 
--- The state with its seats, what waits and the entries not yet cut; the connections with their sessions and boxes; how
--- many entries are durable; where the batch that is out begins, and how long it is; and the books.
+-- The state with its attachments, what waits and the entries not yet cut; the connections with their sessions and
+-- boxes; how many entries are durable; where the batch that is out begins, and how long it is; and the books.
 pub record FrontState : Type 0 where
   pub service : ServiceState
   pub connections : FinMap nat_cmp Connection
@@ -42,7 +42,7 @@ out_length (Some o) = o.length
 -- What ties the parts of a front: a connection has the session that has the connection, each entry is durable, out or
 -- not yet cut, a batch that is out begins at the mark, and the books balance with what waits and what is in the boxes.
 pub record IsTied (f : FrontState) : Type 0 where
-  pub agree : (session conn : ℕ) → (holder_of f.service.seats session ≡ Some conn) ↔ (session_on f.connections conn ≡ Some session)
+  pub agree : (session conn : ℕ) → (holder_of f.service.attachments session ≡ Some conn) ↔ (session_on f.connections conn ≡ Some session)
   pub place : f.service.state.place ≡ f.durable + out_length f.out + length f.service.pending
   pub few_out : out_length f.out ≤ most_batch_entries
   pub out_first : IfSome f.out (λ o. o.first ≡ f.durable)
@@ -55,10 +55,10 @@ pub record IsFront (f : FrontState) : Type 0 where
   pub few_waiting : len f.service.waiting ≤ most_waiting
   pub few_pending : length f.service.pending ≤ most_batch_entries
 
--- a front as it begins, over a state: one seat for each session, which nobody has, and all entries durable
+-- a front as it begins, over a state: one attachment for each session, which nobody has, and all entries durable
 pub record IsFirst (begun : ServerState) (f : FrontState) : Type 0 where
   pub state : f.service.state ≡ begun
-  pub seats : IsSeated begun.sessions f.service.seats
+  pub attachments : AreFreeAttachments begun.sessions f.service.attachments
   pub waiting : f.service.waiting ≡ empty
   pub pending : f.service.pending ≡ []
   pub connections : f.connections ≡ empty
@@ -76,7 +76,7 @@ is_spent f = nat_lt greatest_place (f.service.state.place + most_event_entries)
 
 -- whether a connection has the session, and it is not closing
 abbrev pub is_attached : FrontState → ℕ → Bool
-is_attached f session = is_some (holder_of f.service.seats session) && not (is_closing f.service.seats session)
+is_attached f session = is_some (holder_of f.service.attachments session) && not (is_closing f.service.attachments session)
 
 -- whether a connection is there
 abbrev pub is_connected : FrontState → ℕ → Bool

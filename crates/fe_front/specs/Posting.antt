@@ -4,7 +4,7 @@ use Rattle.std.specs.Option.{option_map_or}
 use Rattle.fe_state.specs.declared.batch.Batch.{Batch}
 use Rattle.fe_state.specs.declared.entry.Entry.{Entry}
 use Rattle.fe_state.specs.declared.entry.Entry.TheVariants.{Attached, Closed, Settled, Finished}
-use Rattle.fe_seats.specs.Seating.{holder_of, is_closing}
+use Rattle.fe_attachments.specs.AttachmentsState.{holder_of, is_closing}
 use Rattle.fe_service.specs.Events.{left}
 use Rattle.fe_mail.specs.Mail.{session_of, mail_of}
 use Rattle.fe_front.specs.Front.{FrontState}
@@ -18,11 +18,11 @@ IsOut (Some o) batch = (batch.first ≡ o.first) × (length batch.entries ≡ o.
 
 -- an entry's mail goes to the connection that has its session, if one does
 abbrev pub delivered : FrontState → Entry → ℕ → FrontState
-delivered f e place = option_map_or (λ conn. mailed f conn (mail_of e place)) (holder_of f.service.seats (session_of e)) f
+delivered f e place = option_map_or (λ conn. mailed f conn (mail_of e place)) (holder_of f.service.attachments (session_of e)) f
 
--- a session that is closing leaves its seat
+-- a session that is closing leaves its attachment
 abbrev pub vacated : FrontState → ℕ → FrontState
-vacated f session = if is_closing f.service.seats session then record f { service = left f.service session } else f
+vacated f session = if is_closing f.service.attachments session then record f { service = left f.service session } else f
 
 -- a session's close is posted: a connection that has it loses it, and its closing ends
 abbrev pub ended : FrontState → ℕ → FrontState

@@ -2,9 +2,9 @@
 use Rattle.std.specs.Prelude.{ℕ, zero, suc, ◌+◌, ◌||◌, ◌&&◌, Bool, false, not, if◌then◌else◌, nat_lt, is_some, is_none, Result, Ok, Err}
 use Rattle.std.specs.Option.{option_map_or}
 use Rattle.std.specs.FinMap.{get, len}
-use Rattle.fe_seats.specs.Seating.{is_closing}
+use Rattle.fe_attachments.specs.AttachmentsState.{is_closing}
 use Rattle.fe_service.specs.Events.{floor_of}
-use Rattle.fe_service.specs.Service.{Waiters}
+use Rattle.fe_service.specs.Service.{WaitingAccesses}
 use Rattle.fe_mail.specs.Connections.{session_on}
 use Rattle.fe_mail.specs.declared.refusal.Refusal.{Refusal}
 use Rattle.fe_mail.specs.declared.refusal.Refusal.TheVariants.{NotAttached, Closing, SessionLimit, BelowFloor, BeyondWindow, StillWaiting, NotWaiting, Spent}
@@ -18,7 +18,7 @@ and_then (Ok session) next = next session
 
 -- the session of a connection, which is not closing
 abbrev pub unclosing : FrontState → ℕ → Result ℕ Refusal
-unclosing f session = if is_closing f.service.seats session then Err Closing else Ok session
+unclosing f session = if is_closing f.service.attachments session then Err Closing else Ok session
 
 abbrev pub own : FrontState → ℕ → Result ℕ Refusal
 own f conn = option_map_or (unclosing f) (session_on f.connections conn) (Err NotAttached)
@@ -27,15 +27,15 @@ own f conn = option_map_or (unclosing f) (session_on f.connections conn) (Err No
 abbrev pub unspent : FrontState → ℕ → Result ℕ Refusal
 unspent f session = if is_spent f then Err Spent else Ok session
 
--- whether a session needs a seat and there is none for it
-abbrev pub has_no_seat : FrontState → ℕ → Bool
-has_no_seat f session = is_none (get f.service.seats session) && not (nat_lt (len f.service.seats) most_sessions)
+-- whether a session needs an attachment and there is room for none
+abbrev pub has_no_attachment : FrontState → ℕ → Bool
+has_no_attachment f session = is_none (get f.service.attachments session) && not (nat_lt (len f.service.attachments) most_sessions)
 
 abbrev pub attaching : FrontState → ℕ → ℕ → Result ℕ Refusal
 attaching f conn session =
     if not (is_connected f conn) then Err NotAttached
-    else if is_closing f.service.seats session then Err Closing
-    else if has_no_seat f session then Err SessionLimit
+    else if is_closing f.service.attachments session then Err Closing
+    else if has_no_attachment f session then Err SessionLimit
     else unspent f session
 
 -- a session whose window has the number
@@ -50,7 +50,7 @@ abbrev pub addressed : FrontState → ℕ → ℕ → Result ℕ Refusal
 addressed f conn number = and_then (own f conn) (in_window f number)
 
 -- whether a request of the session waits under a number below this one
-abbrev pub waits_below : Waiters → ℕ → ℕ → Bool
+abbrev pub waits_below : WaitingAccesses → ℕ → ℕ → Bool
 waits_below waiting session zero = false
 waits_below waiting session (suc number) = waits_below waiting session number || is_some (get waiting (session, number))
 

@@ -5,7 +5,7 @@ use Rattle.fe_mail.specs.Books.{Books}
 use Rattle.fe_mail.specs.Limits.{most_booked}
 use Rattle.fe_mail.specs.declared.refusal.Refusal.{Refusal}
 use Rattle.fe_mail.specs.declared.mail.Mail.TheVariants as mail
-use Rattle.fe_front.specs.Event.{Event, Call, Cancel, Post, TakeMail, Tell}
+use Rattle.fe_front.specs.Event.{Event, Call, Cancel, Post, TakeMail, GiveMail}
 use Rattle.fe_front.specs.Front.{FrontState, IsFront}
 use Rattle.fe_front.specs.Call.{call_refused_by}
 use Rattle.fe_front.specs.Step.{FrontStep}
@@ -42,7 +42,7 @@ abbrev pub most_mails_of : Event → ℕ
 most_mails_of (Post batch) = length batch.entries
 most_mails_of (Call conn number request outcome) = 1
 most_mails_of (Cancel conn number) = 1
-most_mails_of (Tell conn mail) = 1
+most_mails_of (GiveMail conn mail) = 1
 most_mails_of _ = 0
 
 -- the front after a call was refused and its refusal mailed

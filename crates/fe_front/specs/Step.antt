@@ -7,7 +7,7 @@ use Rattle.fe_state.specs.declared.entry.Entry.{Entry}
 use Rattle.fe_state.specs.declared.entry.Entry.TheVariants.{Attached, Closed, Settled}
 use Rattle.fe_service.specs.Events.{floor_of}
 use Rattle.fe_mail.specs.Connections.{mails_on}
-use Rattle.fe_front.specs.Event.{Event, Connect, Attach, Call, Settle, Bye, Cancel, Gone, Cut, Post, TakeMail, Tell, IsReportOrRefusal}
+use Rattle.fe_front.specs.Event.{Event, Connect, Attach, Call, Settle, Bye, Cancel, Gone, Cut, Post, TakeMail, GiveMail, IsReportOrRefusal}
 use Rattle.fe_front.specs.Front.{FrontState, IsFront}
 use Rattle.fe_front.specs.Call.{Called}
 use Rattle.fe_front.specs.Posting.{IsOut, posted}
@@ -41,7 +41,7 @@ FrontStep f (Gone conn count) es f' = (count ≡ departing f conn) × NoEntry f'
 FrontStep f (Cut batch) es f' = (batch ≡ next_batch f) × NoEntry f' es (cut f)
 FrontStep f (Post batch) es f' = IsOut f.out batch × NoEntry f' es (posted f batch)
 FrontStep f (TakeMail conn mail) es f' = (mail ≡ slice_get (mails_on f.connections conn) 0) × NoEntry f' es (taken f conn)
-FrontStep f (Tell conn mail) es f' = IsReportOrRefusal mail × NoEntry f' es (mailed f conn mail)
+FrontStep f (GiveMail conn mail) es f' = IsReportOrRefusal mail × NoEntry f' es (mailed f conn mail)
 
 -- the entries of a step are legal one after the other, and lead to the state after it
 pub record Leads (f : FrontState) (es : List Entry) (f' : FrontState) : Type 0 where

@@ -63,11 +63,11 @@ impl Front {
     {
         match self.service.state().kept(session, number) {
             Some(kept) => Some(kept.request),
-            None => match self.service.seats().find(session, number) {
-                Some(turn) => Some(Request::Access {
-                    array: turn.array,
-                    index: turn.index,
-                    op: turn.op,
+            None => match self.service.attachments().find(session, number) {
+                Some(waiter) => Some(Request::Access {
+                    array: waiter.array,
+                    index: waiter.index,
+                    op: waiter.op,
                     no_wait: false,
                 }),
                 None => None,

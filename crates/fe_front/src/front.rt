@@ -26,8 +26,8 @@ use fe_words::Op;
 use std::alloc::{AllocError, Global};
 use std::marker::Model;
 
-/// The state, the sessions' seats and what waits, the connections with their boxes, the entries on their way to the
-/// store, and the books.
+/// The state, the sessions' attachments and what waits, the connections with their boxes, the entries on their way to
+/// the store, and the books.
 ///
 /// After each event none of the requests that wait may be served. Only `new`, `connect` and a request that makes an
 /// array take memory.
@@ -72,8 +72,8 @@ impl Model for Front {
 }
 
 impl Front {
-    /// A front over a state whose entries are all durable. Each session has a seat and no connection. Only boxes and
-    /// new arrays take memory later. Fails only if memory runs out.
+    /// A front over a state whose entries are all durable. Each session has an attachment and no connection. Only boxes
+    /// and new arrays take memory later. Fails only if memory runs out.
     pub fn new(alloc: Global, state: State) -> Result<Front, AllocError>
         ensures { IfOk result (IsFirst state) }
     {
@@ -324,7 +324,7 @@ impl Front {
         ensures front { IsFront self.now }
         ensures limits { states.IsWithinLimits self.now.service.state }
     {
-        let _ = self.service.seats().len();
+        let _ = self.service.attachments().len();
         let _ = self.service.pending_count();
         self.service.state()
     }
@@ -341,13 +341,13 @@ impl Front {
     pub fn waiting(&self, session: u64, number: u64) -> Option<(u64, u32, Op)>
         ensures { result ≡ option_map (λ w. (w.array, w.index, w.op)) (get self.now.service.waiting (session, number)) }
     {
-        match self.service.seats().find(session, number) {
-            Some(turn) => Some((turn.array, turn.index, turn.op)),
+        match self.service.attachments().find(session, number) {
+            Some(waiter) => Some((waiter.array, waiter.index, waiter.op)),
             None => None,
         }
     }
 
-    /// The state with the sessions' seats, and the requests that wait.
+    /// The state with the sessions' attachments, and the requests that wait.
     pub fn service(&self) -> &Service
         ensures { result.now ≡ self.now.service }
     {

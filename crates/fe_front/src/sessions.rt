@@ -4,9 +4,9 @@ ghost use Rattle.fe_front.specs.Front.{IsFront, is_connected, is_spent};
 ghost use Rattle.fe_front.specs.Refusals.{own, unclosing, attaching, settling, leaving, cancelling, may_settle, unspent, waits_below};
 ghost use Rattle.fe_front.specs.Steps.{joined, cancelled_from};
 ghost use Rattle.fe_mail.specs.Connections.{session_on};
-ghost use Rattle.fe_seats.specs.Seating.{holder_of, is_closing};
+ghost use Rattle.fe_attachments.specs.AttachmentsState.{holder_of, is_closing};
 ghost use Rattle.fe_state.specs.State.{IsWithinLimits};
-ghost use Rattle.fe_service.specs.Events.{floor_of, MaySit, HasRoom};
+ghost use Rattle.fe_service.specs.Events.{floor_of, IsAttachable, HasRoom};
 
 use crate::front::Front;
 use fe_mail::Refusal;
@@ -30,20 +30,20 @@ impl Front {
 
     /// The connection that has a session, if one has it.
     pub(crate) fn holder(&self, session: u64) -> Option<u64>
-        ensures { result ≡ holder_of self.now.service.seats session }
+        ensures { result ≡ holder_of self.now.service.attachments session }
     {
-        match self.service.seats().seat(session) {
-            Some(seat) => seat.holder,
+        match self.service.attachments().attachment(session) {
+            Some(attachment) => attachment.holder,
             None => None,
         }
     }
 
     /// Whether a session's close is made and not yet posted.
     pub(crate) fn is_closing(&self, session: u64) -> bool
-        ensures { result ≡ is_closing self.now.service.seats session }
+        ensures { result ≡ is_closing self.now.service.attachments session }
     {
-        match self.service.seats().seat(session) {
-            Some(seat) => seat.closing,
+        match self.service.attachments().attachment(session) {
+            Some(attachment) => attachment.closing,
             None => false,
         }
     }
@@ -94,12 +94,14 @@ impl Front {
     pub(crate) fn attaching(&self, conn: u64, session: u64) -> Result<u64, Refusal>
         ensures { result ≡ attaching self.now conn session }
     {
-        let seats = self.service.seats();
+        let attachments = self.service.attachments();
         if !self.connections.is_connected(conn) {
             Err(Refusal::NotAttached)
         } else if self.is_closing(session) {
             Err(Refusal::Closing)
-        } else if seats.seat(session).is_none() && seats.seat_count() >= SESSIONS {
+        } else if attachments.attachment(session).is_none()
+            && attachments.attachment_count() >= SESSIONS
+        {
             Err(Refusal::SessionLimit)
         } else {
             self.unspent(session)
@@ -110,8 +112,8 @@ impl Front {
     pub(crate) fn join(&mut self, conn: u64, session: u64)
         requires free_connection { session_on self.old.connections conn ≡ None }
         requires connected { IsTrue (is_connected self.old conn) }
-        requires free_session { holder_of self.old.service.seats session ≡ None }
-        requires sit { MaySit self.old.service session }
+        requires free_session { holder_of self.old.service.attachments session ≡ None }
+        requires attachable { IsAttachable self.old.service session }
         requires room { HasRoom self.old.service }
         ensures joined { self.new ≡ joined self.old conn session }
     {
@@ -172,7 +174,7 @@ impl Front {
     {
         match self.own(conn) {
             Ok(session) => {
-                if self.service.seats().find(session, number).is_some() {
+                if self.service.attachments().find(session, number).is_some() {
                     Ok(session)
                 } else {
                     Err(Refusal::NotWaiting)

@@ -17,7 +17,7 @@ use Rattle.fe_keeper.specs.Stands.{StandsFor, StandsForEither, EachStandsFor}
 use Rattle.fe_keeper.specs.declared.fault.Fault.{Fault}
 use Rattle.fe_keeper.specs.declared.fault.Fault.TheVariants.{Device, Failed, NoMemory, Mismatch, Damaged, Unformatted}
 use Rattle.fe_hall.proofs.Noted.{none_noted, both_noted, turn_noted}
-use Rattle.fe_hall.specs.Commits.{Append, AreAppends, AreNoted, HoldsSince, Commits, TellsEnd, end_of}
+use Rattle.fe_hall.specs.Commits.{Append, AreAppends, AppendsAreNoted, HoldsSince, Commits, EndsAs, end_of}
 use Rattle.fe_history.specs.declared.act.Act.{Act}
 use Rattle.fe_hall.specs.declared.commit_end.CommitEnd.{CommitEnd}
 use Rattle.fe_hall.specs.declared.commit_end.CommitEnd.TheVariants.{Store, Strange}
@@ -243,7 +243,7 @@ module _ {D : Type 0} (model : Ghosts D) where
   -- ---- with the history
 
   pub kept_noted : (old new : KeeperState D) (end : Option CommitEnd) (rests : Rests model old new) (acts : List Act)
-      → (all : Commits model old new end) × AreNoted model all.appends end acts acts
+      → (all : Commits model old new end) × AppendsAreNoted model all.appends end acts acts
   unfolding commits_kept
   kept_noted old new end rests acts = (commits_kept old new end rests, none_noted model [] end acts refl)
 
@@ -251,22 +251,22 @@ module _ {D : Type 0} (model : Ghosts D) where
       → 1 ≤ length batch.entries → AreLegal old.state batch.entries → new.state ≡ after_all old.state batch.entries → new.store.has_failed ≡ old.store.has_failed → (model.honest new.store.disk ↔ model.honest old.store.disk)
       → (model.honest new.store.disk → new.store.has_failed ≡ false → EachStandsFor model new.store.disk new.state)
       → (model.honest old.store.disk → old.store.has_failed ≡ false → LeavesOnly model old.store.disk new.store.disk (StandsForEither old.state (after_all old.state batch.entries)))
-      → AreNoted model (record { batch = batch; before = old; after = new } ∷ []) end a b
-      → (all : Commits model old new end) × AreNoted model all.appends end a b
+      → AppendsAreNoted model (record { batch = batch; before = old; after = new } ∷ []) end a b
+      → (all : Commits model old new end) × AppendsAreNoted model all.appends end a b
   unfolding commits_group
   group_noted only_now old new end batch a b some legal state still honesty stands run notes =
       (commits_group only_now old new end batch some legal state still honesty stands run, notes)
 
   pub both_commits : (a b c : KeeperState D) (end : Option CommitEnd) (x y z : List Act) → b.store.has_failed ≡ a.store.has_failed → (model.honest b.store.disk ↔ model.honest a.store.disk)
-      → (ab : Commits model a b None) → AreNoted model ab.appends None x y → (bc : Commits model b c end) → AreNoted model bc.appends end y z
-      → (all : Commits model a c end) × AreNoted model all.appends end x z
+      → (ab : Commits model a b None) → AppendsAreNoted model ab.appends None x y → (bc : Commits model b c end) → AppendsAreNoted model bc.appends end y z
+      → (all : Commits model a c end) × AppendsAreNoted model all.appends end x z
   unfolding commits_both
   both_commits a b c end x y z works honesty ab one bc two = (commits_both a b c end works honesty ab bc, both_noted model ab.appends bc.appends end x y z one two)
 
   pub turn_commits : (a k m n : KeeperState D) (end : Option CommitEnd) (x y z : List Act) → k.store.has_failed ≡ a.store.has_failed → m.store.has_failed ≡ k.store.has_failed
-      → (model.honest k.store.disk ↔ model.honest a.store.disk) → (model.honest m.store.disk ↔ model.honest k.store.disk) → (first : Commits model a k None) → AreNoted model first.appends None x y
-      → (second : Commits model k m None) → AreNoted model second.appends None y z → Rests model m n
-      → (all : Commits model a n end) × AreNoted model all.appends end x z
+      → (model.honest k.store.disk ↔ model.honest a.store.disk) → (model.honest m.store.disk ↔ model.honest k.store.disk) → (first : Commits model a k None) → AppendsAreNoted model first.appends None x y
+      → (second : Commits model k m None) → AppendsAreNoted model second.appends None y z → Rests model m n
+      → (all : Commits model a n end) × AppendsAreNoted model all.appends end x z
   unfolding commits_turn commits_both commits_kept
   turn_commits a k m n end x y z ak km honest_ak honest_km first one second two rests = (
     commits_turn a k m n end ak km honest_ak honest_km first second rests,
@@ -274,8 +274,8 @@ module _ {D : Type 0} (model : Ghosts D) where
   )
 
   -- a side that went on may end
-  pub ended_noted : (a b : KeeperState D) (end : Option CommitEnd) (x y : List Act) (c : Commits model a b None) → AreNoted model c.appends None x y
-      → (all : Commits model a b end) × AreNoted model all.appends end x y
+  pub ended_noted : (a b : KeeperState D) (end : Option CommitEnd) (x y : List Act) (c : Commits model a b None) → AppendsAreNoted model c.appends None x y
+      → (all : Commits model a b end) × AppendsAreNoted model all.appends end x y
   ended_noted a b end x y c (p, n, is, inr strange) = absurd (cc (strange.0))
   ended_noted a b end x y c (p, n, is, inl notes) = (
     record {
@@ -377,7 +377,7 @@ module _ {D : Type 0} (model : Ghosts D) (old new : KeeperState D) where
   still_same same = record { works = ap (λ (k : KeeperState D). k.store.has_failed) same; still = ap (λ (k : KeeperState D). model.failures k.store.disk) same }
 
   -- what the end tells of it
-  pub fault_tells : (fault : Fault) (first : ℕ) (entries : List Entry) → Fails model (ForBatch old first entries) old new fault → TellsEnd model old new (Some (end_of fault))
+  pub fault_tells : (fault : Fault) (first : ℕ) (entries : List Entry) → Fails model (ForBatch old first entries) old new fault → EndsAs model old new (Some (end_of fault))
   fault_tells Device first entries fails = fails.1
   fault_tells Failed first entries fails = fails
   fault_tells NoMemory first entries fails = still_same fails.1.same
@@ -403,6 +403,6 @@ module _ {D : Type 0} (model : Ghosts D) (old new : KeeperState D) where
   still_short Cause fault is fails = still_same (subst (Fails model Cause old new) is fails).1.same
 
 -- what is said of a fault is said of a result that has it
-pub told : {T : Type 0} (result : Result T Fault) (fault : Fault) (P : Fault → Type 0) → IsErrAnd result (λ f. f ≡ fault) → P fault → IfErr result P
-told (Ok x) fault P is p = absurd is
-told (Err f) fault P is p = subst P (sym is) p
+pub fault_is : {T : Type 0} (result : Result T Fault) (fault : Fault) (P : Fault → Type 0) → IsErrAnd result (λ f. f ≡ fault) → P fault → IfErr result P
+fault_is (Ok x) fault P is p = absurd is
+fault_is (Err f) fault P is p = subst P (sym is) p

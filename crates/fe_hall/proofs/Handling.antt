@@ -6,7 +6,7 @@ use Rattle.std.proofs.lemmas.List.{append-nil, length-append, length-take-le, ta
 use Rattle.std.proofs.lemmas.List.Elements.{filter-append}
 use Rattle.std.proofs.lemmas.List.Sums.{sum_by-append}
 use Rattle.fe_wire.specs.declared.client_message.ClientMessage.{ClientMessage}
-use Rattle.fe_shared.specs.Seats.{ReadSeat, TookNoMessage, calls_in, message_taken}
+use Rattle.fe_shared.specs.Seats.{CallSeatState, TookNoMessage, calls_in, message_taken}
 use Rattle.fe_hall.specs.Reads.{is_sent, sent_among, listed_with, most_listed, AreHandled, HandlesStream}
 use Rattle.fe_hall.specs.declared.ends.ReadEnd.{ReadEnd}
 
@@ -30,18 +30,18 @@ listed_more messages m = ap (λ (ms : List ClientMessage). take most_listed ms) 
     by true = first_with most_listed (filter is_sent messages) m
     by false = ap (λ (ms : List ClientMessage). take most_listed ms) (append-nil (filter is_sent messages))
 
-pub handled_more : (before old new : ReadSeat) (listed list messages : List ClientMessage) (m : ClientMessage) (place : ℕ) → new ≡ message_taken old m place → list ≡ listed_with listed m
+pub handled_more : (before old new : CallSeatState) (listed list messages : List ClientMessage) (m : ClientMessage) (place : ℕ) → new ≡ message_taken old m place → list ≡ listed_with listed m
     → AreHandled before old listed messages → AreHandled before new list (messages ++ m ∷ [])
 handled_more before old new listed list messages m place rises lists handled =
     record {
-      conn = ap (λ (s : ReadSeat). s.conn) rises ∙ handled.conn;
-      calls = omega (arith, ap (λ (s : ReadSeat). s.calls) rises, handled.calls, sum_by-append calls_in messages (m ∷ []));
-      all = ap (λ (s : ReadSeat). s.messages) rises ∙ ap (λ (ms : List ClientMessage). ms ++ m ∷ []) handled.all ∙ append_assoc before.messages messages (m ∷ []);
+      conn = ap (λ (s : CallSeatState). s.conn) rises ∙ handled.conn;
+      calls = omega (arith, ap (λ (s : CallSeatState). s.calls) rises, handled.calls, sum_by-append calls_in messages (m ∷ []));
+      all = ap (λ (s : CallSeatState). s.messages) rises ∙ ap (λ (ms : List ClientMessage). ms ++ m ∷ []) handled.all ∙ append_assoc before.messages messages (m ∷ []);
       listed = lists ∙ ap (λ (ms : List ClientMessage). listed_with ms m) handled.listed ∙ sym (listed_more messages m);
     }
 
 -- the message after the first i is handled
-pub handled_next : (before old new : ReadSeat) (listed list earlier messages : List ClientMessage) (i : ℕ) (m : ClientMessage) → i < length messages → m ≡ get_or messages i m
+pub handled_next : (before old new : CallSeatState) (listed list earlier messages : List ClientMessage) (i : ℕ) (m : ClientMessage) → i < length messages → m ≡ get_or messages i m
     → (place : ℕ) × (new ≡ message_taken old m place) → list ≡ listed_with listed m → AreHandled before old listed (earlier ++ take i messages) → AreHandled before new list (earlier ++ take (i + 1) messages)
 handled_next before old new listed list earlier messages i m lt at rises lists handled =
     let more : (earlier ++ take i messages) ++ m ∷ [] ≡ earlier ++ take (i + 1) messages =
@@ -49,7 +49,7 @@ handled_next before old new listed list earlier messages i m lt at rises lists h
     subst (λ (ms : List ClientMessage). AreHandled before new list ms) more (handled_more before old new listed list (earlier ++ take i messages) m rises.0 rises.1 lists handled)
 
 -- no message was taken
-pub handled_still : (before old new : ReadSeat) (listed list messages : List ClientMessage) → TookNoMessage old new → list ≡ listed → AreHandled before old listed messages → AreHandled before new list messages
+pub handled_still : (before old new : CallSeatState) (listed list messages : List ClientMessage) → TookNoMessage old new → list ≡ listed → AreHandled before old listed messages → AreHandled before new list messages
 handled_still before old new listed list messages none same handled = record {
   conn = none.conn ∙ handled.conn;
   calls = none.calls ∙ handled.calls;
@@ -58,7 +58,7 @@ handled_still before old new listed list messages none same handled = record {
 }
 
 -- what a side handled stays so while it leaves
-pub stream_left : (bytes : List ℕ) (before old new : ReadSeat) (list : List ClientMessage) (end : ReadEnd) → TookNoMessage old new → HandlesStream bytes before old list end → HandlesStream bytes before new list end
+pub stream_left : (bytes : List ℕ) (before old new : CallSeatState) (list : List ClientMessage) (end : ReadEnd) → TookNoMessage old new → HandlesStream bytes before old list end → HandlesStream bytes before new list end
 stream_left bytes before old new list end none h = record {
   messages = h.messages;
   rest = h.rest;
@@ -68,9 +68,9 @@ stream_left bytes before old new list end none h = record {
   ends = h.ends;
 }
 
-pub handled_whole : (before old : ReadSeat) (listed earlier messages : List ClientMessage) (i : ℕ) → length messages ≤ i → AreHandled before old listed (earlier ++ take i messages) → AreHandled before old listed (earlier ++ messages)
+pub handled_whole : (before old : CallSeatState) (listed earlier messages : List ClientMessage) (i : ℕ) → length messages ≤ i → AreHandled before old listed (earlier ++ take i messages) → AreHandled before old listed (earlier ++ messages)
 handled_whole before old listed earlier messages i le handled =
     subst (λ (ms : List ClientMessage). AreHandled before old listed (earlier ++ ms)) (take_all i messages le) handled
 
-pub handled_none : (before old : ReadSeat) (listed earlier messages : List ClientMessage) → AreHandled before old listed earlier → AreHandled before old listed (earlier ++ take 0 messages)
+pub handled_none : (before old : CallSeatState) (listed earlier messages : List ClientMessage) → AreHandled before old listed earlier → AreHandled before old listed (earlier ++ take 0 messages)
 handled_none before old listed earlier messages handled = subst (λ (ms : List ClientMessage). AreHandled before old listed ms) (sym (append-nil earlier)) handled

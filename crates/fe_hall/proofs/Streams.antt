@@ -18,7 +18,7 @@ use Rattle.fe_wire.proofs.StreamLaws.{one_reading, nothing_unfinished}
 use Rattle.fe_hall.specs.declared.ends.ReadEnd.{ReadEnd}
 use Rattle.fe_shared.specs.declared.short.Short.{Short}
 use Rattle.fe_hall.specs.declared.ends.ReadEnd.TheVariants.{Closed, Device, BadFrame, Gone, Turns, Stopped, Spent, NoMemory}
-use Rattle.fe_shared.specs.Seats.{ReadSeat}
+use Rattle.fe_shared.specs.Seats.{CallSeatState}
 use Rattle.fe_hall.specs.Reads.{AreHandled, EndsEarly, EndsAmong, EndsAt, HandlesStream, IsAt}
 
 -- what begins with a message's frame is no rest
@@ -53,7 +53,7 @@ breaks d rest two bad h =
     let P : Bool → Type 0 = λ b. StandsAt d.version b d.held rest in
     subst (λ (w : Version). IsBad w rest) two (subst P bad h).0
 
-module _ (before after : ReadSeat) (list : List ClientMessage) where
+module _ (before after : CallSeatState) (list : List ClientMessage) where
   handled_as : (xs ys : List ClientMessage) → xs ≡ ys → AreHandled before after list xs → AreHandled before after list ys
   handled_as xs ys same handled = subst (λ (ms : List ClientMessage). AreHandled before after list ms) same handled
 
@@ -136,28 +136,28 @@ IsBytes-append [] ys all more i = more i
 IsBytes-append (x ∷ xs) ys all more zero = all 0
 IsBytes-append (x ∷ xs) ys all more (suc i) = IsBytes-append xs ys (λ k. all (suc k)) more i
 
-abbrev told_if : Bool → ℕ → Option Fault
-told_if b offset = if b then Some (record { offset = offset }) else None
+abbrev fault_if : Bool → ℕ → Option Fault
+fault_if b offset = if b then Some (record { offset = offset }) else None
 
 -- a decoder tells no fault
-pub tells_none : (d : Decoding) (fault : Option Fault) → fault ≡ fault_of d → fault ≡ None → d.is_bad ≡ false
-tells_none d fault is none = by d.is_bad (sym is ∙ none)
+pub fault_none : (d : Decoding) (fault : Option Fault) → fault ≡ fault_of d → fault ≡ None → d.is_bad ≡ false
+fault_none d fault is none = by d.is_bad (sym is ∙ none)
   where
-    by : (b : Bool) → told_if b d.offset ≡ None → b ≡ false
+    by : (b : Bool) → fault_if b d.offset ≡ None → b ≡ false
     by true same = cc
     by false same = refl
 
-pub tells_bad : (d : Decoding) (fault : Option Fault) (bad : Fault) → fault ≡ fault_of d → fault ≡ Some bad → d.is_bad ≡ true
-tells_bad d fault bad is some = by d.is_bad (sym is ∙ some)
+pub fault_bad : (d : Decoding) (fault : Option Fault) (bad : Fault) → fault ≡ fault_of d → fault ≡ Some bad → d.is_bad ≡ true
+fault_bad d fault bad is some = by d.is_bad (sym is ∙ some)
   where
-    by : (b : Bool) → told_if b d.offset ≡ Some bad → b ≡ true
+    by : (b : Bool) → fault_if b d.offset ≡ Some bad → b ≡ true
     by true same = refl
     by false same = cc
 
-pub tells_offset : (d : Decoding) (fault : Option Fault) (bad : Fault) → fault ≡ fault_of d → fault ≡ Some bad → bad.offset ≡ d.offset
-tells_offset d fault bad is some = by d.is_bad (sym is ∙ some)
+pub fault_offset : (d : Decoding) (fault : Option Fault) (bad : Fault) → fault ≡ fault_of d → fault ≡ Some bad → bad.offset ≡ d.offset
+fault_offset d fault bad is some = by d.is_bad (sym is ∙ some)
   where
-    by : (b : Bool) → told_if b d.offset ≡ Some bad → bad.offset ≡ d.offset
+    by : (b : Bool) → fault_if b d.offset ≡ Some bad → bad.offset ≡ d.offset
     by true same =
         let frame : Fault = record { offset = d.offset } in
         let one : frame ≡ bad = cc in
@@ -167,7 +167,7 @@ tells_offset d fault bad is some = by d.is_bad (sym is ∙ some)
 abbrev pub ReadsOn : Decoding → Decoding → List ℕ → List ClientMessage → Type 0
 ReadsOn d x piece more = (start : ℕ) (before : List ℕ) (earlier : List ClientMessage) → HasReadFrom start d before earlier → HasReadFrom start x (before ++ piece) (earlier ++ more)
 
-module _ (before old new : ReadSeat) (listed list : List ClientMessage) (bytes piece : List ℕ) (d x : Decoding) (slice more : List ClientMessage)
+module _ (before old new : CallSeatState) (listed list : List ClientMessage) (bytes piece : List ℕ) (d x : Decoding) (slice more : List ClientMessage)
     (fits : IsBytes piece) (at : IsAt bytes before d old listed) (version : x.version ≡ d.version) (reads : ReadsOn d x piece more) (same : slice ≡ more) where
   read_on : HasRead x (bytes ++ piece) (at.messages ++ slice)
   read_on = subst (λ (ms : List ClientMessage). HasRead x (bytes ++ piece) (at.messages ++ ms)) (sym same) (reads 0 bytes at.messages at.reads)
@@ -190,21 +190,21 @@ module _ (before old new : ReadSeat) (listed list : List ClientMessage) (bytes p
   pub piece_bad : (fault : Option Fault) (bad : Fault) → fault ≡ fault_of x → fault ≡ Some bad
       → ((earlier : List ClientMessage) → AreHandled before old listed earlier → AreHandled before new list (earlier ++ slice)) → HandlesStream (bytes ++ piece) before new list (BadFrame bad.offset)
   piece_bad fault bad is some handled =
-      subst (λ n. HandlesStream (bytes ++ piece) before new list (BadFrame n)) (sym (tells_offset x fault bad is some))
-      (ends_bad before new list (bytes ++ piece) x (at.messages ++ slice) (version ∙ at.version) (tells_bad x fault bad is some) read_on (handled at.messages at.handled))
+      subst (λ n. HandlesStream (bytes ++ piece) before new list (BadFrame n)) (sym (fault_offset x fault bad is some))
+      (ends_bad before new list (bytes ++ piece) x (at.messages ++ slice) (version ∙ at.version) (fault_bad x fault bad is some) read_on (handled at.messages at.handled))
 
   -- some of them were
   pub piece_among : (end : ReadEnd) → ((earlier : List ClientMessage) → AreHandled before old listed earlier → EndsAmong before new list earlier slice end) → HandlesStream (bytes ++ piece) before new list end
   piece_among end among = ends_within before new list (bytes ++ piece) x end at.messages slice (version ∙ at.version) read_on (among at.messages at.handled)
 
 -- none were, because memory is short
-pub piece_unread : (before seat : ReadSeat) (list : List ClientMessage) (bytes piece : List ℕ) (d : Decoding) → IsBytes piece → CompletesMessage d piece → IsAt bytes before d seat list
+pub piece_unread : (before seat : CallSeatState) (list : List ClientMessage) (bytes piece : List ℕ) (d : Decoding) → IsBytes piece → CompletesMessage d piece → IsAt bytes before d seat list
     → (short : Short) → HandlesStream (bytes ++ piece) before seat list (NoMemory short)
 piece_unread before seat list bytes piece d fits completes at short = ends_unread before seat list bytes piece d (IsBytes-append bytes piece at.are_bytes fits) completes at short
 
 -- ---- the beginning
 
-pub begins : (d : Decoding) (seat : ReadSeat) → d.version ≡ Two → HasRead d [] [] → IsAt [] seat d seat []
+pub begins : (d : Decoding) (seat : CallSeatState) → d.version ≡ Two → HasRead d [] [] → IsAt [] seat d seat []
 begins d seat two reads =
     record {
       are_bytes = λ i. lit< tt;
@@ -220,7 +220,7 @@ begins d seat two reads =
     by true stands = absurd ((nothing_unfinished d.version).1 (subst (IsBad d.version) (sym reads.is_stream.parts) stands.0))
 
 -- no memory for the first read
-pub ends_first : (before seat : ReadSeat) (list : List ClientMessage) (bytes : List ℕ) (d : Decoding) → bytes ≡ [] → IsAt [] before d seat list → (short : Short) → HandlesStream bytes before seat list (NoMemory short)
+pub ends_first : (before seat : CallSeatState) (list : List ClientMessage) (bytes : List ℕ) (d : Decoding) → bytes ≡ [] → IsAt [] before d seat list → (short : Short) → HandlesStream bytes before seat list (NoMemory short)
 ends_first before seat list bytes d none at short =
     let first : at.messages ≡ [] =
     (one_reading d.version [] at.messages [] at.reads.rest [] at.reads.is_stream (record { parts = refl; each = tt; end = inl (nothing_unfinished d.version) })).0 in

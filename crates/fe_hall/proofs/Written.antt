@@ -14,13 +14,13 @@ use Rattle.fe_wire.specs.declared.server_message.ServerMessage.{ServerMessage}
 use Rattle.fe_history.specs.declared.receipt.Receipt.{Receipt}
 use Rattle.fe_hall.specs.declared.write_end.WriteEnd.{WriteEnd}
 use Rattle.fe_hall.specs.declared.write_end.WriteEnd.TheVariants.{Gone, Device, Stopped, Spent, NoMemory}
-use Rattle.fe_shared.specs.declared.standing.Standing.{Standing}
-use Rattle.fe_shared.specs.declared.standing.Standing.TheVariants as standing
+use Rattle.fe_shared.specs.declared.last_answer.LastAnswer.{LastAnswer}
+use Rattle.fe_shared.specs.declared.last_answer.LastAnswer.TheVariants as last_answer
 use Rattle.fe_shared.specs.declared.taking.Taking.{Taking}
 use Rattle.fe_shared.specs.declared.taking.Taking.TheVariants as taking
-use Rattle.fe_shared.specs.Seats.{WriteSeat, TookNoMail, mail_taken, taking_answered}
+use Rattle.fe_shared.specs.Seats.{MailSeatState, TookNoMail, mail_taken, taking_answered}
 use Rattle.fe_history.specs.Receipts.{receipt_of}
-use Rattle.fe_hall.specs.Writes.{receipts_with, IsBatch, BreaksOff, MayLackLast, IsWritten, AreTaken, TakesOn, IsNoFault, IsTold, AreSpelled, end_for}
+use Rattle.fe_hall.specs.Writes.{receipts_with, IsBatch, BreaksOff, MayLackLast, IsWritten, AreTaken, TakesOn, IsNoFault, IsEndAfter, AreSpelled, end_for}
 
 -- ---- lists
 
@@ -44,7 +44,7 @@ spelled-append xs ys = flat_map-append (λ m. reply_spelling (reply_of m)) xs ys
 
 -- ---- seat and receipts
 
-pub takes_none : (s : WriteSeat) (kept : List Receipt) → length kept ≤ 1024 → TakesOn s s kept kept []
+pub takes_none : (s : MailSeatState) (kept : List Receipt) → length kept ≤ 1024 → TakesOn s s kept kept []
 takes_none s kept few = record {
   conn = refl;
   count = let same : s.mails ≡ s.mails + 0 = omega arith in same;
@@ -52,7 +52,7 @@ takes_none s kept few = record {
   receipts = sym (ap (λ t. take 1024 t) (append-nil kept) ∙ take_all 1024 kept few);
 }
 
-pub takes_on : (a b c : WriteSeat) (kept more all : List Receipt) (ms ns : List Mail) → TakesOn a b kept more ms → TakesOn b c more all ns → TakesOn a c kept all (ms ++ ns)
+pub takes_on : (a b c : MailSeatState) (kept more all : List Receipt) (ms ns : List Mail) → TakesOn a b kept more ms → TakesOn b c more all ns → TakesOn a c kept all (ms ++ ns)
 takes_on a b c kept more all ms ns one two = record {
   conn = two.conn ∙ one.conn;
   count = omega (arith, one.count, two.count, length-append ms ns);
@@ -66,58 +66,58 @@ takes_on a b c kept more all ms ns one two = record {
       ∙ ap (λ t. take 1024 t) (append_assoc kept (filter_map of ms) (filter_map of ns) ∙ ap (λ t. kept ++ t) (sym (filter_map-append of ms ns)));
 }
 
-pub takes_same : (a b : WriteSeat) (kept same : List Receipt) → length kept ≤ 1024 → TookNoMail a b → same ≡ kept → TakesOn a b kept same []
+pub takes_same : (a b : MailSeatState) (kept same : List Receipt) → length kept ≤ 1024 → TookNoMail a b → same ≡ kept → TakesOn a b kept same []
 takes_same a b kept same few still receipts =
     let none = takes_none a kept few in record { conn = still.conn; count = still.mails ∙ none.count; taken = still.taken ∙ none.taken; receipts = receipts ∙ none.receipts }
 
 -- the seat of a side that took none, after one that is the same
-pub none_since : (a b c : WriteSeat) → b ≡ a → TookNoMail b c → TookNoMail a c
-none_since a b c same none = record { conn = none.conn ∙ ap (λ (s : WriteSeat). s.conn) same; mails = none.mails ∙ ap (λ (s : WriteSeat). s.mails) same; taken = none.taken ∙ ap (λ (s : WriteSeat). s.taken) same }
+pub none_since : (a b c : MailSeatState) → b ≡ a → TookNoMail b c → TookNoMail a c
+none_since a b c same none = record { conn = none.conn ∙ ap (λ (s : MailSeatState). s.conn) same; mails = none.mails ∙ ap (λ (s : MailSeatState). s.mails) same; taken = none.taken ∙ ap (λ (s : MailSeatState). s.taken) same }
 
 -- a mail is taken, and its receipt kept
-pub takes_one : (a b c d : WriteSeat) (kept same all : List Receipt) (m : Mail) (more : Bool) → b ≡ a → same ≡ kept → c ≡ mail_taken b m more → d ≡ c → all ≡ receipts_with c.conn same (m ∷ [])
+pub takes_one : (a b c d : MailSeatState) (kept same all : List Receipt) (m : Mail) (more : Bool) → b ≡ a → same ≡ kept → c ≡ mail_taken b m more → d ≡ c → all ≡ receipts_with c.conn same (m ∷ [])
     → TakesOn a d kept all (m ∷ [])
 takes_one a b c d kept same all m more seat receipts taken as_it_was keeps =
-    let took : d ≡ mail_taken a m more = as_it_was ∙ taken ∙ ap (λ (s : WriteSeat). mail_taken s m more) seat in
+    let took : d ≡ mail_taken a m more = as_it_was ∙ taken ∙ ap (λ (s : MailSeatState). mail_taken s m more) seat in
     record {
-      conn = ap (λ (s : WriteSeat). s.conn) took;
-      count = ap (λ (s : WriteSeat). s.mails) took;
-      taken = ap (λ (s : WriteSeat). s.taken) took;
+      conn = ap (λ (s : MailSeatState). s.conn) took;
+      count = ap (λ (s : MailSeatState). s.mails) took;
+      taken = ap (λ (s : MailSeatState). s.taken) took;
       receipts =
           keeps
-          ∙ ap (λ (s : WriteSeat). receipts_with s.conn same (m ∷ [])) (taken ∙ ap (λ (s : WriteSeat). mail_taken s m more) seat)
+          ∙ ap (λ (s : MailSeatState). receipts_with s.conn same (m ∷ [])) (taken ∙ ap (λ (s : MailSeatState). mail_taken s m more) seat)
           ∙ ap (λ (rs : List Receipt). receipts_with a.conn rs (m ∷ [])) receipts;
     }
 
 -- all that a side took, and that it took when it leaves
-pub as_taken : {before after left : WriteSeat} {none kept : List Receipt} {mails : List Mail} → TakesOn before after none kept mails → none ≡ [] → TookNoMail after left → AreTaken before left kept mails
+pub as_taken : {before after left : MailSeatState} {none kept : List Receipt} {mails : List Mail} → TakesOn before after none kept mails → none ≡ [] → TookNoMail after left → AreTaken before left kept mails
 as_taken {before} {mails} takes is still =
     record { conn = still.conn ∙ takes.conn; count = still.mails ∙ takes.count; taken = still.taken ∙ takes.taken; receipts = takes.receipts ∙ ap (λ (rs : List Receipt). receipts_with before.conn rs mails) is }
 
 -- ---- what the hall told
 
 -- a mail came
-pub answered_mail : (s t : WriteSeat) (given : Taking) (m : Mail) (more : Bool) → t ≡ taking_answered s given → given ≡ taking.Mail m more → t ≡ mail_taken s m more
+pub answered_mail : (s t : MailSeatState) (given : Taking) (m : Mail) (more : Bool) → t ≡ taking_answered s given → given ≡ taking.Mail m more → t ≡ mail_taken s m more
 answered_mail s t given m more answered is = answered ∙ ap (λ (g : Taking). taking_answered s g) is
 
 -- the seat of a side that is told how it stands
-none_at : (s t : WriteSeat) (told : Standing) → t ≡ record s { standing = told } → TookNoMail s t
-none_at s t told is = record { conn = ap (λ (u : WriteSeat). u.conn) is; mails = ap (λ (u : WriteSeat). u.mails) is; taken = ap (λ (u : WriteSeat). u.taken) is }
+none_at : (s t : MailSeatState) (ended_as : LastAnswer) → t ≡ record s { last_answer = ended_as } → TookNoMail s t
+none_at s t ended_as is = record { conn = ap (λ (u : MailSeatState). u.conn) is; mails = ap (λ (u : MailSeatState). u.mails) is; taken = ap (λ (u : MailSeatState). u.taken) is }
 
 -- none came, for this reason
-pub record EndsSo (s t : WriteSeat) (end : WriteEnd) : Type 0 where
+pub record EndsSo (s t : MailSeatState) (end : WriteEnd) : Type 0 where
   pub none : TookNoMail s t
   pub fine : IsNoFault end
-  pub told : IsTold end t.standing
+  pub ended_as : IsEndAfter end t.last_answer
 
-pub answered_end : (s t : WriteSeat) (given : Taking) (end : WriteEnd) → t ≡ taking_answered s given → end_for given ≡ Some end → EndsSo s t end
+pub answered_end : (s t : MailSeatState) (given : Taking) (end : WriteEnd) → t ≡ taking_answered s given → end_for given ≡ Some end → EndsSo s t end
 answered_end s t (taking.Mail m more) end answered is = absurd (none-some end is)
 answered_end s t taking.Gone end answered is =
-    subst (λ (e : WriteEnd). EndsSo s t e) (same_Some _ _ is) (record { none = none_at s t standing.Gone answered; fine = tt; told = ap (λ (u : WriteSeat). u.standing) answered })
+    subst (λ (e : WriteEnd). EndsSo s t e) (same_Some _ _ is) (record { none = none_at s t last_answer.Gone answered; fine = tt; ended_as = ap (λ (u : MailSeatState). u.last_answer) answered })
 answered_end s t taking.Stopped end answered is =
-    subst (λ (e : WriteEnd). EndsSo s t e) (same_Some _ _ is) (record { none = none_at s t standing.Stopped answered; fine = tt; told = ap (λ (u : WriteSeat). u.standing) answered })
+    subst (λ (e : WriteEnd). EndsSo s t e) (same_Some _ _ is) (record { none = none_at s t last_answer.Stopped answered; fine = tt; ended_as = ap (λ (u : MailSeatState). u.last_answer) answered })
 answered_end s t taking.Spent end answered is =
-    subst (λ (e : WriteEnd). EndsSo s t e) (same_Some _ _ is) (record { none = none_at s t standing.Spent answered; fine = tt; told = ap (λ (u : WriteSeat). u.standing) answered })
+    subst (λ (e : WriteEnd). EndsSo s t e) (same_Some _ _ is) (record { none = none_at s t last_answer.Spent answered; fine = tt; ended_as = ap (λ (u : MailSeatState). u.last_answer) answered })
 
 -- a mail without a receipt, and one whose receipt is kept, or is beyond the first
 pub keeps_none : (n : ℕ) (kept : List Receipt) (m : Mail) → length kept ≤ 1024 → None ≡ receipt_of n m → kept ≡ receipts_with n kept (m ∷ [])

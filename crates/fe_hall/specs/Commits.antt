@@ -58,17 +58,17 @@ pub record Commits {D : Type 0} (model : Ghosts D) (old new : KeeperState D) (en
       → HoldsSince model old.state groups 0 old.store.disk appends new.store.disk
 
 -- what the history notes of an append: the batch, and the moment of its end
-abbrev pub noted : {D : Type 0} → Ghosts D → Append D → Batch × ℕ
+abbrev pub note_of : {D : Type 0} → Ghosts D → Append D → Batch × ℕ
 noted model append = (append.batch, model.moment append.after.store.disk)
 
 -- What was noted of these appends, in their order: all of them, except the last where something is strange.
-abbrev pub AreNotes : {D : Type 0} → Ghosts D → List (Append D) → Option CommitEnd → List (Batch × ℕ) → Type 0
-AreNotes model appends end notes = (notes ≡ map (noted model) appends) ⊎ ((end ≡ Some Strange) × (last : Batch × ℕ) × (notes ++ last ∷ [] ≡ map (noted model) appends))
+abbrev pub AreNotesOf : {D : Type 0} → Ghosts D → List (Append D) → Option CommitEnd → List (Batch × ℕ) → Type 0
+AreNotesOf model appends end notes = (notes ≡ map (noted model) appends) ⊎ ((end ≡ Some Strange) × (last : Batch × ℕ) × (notes ++ last ∷ [] ≡ map (noted model) appends))
 
 -- The history notes these appends in their order, and none besides.
-abbrev pub AreNoted : {D : Type 0} → Ghosts D → List (Append D) → Option CommitEnd → List Act → List Act → Type 0
-AreNoted model appends end before after =
-    IsPrefix before after × (notes : List (Batch × ℕ)) × (stores_in after ≡ stores_in before ++ notes) × AreNotes model appends end notes
+abbrev pub AppendsAreNoted : {D : Type 0} → Ghosts D → List (Append D) → Option CommitEnd → List Act → List Act → Type 0
+AppendsAreNoted model appends end before after =
+    IsPrefix before after × (notes : List (Batch × ℕ)) × (stores_in after ≡ stores_in before ++ notes) × AreNotesOf model appends end notes
 
 -- ---- ends
 
@@ -81,7 +81,7 @@ end_of (Mismatch place) = Strange
 end_of (Damaged offset) = Store (Damaged offset)
 end_of Unformatted = Store Unformatted
 
--- the end that an answer tells; `None`: the side goes on
+-- the end that follows from an answer; `None`: the side goes on
 abbrev pub end_in : {A : Type 0} → Result A CommitEnd → Option CommitEnd
 end_in (Ok a) = None
 end_in (Err end) = Some end
@@ -91,15 +91,15 @@ abbrev pub end_of_post : Unposted → CommitEnd
 end_of_post (unposted.Full full) = Spent
 end_of_post (unposted.Strange strange) = Strange
 
--- what the end of the side tells of the keeper's disk; `None`: the side goes on
-abbrev pub TellsEnd : {D : Type 0} → Ghosts D → KeeperState D → KeeperState D → Option CommitEnd → Type 0
-TellsEnd model old new None = IsStill model old new
-TellsEnd model old new (Some Stopped) = IsStill model old new
-TellsEnd model old new (Some (Store Device)) = Breaks model old new
-TellsEnd model old new (Some (Store Failed)) = (old.store.has_failed ≡ true) × (new ≡ old)
-TellsEnd model old new (Some (Store NoMemory)) = IsStill model old new
-TellsEnd model old new (Some (Store (Mismatch place))) = ⊥
-TellsEnd model old new (Some (Store (Damaged offset))) = ⊥
-TellsEnd model old new (Some (Store Unformatted)) = ⊥
-TellsEnd model old new (Some Strange) = IsStill model old new
-TellsEnd model old new (Some Spent) = IsStill model old new
+-- what the end of the side says of the keeper's disk; `None`: the side goes on
+abbrev pub EndsAs : {D : Type 0} → Ghosts D → KeeperState D → KeeperState D → Option CommitEnd → Type 0
+EndsAs model old new None = IsStill model old new
+EndsAs model old new (Some Stopped) = IsStill model old new
+EndsAs model old new (Some (Store Device)) = Breaks model old new
+EndsAs model old new (Some (Store Failed)) = (old.store.has_failed ≡ true) × (new ≡ old)
+EndsAs model old new (Some (Store NoMemory)) = IsStill model old new
+EndsAs model old new (Some (Store (Mismatch place))) = ⊥
+EndsAs model old new (Some (Store (Damaged offset))) = ⊥
+EndsAs model old new (Some (Store Unformatted)) = ⊥
+EndsAs model old new (Some Strange) = IsStill model old new
+EndsAs model old new (Some Spent) = IsStill model old new

@@ -9,9 +9,9 @@ use Rattle.fe_wire.specs.declared.client_message.ClientMessage.TheVariants.{Atta
 use Rattle.fe_wire.specs.declared.version.Version.TheVariants.{Two}
 use Rattle.fe_hall.specs.declared.ends.ReadEnd.{ReadEnd}
 use Rattle.fe_hall.specs.declared.ends.ReadEnd.TheVariants.{Closed, Device, BadFrame, Gone, Turns, Stopped, Spent, NoMemory}
-use Rattle.fe_shared.specs.declared.standing.Standing.{Standing}
-use Rattle.fe_shared.specs.declared.standing.Standing.TheVariants as standing
-use Rattle.fe_shared.specs.Seats.{ReadSeat, calls_in}
+use Rattle.fe_shared.specs.declared.last_answer.LastAnswer.{LastAnswer}
+use Rattle.fe_shared.specs.declared.last_answer.LastAnswer.TheVariants as last_answer
+use Rattle.fe_shared.specs.Seats.{CallSeatState, calls_in}
 
 -- the message is an attach or a call
 abbrev pub is_sent : ClientMessage → Bool
@@ -36,7 +36,7 @@ sent_among messages = take most_listed (filter is_sent messages)
 
 -- These messages of a connection were handled, just these and in this order: its seat has them and counts the calls among them, and
 -- the list has the first attaches and calls.
-pub record AreHandled (before after : ReadSeat) (list messages : List ClientMessage) : Type 0 where
+pub record AreHandled (before after : CallSeatState) (list messages : List ClientMessage) : Type 0 where
   pub conn : after.conn ≡ before.conn
   pub calls : after.calls ≡ before.calls + calls_among messages
   pub all : after.messages ≡ before.messages ++ messages
@@ -54,9 +54,9 @@ EndsAt Stopped messages rest count = count < length messages
 EndsAt Spent messages rest count = count < length messages
 EndsAt (NoMemory short) messages rest count = (count < length messages) ⊎ (messages ≡ [])
 
--- A side that was told these bytes, the stream of its client: the first n of the stream's messages were handled, and
+-- A side that read these bytes, the stream of its client: the first n of the stream's messages were handled, and
 -- none after them.
-pub record HandlesStream (bytes : List ℕ) (before after : ReadSeat) (list : List ClientMessage) (end : ReadEnd) : Type 0 where
+pub record HandlesStream (bytes : List ℕ) (before after : CallSeatState) (list : List ClientMessage) (end : ReadEnd) : Type 0 where
   pub messages : List ClientMessage
   pub rest : List ℕ
   pub is_stream : IsStream Two bytes messages rest
@@ -68,16 +68,16 @@ pub record HandlesStream (bytes : List ℕ) (before after : ReadSeat) (list : Li
 abbrev pub IsQuietEnd : ReadEnd → Type 0
 IsQuietEnd end = (end ≡ Closed) ⊎ (end ≡ Turns)
 
--- an end that the hall told the side
-abbrev pub IsTold : ReadEnd → Standing → Type 0
-IsTold Closed s = Unit {0}
-IsTold Device s = Unit {0}
-IsTold Turns s = Unit {0}
-IsTold (BadFrame offset) s = Unit {0}
-IsTold Gone s = s ≡ standing.Gone
-IsTold Stopped s = s ≡ standing.Stopped
-IsTold Spent s = s ≡ standing.Spent
-IsTold (NoMemory short) s = Unit {0}
+-- an end that follows from the hall's last answer to the side
+abbrev pub IsEndAfter : ReadEnd → LastAnswer → Type 0
+IsEndAfter Closed s = Unit {0}
+IsEndAfter Device s = Unit {0}
+IsEndAfter Turns s = Unit {0}
+IsEndAfter (BadFrame offset) s = Unit {0}
+IsEndAfter Gone s = s ≡ last_answer.Gone
+IsEndAfter Stopped s = s ≡ last_answer.Stopped
+IsEndAfter Spent s = s ≡ last_answer.Spent
+IsEndAfter (NoMemory short) s = Unit {0}
 
 -- ---- on the way
 
@@ -108,7 +108,7 @@ abbrev pub IsOfMessages : ReadEnd → Type 0
 IsOfMessages end = (end ≢ Closed) × (end ≢ Device) × (end ≢ Turns)
 
 -- All messages of the bytes that came so far were handled, and more bytes are waited for.
-pub record IsAt (bytes : List ℕ) (before : ReadSeat) (decoder : Decoding) (after : ReadSeat) (list : List ClientMessage) : Type 0 where
+pub record IsAt (bytes : List ℕ) (before : CallSeatState) (decoder : Decoding) (after : CallSeatState) (list : List ClientMessage) : Type 0 where
   pub are_bytes : IsBytes bytes
   pub version : decoder.version ≡ Two
   pub goes_on : decoder.is_bad ≡ false
@@ -117,7 +117,7 @@ pub record IsAt (bytes : List ℕ) (before : ReadSeat) (decoder : Decoding) (aft
   pub handled : AreHandled before after list messages
 
 -- The side ended before one of these messages, which came after the earlier ones.
-pub record EndsAmong (before after : ReadSeat) (list earlier messages : List ClientMessage) (end : ReadEnd) : Type 0 where
+pub record EndsAmong (before after : CallSeatState) (list earlier messages : List ClientMessage) (end : ReadEnd) : Type 0 where
   pub breaks : EndsEarly end
   pub count : ℕ
   pub fewer : count < length messages

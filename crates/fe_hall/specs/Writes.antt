@@ -7,11 +7,11 @@ use Rattle.fe_history.specs.Receipts.{receipt_of}
 use Rattle.fe_history.specs.declared.receipt.Receipt.{Receipt}
 use Rattle.fe_hall.specs.declared.write_end.WriteEnd.{WriteEnd}
 use Rattle.fe_hall.specs.declared.write_end.WriteEnd.TheVariants.{Gone, Device, Stopped, Spent, NoMemory}
-use Rattle.fe_shared.specs.declared.standing.Standing.{Standing}
-use Rattle.fe_shared.specs.declared.standing.Standing.TheVariants as standing
+use Rattle.fe_shared.specs.declared.last_answer.LastAnswer.{LastAnswer}
+use Rattle.fe_shared.specs.declared.last_answer.LastAnswer.TheVariants as last_answer
 use Rattle.fe_shared.specs.declared.taking.Taking.{Taking}
 use Rattle.fe_shared.specs.declared.taking.Taking.TheVariants as taking
-use Rattle.fe_shared.specs.Seats.{WriteSeat}
+use Rattle.fe_shared.specs.Seats.{MailSeatState}
 
 -- how many receipts a side keeps at most
 abbrev pub most_receipts : ℕ
@@ -23,7 +23,7 @@ receipts_of conn mails = take most_receipts (filter_map (receipt_of conn) mails)
 
 -- These mails of a connection were taken, just these and in this order: its seat has them and counts them, and the receipts are those
 -- of their first answers.
-pub record AreTaken (before after : WriteSeat) (kept : List Receipt) (mails : List Mail) : Type 0 where
+pub record AreTaken (before after : MailSeatState) (kept : List Receipt) (mails : List Mail) : Type 0 where
   pub conn : after.conn ≡ before.conn
   pub count : after.mails ≡ before.mails + length mails
   pub taken : after.taken ≡ before.taken ++ mails
@@ -59,13 +59,13 @@ IsWritten before mails Spent after = after ≡ before ++ spelled mails
 IsWritten before mails Device after = BreaksOff before mails after
 IsWritten before mails (NoMemory short) after = MayLackLast before mails after
 
--- an end that the hall told the side
-abbrev pub IsTold : WriteEnd → Standing → Type 0
-IsTold Gone s = s ≡ standing.Gone
-IsTold Device s = Unit {0}
-IsTold Stopped s = s ≡ standing.Stopped
-IsTold Spent s = s ≡ standing.Spent
-IsTold (NoMemory short) s = Unit {0}
+-- an end that follows from the hall's last answer to the side
+abbrev pub IsEndAfter : WriteEnd → LastAnswer → Type 0
+IsEndAfter Gone s = s ≡ last_answer.Gone
+IsEndAfter Device s = Unit {0}
+IsEndAfter Stopped s = s ≡ last_answer.Stopped
+IsEndAfter Spent s = s ≡ last_answer.Spent
+IsEndAfter (NoMemory short) s = Unit {0}
 
 -- ---- on the way
 
@@ -81,7 +81,7 @@ abbrev pub receipts_with : ℕ → List Receipt → List Mail → List Receipt
 receipts_with conn receipts mails = take most_receipts (receipts ++ filter_map (receipt_of conn) mails)
 
 -- a side took these mails next
-pub record TakesOn (before after : WriteSeat) (kept kept_after : List Receipt) (mails : List Mail) : Type 0 where
+pub record TakesOn (before after : MailSeatState) (kept kept_after : List Receipt) (mails : List Mail) : Type 0 where
   pub conn : after.conn ≡ before.conn
   pub count : after.mails ≡ before.mails + length mails
   pub taken : after.taken ≡ before.taken ++ mails

@@ -5,7 +5,7 @@ ghost use Rattle.fe_keeper.specs.Ends.{Rests, IsStill, Breaks};
 ghost use Rattle.fe_keeper.specs.Stands.{EachStandsFor};
 ghost use Rattle.fe_keeper.specs.declared.fault.Fault.TheVariants.{Device};
 ghost use Rattle.fe_history.specs.Acts.{IsStored, WasCut};
-ghost use Rattle.fe_hall.specs.Commits.{AreNoted, Commits, TellsEnd, end_in};
+ghost use Rattle.fe_hall.specs.Commits.{AppendsAreNoted, Commits, EndsAs, end_in};
 ghost use Rattle.fe_hall.specs.declared.commit_end.CommitEnd.{CommitEnd};
 
 use crate::breaking::Break;
@@ -14,7 +14,7 @@ use crate::hall::Hall;
 use fe_disk::Disk;
 use fe_history::{History, StoreSeat, Tally};
 use fe_keeper::{Fault, Keeper};
-use fe_shared::{CutBatch, Cutting, Posted};
+use fe_shared::{CutBatch, CutOutcome, Posted};
 use std::sync::Wait;
 
 /// A checkpoint is begun once more bytes of the journal are used than these.
@@ -31,10 +31,10 @@ pub fn commit_side<C: Tally, M: Tally, D: Disk, R: Wait>(
     seat: &mut StoreSeat<M>,
 ) -> Ended
     ensures commits { (all : Commits D.Disk keeper.old keeper.new (Some result))
-        × AreNoted D.Disk all.appends (Some result) seat.old seat.new }
+        × AppendsAreNoted D.Disk all.appends (Some result) seat.old seat.new }
     ensures stands { D.honest keeper.new.store.disk → keeper.new.store.has_failed ≡ false
         → EachStandsFor D.Disk keeper.new.store.disk keeper.new.state }
-    ensures tells { TellsEnd D.Disk keeper.old keeper.new (Some result) }
+    ensures ended_as { EndsAs D.Disk keeper.old keeper.new (Some result) }
     ensures honesty { D.honest keeper.new.store.disk ↔ D.honest keeper.old.store.disk }
 {
     // It names what is always true of the keeper (`docs/DECISIONS.md`, "Toolchain").
@@ -43,9 +43,9 @@ pub fn commit_side<C: Tally, M: Tally, D: Disk, R: Wait>(
     let mut cuts = hall.history();
     for _ in rt.forever() {
         let cut = match hall.next_batch(rt, &mut cuts) {
-            Cutting::Batch(cut) => cut,
-            Cutting::Stopped(all) => return Ended::stopped(all),
-            Cutting::Strange(why) => return Ended::broken(Break::of_cut(why), hall.stop(rt)),
+            CutOutcome::Batch(cut) => cut,
+            CutOutcome::Stopped(all) => return Ended::stopped(all),
+            CutOutcome::Strange(why) => return Ended::broken(Break::of_cut(why), hall.stop(rt)),
         };
         if let Err(why) = commit(rt, hall, keeper, seat, cut, &cuts) {
             return Ended::broken(why, hall.stop(rt));
@@ -69,15 +69,15 @@ fn commit<C: Tally, M: Tally, D: Disk, R: Wait>(
 ) -> Result<Posted, Break>
     requires cut { WasCut cuts.now cut.count cut.batch }
     ensures commits { (all : Commits D.Disk keeper.old keeper.new (end_in result))
-        × AreNoted D.Disk all.appends (end_in result) seat.old seat.new }
+        × AppendsAreNoted D.Disk all.appends (end_in result) seat.old seat.new }
     ensures stands { D.honest keeper.new.store.disk → keeper.new.store.has_failed ≡ false
         → EachStandsFor D.Disk keeper.new.store.disk keeper.new.state }
-    ensures tells { TellsEnd D.Disk keeper.old keeper.new (end_in result) }
+    ensures ended_as { EndsAs D.Disk keeper.old keeper.new (end_in result) }
     ensures works { OnOk result (keeper.old.store.has_failed ≡ false) }
     // It goes on only if it stored what was cut, and posted it.
     ensures stored { OnOk result (IsStored cut.batch keeper.new.state) }
     ensures posted { IfOk result (λ posted. posted ≡ cut.batch.first + length cut.batch.entries) }
-    // What was not stored, or not posted, is not told as stopped.
+    // A side that did not store or post everything does not end as stopped.
     ensures unstopped { IfErr result (λ end. end ≢ CommitEnd.Stopped) }
     ensures honesty { D.honest keeper.new.store.disk ↔ D.honest keeper.old.store.disk }
 {

@@ -3,15 +3,15 @@ ghost use Rattle.fe_shared.specs.Seats.{HasRested, TookNoMessage, message_answer
 ghost use mathlib.Core.List.{IsPrefix};
 ghost use Rattle.fe_history.specs.Acts.{WasStoredLast};
 ghost use Rattle.fe_shared.specs.Holds.{IsCutIn};
-ghost use Rattle.fe_shared.specs.Marks.{IsBegun, MayBeTold, TakingTold};
+ghost use Rattle.fe_shared.specs.Marks.{IsBegun, MayBeIssued, TakingIssued};
 
 use crate::baton::{Baton, BatonGuard};
 use crate::hold::Lock;
 use fe_front::{ConnectionSet, Front, REMAINDERS};
 use fe_history::{GatheredReceipts, History, HistoryWords, NewHistory, Receipt, StoreSeat, Tally};
 use fe_shared::{
-    CallSeat, ConnectRight, Cutting, HasStopped, Made, MailSeat, NewSeats, Posted, Shared,
-    Standing, Taking, Unconnected, Unposted,
+    CallSeat, ConnectRight, CutOutcome, HasStopped, LastAnswer, MailSeat, NewSeats, PlaceThen,
+    Posted, Shared, Taking, Unconnected, Unposted,
 };
 use fe_state::Batch;
 use fe_wire::ClientMessage;
@@ -115,20 +115,20 @@ impl<C: Tally, M: Tally> Hall<C, M> {
         message: &ClientMessage,
         seat: &mut CallSeat<C>,
         baton_guard: &mut BatonGuard<'_>,
-    ) -> Standing
+    ) -> LastAnswer
         ensures { (place : ℕ) × (seat.new ≡ message_answered seat.old message.now place result) }
     {
         let mut hold = self.lock.enter(rt);
         for _ in rt.forever() {
             let mails = hold.mails_made();
-            if let Some(standing) = hold.handle(alloc, &self.history_words, message, seat) {
-                let told = hold.mails_made() != mails;
+            if let Some(last_answer) = hold.handle(alloc, &self.history_words, message, seat) {
+                let mails_came = hold.mails_made() != mails;
                 MutexGuard::unlock(hold);
                 self.work.notify_one();
-                if told {
+                if mails_came {
                     self.ring(seat.conn());
                 }
-                return standing;
+                return last_answer;
             }
             hold = self.lock.wait(rt, hold, &self.room, baton_guard);
         }
@@ -163,30 +163,32 @@ impl<C: Tally, M: Tally> Hall<C, M> {
         &self,
         rt: &R,
         conn: u64,
-        made: &Made,
+        place_then: &PlaceThen,
         baton_guard: &mut BatonGuard<'_>,
-    ) -> Made {
+    ) -> PlaceThen {
         let bell = self.bell(conn);
         let limit = Duration::from_millis(STILL_MILLIS);
         let mut hold = self.lock.enter(rt);
         for _ in rt.forever() {
-            if hold.may_go_on(conn, made) {
-                return hold.made();
+            if hold.may_go_on(conn, place_then) {
+                return hold.place_then();
             }
             baton_guard.give_up();
-            let (next, in_vain) = self.lock.wait_at_most(rt, hold, bell, limit, conn, made);
+            let (next, in_vain) = self
+                .lock
+                .wait_at_most(rt, hold, bell, limit, conn, place_then);
             hold = next;
-            if in_vain && hold.is_durable(made) {
+            if in_vain && hold.is_durable(place_then) {
                 let _ = hold.unwatch(conn);
-                return hold.made();
+                return hold.place_then();
             }
         }
         unreachable!()
     }
 
     /// The place after all entries made so far.
-    pub(crate) fn made<R: Wait>(&self, rt: &R) -> Made {
-        self.lock.enter(rt).made()
+    pub(crate) fn place_then<R: Wait>(&self, rt: &R) -> PlaceThen {
+        self.lock.enter(rt).place_then()
     }
 
     /// Waits until the write side has taken what comes of the connection's messages, except what waits, and makes the connection gone.
@@ -236,7 +238,7 @@ impl<C: Tally, M: Tally> Hall<C, M> {
     ) -> Taking
         ensures seat { seat.new ≡ taking_answered seat.old result }
         ensures this { IsPrefix history.old history.new }
-        ensures told { TakingTold seat.old.conn result history.new }
+        ensures issued { TakingIssued seat.old.conn result history.new }
     {
         let conn = seat.conn();
         let mut hold = self.lock.enter(rt);
@@ -248,7 +250,7 @@ impl<C: Tally, M: Tally> Hall<C, M> {
                 if is_awaited {
                     self.ring(conn);
                 }
-                tell(&self.history_words, history, conn, &taking);
+                issue(&self.history_words, history, conn, &taking);
                 return taking;
             }
             if hold.unwatch(conn) {
@@ -273,7 +275,7 @@ impl<C: Tally, M: Tally> Hall<C, M> {
 
     /// Waits for entries and cuts them, or says that the hall is stopped and nothing is left to store. A cut makes room for events. The
     /// history learns of it.
-    pub(crate) fn next_batch<R: Wait>(&self, rt: &R, cuts: &mut History<M>) -> Cutting
+    pub(crate) fn next_batch<R: Wait>(&self, rt: &R, cuts: &mut History<M>) -> CutOutcome
         ensures { IsCutIn result cuts.new }
     {
         let mut baton_guard = BatonGuard::none();
@@ -354,21 +356,21 @@ impl<C: Tally, M: Tally> Hall<C, M> {
 }
 
 /// Adds what was taken out of the box of a connection to the history, if it is an answer.
-fn tell<M: Tally>(
+fn issue<M: Tally>(
     history_words: &HistoryWords<M>,
     history: &mut History<M>,
     conn: u64,
     taking: &Taking,
 )
-    requires { MayBeTold conn taking.now history.old }
+    requires { MayBeIssued conn taking.now history.old }
     ensures this { IsPrefix history.old history.new }
-    ensures told { TakingTold conn taking.now history.new }
+    ensures issued { TakingIssued conn taking.now history.new }
 {
     let Taking::Mail { mail, .. } = taking else {
         return;
     };
     if let Some(receipt) = Receipt::of(conn, mail) {
-        history.tell(history_words, receipt);
+        history.issue(history_words, receipt);
     }
 }
 

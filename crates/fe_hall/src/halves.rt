@@ -12,11 +12,11 @@ pub struct HalfFault;
 
 /// The direction from the client.
 pub trait ReadHalf {
-    /// It tells the bytes that it reads. A socket tells nothing.
-    ghost tells: { Self → Type 0 };
+    /// The bytes that it reads are known. Those of a socket are not.
+    ghost is_known: { Self → Type 0 };
 
     /// The bytes that were read.
-    ghost told: { Self → List ℕ };
+    ghost known: { Self → List ℕ };
 
     /// How many reads were made of it.
     ghost reads: { Self → ℕ };
@@ -31,9 +31,9 @@ pub trait ReadHalf {
     fn read(&mut self, buffer: &mut [u8]) -> Result<usize, HalfFault>
         requires { 0 < length buffer.old }
         ensures fits { IfOk result (λ n. n ≤ length buffer.old) }
-        ensures tells { tells self.old → tells self.new }
-        ensures told { tells self.old → IfOk result (λ n. told self.new ≡ told self.old ++ take n buffer.new) }
-        ensures err { tells self.old → OnErr result (told self.new ≡ told self.old) }
+        ensures is_known { is_known self.old → is_known self.new }
+        ensures known { is_known self.old → IfOk result (λ n. known self.new ≡ known self.old ++ take n buffer.new) }
+        ensures err { is_known self.old → OnErr result (known self.new ≡ known self.old) }
         ensures reads { reads self.new ≡ reads self.old + 1 }
         ensures ended { IfOk result (λ n. n ≡ 0 → ended self.new) }
         ensures failed { OnErr result (failed self.new) };
@@ -41,8 +41,8 @@ pub trait ReadHalf {
 
 /// The direction to the client.
 pub trait WriteHalf {
-    /// It tells the bytes that it got. A socket tells nothing.
-    ghost tells: { Self → Type 0 };
+    /// The bytes that it got are known. Those of a socket are not.
+    ghost is_known: { Self → Type 0 };
 
     /// The bytes that it got.
     ghost got: { Self → List ℕ };
@@ -54,9 +54,9 @@ pub trait WriteHalf {
     fn write(&mut self, bytes: &[u8]) -> Result<usize, HalfFault>
         requires { 0 < length bytes.now }
         ensures fits { IfOk result (λ n. n ≤ length bytes.now) }
-        ensures tells { tells self.old → tells self.new }
-        ensures got { tells self.old → IfOk result (λ n. got self.new ≡ got self.old ++ take n bytes.now) }
-        ensures err { tells self.old → OnErr result (got self.new ≡ got self.old) }
+        ensures is_known { is_known self.old → is_known self.new }
+        ensures got { is_known self.old → IfOk result (λ n. got self.new ≡ got self.old ++ take n bytes.now) }
+        ensures err { is_known self.old → OnErr result (got self.new ≡ got self.old) }
         ensures none { IfOk result (λ n. n ≡ 0 → failed self.new) }
         ensures failed { OnErr result (failed self.new) };
 }
@@ -97,7 +97,7 @@ pub struct MemoryRead {
 impl MemoryRead {
     /// These bytes, in pieces of at most this size.
     pub fn new(bytes: Vec<u8>, piece: usize) -> MemoryRead
-        ensures { ⟦<MemoryRead as ReadHalf>⟧.told result ≡ [] }
+        ensures { ⟦<MemoryRead as ReadHalf>⟧.known result ≡ [] }
     {
         MemoryRead {
             bytes,
@@ -111,9 +111,9 @@ impl MemoryRead {
 impl ReadHalf for MemoryRead {
     ghost use Rattle.std.specs.Prelude.{◌≡◌, ◌<◌, length, take};
 
-    ghost tells = { λ _. Unit {0} };
+    ghost is_known = { λ _. Unit {0} };
 
-    ghost told = { λ r. take r.next r.bytes.items };
+    ghost known = { λ r. take r.next r.bytes.items };
 
     ghost reads = { λ r. r.reads };
 
@@ -159,7 +159,7 @@ impl MemoryWrite {
 }
 
 impl WriteHalf for MemoryWrite {
-    ghost tells = { λ _. Unit {0} };
+    ghost is_known = { λ _. Unit {0} };
 
     ghost got = { λ w. w.bytes.items };
 

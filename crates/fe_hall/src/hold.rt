@@ -5,7 +5,7 @@ ghost use Rattle.std.specs.Prelude.{◌≡◌, false};
 
 use crate::baton::BatonGuard;
 use fe_history::Tally;
-use fe_shared::{HoldRight, Made, Shared};
+use fe_shared::{HoldRight, PlaceThen, Shared};
 use std::sync::{Condvar, CondvarTimeouts, Mutex, MutexGuard, Wait};
 use std::time::{Clock, Duration};
 
@@ -73,12 +73,12 @@ impl<C: Tally, M: Tally> Lock<C, M> {
         bell: &Condvar,
         limit: Duration,
         conn: u64,
-        made: &Made,
+        place_then: &PlaceThen,
     ) -> (Hold<'a, C, M>, bool)
         ensures { (under result.0).used ≡ false }
     {
         let (mut hold, waited) = bell.wait_timeout_while(rt, hold, limit, |shared| {
-            shared.is_stuck(conn, made)
+            shared.is_stuck(conn, place_then)
         });
         hold.begin_hold(&self.right);
         (hold, waited.timed_out())

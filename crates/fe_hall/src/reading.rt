@@ -2,15 +2,15 @@
 
 ghost use Rattle.std.specs.Prelude.{◌≡◌, ◌≢◌, ◌↔◌, ◌+◌, ◌<◌, ◌≤◌, ◌++◌, [], ℕ, List, length, Option, IsNone, Some, IsTrue, false, IfNone, IfSome, OnSome, MatchOption};
 ghost use Rattle.fe_wire.specs.declared.client_message.ClientMessage.{ClientMessage as Message};
-ghost use Rattle.fe_shared.specs.Seats.{HasDeparted, HasRested, ReadSeat, TookNoMessage, message_taken};
-ghost use Rattle.fe_hall.specs.Reads.{IsQuietEnd, is_sent, listed_with, AreHandled, AreLeft, EndsEarly, EndsAmong, HandlesStream, IsAt, IsOfMessages, IsTold};
+ghost use Rattle.fe_shared.specs.Seats.{HasDeparted, HasRested, CallSeatState, TookNoMessage, message_taken};
+ghost use Rattle.fe_hall.specs.Reads.{IsQuietEnd, is_sent, listed_with, AreHandled, AreLeft, EndsEarly, EndsAmong, HandlesStream, IsAt, IsOfMessages, IsEndAfter};
 
 use crate::baton::BatonGuard;
 use crate::ends::ReadEnd;
 use crate::hall::Hall;
 use crate::halves::{Gate, ReadHalf};
 use fe_history::{LISTED, Tally};
-use fe_shared::{CallSeat, Made, Standing, feed, reserve_one, zeros};
+use fe_shared::{CallSeat, LastAnswer, PlaceThen, feed, reserve_one, zeros};
 use fe_wire::{ClientMessage, Decoder, Version};
 use std::alloc::Global;
 use std::sync::Wait;
@@ -38,11 +38,11 @@ pub fn read_side<C: Tally, M: Tally, H: ReadHalf, G: Gate, R: Clock + Wait>(
     gate: &G,
     turns: Option<u64>,
 ) -> (CallSeat<C>, Vec<ClientMessage>, ReadEnd)
-    // If the half tells its bytes, and has told none yet, what was handled is the front of its stream.
-    ensures handled { H.tells half.old → H.told half.old ≡ []
-        → HandlesStream (H.told half.new) seat result.0 result.1.items result.2 }
+    // If the half's bytes are known, and none was read yet, what was handled is the front of its stream.
+    ensures handled { H.is_known half.old → H.known half.old ≡ []
+        → HandlesStream (H.known half.new) seat result.0 result.1.items result.2 }
     ensures own { result.0.conn ≡ seat.conn }
-    ensures tells { H.tells half.old → H.tells half.new }
+    ensures is_known { H.is_known half.old → H.is_known half.new }
     // It ends as `Turns` only after as many reads as it may make, and makes no more.
     ensures turns { result.2 ≡ ReadEnd.Turns
         → (most : ℕ) × (turns ≡ Some most) × (H.reads half.new ≡ H.reads half.old + most) }
@@ -50,7 +50,7 @@ pub fn read_side<C: Tally, M: Tally, H: ReadHalf, G: Gate, R: Clock + Wait>(
     ensures ended { result.2 ≡ ReadEnd.Closed → H.ended half.new }
     ensures failed { result.2 ≡ ReadEnd.Device → H.failed half.new }
     // A side ends as `Gone`, `Stopped` or `Spent` only if that was the hall's last answer to it.
-    ensures told { IsTold result.2 result.0.standing }
+    ensures ended_as { IsEndAfter result.2 result.0.last_answer }
     ensures departed { result.2 ≢ ReadEnd.Stopped → HasDeparted result.0 }
     // At the end of the stream, and after the last read, the connection goes only once nothing more comes of what was read.
     ensures rested { IsQuietEnd result.2 → HasRested result.0 }
@@ -63,7 +63,7 @@ pub fn read_side<C: Tally, M: Tally, H: ReadHalf, G: Gate, R: Clock + Wait>(
         decoder,
         listed,
         run: 0,
-        made: None,
+        place_then: None,
     };
     let end = reading.read_all(rt, hall, half, gate, turns);
     depart(rt, hall, &mut reading.seat, end);
@@ -82,7 +82,7 @@ struct Reading<C: Tally> {
     /// How many messages this run has.
     run: u64,
     /// The place after all entries made before this run.
-    made: Option<Made>,
+    place_then: Option<PlaceThen>,
 }
 
 impl<C: Tally> Reading<C> {
@@ -95,17 +95,17 @@ impl<C: Tally> Reading<C> {
         gate: &G,
         turns: Option<u64>,
     ) -> ReadEnd
-        ensures handled { H.tells half.old → H.told half.old ≡ []
+        ensures handled { H.is_known half.old → H.known half.old ≡ []
             → IsAt [] self.old.seat self.old.decoder self.old.seat self.old.listed.items
-            → HandlesStream (H.told half.new) self.old.seat self.new.seat self.new.listed.items result }
+            → HandlesStream (H.known half.new) self.old.seat self.new.seat self.new.listed.items result }
         ensures own { self.new.seat.conn ≡ self.old.seat.conn }
-        ensures tells { H.tells half.old → H.tells half.new }
+        ensures is_known { H.is_known half.old → H.is_known half.new }
         ensures turns { result ≡ ReadEnd.Turns
             → (most : ℕ) × (turns ≡ Some most) × (H.reads half.new ≡ H.reads half.old + most) }
         ensures reads { IfSome turns (λ most. H.reads half.new ≤ H.reads half.old + most) }
         ensures ended { result ≡ ReadEnd.Closed → H.ended half.new }
         ensures failed { result ≡ ReadEnd.Device → H.failed half.new }
-        ensures told { IsTold result self.new.seat.standing }
+        ensures ended_as { IsEndAfter result self.new.seat.last_answer }
     {
         let mut buffer = match zeros(self.alloc, PIECE_BYTES) {
             Ok(buffer) => buffer,
@@ -134,17 +134,17 @@ impl<C: Tally> Reading<C> {
         buffer: &mut [u8],
     ) -> Option<ReadEnd>
         requires { 0 < length buffer.old }
-        ensures handled { (before : ReadSeat) → H.tells half.old
-            → IsAt (H.told half.old) before self.old.decoder self.old.seat self.old.listed.items
-            → MatchOption result (IsAt (H.told half.new) before self.new.decoder self.new.seat self.new.listed.items)
-            (HandlesStream (H.told half.new) before self.new.seat self.new.listed.items) }
+        ensures handled { (before : CallSeatState) → H.is_known half.old
+            → IsAt (H.known half.old) before self.old.decoder self.old.seat self.old.listed.items
+            → MatchOption result (IsAt (H.known half.new) before self.new.decoder self.new.seat self.new.listed.items)
+            (HandlesStream (H.known half.new) before self.new.seat self.new.listed.items) }
         ensures own { self.new.seat.conn ≡ self.old.seat.conn }
-        ensures tells { H.tells half.old → H.tells half.new }
+        ensures is_known { H.is_known half.old → H.is_known half.new }
         ensures turns { IfSome result (λ end. end ≢ ReadEnd.Turns) }
         ensures reads { H.reads half.new ≡ H.reads half.old + 1 }
         ensures ended { IfSome result (λ end. end ≡ ReadEnd.Closed → H.ended half.new) }
         ensures failed { IfSome result (λ end. end ≡ ReadEnd.Device → H.failed half.new) }
-        ensures told { IfSome result (λ end. IsTold end self.new.seat.standing) }
+        ensures ended_as { IfSome result (λ end. IsEndAfter end self.new.seat.last_answer) }
     {
         match half.read(buffer) {
             Err(_) => Some(ReadEnd::Device),
@@ -161,13 +161,13 @@ impl<C: Tally> Reading<C> {
         gate: &G,
         piece: &[u8],
     ) -> Option<ReadEnd>
-        ensures handled { (before : ReadSeat) (bytes : List ℕ)
+        ensures handled { (before : CallSeatState) (bytes : List ℕ)
             → IsAt bytes before self.old.decoder self.old.seat self.old.listed.items
             → MatchOption result (IsAt (bytes ++ piece.now) before self.new.decoder self.new.seat self.new.listed.items)
             (HandlesStream (bytes ++ piece.now) before self.new.seat self.new.listed.items) }
         ensures own { self.new.seat.conn ≡ self.old.seat.conn }
         ensures of { IfSome result IsOfMessages }
-        ensures told { IfSome result (λ end. IsTold end self.new.seat.standing) }
+        ensures ended_as { IfSome result (λ end. IsEndAfter end self.new.seat.last_answer) }
     {
         let fed = match feed(&mut self.decoder, self.alloc, piece) {
             Ok(fed) => fed,
@@ -190,13 +190,13 @@ impl<C: Tally> Reading<C> {
         gate: &G,
         messages: &[ClientMessage],
     ) -> Option<ReadEnd>
-        ensures handled { (before : ReadSeat) (earlier : List Message)
+        ensures handled { (before : CallSeatState) (earlier : List Message)
             → AreHandled before self.old.seat self.old.listed.items earlier
             → MatchOption result (AreHandled before self.new.seat self.new.listed.items (earlier ++ messages.now))
             (EndsAmong before self.new.seat self.new.listed.items earlier messages.now) }
         ensures own { self.new.seat.conn ≡ self.old.seat.conn }
         ensures of { IfSome result IsOfMessages }
-        ensures told { IfSome result (λ end. IsTold end self.new.seat.standing) }
+        ensures ended_as { IfSome result (λ end. IsEndAfter end self.new.seat.last_answer) }
         ensures decoder { self.new.decoder ≡ self.old.decoder }
     {
         let mut baton_guard = BatonGuard::none();
@@ -225,7 +225,7 @@ impl<C: Tally> Reading<C> {
         ensures untaken { OnSome result (TookNoMessage self.old.seat self.new.seat
             × (self.new.listed.items ≡ self.old.listed.items)) }
         ensures end { IfSome result EndsEarly }
-        ensures told { IfSome result (λ end. IsTold end self.new.seat.standing) }
+        ensures ended_as { IfSome result (λ end. IsEndAfter end self.new.seat.last_answer) }
         ensures decoder { self.new.decoder ≡ self.old.decoder }
     {
         let lists = is_sent(message) && self.listed.len() < LISTED;
@@ -244,8 +244,8 @@ impl<C: Tally> Reading<C> {
             baton_guard.give_up();
             hall.await_rest(rt, &self.seat);
         }
-        let standing = hall.handle(rt, self.alloc, message, &mut self.seat, baton_guard);
-        if let Some(end) = end_of(standing) {
+        let last_answer = hall.handle(rt, self.alloc, message, &mut self.seat, baton_guard);
+        if let Some(end) = end_of(last_answer) {
             return Some(end);
         }
         if lists && self.listed.push(*message).is_err() {
@@ -270,20 +270,20 @@ impl<C: Tally> Reading<C> {
             self.run += 1;
             return;
         }
-        let made = match &self.made {
-            Some(made) => hall.await_room(rt, self.seat.conn(), made, baton_guard),
-            None => hall.made(rt),
+        let place_then = match &self.place_then {
+            Some(place_then) => hall.await_room(rt, self.seat.conn(), place_then, baton_guard),
+            None => hall.place_then(rt),
         };
         self.run = 1;
-        self.made = Some(made);
+        self.place_then = Some(place_then);
     }
 }
 
 /// Takes one of the reads that are left, `None` for any number. Whether there was one.
 fn take_turn(left: &mut Option<u64>) -> bool
     ensures none { result ≡ false → left.old ≡ Some 0 }
-    ensures next { IsTrue result → (turns : Option ℕ) (made : ℕ) → AreLeft turns left.old made
-        → AreLeft turns left.new (made + 1) }
+    ensures next { IsTrue result → (turns : Option ℕ) (reads : ℕ) → AreLeft turns left.old reads
+        → AreLeft turns left.new (reads + 1) }
 {
     match left {
         Some(0) => false,
@@ -303,7 +303,7 @@ fn depart<C: Tally, M: Tally, R: Wait>(
     end: ReadEnd,
 )
     ensures untaken { TookNoMessage seat.old seat.new }
-    ensures told { IsTold end seat.old.standing → IsTold end seat.new.standing }
+    ensures ended_as { IsEndAfter end seat.old.last_answer → IsEndAfter end seat.new.last_answer }
     ensures departed { end ≢ ReadEnd.Stopped → HasDeparted seat.new }
     ensures rested { IsQuietEnd end → HasRested seat.new }
 {
@@ -316,16 +316,16 @@ fn depart<C: Tally, M: Tally, R: Wait>(
 }
 
 /// Why a side ends whose message was not taken. `None` where it was.
-fn end_of(standing: Standing) -> Option<ReadEnd>
-    ensures served { IsNone result ↔ (standing ≡ Standing.Served) }
-    ensures told { IfSome result (λ end. IsTold end standing) }
+fn end_of(last_answer: LastAnswer) -> Option<ReadEnd>
+    ensures served { IsNone result ↔ (last_answer ≡ LastAnswer.Served) }
+    ensures ended_as { IfSome result (λ end. IsEndAfter end last_answer) }
     ensures end { IfSome result EndsEarly }
 {
-    match standing {
-        Standing::Served => None,
-        Standing::Gone => Some(ReadEnd::Gone),
-        Standing::Stopped => Some(ReadEnd::Stopped),
-        Standing::Spent => Some(ReadEnd::Spent),
+    match last_answer {
+        LastAnswer::Served => None,
+        LastAnswer::Gone => Some(ReadEnd::Gone),
+        LastAnswer::Stopped => Some(ReadEnd::Stopped),
+        LastAnswer::Spent => Some(ReadEnd::Spent),
     }
 }
 

@@ -1,11 +1,11 @@
 //! The write side of a connection: the mails of its box go to its client as frames, in their order.
 
 ghost use Rattle.std.specs.Prelude.{◌≡◌, ◌≢◌, ◌⊎◌, true, Some, ◌<◌, ◌≤◌, ◌∷◌, ◌++◌, [], ℕ, List, length, take, vec_len, vec_capacity, OnOk, OnErr, IfOk, IfErr, IfNone, IfSome, MatchOption};
-ghost use Rattle.fe_mail.specs.declared.mail.Mail.{Mail as Told};
+ghost use Rattle.fe_mail.specs.declared.mail.Mail.{Mail as TakenMail};
 ghost use Rattle.fe_messages.specs.Mails.{spelled};
-ghost use Rattle.fe_hall.specs.Writes.{AreTaken, IsWritten, IsTold, TakesOn, IsBatch, AreSpelled, end_for, receipts_with};
+ghost use Rattle.fe_hall.specs.Writes.{AreTaken, IsWritten, IsEndAfter, TakesOn, IsBatch, AreSpelled, end_for, receipts_with};
 ghost use mathlib.Core.List.{IsPrefix};
-ghost use Rattle.fe_history.specs.Acts.{AreTold, IsLegal};
+ghost use Rattle.fe_history.specs.Acts.{AreIssued, IsLegal};
 ghost use Rattle.fe_shared.specs.Seats.{TookNoMail};
 ghost use Rattle.fe_shared.specs.declared.taking.Taking.TheVariants as Taken;
 
@@ -26,8 +26,8 @@ const BATCH_BYTES: usize = 65_536;
 /// How many receipts a side keeps at most.
 const RECEIPTS: usize = 1024;
 
-/// Serves the direction to the client of a connection, until it ends. It waits for mail, takes all of it out of the box, or enough
-/// for some 64 KiB of frames, and makes one write of these, outside the lock.
+/// Serves the direction to the client of a connection, until it ends. It waits for mail, takes all of it out of the
+/// box, or enough for some 64 KiB of frames, and makes one write of these, outside the lock.
 ///
 /// It gives the seat back, with the receipts of the first 1,024 answers that it took. Every end but `Stopped` makes the
 /// connection gone.
@@ -38,18 +38,20 @@ pub fn write_side<C: Tally, M: Tally, H: WriteHalf, R: Wait>(
     seat: MailSeat<M>,
     half: &mut H,
 ) -> (MailSeat<M>, Receipts<M>, WriteEnd)
-    // Of the mails that were taken: the seat counts them, the receipts are of the first answers among them, a half that tells its
-    // bytes got their frames, and the history has each answer as told to this connection, after the group of its entry.
-    ensures wrote { (mails : List Told) × AreTaken seat result.0 result.1.items mails
-        × (H.tells half.old → IsWritten (H.got half.old) mails result.2 (H.got half.new))
-        × AreTold seat.conn mails result.1.history }
-    // In that history an answer is the one of its entry, which was stored before, and its connection asked for its session before.
+    // Of the mails that were taken: the seat counts them, the receipts are of the first answers among them, a half
+    // whose bytes are known got their frames, and the history has each answer as issued to this connection, after the
+    // group of its entry.
+    ensures wrote { (mails : List TakenMail) × AreTaken seat result.0 result.1.items mails
+        × (H.is_known half.old → IsWritten (H.got half.old) mails result.2 (H.got half.new))
+        × AreIssued seat.conn mails result.1.history }
+    // In that history an answer is the one of its entry, which was stored before, and its connection asked for its
+    // session before.
     ensures legal { IsLegal result.1.history }
     ensures own { result.1.conn ≡ result.0.conn }
-    ensures tells { H.tells half.old → H.tells half.new }
+    ensures is_known { H.is_known half.old → H.is_known half.new }
     ensures failed { result.2 ≡ WriteEnd.Device → H.failed half.new }
     // A side ends as `Gone`, `Stopped` or `Spent` only if that was the hall's last answer to it.
-    ensures told { IsTold result.2 result.0.standing }
+    ensures ended_as { IsEndAfter result.2 result.0.last_answer }
     ensures departed { result.2 ≢ WriteEnd.Stopped → result.0.departed ≡ true }
 {
     let mut writing = Writing {
@@ -79,7 +81,7 @@ struct Writing<M: Tally> {
     receipts: Vec<Receipt>,
     /// The frames of the mails that were taken and are not written.
     frames: Vec<u8>,
-    /// The history in which those answers were told.
+    /// The history in which those answers were issued.
     history: History<M>,
     ghost few: { length receipts.items ≤ 1024 },
 }
@@ -93,13 +95,13 @@ impl<M: Tally> Writing<M> {
         half: &mut H,
     ) -> WriteEnd
         requires { self.old.frames.items ≡ [] }
-        ensures wrote { (mails : List Told)
+        ensures wrote { (mails : List TakenMail)
             × TakesOn self.old.seat self.new.seat self.old.receipts.items self.new.receipts.items mails
-            × (H.tells half.old → IsWritten (H.got half.old) mails result (H.got half.new))
-            × AreTold self.old.seat.conn mails self.new.history }
-        ensures tells { H.tells half.old → H.tells half.new }
+            × (H.is_known half.old → IsWritten (H.got half.old) mails result (H.got half.new))
+            × AreIssued self.old.seat.conn mails self.new.history }
+        ensures is_known { H.is_known half.old → H.is_known half.new }
         ensures failed { result ≡ WriteEnd.Device → H.failed half.new }
-        ensures told { IsTold result self.new.seat.standing }
+        ensures ended_as { IsEndAfter result self.new.seat.last_answer }
     {
         for _ in rt.forever() {
             if let Some(end) = self.write_box(rt, hall, half) {
@@ -109,7 +111,8 @@ impl<M: Tally> Writing<M> {
         unreachable!()
     }
 
-    /// Waits for mail, takes what is in the box, or enough of it for a write, and writes it. Why the side ends, if it does.
+    /// Waits for mail, takes what is in the box, or enough of it for a write, and writes it. Why the side ends, if it
+    /// does.
     fn write_box<C: Tally, H: WriteHalf, R: Wait>(
         &mut self,
         rt: &R,
@@ -117,16 +120,16 @@ impl<M: Tally> Writing<M> {
         half: &mut H,
     ) -> Option<WriteEnd>
         requires { self.old.frames.items ≡ [] }
-        ensures wrote { (mails : List Told)
+        ensures wrote { (mails : List TakenMail)
             × TakesOn self.old.seat self.new.seat self.old.receipts.items self.new.receipts.items mails
-            × (H.tells half.old → MatchOption result (H.got half.new ≡ H.got half.old ++ spelled mails)
+            × (H.is_known half.old → MatchOption result (H.got half.new ≡ H.got half.old ++ spelled mails)
             (λ end. IsWritten (H.got half.old) mails end (H.got half.new)))
-            × AreTold self.old.seat.conn mails self.new.history }
+            × AreIssued self.old.seat.conn mails self.new.history }
         ensures frames { IfNone result (self.new.frames.items ≡ []) }
-        ensures tells { H.tells half.old → H.tells half.new }
+        ensures is_known { H.is_known half.old → H.is_known half.new }
         ensures failed { IfSome result (λ end. end ≡ WriteEnd.Device → H.failed half.new) }
         ensures this { IsPrefix self.old.history self.new.history }
-        ensures told { IfSome result (λ end. IsTold end self.new.seat.standing) }
+        ensures ended_as { IfSome result (λ end. IsEndAfter end self.new.seat.last_answer) }
     {
         let taken = self.take_mails(rt, hall);
         if let Err(_) = write_whole(half, self.frames.as_slice()) {
@@ -136,16 +139,16 @@ impl<M: Tally> Writing<M> {
         taken.err()
     }
 
-    /// Waits for a mail, and takes and spells mails until the box is empty or enough bytes are spelled for a write. Where memory is
-    /// short, at most the last mail that was taken is not spelled.
+    /// Waits for a mail, and takes and spells mails until the box is empty or enough bytes are spelled for a write.
+    /// Where memory is short, at most the last mail that was taken is not spelled.
     fn take_mails<C: Tally, R: Wait>(&mut self, rt: &R, hall: &Hall<C, M>) -> Result<(), WriteEnd>
         requires { self.old.frames.items ≡ [] }
-        ensures took { (mails : List Told)
+        ensures took { (mails : List TakenMail)
             × TakesOn self.old.seat self.new.seat self.old.receipts.items self.new.receipts.items mails
             × IsBatch mails × AreSpelled [] result mails self.new.frames.items
-            × AreTold self.old.seat.conn mails self.new.history }
+            × AreIssued self.old.seat.conn mails self.new.history }
         ensures this { IsPrefix self.old.history self.new.history }
-        ensures told { IfErr result (λ end. IsTold end self.new.seat.standing) }
+        ensures ended_as { IfErr result (λ end. IsEndAfter end self.new.seat.last_answer) }
     {
         let mut baton_guard = BatonGuard::none();
         let mut more = true;
@@ -168,13 +171,13 @@ impl<M: Tally> Writing<M> {
     ) -> Result<bool, WriteEnd>
         // It may wait, so nothing that was taken is left to write, or more mails are in the box.
         requires { (self.old.frames.items ≡ []) ⊎ (self.old.seat.more ≡ true) }
-        ensures took { (mails : List Told)
+        ensures took { (mails : List TakenMail)
             × TakesOn self.old.seat self.new.seat self.old.receipts.items self.new.receipts.items mails
             × (length mails ≤ 1) × AreSpelled self.old.frames.items result mails self.new.frames.items
-            × AreTold self.old.seat.conn mails self.new.history }
+            × AreIssued self.old.seat.conn mails self.new.history }
         ensures more { IfOk result (λ more. more ≡ self.new.seat.more) }
         ensures this { IsPrefix self.old.history self.new.history }
-        ensures told { IfErr result (λ end. IsTold end self.new.seat.standing) }
+        ensures ended_as { IfErr result (λ end. IsEndAfter end self.new.seat.last_answer) }
     {
         if let Err(short) = self.make_room() {
             return Err(WriteEnd::NoMemory(short));
@@ -248,7 +251,7 @@ fn depart<C: Tally, M: Tally, R: Wait>(
     end: WriteEnd,
 )
     ensures untaken { TookNoMail seat.old seat.new }
-    ensures told { seat.new.standing ≡ seat.old.standing }
+    ensures ended_as { seat.new.last_answer ≡ seat.old.last_answer }
     ensures departed { end ≢ WriteEnd.Stopped → seat.new.departed ≡ true }
 {
     match end {
@@ -259,9 +262,9 @@ fn depart<C: Tally, M: Tally, R: Wait>(
 
 /// Writes all of these bytes, in one write if the half takes them at once.
 fn write_whole<H: WriteHalf>(half: &mut H, bytes: &[u8]) -> Result<(), HalfFault>
-    ensures tells { H.tells half.old → H.tells half.new }
-    ensures ok { H.tells half.old → OnOk result (H.got half.new ≡ H.got half.old ++ bytes.now) }
-    ensures err { H.tells half.old
+    ensures is_known { H.is_known half.old → H.is_known half.new }
+    ensures ok { H.is_known half.old → OnOk result (H.got half.new ≡ H.got half.old ++ bytes.now) }
+    ensures err { H.is_known half.old
         → OnErr result ((n : ℕ) × (n ≤ length bytes.now) × (H.got half.new ≡ H.got half.old ++ take n bytes.now)) }
     ensures failed { OnErr result (H.failed half.new) }
 {

@@ -10,14 +10,14 @@ use Rattle.fe_state.specs.declared.entry.Entry.{Entry}
 use Rattle.fe_messages.specs.Answers.{IsAnswerIn}
 use Rattle.fe_messages.proofs.Answers.{answer_more}
 use Rattle.fe_history.specs.declared.act.Act.{Act}
-use Rattle.fe_history.specs.declared.act.Act.TheVariants.{Began, Asked, Cut, Stored, Told}
+use Rattle.fe_history.specs.declared.act.Act.TheVariants.{Began, Asked, Cut, Stored, Issued}
 use Rattle.fe_history.specs.declared.receipt.Receipt.{Receipt}
 use Rattle.std.specs.List.{filter_map, cons_option}
 use Rattle.std.specs.Prelude.{zero, suc, take, slice_get, Option, Some, None, IfSome, Result, Ok, Err, OnOk, OnErr, false}
 use Rattle.fe_mail.specs.declared.mail.Mail.{Mail}
 use Rattle.fe_history.specs.Receipts.{receipt_of}
-use Rattle.fe_history.specs.Acts.{GoesOn, HasMore, IsLegal, MayCome, MayFollow, ReceiptList, WasCut, batches_of, cuts_in, entries_in, place_after, stores_in, StandsIn, EachTold, WasTold, AreTold}
-use Rattle.fe_history.specs.Rules.{ComesAfter, CutsAfter}
+use Rattle.fe_history.specs.Acts.{FollowEachOther, HasMore, IsLegal, MayBeAppended, MayFollow, ReceiptList, WasCut, batches_of, cuts_in, entries_in, place_after, stores_in, StandsIn, EachIssued, WasIssued, AreIssued}
+use Rattle.fe_history.specs.Rules.{WasAppended, CutsAfter}
 
 -- ---- lists
 
@@ -51,21 +51,21 @@ prefix_length xs ys p = omega (arith, ap length p.1, length-append xs p.0)
 
 -- ---- an act after others
 
-goes_append : (begun : ServerState) (past acts : List Act) (a : Act) → GoesOn begun past acts → MayFollow begun (past ++ acts) a → GoesOn begun past (acts ++ a ∷ [])
+goes_append : (begun : ServerState) (past acts : List Act) (a : Act) → FollowEachOther begun past acts → MayFollow begun (past ++ acts) a → FollowEachOther begun past (acts ++ a ∷ [])
 goes_append begun past [] a goes may = (subst (λ (p : List Act). MayFollow begun p a) (append-nil past) may, tt)
 goes_append begun past (x ∷ acts) a goes may =
     (goes.0, goes_append begun (past ++ x ∷ []) acts a goes.1 (subst (λ (p : List Act). MayFollow begun p a) (sym (append_assoc past (x ∷ []) acts)) may))
 
-pub legal_append : (log : List Act) (a : Act) → IsLegal log → MayCome log a → IsLegal (log ++ a ∷ [])
+pub legal_append : (log : List Act) (a : Act) → IsLegal log → MayBeAppended log a → IsLegal (log ++ a ∷ [])
 legal_append [] a legal may = absurd legal
 legal_append (Began s ∷ log) a legal may = (legal.0, goes_append s [] log a legal.1 may)
 legal_append (Cut b ∷ log) a legal may = absurd legal
 legal_append (Stored b m ∷ log) a legal may = absurd legal
 legal_append (Asked c s ∷ log) a legal may = absurd legal
-legal_append (Told q ∷ log) a legal may = absurd legal
+legal_append (Issued q ∷ log) a legal may = absurd legal
 
 -- an act of a history may follow those before it
-pub goes_at : (begun : ServerState) (past earlier later : List Act) (a : Act) → GoesOn begun past (earlier ++ a ∷ later) → MayFollow begun (past ++ earlier) a
+pub goes_at : (begun : ServerState) (past earlier later : List Act) (a : Act) → FollowEachOther begun past (earlier ++ a ∷ later) → MayFollow begun (past ++ earlier) a
 goes_at begun past [] later a goes = subst (λ (p : List Act). MayFollow begun p a) (sym (append-nil past)) goes.0
 goes_at begun past (x ∷ earlier) later a goes =
     subst (λ (p : List Act). MayFollow begun p a) (append_assoc past (x ∷ []) earlier) (goes_at begun (past ++ x ∷ []) earlier later a goes.1)
@@ -78,7 +78,7 @@ cuts_append (Began s ∷ xs) ys = cuts_append xs ys
 cuts_append (Cut b ∷ xs) ys = ap (λ bs. b ∷ bs) (cuts_append xs ys)
 cuts_append (Stored b m ∷ xs) ys = cuts_append xs ys
 cuts_append (Asked c s ∷ xs) ys = cuts_append xs ys
-cuts_append (Told q ∷ xs) ys = cuts_append xs ys
+cuts_append (Issued q ∷ xs) ys = cuts_append xs ys
 
 pub stores_append : (xs ys : List Act) → stores_in (xs ++ ys) ≡ stores_in xs ++ stores_in ys
 stores_append [] ys = refl
@@ -86,7 +86,7 @@ stores_append (Began s ∷ xs) ys = stores_append xs ys
 stores_append (Cut b ∷ xs) ys = stores_append xs ys
 stores_append (Stored b m ∷ xs) ys = ap (λ s. (b, m) ∷ s) (stores_append xs ys)
 stores_append (Asked c s ∷ xs) ys = stores_append xs ys
-stores_append (Told q ∷ xs) ys = stores_append xs ys
+stores_append (Issued q ∷ xs) ys = stores_append xs ys
 
 pub cuts_rise : (xs ys : List Act) → IsPrefix xs ys → IsPrefix (cuts_in xs) (cuts_in ys)
 cuts_rise xs ys p = (cuts_in p.0, sym (cuts_append xs p.0) ∙ ap cuts_in p.1)
@@ -128,18 +128,18 @@ stands_later xs ys a p s = (s.0, subst (λ (zs : List Act). slice_get zs s.0 ≡
 pub stands_last : (xs ys : List Act) (a : Act) → ys ≡ xs ++ a ∷ [] → StandsIn ys a
 stands_last xs ys a is = (length xs, subst (λ (zs : List Act). slice_get zs (length xs) ≡ Some a) (sym is) (get_last xs a))
 
--- what may be told may be told later
-pub told_may : (xs ys : List Act) (r : Receipt) → IsPrefix xs ys → MayCome xs (Told r) → MayCome ys (Told r)
-told_may [] ys r p may = absurd may
-told_may (Began s ∷ xs) ys r p may =
-    subst (λ (zs : List Act). MayCome zs (Told r)) p.1 (
+-- what may be issued may be issued later
+pub issued_may : (xs ys : List Act) (r : Receipt) → IsPrefix xs ys → MayBeAppended xs (Issued r) → MayBeAppended ys (Issued r)
+issued_may [] ys r p may = absurd may
+issued_may (Began s ∷ xs) ys r p may =
+    subst (λ (zs : List Act). MayBeAppended zs (Issued r)) p.1 (
       answer_within s (batches_of (stores_in xs)) (batches_of (stores_in (xs ++ p.0))) r.session r.number r.answer r.place (stored_rise xs (xs ++ p.0) (p.0, refl)) may.0,
       stands_later xs (xs ++ p.0) (Asked r.conn r.session) (p.0, refl) may.1,
     )
-told_may (Cut b ∷ xs) ys r p may = absurd may
-told_may (Stored b m ∷ xs) ys r p may = absurd may
-told_may (Asked c s ∷ xs) ys r p may = absurd may
-told_may (Told q ∷ xs) ys r p may = absurd may
+issued_may (Cut b ∷ xs) ys r p may = absurd may
+issued_may (Stored b m ∷ xs) ys r p may = absurd may
+issued_may (Asked c s ∷ xs) ys r p may = absurd may
+issued_may (Issued q ∷ xs) ys r p may = absurd may
 
 -- ---- what is always true of cuts and stores
 
@@ -183,12 +183,12 @@ sound_append begun past (Asked c s) sound may =
     let cuts : cuts_in past ≡ cuts_in (past ++ Asked c s ∷ []) = sym (cuts_append past (Asked c s ∷ []) ∙ append-nil (cuts_in past)) in
     let stores : stores_in past ≡ stores_in (past ++ Asked c s ∷ []) = sym (stores_append past (Asked c s ∷ []) ∙ append-nil (stores_in past)) in
     record { balanced = still past (past ++ Asked c s ∷ []) cuts stores sound.balanced; ordered = subst (λ (bs : List Batch). AreInOrder begun.place bs) cuts sound.ordered }
-sound_append begun past (Told r) sound may =
-    let cuts : cuts_in past ≡ cuts_in (past ++ Told r ∷ []) = sym (cuts_append past (Told r ∷ []) ∙ append-nil (cuts_in past)) in
-    let stores : stores_in past ≡ stores_in (past ++ Told r ∷ []) = sym (stores_append past (Told r ∷ []) ∙ append-nil (stores_in past)) in
-    record { balanced = still past (past ++ Told r ∷ []) cuts stores sound.balanced; ordered = subst (λ (bs : List Batch). AreInOrder begun.place bs) cuts sound.ordered }
+sound_append begun past (Issued r) sound may =
+    let cuts : cuts_in past ≡ cuts_in (past ++ Issued r ∷ []) = sym (cuts_append past (Issued r ∷ []) ∙ append-nil (cuts_in past)) in
+    let stores : stores_in past ≡ stores_in (past ++ Issued r ∷ []) = sym (stores_append past (Issued r ∷ []) ∙ append-nil (stores_in past)) in
+    record { balanced = still past (past ++ Issued r ∷ []) cuts stores sound.balanced; ordered = subst (λ (bs : List Batch). AreInOrder begun.place bs) cuts sound.ordered }
 
-sound_goes : (begun : ServerState) (past acts : List Act) → IsSound begun past → GoesOn begun past acts → IsSound begun (past ++ acts)
+sound_goes : (begun : ServerState) (past acts : List Act) → IsSound begun past → FollowEachOther begun past acts → IsSound begun (past ++ acts)
 sound_goes begun past [] sound goes = subst (IsSound begun) (sym (append-nil past)) sound
 sound_goes begun past (a ∷ acts) sound goes = subst (IsSound begun) (append_assoc past (a ∷ []) acts) (sound_goes begun (past ++ a ∷ []) acts (sound_append begun past a sound goes.0) goes.1)
 
@@ -258,7 +258,7 @@ pub begins_so : (begun : ServerState) (past xs ys : List Act) → xs ≡ Began b
 begins_so begun past xs ys begins p = (past ++ p.0, sym p.1 ∙ ap (λ (zs : List Act). zs ++ p.0) begins)
 
 -- a cut, where as many were cut as were stored before
-pub cut_may : (v log : List Act) (count : ℕ) (batch : Batch) → CutsAfter v count batch → IsPrefix v log → IsLegal log → length (cuts_in log) ≡ count → MayCome log (Cut batch)
+pub cut_may : (v log : List Act) (count : ℕ) (batch : Batch) → CutsAfter v count batch → IsPrefix v log → IsLegal log → length (cuts_in log) ≡ count → MayBeAppended log (Cut batch)
 cut_may v log count batch next pre legal here =
     let (rest, begins) = begins_so next.begun next.past v log next.begins pre in
     let stored : IsPrefix next.before (batches_of (stores_in log)) = prefix_trans next.before (batches_of (stores_in v)) (batches_of (stores_in log)) next.stored (stored_rise v log pre) in
@@ -268,16 +268,16 @@ cut_may v log count batch next pre legal here =
     let all : batches_of (stores_in log) ≡ next.before = prefix_whole next.before (batches_of (stores_in log)) stored (omega (arith, few, more, here, next.counted)) in
     let both : cuts_in log ≡ batches_of (stores_in log) = prefix_whole (batches_of (stores_in log)) (cuts_in log) cut (omega (arith, few, more, here, next.counted)) in
     let first : batch.first ≡ place_after next.begun (cuts_in log) = next.first ∙ ap (λ (bs : List Batch). place_after next.begun bs) (sym (both ∙ all)) in
-    subst (λ (zs : List Act). MayCome zs (Cut batch)) (sym begins)
+    subst (λ (zs : List Act). MayBeAppended zs (Cut batch)) (sym begins)
     (subst (λ (zs : List Act). cuts_in zs ≡ batches_of (stores_in zs)) begins both, subst (λ (zs : List Act). batch.first ≡ place_after next.begun (cuts_in zs)) begins first, next.some)
 
 -- a store of the batch that was cut next
-pub store_may : (v log : List Act) (count moment : ℕ) (batch : Batch) → WasCut v count batch → IsPrefix v log → IsLegal log → length (stores_in log) ≡ count → MayCome log (Stored batch moment)
+pub store_may : (v log : List Act) (count moment : ℕ) (batch : Batch) → WasCut v count batch → IsPrefix v log → IsLegal log → length (stores_in log) ≡ count → MayBeAppended log (Stored batch moment)
 store_may v [] count moment batch was pre legal here = absurd legal
 store_may v (Cut b ∷ log) count moment batch was pre legal here = absurd legal
 store_may v (Stored b m ∷ log) count moment batch was pre legal here = absurd legal
 store_may v (Asked c s ∷ log) count moment batch was pre legal here = absurd legal
-store_may v (Told q ∷ log) count moment batch was pre legal here = absurd legal
+store_may v (Issued q ∷ log) count moment batch was pre legal here = absurd legal
 store_may v (Began begun ∷ log) count moment batch (before, size, cut) pre legal here = by (legal_sound begun log (Began begun ∷ log) refl legal).balanced
   where
     there : IsPrefix (before ++ batch ∷ []) (cuts_in log)
@@ -305,7 +305,7 @@ pub stores_same : (xs ys : List Act) → IsPrefix xs ys → length (stores_in ys
 stores_same xs ys p same = prefix_whole (stores_in xs) (stores_in ys) (stores_rise xs ys p) same
 
 -- a batch that is stored next is noted
-pub note_adds : (old new : List Act) (batch : Batch) (moment stored : ℕ) → stored ≡ length (stores_in old) → (c : ComesAfter old (Stored batch moment) new) → length (stores_in c.earlier) ≡ stored
+pub note_adds : (old new : List Act) (batch : Batch) (moment stored : ℕ) → stored ≡ length (stores_in old) → (c : WasAppended old (Stored batch moment) new) → length (stores_in c.earlier) ≡ stored
     → stores_in new ≡ stores_in old ++ (batch, moment) ∷ []
 note_adds old new batch moment stored count c same =
     ap stores_in c.is ∙ stores_append c.earlier (Stored batch moment ∷ []) ∙ ap (λ (s : List (Batch × ℕ)). s ++ (batch, moment) ∷ []) (stores_same old c.earlier c.seen (same ∙ count))
@@ -318,58 +318,58 @@ stores_more xs ys p other = by (stores_in p.0) (sym (stores_append xs p.0) ∙ a
     by [] is = absurd (other (ap length (sym is ∙ append-nil (stores_in xs))))
     by (s ∷ rest) is = (s, rest, sym is)
 
--- ---- answers that were told
+-- ---- answers that were issued
 
-pub each_later : (rs : List Receipt) (xs ys : List Act) → IsPrefix xs ys → EachTold rs xs → EachTold rs ys
-each_later [] xs ys p told = tt
-each_later (r ∷ rs) xs ys p told = (stands_later xs ys (Told r) p told.0, each_later rs xs ys p told.1)
+pub each_later : (rs : List Receipt) (xs ys : List Act) → IsPrefix xs ys → EachIssued rs xs → EachIssued rs ys
+each_later [] xs ys p issued = tt
+each_later (r ∷ rs) xs ys p issued = (stands_later xs ys (Issued r) p issued.0, each_later rs xs ys p issued.1)
 
-pub each_both : (rs ts : List Receipt) (acts : List Act) → EachTold rs acts → EachTold ts acts → EachTold (rs ++ ts) acts
+pub each_both : (rs ts : List Receipt) (acts : List Act) → EachIssued rs acts → EachIssued ts acts → EachIssued (rs ++ ts) acts
 each_both [] ts acts one two = two
 each_both (r ∷ rs) ts acts one two = (one.0, each_both rs ts acts one.1 two)
 
-told_option : (o : Option Receipt) (xs ys : List Act) → IsPrefix xs ys → IfSome o (λ r. StandsIn xs (Told r)) → IfSome o (λ r. StandsIn ys (Told r))
-told_option None xs ys p told = tt
-told_option (Some r) xs ys p told = stands_later xs ys (Told r) p told
+issued_option : (o : Option Receipt) (xs ys : List Act) → IsPrefix xs ys → IfSome o (λ r. StandsIn xs (Issued r)) → IfSome o (λ r. StandsIn ys (Issued r))
+issued_option None xs ys p issued = tt
+issued_option (Some r) xs ys p issued = stands_later xs ys (Issued r) p issued
 
-pub was_later : (n : ℕ) (m : Mail) (xs ys : List Act) → IsPrefix xs ys → WasTold n m xs → WasTold n m ys
-was_later n m xs ys p told = told_option (receipt_of n m) xs ys p told
+pub was_later : (n : ℕ) (m : Mail) (xs ys : List Act) → IsPrefix xs ys → WasIssued n m xs → WasIssued n m ys
+was_later n m xs ys p issued = issued_option (receipt_of n m) xs ys p issued
 
-pub told_later : (n : ℕ) (ms : List Mail) (xs ys : List Act) → IsPrefix xs ys → AreTold n ms xs → AreTold n ms ys
-told_later n [] xs ys p told = tt
-told_later n (m ∷ ms) xs ys p told = (was_later n m xs ys p told.0, told_later n ms xs ys p told.1)
+pub issued_later : (n : ℕ) (ms : List Mail) (xs ys : List Act) → IsPrefix xs ys → AreIssued n ms xs → AreIssued n ms ys
+issued_later n [] xs ys p issued = tt
+issued_later n (m ∷ ms) xs ys p issued = (was_later n m xs ys p issued.0, issued_later n ms xs ys p issued.1)
 
--- what was told to a connection, and then to the same
-pub told_both : (n k : ℕ) (ms ns : List Mail) (xs ys : List Act) → k ≡ n → IsPrefix xs ys → AreTold n ms xs → AreTold k ns ys → AreTold n (ms ++ ns) ys
-told_both n k [] ns xs ys same p one two = subst (λ (j : ℕ). AreTold j ns ys) same two
-told_both n k (m ∷ ms) ns xs ys same p one two = (was_later n m xs ys p one.0, told_both n k ms ns xs ys same p one.1 two)
+-- what was issued to a connection, and then to the same
+pub issued_both : (n k : ℕ) (ms ns : List Mail) (xs ys : List Act) → k ≡ n → IsPrefix xs ys → AreIssued n ms xs → AreIssued k ns ys → AreIssued n (ms ++ ns) ys
+issued_both n k [] ns xs ys same p one two = subst (λ (j : ℕ). AreIssued j ns ys) same two
+issued_both n k (m ∷ ms) ns xs ys same p one two = (was_later n m xs ys p one.0, issued_both n k ms ns xs ys same p one.1 two)
 
-each_option : (o : Option Receipt) (rs : List Receipt) (acts : List Act) → IfSome o (λ r. StandsIn acts (Told r)) → EachTold rs acts → EachTold (cons_option o rs) acts
+each_option : (o : Option Receipt) (rs : List Receipt) (acts : List Act) → IfSome o (λ r. StandsIn acts (Issued r)) → EachIssued rs acts → EachIssued (cons_option o rs) acts
 each_option None rs acts one all = all
 each_option (Some r) rs acts one all = (one, all)
 
 -- the receipts of mails
-each_of : (n : ℕ) (ms : List Mail) (acts : List Act) → AreTold n ms acts → EachTold (filter_map (receipt_of n) ms) acts
-each_of n [] acts told = tt
-each_of n (m ∷ ms) acts told = each_option (receipt_of n m) (filter_map (receipt_of n) ms) acts told.0 (each_of n ms acts told.1)
+each_of : (n : ℕ) (ms : List Mail) (acts : List Act) → AreIssued n ms acts → EachIssued (filter_map (receipt_of n) ms) acts
+each_of n [] acts issued = tt
+each_of n (m ∷ ms) acts issued = each_option (receipt_of n m) (filter_map (receipt_of n) ms) acts issued.0 (each_of n ms acts issued.1)
 
-each_first : (n : ℕ) (rs : List Receipt) (acts : List Act) → EachTold rs acts → EachTold (take n rs) acts
-each_first zero rs acts told = tt
-each_first (suc n) [] acts told = tt
-each_first (suc n) (r ∷ rs) acts told = (told.0, each_first n rs acts told.1)
+each_first : (n : ℕ) (rs : List Receipt) (acts : List Act) → EachIssued rs acts → EachIssued (take n rs) acts
+each_first zero rs acts issued = tt
+each_first (suc n) [] acts issued = tt
+each_first (suc n) (r ∷ rs) acts issued = (issued.0, each_first n rs acts issued.1)
 
-pub receipts_told : (n : ℕ) (kept : List Receipt) (ms : List Mail) (acts : List Act) → kept ≡ take 1024 (filter_map (receipt_of n) ms) → AreTold n ms acts → EachTold kept acts
-receipts_told n kept ms acts is told = subst (λ (rs : List Receipt). EachTold rs acts) (sym is) (each_first 1024 (filter_map (receipt_of n) ms) acts (each_of n ms acts told))
+pub receipts_issued : (n : ℕ) (kept : List Receipt) (ms : List Mail) (acts : List Act) → kept ≡ take 1024 (filter_map (receipt_of n) ms) → AreIssued n ms acts → EachIssued kept acts
+receipts_issued n kept ms acts is issued = subst (λ (rs : List Receipt). EachIssued rs acts) (sym is) (each_first 1024 (filter_map (receipt_of n) ms) acts (each_of n ms acts issued))
 
 -- the receipts of another side, added to those of one
-pub gathered_told : {A E : Type 0} (added : Result A E) (old new : ReceiptList) (others slice : List Receipt) (xs ys zs : List Act) → slice ≡ others → OnOk added (new ≡ record old { items = old.items ++ slice })
-    → OnErr added (new ≡ record old { whole = false }) → IsPrefix xs zs → IsPrefix ys zs → EachTold old.items xs → EachTold others ys → EachTold new.items zs
-gathered_told (Ok a) old new others slice xs ys zs same ok err p q one two =
-    subst (λ (rs : List Receipt). EachTold rs zs) (ap (λ (rs : List Receipt). old.items ++ rs) (sym same) ∙ sym (ap (λ (l : ReceiptList). l.items) ok))
+pub gathered_issued : {A E : Type 0} (added : Result A E) (old new : ReceiptList) (others slice : List Receipt) (xs ys zs : List Act) → slice ≡ others → OnOk added (new ≡ record old { items = old.items ++ slice })
+    → OnErr added (new ≡ record old { whole = false }) → IsPrefix xs zs → IsPrefix ys zs → EachIssued old.items xs → EachIssued others ys → EachIssued new.items zs
+gathered_issued (Ok a) old new others slice xs ys zs same ok err p q one two =
+    subst (λ (rs : List Receipt). EachIssued rs zs) (ap (λ (rs : List Receipt). old.items ++ rs) (sym same) ∙ sym (ap (λ (l : ReceiptList). l.items) ok))
     (each_both old.items others zs (each_later old.items xs zs p one) (each_later others ys zs q two))
-gathered_told (Err e) old new others slice xs ys zs same ok err p q one two =
-    subst (λ (rs : List Receipt). EachTold rs zs) (sym (ap (λ (l : ReceiptList). l.items) err)) (each_later old.items xs zs p one)
+gathered_issued (Err e) old new others slice xs ys zs same ok err p q one two =
+    subst (λ (rs : List Receipt). EachIssued rs zs) (sym (ap (λ (l : ReceiptList). l.items) err)) (each_later old.items xs zs p one)
 
--- an answer that was told is of a session that its connection had asked for
-pub told_asked : (begun : ServerState) (acts earlier later : List Act) (r : Receipt) → GoesOn begun [] acts → acts ≡ earlier ++ Told r ∷ later → StandsIn earlier (Asked r.conn r.session)
-told_asked begun acts earlier later r goes is = (goes_at begun [] earlier later (Told r) (subst (λ (a : List Act). GoesOn begun [] a) is goes)).1
+-- an answer that was issued is of a session that its connection had asked for
+pub issued_asked : (begun : ServerState) (acts earlier later : List Act) (r : Receipt) → FollowEachOther begun [] acts → acts ≡ earlier ++ Issued r ∷ later → StandsIn earlier (Asked r.conn r.session)
+issued_asked begun acts earlier later r goes is = (goes_at begun [] earlier later (Issued r) (subst (λ (a : List Act). FollowEachOther begun [] a) is goes)).1

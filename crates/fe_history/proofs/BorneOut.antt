@@ -5,13 +5,13 @@ use Rattle.std.proofs.lemmas.Option.{same_Some, slice_get_within, get_or_from_sl
 use Rattle.fe_state.specs.State.{ServerState}
 use Rattle.fe_state.specs.declared.kept.Kept.{Kept}
 use Rattle.fe_wire.specs.declared.client_message.ClientMessage.{ClientMessage}
-use Rattle.fe_history.specs.Receipts.{Keeps, IsAsTold, WasSent, AreWhole, IsStrange, IsBorneOut, IsFirstStrange}
+use Rattle.fe_history.specs.Receipts.{Keeps, IsAsIssued, WasSent, AreWhole, IsStrange, IsBorneOut, IsFirstStrange}
 use Rattle.fe_history.specs.declared.receipt.Receipt.{Receipt}
 
 module _ (s : ServerState) (sent : List (List ClientMessage)) (r : Receipt) where
   pub not_both : IsBorneOut s sent r → IsStrange s sent r → ⊥
   not_both b (IsStrange.NotStored past) = omega (arith, past, b.is_stored)
-  not_both b (IsStrange.OtherKept session number k keeps at_place other) = other (b.as_told session number k keeps at_place)
+  not_both b (IsStrange.OtherKept session number k keeps at_place other) = other (b.as_issued session number k keeps at_place)
   not_both b (IsStrange.EarlierKept k keeps earlier) = omega (arith, earlier, b.none_earlier k keeps)
   not_both b (IsStrange.NeverSent k keeps at_place whole never) = never (b.was_sent whole k keeps at_place)
 
@@ -21,11 +21,11 @@ module _ (s : ServerState) (sent : List (List ClientMessage)) (r : Receipt) wher
 
   -- what is said of one answer that is kept for the number is said of each
   pub borne_out : (k : Kept) → Keeps s r.session r.number k → r.place < s.place
-      → ((session number : ℕ) (other : Kept) → Keeps s session number other → other.place ≡ r.place → IsAsTold r session number other)
+      → ((session number : ℕ) (other : Kept) → Keeps s session number other → other.place ≡ r.place → IsAsIssued r session number other)
       → r.place ≤ k.place → (AreWhole sent → WasSent sent r.session r.number k.request) → IsBorneOut s sent r
-  borne_out k keeps is_stored as_told not_earlier was_sent = record {
+  borne_out k keeps is_stored as_issued not_earlier was_sent = record {
     is_stored = is_stored;
-    as_told = as_told;
+    as_issued = as_issued;
     none_earlier = λ other kept. subst (λ (x : Kept). r.place ≤ x.place) (same kept) not_earlier;
     was_sent = λ whole other kept at_place. subst (λ (x : Kept). WasSent sent r.session r.number x.request) (same kept) (was_sent whole);
   }

@@ -7,7 +7,7 @@ use Rattle.fe_state.proofs.Maps.{get_beside, get_inserted, same_or_other}
 use Rattle.fe_state.specs.Sessions.{Session, kept_in}
 use Rattle.fe_state.specs.State.{ServerState}
 use Rattle.fe_state.specs.declared.kept.Kept.{Kept}
-use Rattle.fe_history.specs.Receipts.{IsAsTold, Keeps}
+use Rattle.fe_history.specs.Receipts.{IsAsIssued, Keeps}
 use Rattle.fe_history.specs.declared.receipt.Receipt.{Receipt}
 use Rattle.fe_table.proofs.TableCopyLemmas.{made, made-next, made_all}
 
@@ -32,14 +32,14 @@ module _ {X : Type 0} (m : FinMap nat_cmp X) (P : ℕ → X → Type 0) where
       by_key (inr other) = before s x (sym (get_beside (made m k) e.0 e.1 s other) ∙ next)
 
 -- whatever a session keeps at the place of a receipt is what the receipt says
-abbrev pub AllAsTold : Receipt → ℕ → Session → Type 0
-AllAsTold r s x = (n : ℕ) (k : Kept) → get x.kept n ≡ Some k → k.place ≡ r.place → IsAsTold r s n k
+abbrev pub AllAsIssued : Receipt → ℕ → Session → Type 0
+AllAsIssued r s x = (n : ℕ) (k : Kept) → get x.kept n ≡ Some k → k.place ≡ r.place → IsAsIssued r s n k
 
 -- what holds session by session holds of what the state keeps
-pub kept_as_told : (s : ServerState) (r : Receipt) (j : ℕ) → len s.sessions ≤ j → OfFirst s.sessions (AllAsTold r) j
-    → (session number : ℕ) (k : Kept) → Keeps s session number k → k.place ≡ r.place → IsAsTold r session number k
-kept_as_told s r j all told session number k keeps at_place = by_session (get s.sessions session) refl keeps
+pub kept_as_issued : (s : ServerState) (r : Receipt) (j : ℕ) → len s.sessions ≤ j → OfFirst s.sessions (AllAsIssued r) j
+    → (session number : ℕ) (k : Kept) → Keeps s session number k → k.place ≡ r.place → IsAsIssued r session number k
+kept_as_issued s r j all issued session number k keeps at_place = by_session (get s.sessions session) refl keeps
   where
-    by_session : (o : Option Session) → get s.sessions session ≡ o → kept_in o number ≡ Some k → IsAsTold r session number k
+    by_session : (o : Option Session) → get s.sessions session ≡ o → kept_in o number ≡ Some k → IsAsIssued r session number k
     by_session None is kept = absurd (none-some k kept)
-    by_session (Some x) is kept = told session x (ap (λ m. get m session) (made_all s.sessions j all) ∙ is) number k kept at_place
+    by_session (Some x) is kept = issued session x (ap (λ m. get m session) (made_all s.sessions j all) ∙ is) number k kept at_place

@@ -7,11 +7,11 @@ use prog.Atomic.{either}
 use Rattle.logbook.specs.Pages.{Cell, cell, keeps, no_nib, step, Moves, Goes}
 use Rattle.fe_state.specs.declared.batch.Batch.{Batch}
 use Rattle.fe_history.specs.declared.act.Act.{Act}
-use Rattle.fe_history.specs.declared.act.Act.TheVariants.{Began, Asked, Cut, Stored, Told}
+use Rattle.fe_history.specs.declared.act.Act.TheVariants.{Began, Asked, Cut, Stored, Issued}
 use Rattle.fe_history.specs.declared.receipt.Receipt.{Receipt}
-use Rattle.fe_history.specs.Acts.{IsLegal, MayCome, WasCut, cuts_in, stores_in}
+use Rattle.fe_history.specs.Acts.{IsLegal, MayBeAppended, WasCut, cuts_in, stores_in}
 use Rattle.fe_history.specs.Rules.{IsKept, Adds, AddsNext, CutsAfter, CutsNext, Counts}
-use Rattle.fe_history.proofs.Acts.{cut_may, cuts_append, legal_append, store_may, stores_append, told_may}
+use Rattle.fe_history.proofs.Acts.{cut_may, cuts_append, legal_append, store_may, stores_append, issued_may}
 
 abbrev pub shown : List Act → List Act
 shown log = []
@@ -27,38 +27,38 @@ kept_with : (log : List Act) (stores cuts : ℕ) → stores ≡ length (stores_i
 kept_with log stores cuts s c legal = record { words = ap (λ (n : ℕ). cells n cuts) s ∙ ap (λ (n : ℕ). cells (length (stores_in log)) n) c; legal = legal }
 
 -- an act that is neither a cut nor a store
-told_stores : (log : List Act) (r : Receipt) → length (stores_in log) ≡ length (stores_in (log ++ Told r ∷ []))
-told_stores log r = ap length (sym (stores_append log (Told r ∷ []) ∙ append-nil (stores_in log)))
+issued_stores : (log : List Act) (r : Receipt) → length (stores_in log) ≡ length (stores_in (log ++ Issued r ∷ []))
+issued_stores log r = ap length (sym (stores_append log (Issued r ∷ []) ∙ append-nil (stores_in log)))
 
-told_cuts : (log : List Act) (r : Receipt) → length (cuts_in log) ≡ length (cuts_in (log ++ Told r ∷ []))
-told_cuts log r = ap length (sym (cuts_append log (Told r ∷ []) ∙ append-nil (cuts_in log)))
+issued_cuts : (log : List Act) (r : Receipt) → length (cuts_in log) ≡ length (cuts_in (log ++ Issued r ∷ []))
+issued_cuts log r = ap length (sym (cuts_append log (Issued r ∷ []) ∙ append-nil (cuts_in log)))
 
-pub tells_moves : (v : List Act) (r : Receipt) → MayCome v (Told r) → Moves IsKept shown moved 0 (v, (no_nib, None)) (λ n. n) (Adds (step 0 0 0 (Told r)) (v, (no_nib, None)))
-tells_moves v r may cs log kept pre away =
-    let P : List Cell → Type 0 = λ c. (0 < length c) × ((cell c 0).1 ≡ true) × Goes IsKept shown moved 0 (v, (no_nib, None)) (λ n. n) (Adds (step 0 0 0 (Told r)) (v, (no_nib, None))) c log in
-    let legal' : IsLegal (log ++ Told r ∷ []) = legal_append log (Told r) kept.legal (told_may v log r pre may) in
+pub issues_moves : (v : List Act) (r : Receipt) → MayBeAppended v (Issued r) → Moves IsKept shown moved 0 (v, (no_nib, None)) (λ n. n) (Adds (step 0 0 0 (Issued r)) (v, (no_nib, None)))
+issues_moves v r may cs log kept pre away =
+    let P : List Cell → Type 0 = λ c. (0 < length c) × ((cell c 0).1 ≡ true) × Goes IsKept shown moved 0 (v, (no_nib, None)) (λ n. n) (Adds (step 0 0 0 (Issued r)) (v, (no_nib, None))) c log in
+    let legal' : IsLegal (log ++ Issued r ∷ []) = legal_append log (Issued r) kept.legal (issued_may v log r pre may) in
     subst P (sym kept.words) (
       omega arith,
       refl,
       (
         keeps,
-        Told r ∷ [],
+        Issued r ∷ [],
         None,
         tt,
-        kept_with (log ++ Told r ∷ []) (length (stores_in log)) (length (cuts_in log)) (told_stores log r) (told_cuts log r) legal',
+        kept_with (log ++ Issued r ∷ []) (length (stores_in log)) (length (cuts_in log)) (issued_stores log r) (issued_cuts log r) legal',
         inl (refl, refl),
         (record { earlier = log; seen = pre; is = refl }, legal'),
       ),
     )
 
 -- a connection may ask for a session whenever it likes
-ask_may : (log : List Act) (conn session : ℕ) → IsLegal log → MayCome log (Asked conn session)
+ask_may : (log : List Act) (conn session : ℕ) → IsLegal log → MayBeAppended log (Asked conn session)
 ask_may [] conn session legal = absurd legal
 ask_may (Began s ∷ log) conn session legal = tt
 ask_may (Cut b ∷ log) conn session legal = absurd legal
 ask_may (Stored b n ∷ log) conn session legal = absurd legal
 ask_may (Asked c s ∷ log) conn session legal = absurd legal
-ask_may (Told q ∷ log) conn session legal = absurd legal
+ask_may (Issued q ∷ log) conn session legal = absurd legal
 
 asked_stores : (log : List Act) (conn session : ℕ) → length (stores_in log) ≡ length (stores_in (log ++ Asked conn session ∷ []))
 asked_stores log conn session = ap length (sym (stores_append log (Asked conn session ∷ []) ∙ append-nil (stores_in log)))

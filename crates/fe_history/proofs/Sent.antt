@@ -59,8 +59,8 @@ module _ (xs : List ClientMessage) (session number : ℕ) (request : Request) wh
     pub decided : (r : Bool) (n : ℕ) → IsTrue r ↔ Any (λ x. x ≡ Call number request) (take n (drop (at + 1) xs)) → length xs - (at + 1) ≤ n → IsTrue r ↔ IsCalledBehind xs session number request
     decided r n answer long =
         let whole : take n (drop (at + 1) xs) ≡ drop (at + 1) xs = take_all n (drop (at + 1) xs) (subst (λ m. m ≤ n) (sym size) long) in
-        let told : IsTrue r ↔ Any (λ x. x ≡ Call number request) (drop (at + 1) xs) = subst (λ (ys : List ClientMessage). IsTrue r ↔ Any (λ x. x ≡ Call number request) ys) whole answer in
-        (λ e. called (told.0 e), λ c. told.1 (found c))
+        let issued : IsTrue r ↔ Any (λ x. x ≡ Call number request) (drop (at + 1) xs) = subst (λ (ys : List ClientMessage). IsTrue r ↔ Any (λ x. x ≡ Call number request) ys) whole answer in
+        (λ e. called (issued.0 e), λ c. issued.1 (found c))
 
   -- without an attach there is none after it
   pub unattached : AllWithin (λ x. x ≡ Attach session → ⊥) xs 0 (length xs) → IsTrue false ↔ IsCalledBehind xs session number request
@@ -79,9 +79,9 @@ module _ {X : Type 0} (P : X → Type 0) (xs : List X) where
       by_case (inl x) = (k, x.0, within, x.3, subst P x.3 (holds x.0))
       by_case (inr past) = absurd (omega (arith, past.0, within))
 
-  pub any_told : (r : Bool) → MatchBool r ((k : ℕ) × (k < length xs) × HoldsAt P xs k) (AllWithin (λ x. P x → ⊥) xs 0 (length xs)) → IsTrue r ↔ Any P xs
-  any_told true one = (λ _. some_here one.0 one.1 one.2, λ _. refl)
-  any_told false none = (λ e. absurd (true≢false (sym e)), λ a. absurd (none a.0 a.1 (omega arith) a.2 (subst P (sym a.3) a.4)))
+  pub any_holds : (r : Bool) → MatchBool r ((k : ℕ) × (k < length xs) × HoldsAt P xs k) (AllWithin (λ x. P x → ⊥) xs 0 (length xs)) → IsTrue r ↔ Any P xs
+  any_holds true one = (λ _. some_here one.0 one.1 one.2, λ _. refl)
+  any_holds false none = (λ e. absurd (true≢false (sym e)), λ a. absurd (none a.0 a.1 (omega arith) a.2 (subst P (sym a.3) a.4)))
 
 -- ---- lists that are seen through a function
 

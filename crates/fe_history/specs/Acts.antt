@@ -1,4 +1,4 @@
--- What happened in a hall, in one order: batches were cut and stored, connections asked for sessions, and answers were told.
+-- What happened in a hall, in one order: batches were cut and stored, connections asked for sessions, and answers were issued.
 use Rattle.std.specs.Prelude.{◌≡◌, ℕ, ◌+◌, ◌<◌, Bool, List, [], ◌∷◌, ◌++◌, length, map, slice_get, Some, IfSome, MatchBool}
 use Rattle.std.specs.List.{flat_map}
 use mathlib.Core.List.{IsPrefix}
@@ -10,7 +10,7 @@ use Rattle.fe_mail.specs.declared.mail.Mail.{Mail}
 use Rattle.fe_messages.specs.Answers.{IsAnswerIn}
 use Rattle.fe_history.specs.declared.receipt.Receipt.{Receipt}
 use Rattle.fe_history.specs.declared.act.Act.{Act}
-use Rattle.fe_history.specs.declared.act.Act.TheVariants.{Began, Asked, Cut, Stored, Told}
+use Rattle.fe_history.specs.declared.act.Act.TheVariants.{Began, Asked, Cut, Stored, Issued}
 use Rattle.fe_history.specs.Receipts.{receipt_of}
 
 -- the batches that were cut
@@ -20,7 +20,7 @@ cuts_in (Began state ∷ acts) = cuts_in acts
 cuts_in (Cut batch ∷ acts) = batch ∷ cuts_in acts
 cuts_in (Stored batch moment ∷ acts) = cuts_in acts
 cuts_in (Asked conn session ∷ acts) = cuts_in acts
-cuts_in (Told r ∷ acts) = cuts_in acts
+cuts_in (Issued r ∷ acts) = cuts_in acts
 
 -- the batches that were stored, each with the moment at which its append had ended
 abbrev pub stores_in : List Act → List (Batch × ℕ)
@@ -29,7 +29,7 @@ stores_in (Began state ∷ acts) = stores_in acts
 stores_in (Cut batch ∷ acts) = stores_in acts
 stores_in (Stored batch moment ∷ acts) = (batch, moment) ∷ stores_in acts
 stores_in (Asked conn session ∷ acts) = stores_in acts
-stores_in (Told r ∷ acts) = stores_in acts
+stores_in (Issued r ∷ acts) = stores_in acts
 
 -- the act is one of these
 abbrev pub StandsIn : List Act → Act → Type 0
@@ -47,41 +47,41 @@ entries_in batches = flat_map (λ b. b.entries) batches
 abbrev pub place_after : ServerState → List Batch → ℕ
 place_after begun batches = begun.place + length (entries_in batches)
 
--- What may happen in a hall that began with this state, after these acts: a batch is cut once those before it are stored, and goes on where
--- they end; the batch that was cut is stored; a connection asks for a session whenever it likes; and an answer is told only once its
--- entry is stored, it is that entry's, and it is told to a connection that has asked for its session.
+-- What may happen in a hall that began with this state, after these acts: a batch is cut once those before it are stored, and goes
+-- on where they end; the batch that was cut is stored; a connection asks for a session whenever it likes; and an answer is issued
+-- only once its entry is stored, it is that entry's, and it is issued to a connection that has asked for its session.
 abbrev pub MayFollow : ServerState → List Act → Act → Type 0
 MayFollow begun past (Began state) = ⊥
 MayFollow begun past (Cut batch) =
     (cuts_in past ≡ batches_of (stores_in past)) × (batch.first ≡ place_after begun (cuts_in past)) × (0 < length batch.entries)
 MayFollow begun past (Stored batch moment) = cuts_in past ≡ batches_of (stores_in past) ++ batch ∷ []
 MayFollow begun past (Asked conn session) = Unit {0}
-MayFollow begun past (Told r) =
+MayFollow begun past (Issued r) =
     IsAnswerIn begun (entries_in (batches_of (stores_in past))) r.session r.number r.answer r.place
     × StandsIn past (Asked r.conn r.session)
 
 -- each act may follow those before it
-abbrev pub GoesOn : ServerState → List Act → List Act → Type 0
-GoesOn begun past [] = Unit {0}
-GoesOn begun past (a ∷ acts) = MayFollow begun past a × GoesOn begun (past ++ a ∷ []) acts
+abbrev pub FollowEachOther : ServerState → List Act → List Act → Type 0
+FollowEachOther begun past [] = Unit {0}
+FollowEachOther begun past (a ∷ acts) = MayFollow begun past a × FollowEachOther begun (past ++ a ∷ []) acts
 
 -- a history of a hall begins once, and then goes on so
 abbrev pub IsLegal : List Act → Type 0
 IsLegal [] = ⊥
-IsLegal (Began state ∷ acts) = IsWithinLimits state × GoesOn state [] acts
+IsLegal (Began state ∷ acts) = IsWithinLimits state × FollowEachOther state [] acts
 IsLegal (Cut batch ∷ acts) = ⊥
 IsLegal (Stored batch moment ∷ acts) = ⊥
 IsLegal (Asked conn session ∷ acts) = ⊥
-IsLegal (Told r ∷ acts) = ⊥
+IsLegal (Issued r ∷ acts) = ⊥
 
 -- an act may come after a history
-abbrev pub MayCome : List Act → Act → Type 0
-MayCome [] a = ⊥
-MayCome (Began state ∷ past) a = MayFollow state past a
-MayCome (Cut batch ∷ past) a = ⊥
-MayCome (Stored batch moment ∷ past) a = ⊥
-MayCome (Asked conn session ∷ past) a = ⊥
-MayCome (Told r ∷ past) a = ⊥
+abbrev pub MayBeAppended : List Act → Act → Type 0
+MayBeAppended [] a = ⊥
+MayBeAppended (Began state ∷ past) a = MayFollow state past a
+MayBeAppended (Cut batch ∷ past) a = ⊥
+MayBeAppended (Stored batch moment ∷ past) a = ⊥
+MayBeAppended (Asked conn session ∷ past) a = ⊥
+MayBeAppended (Issued r ∷ past) a = ⊥
 
 -- a batch was cut, after this many others
 abbrev pub WasCut : List Act → ℕ → Batch → Type 0
@@ -97,21 +97,21 @@ pub record IsStored (batch : Batch) (s : ServerState) : Type 0 where
 abbrev pub WasStoredLast : List Act → Batch → Type 0
 WasStoredLast acts batch = (before : List (Batch × ℕ)) × (moment : ℕ) × (stores_in acts ≡ before ++ (batch, moment) ∷ [])
 
--- the answer of each receipt was told
-abbrev pub EachTold : List Receipt → List Act → Type 0
-EachTold [] acts = Unit {0}
-EachTold (r ∷ receipts) acts = StandsIn acts (Told r) × EachTold receipts acts
+-- the answer of each receipt was issued
+abbrev pub EachIssued : List Receipt → List Act → Type 0
+EachIssued [] acts = Unit {0}
+EachIssued (r ∷ receipts) acts = StandsIn acts (Issued r) × EachIssued receipts acts
 
--- the mail is no answer, or it was told to this connection
-abbrev pub WasTold : ℕ → Mail → List Act → Type 0
-WasTold conn mail acts = IfSome (receipt_of conn mail) (λ r. StandsIn acts (Told r))
+-- the mail is no answer, or it was issued to this connection
+abbrev pub WasIssued : ℕ → Mail → List Act → Type 0
+WasIssued conn mail acts = IfSome (receipt_of conn mail) (λ r. StandsIn acts (Issued r))
 
--- each answer among these mails was told to this connection
-abbrev pub AreTold : ℕ → List Mail → List Act → Type 0
-AreTold conn [] acts = Unit {0}
-AreTold conn (m ∷ mails) acts = WasTold conn m acts × AreTold conn mails acts
+-- each answer among these mails was issued to this connection
+abbrev pub AreIssued : ℕ → List Mail → List Act → Type 0
+AreIssued conn [] acts = Unit {0}
+AreIssued conn (m ∷ mails) acts = WasIssued conn m acts × AreIssued conn mails acts
 
--- the receipts of the write side of a connection, and a history in which their answers were told
+-- the receipts of the write side of a connection, and a history in which their answers were issued
 pub record Receipts : Type 0 where
   pub conn : ℕ
   pub items : List Receipt
@@ -122,7 +122,7 @@ pub record ReceiptList : Type 0 where
   pub items : List Receipt
   pub whole : Bool
 
--- such receipts, and a history in which their answers were told
+-- such receipts, and a history in which their answers were issued
 pub record GatheredReceipts : Type 0 where
   pub items : List Receipt
   pub whole : Bool

@@ -27,7 +27,7 @@ abbrev pub Keeps : ServerState → ℕ → ℕ → Kept → Type 0
 Keeps s session number k = kept_in (get s.sessions session) number ≡ Some k
 
 -- what is kept is what the receipt says: it is of its session's number, and has its answer
-pub record IsAsTold (r : Receipt) (session number : ℕ) (k : Kept) : Type 0 where
+pub record IsAsIssued (r : Receipt) (session number : ℕ) (k : Kept) : Type 0 where
   pub same_session : session ≡ r.session
   pub same_number : number ≡ r.number
   pub same_answer : k.answer ≡ r.answer
@@ -53,7 +53,7 @@ AreWhole sent = All (λ messages. length messages < 1024) sent
 -- by lists that hold all that was sent.
 pub data IsStrange (s : ServerState) (sent : List (List ClientMessage)) (r : Receipt) : Type 0 where
   NotStored : s.place ≤ r.place → IsStrange s sent r
-  OtherKept : (session number : ℕ) (k : Kept) → Keeps s session number k → k.place ≡ r.place → (IsAsTold r session number k → ⊥) → IsStrange s sent r
+  OtherKept : (session number : ℕ) (k : Kept) → Keeps s session number k → k.place ≡ r.place → (IsAsIssued r session number k → ⊥) → IsStrange s sent r
   EarlierKept : (k : Kept) → Keeps s r.session r.number k → k.place < r.place → IsStrange s sent r
   NeverSent : (k : Kept) → Keeps s r.session r.number k → k.place ≡ r.place → AreWhole sent → (WasSent sent r.session r.number k.request → ⊥) → IsStrange s sent r
 
@@ -61,7 +61,7 @@ pub data IsStrange (s : ServerState) (sent : List (List ClientMessage)) (r : Rec
 -- number is kept at no earlier place; and what is kept there was sent, where the lists hold all that was sent.
 pub record IsBorneOut (s : ServerState) (sent : List (List ClientMessage)) (r : Receipt) : Type 0 where
   pub is_stored : r.place < s.place
-  pub as_told : (session number : ℕ) (k : Kept) → Keeps s session number k → k.place ≡ r.place → IsAsTold r session number k
+  pub as_issued : (session number : ℕ) (k : Kept) → Keeps s session number k → k.place ≡ r.place → IsAsIssued r session number k
   pub none_earlier : (k : Kept) → Keeps s r.session r.number k → r.place ≤ k.place
   pub was_sent : AreWhole sent → (k : Kept) → Keeps s r.session r.number k → k.place ≡ r.place → WasSent sent r.session r.number k.request
 

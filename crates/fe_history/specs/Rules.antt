@@ -1,4 +1,4 @@
--- The rule of a hall's history, and what the steps on it tell.
+-- The rule of a hall's history, and what the steps on it say.
 use Rattle.std.specs.Prelude.{ℕ, ◌≡◌, ◌<◌, ◌==◌, true, List, [], ◌∷◌, ◌++◌, length, MatchBool}
 use mathlib.Core.List.{IsPrefix}
 use Rattle.logbook.specs.Pages.{Cell, Step, View, Book, Named}
@@ -44,14 +44,14 @@ pub record CutsAfter (acts : List Act) (count : ℕ) (batch : Batch) : Type 0 wh
   pub some : 0 < length batch.entries
 
 -- the act came after all of these, and maybe after more
-pub record ComesAfter (before : List Act) (act : Act) (after : List Act) : Type 0 where
+pub record WasAppended (before : List Act) (act : Act) (after : List Act) : Type 0 where
   pub earlier : List Act
   pub seen : IsPrefix before earlier
   pub is : after ≡ earlier ++ act ∷ []
 
 -- what a history gains by a message of a connection: that it asks for a session, if it does
 abbrev pub Hears : List Act → ℕ → ClientMessage → List Act → Type 0
-Hears before conn (Attach session) after = ComesAfter before (Asked conn session) after
+Hears before conn (Attach session) after = WasAppended before (Asked conn session) after
 Hears before conn (Call number request) after = after ≡ before
 Hears before conn (Cancel number) after = after ≡ before
 Hears before conn (Settle floor) after = after ≡ before
@@ -60,15 +60,15 @@ Hears before conn Report after = after ≡ before
 
 -- an act was added
 abbrev pub Adds : Step Act → View Act ℕ → ℕ → View Act ℕ → Type 0
-Adds s v found w = ComesAfter v.0 s.ask w.0 × IsLegal w.0
+Adds s v found w = WasAppended v.0 s.ask w.0 × IsLegal w.0
 
 -- it was added if as many batches had been cut as were expected
 abbrev pub CutsNext : Step Act → View Act ℕ → ℕ → View Act ℕ → Type 0
-CutsNext s v found w = MatchBool (found == s.old) ((c : ComesAfter v.0 s.ask w.0) × (length (cuts_in c.earlier) ≡ s.old)) (Unit {0}) × IsLegal w.0
+CutsNext s v found w = MatchBool (found == s.old) ((c : WasAppended v.0 s.ask w.0) × (length (cuts_in c.earlier) ≡ s.old)) (Unit {0}) × IsLegal w.0
 
 -- it was added if as many had been stored
 abbrev pub AddsNext : Step Act → View Act ℕ → ℕ → View Act ℕ → Type 0
-AddsNext s v found w = MatchBool (found == s.old) ((c : ComesAfter v.0 s.ask w.0) × (length (stores_in c.earlier) ≡ s.old)) (Unit {0}) × IsLegal w.0
+AddsNext s v found w = MatchBool (found == s.old) ((c : WasAppended v.0 s.ask w.0) × (length (stores_in c.earlier) ≡ s.old)) (Unit {0}) × IsLegal w.0
 
 -- how many batches were stored
 abbrev pub Counts : Step Act → View Act ℕ → ℕ → View Act ℕ → Type 0

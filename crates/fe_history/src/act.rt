@@ -11,6 +11,6 @@ pub enum Act {
     Stored(Batch, u64),
     /// The connection of this number asked for this session.
     Asked(u64, u64),
-    /// An answer was taken out of its box, to be told to its client.
-    Told(Receipt),
+    /// An answer was taken out of its box for its client.
+    Issued(Receipt),
 }

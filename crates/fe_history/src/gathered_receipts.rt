@@ -1,6 +1,6 @@
 ghost use Rattle.std.specs.Prelude.{◌≡◌, ◌++◌, [], true, false, OnOk, OnErr};
 ghost use mathlib.Core.List.{IsPrefix};
-ghost use Rattle.fe_history.specs.Acts.{EachTold, GatheredReceipts};
+ghost use Rattle.fe_history.specs.Acts.{EachIssued, GatheredReceipts};
 
 use crate::history::History;
 use crate::receipt::Receipt;
@@ -10,7 +10,7 @@ use crate::tally::Tally;
 use std::alloc::{AllocError, Global};
 use std::marker::Model;
 
-/// The receipts of the write sides of a hall that ended, and the history in which each of their answers was told.
+/// The receipts of the write sides of a hall that ended, and the history in which each of their answers was issued.
 #[derive(Drop)]
 pub struct GatheredReceipts<M: Tally> {
     list: ReceiptList,
@@ -20,7 +20,7 @@ pub struct GatheredReceipts<M: Tally> {
 impl<M: Tally> Model for GatheredReceipts<M> {
     ghost use Rattle.std.specs.Coded.{codes};
     ghost use Rattle.fe_history.specs.contracts.act.Act as acts;
-    ghost use Rattle.fe_history.specs.Acts.{EachTold, GatheredReceipts};
+    ghost use Rattle.fe_history.specs.Acts.{EachIssued, GatheredReceipts};
 
     ghost Value = { GatheredReceipts };
 
@@ -28,7 +28,7 @@ impl<M: Tally> Model for GatheredReceipts<M> {
 
     ghost view = { λ g. record { items = g.list.items; whole = g.list.whole; history = g.history } };
 
-    ghost invariant = { λ g. EachTold g.list.items g.history };
+    ghost invariant = { λ g. EachIssued g.list.items g.history };
 }
 
 impl<M: Tally> GatheredReceipts<M> {
@@ -90,7 +90,7 @@ impl<M: Tally> GatheredReceipts<M> {
         ensures items { result.0.items ≡ self.items }
         ensures whole { result.0.whole ≡ self.whole }
         ensures history { result.1 ≡ self.history }
-        ensures told { EachTold result.0.items result.1 }
+        ensures issued { EachIssued result.0.items result.1 }
     {
         let GatheredReceipts { list, history } = self;
         (list, history)

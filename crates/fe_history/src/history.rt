@@ -3,8 +3,8 @@
 ghost use Rattle.std.specs.Prelude.{◌≡◌, ◌^◌, ◌==◌, ◌<◌, ◌≤◌, ◌∷◌, ◌++◌, [], true, length, IsTrue};
 ghost use mathlib.Core.List.{IsPrefix};
 ghost use Rattle.fe_history.specs.declared.act.Act.TheVariants as act;
-ghost use Rattle.fe_history.specs.Acts.{IsLegal, IsStored, MayCome, WasCut, cuts_in, stores_in};
-ghost use Rattle.fe_history.specs.Rules.{ComesAfter, CutsAfter, Hears, cuts_of, pending_batch, stores_of};
+ghost use Rattle.fe_history.specs.Acts.{IsLegal, IsStored, MayBeAppended, WasCut, cuts_in, stores_in};
+ghost use Rattle.fe_history.specs.Rules.{WasAppended, CutsAfter, Hears, cuts_of, pending_batch, stores_of};
 
 use crate::account::Account;
 use crate::act::Act;
@@ -62,19 +62,19 @@ impl Opening<State, Act> for Begin {
 }
 
 /// The step that adds an answer.
-struct Telling;
+struct Issuing;
 
-impl Play<Act, u64> for Telling {
+impl Play<Act, u64> for Issuing {
     ghost use Rattle.fe_history.specs.Rules.{Adds};
 
     ghost then = { Adds };
 }
 
-impl Plain<Receipt, Act, u64> for Telling {
+impl Plain<Receipt, Act, u64> for Issuing {
     ghost use Rattle.std.specs.Prelude.{None};
-    ghost use Rattle.fe_history.specs.declared.act.Act.TheVariants.{Told};
+    ghost use Rattle.fe_history.specs.declared.act.Act.TheVariants.{Issued};
 
-    ghost ask = { λ receipt. Told receipt };
+    ghost ask = { λ receipt. Issued receipt };
 
     ghost state = { λ receipt. None };
 }
@@ -315,16 +315,16 @@ impl<M: Tally> History<M> {
     }
 
     /// Adds an answer, which is that of an entry that was stored before, to a connection that asked for its session before.
-    pub fn tell(&mut self, history_words: &HistoryWords<M>, receipt: Receipt)
-        requires { MayCome self.old (act.Told receipt) }
-        ensures { ComesAfter self.old (act.Told receipt) self.new }
+    pub fn issue(&mut self, history_words: &HistoryWords<M>, receipt: Receipt)
+        requires { MayBeAppended self.old (act.Issued receipt) }
+        ensures { WasAppended self.old (act.Issued receipt) self.new }
     {
         let mut offer: Offer<Act, u64, Law, Nothing> = self
             .seen
-            .plain::<Nothing, Receipt, Telling>(&receipt);
+            .plain::<Nothing, Receipt, Issuing>(&receipt);
         let _ = history_words
             .stores
-            .load::<Telling, Nothing>(&mut self.seen, &mut offer);
+            .load::<Issuing, Nothing>(&mut self.seen, &mut offer);
     }
 
     /// Adds that a connection asks for a session, if this message of it does, which was handed to a front. Only what is under the lock
@@ -343,7 +343,7 @@ impl<M: Tally> History<M> {
 
     /// Adds that a connection asks for a session.
     fn ask(&mut self, history_words: &HistoryWords<M>, conn: u64, session: u64)
-        ensures asked { ComesAfter self.old (act.Asked conn session) self.new }
+        ensures asked { WasAppended self.old (act.Asked conn session) self.new }
         ensures legal { IsLegal self.new }
     {
         let wish = Wish { conn, session };
@@ -362,7 +362,7 @@ impl<M: Tally> History<M> {
         ensures this { IsPrefix self.old self.new }
         ensures legal { IsLegal self.new }
         ensures cut { IsTrue result
-            → (c : ComesAfter self.old (act.Cut (pending_batch front.now)) self.new)
+            → (c : WasAppended self.old (act.Cut (pending_batch front.now)) self.new)
             × (length (cuts_in c.earlier) ≡ count) }
     {
         let mut offer: Offer<Act, u64, Law, Nothing> = self
@@ -395,7 +395,7 @@ impl<M: Tally> History<M> {
         ensures this { IsPrefix self.old self.new }
         ensures legal { IsLegal self.new }
         ensures stored { IsTrue result
-            → (c : ComesAfter self.old (act.Stored batch.now (D.moment keeper.now.store.disk)) self.new)
+            → (c : WasAppended self.old (act.Stored batch.now (D.moment keeper.now.store.disk)) self.new)
             × (length (stores_in c.earlier) ≡ stored) }
     {
         let appended = Appended { batch, keeper };
@@ -430,7 +430,7 @@ impl<M: Tally> History<M> {
         };
         let mut offer: Offer<Act, u64, Law, Nothing> = self
             .seen
-            .plain::<Nothing, Receipt, Telling>(&none);
+            .plain::<Nothing, Receipt, Issuing>(&none);
         history_words
             .stores
             .load::<Counting, Nothing>(&mut self.seen, &mut offer)

@@ -5,7 +5,7 @@ ghost use Rattle.std.specs.Bool.{OnTrue, OnFalse};
 ghost use Rattle.std.specs.FinMap.{get};
 ghost use Rattle.fe_state.specs.declared.kept.Kept.{Kept};
 ghost use Rattle.fe_wire.specs.declared.client_message.ClientMessage.TheVariants.{Call};
-ghost use Rattle.fe_history.specs.Receipts.{IsAsTold, IsCalledBehind, WasSent, AreWhole, IsStrange, IsBorneOut, IsFirstStrange, Keeps};
+ghost use Rattle.fe_history.specs.Receipts.{IsAsIssued, IsCalledBehind, WasSent, AreWhole, IsStrange, IsBorneOut, IsFirstStrange, Keeps};
 
 use crate::receipt::Receipt;
 use fe_front::is_same;
@@ -55,9 +55,9 @@ fn is_strange(state: &State, sent: &[Vec<ClientMessage>], receipt: &Receipt) -> 
 /// Whether a state keeps something else than what a receipt says, at the receipt's place.
 fn keeps_other(state: &State, receipt: &Receipt) -> bool
     ensures other { OnTrue result ((session : ℕ) × (number : ℕ) × (k : Kept) × Keeps state.now session number k
-        × (k.place ≡ receipt.now.place) × (IsAsTold receipt.now session number k → ⊥)) }
+        × (k.place ≡ receipt.now.place) × (IsAsIssued receipt.now session number k → ⊥)) }
     ensures none { OnFalse result ((session : ℕ) (number : ℕ) (k : Kept) → Keeps state.now session number k
-        → k.place ≡ receipt.now.place → IsAsTold receipt.now session number k) }
+        → k.place ≡ receipt.now.place → IsAsIssued receipt.now session number k) }
 {
     for k in 0..state.session_count() {
         let (session, _, answers) = state.session_entry(k).unwrap();
@@ -71,12 +71,12 @@ fn keeps_other(state: &State, receipt: &Receipt) -> bool
 /// Whether a session keeps something else than what a receipt says, at the receipt's place.
 fn holds_other(session: u64, answers: KeptAnswers<'_>, receipt: &Receipt) -> bool
     ensures other { OnTrue result ((number : ℕ) × (k : Kept) × (get answers.entry number ≡ Some k)
-        × (k.place ≡ receipt.now.place) × (IsAsTold receipt.now session number k → ⊥)) }
+        × (k.place ≡ receipt.now.place) × (IsAsIssued receipt.now session number k → ⊥)) }
     ensures none { OnFalse result ((number : ℕ) (k : Kept) → get answers.entry number ≡ Some k
-        → k.place ≡ receipt.now.place → IsAsTold receipt.now session number k) }
+        → k.place ≡ receipt.now.place → IsAsIssued receipt.now session number k) }
 {
     for (number, kept) in answers {
-        if kept.place == receipt.place && !is_as_told(receipt, session, number, kept) {
+        if kept.place == receipt.place && !is_as_issued(receipt, session, number, kept) {
             return true;
         }
     }
@@ -84,8 +84,8 @@ fn holds_other(session: u64, answers: KeptAnswers<'_>, receipt: &Receipt) -> boo
 }
 
 /// Whether what is kept for a number of a session is what a receipt says.
-fn is_as_told(receipt: &Receipt, session: u64, number: u64, kept: &Kept) -> bool
-    ensures { IsTrue result ↔ IsAsTold receipt.now session number kept.now }
+fn is_as_issued(receipt: &Receipt, session: u64, number: u64, kept: &Kept) -> bool
+    ensures { IsTrue result ↔ IsAsIssued receipt.now session number kept.now }
 {
     session == receipt.session && number == receipt.number && kept.answer == receipt.answer
 }

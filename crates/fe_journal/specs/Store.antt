@@ -8,7 +8,7 @@ use Rattle.fe_journal.specs.Reading.{GroupsEndAt}
 use Rattle.fe_format.specs.declared.format.Format.{Format}
 use Rattle.fe_journal.specs.declared.header.Header.{Header}
 use Rattle.fe_journal.specs.declared.store.Store.{Store}
-use Rattle.fe_journal.specs.declared.store.Parts.{Parts}
+use Rattle.fe_journal.specs.declared.store.SlotParts.{SlotParts}
 
 -- the slot that counts and what its header says, or that no slot is valid
 abbrev pub CountsAs : List ℕ → Option (ℕ × Header) → Type 0
@@ -16,7 +16,7 @@ CountsAs image None = (slot : ℕ) (format : Format) → slot < 2 → IsValidAs 
 CountsAs image (Some (slot, header)) = SlotCounts image slot header.format × (generation_at image slot ≡ header.generation) × (image_length_at image slot ≡ header.image_length)
 
 -- the slot's journal area, whose groups end there, and its image
-pub record IsSlotRead (image : List ℕ) (slot : ℕ) (header : Header) (parts : Parts) : Type 0 where
+pub record IsSlotRead (image : List ℕ) (slot : ℕ) (header : Header) (parts : SlotParts) : Type 0 where
   pub area_is : parts.area.items ≡ bytes_at image (area_of slot) area_bytes
   pub ends : GroupsEndAt header.format parts.area.items parts.used
   pub image_is : parts.image.items ≡ bytes_at image (image_of slot) header.image_length
@@ -26,7 +26,7 @@ abbrev pub IsReadable : ℕ × Header → Type 0
 IsReadable (slot, header) = (slot < 2) × (1 ≤ header.generation) × IsImageLength header.format header.image_length
 
 -- the sizes of what was read, whatever the disk said
-pub record AreParts (parts : Parts) : Type 0 where
+pub record AreParts (parts : SlotParts) : Type 0 where
   pub area_whole : vec_len parts.area ≡ area_bytes
   pub within : parts.used < area_bytes
 

@@ -32,7 +32,7 @@ impl<D: Disk> Journal<D> {
 
         // Over any disk: a journal that is at the beginning.
         ensures value { IfOk result (λ journal. journal ≡ new_journal Two journal.disk) }
-        ensures ends { Formats D.Disk Unformatted Device NoMemory (told result) disk
+        ensures ends { Formats D.Disk Unformatted Device NoMemory (without_disk result) disk
             (disk_left result) }
     {
         Journal::format_in(alloc, Format::Two, disk)
@@ -45,7 +45,7 @@ impl<D: Disk> Journal<D> {
 
         // Over any disk: a journal that is at the beginning.
         ensures value { IfOk result (λ journal. journal ≡ new_journal format journal.disk) }
-        ensures ends { Formats D.Disk Unformatted Device NoMemory (told result) disk
+        ensures ends { Formats D.Disk Unformatted Device NoMemory (without_disk result) disk
             (disk_left result) }
     {
         let mut disk = disk;

@@ -22,7 +22,7 @@ use std::marker::Model;
 /// other slot is written in pieces until it takes over.
 ///
 /// After a fault of the device every call returns `Failed` and makes no device call. Opening the store again
-/// tells what was stored. No call allocates memory.
+/// says what was stored. No call allocates memory.
 pub struct Journal<D: Disk> {
     disk: D,
     buffer: Vec<u8>,

@@ -46,7 +46,7 @@ impl<D: Disk> Journal<D> {
         // Over any disk: a journal with no slot begun that has not failed.
         ensures ready { IfOk result (λ found. IsIdle found.journal) }
         ensures listed { IfOk result AreListed }
-        ensures device { AsksToOpen D.Disk Device (told result) disk (disk_after result) }
+        ensures device { AsksToOpen D.Disk Device (without_disk result) disk (disk_after result) }
         ensures sized { IfOk result (λ found. D.size disk ≡ device_bytes) }
     {
         let mut disk = disk;

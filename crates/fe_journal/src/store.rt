@@ -20,7 +20,7 @@ use std::alloc::Global;
 
 /// The bytes of a slot: its journal area with the offset of the closed gate, and its image.
 #[derive(Drop)]
-pub struct Parts {
+pub struct SlotParts {
     pub area: Vec<u8>,
     pub used: usize,
     pub image: Vec<u8>,
@@ -32,7 +32,7 @@ pub struct Store {
     pub buffer: Vec<u8>,
     pub slot: usize,
     pub header: Header,
-    pub parts: Parts,
+    pub parts: SlotParts,
 }
 
 /// Reads a store, after a sync.
@@ -191,7 +191,7 @@ fn read_slot<D: Disk>(
     disk: &mut D,
     slot: usize,
     header: &Header,
-) -> Result<Parts, StoreFault>
+) -> Result<SlotParts, StoreFault>
     requires is_slot { slot < 2 }
     requires device { D.size disk.old ≡ device_bytes }
     requires numbered { 1 ≤ header.now.generation }
@@ -209,5 +209,5 @@ fn read_slot<D: Disk>(
     let area = read_bytes(alloc, disk, area_of(slot), AREA_BYTES)?;
     let image = read_bytes(alloc, disk, image_of(slot), header.image_length as usize)?;
     let used = groups_end(slot, &area, header.format)?;
-    Ok(Parts { area, used, image })
+    Ok(SlotParts { area, used, image })
 }

@@ -21,7 +21,7 @@ use Rattle.fe_format.specs.declared.format.Format.{Format}
 use Rattle.fe_format.specs.declared.format.Format.TheVariants.{One, Two}
 use Rattle.fe_journal.specs.Contents.{Contents, Holds, HoldsEither, with_group}
 use Rattle.fe_journal.specs.Journal.{JournalState, Draft, KeepsContents}
-use Rattle.fe_keeper.specs.within.CatchUp.{batch_bytes, HasRoomFor, HasMore, CatchesUp}
+use Rattle.fe_keeper.specs.within.CatchUp.{batch_bytes, HasRoomFor, HasMoreToCatchUp, CatchesUp}
 use Rattle.fe_keeper.specs.Keeper.{Progress, StoreState, is_spellable, catches_up, fits, appended}
 use Rattle.fe_journal.specs.Groups.{room_at}
 use Rattle.fe_keeper.specs.Stands.{AreGroups, Stands, StandsForEither}
@@ -29,7 +29,7 @@ use Rattle.fe_keeper.specs.within.Upholds.{IsDraftOf, IsDrafted, Upholds, IsChec
 use Rattle.std.specs.Option.{option_map}
 use Rattle.std.specs.Prelude.{vec_len, vec_capacity}
 use Rattle.fe_keeper.specs.declared.checkpoint.Checkpoint.{Checkpoint}
-use Rattle.fe_keeper.specs.declared.store.Store.{Store}
+use Rattle.fe_keeper.specs.declared.keeper_store.KeeperStore.{KeeperStore}
 use Rattle.fe_disk.specs.declared.disk.Disk.{Ghosts}
 
 -- ---- groups after groups
@@ -67,7 +67,7 @@ stands_then c s entries payload h is legal =
     }
 
 -- a checkpoint under way that catches up with entries leads to the state after them
-pub draft_then : (old new : Checkpoint) (d : Draft) (s : ServerState) (entries : List Entry) → IsDraftOf old d s → HasMore entries old new → AreLegal s entries → IsDraftOf new d (after_all s entries)
+pub draft_then : (old new : Checkpoint) (d : Draft) (s : ServerState) (entries : List Entry) → IsDraftOf old d s → HasMoreToCatchUp entries old new → AreLegal s entries → IsDraftOf new d (after_all s entries)
 draft_then old new d s entries h more legal =
     let next : AreLegal (after_all h.base h.entries) entries = subst (λ (t : ServerState). AreLegal t entries) h.state_is legal in
     let same : new.image.items ≡ old.image.items = cc more.image in
@@ -96,11 +96,11 @@ drafted_then (Some old) (Some new) (Some d) s entries h more legal = draft_then 
 
 module _ {D : Type 0} (model : Ghosts D) where
   -- the group is of the format of the contents
-  group_there : (old : Store D) (s : ServerState) (entries : List Entry) (payload : List ℕ) → (u : Upholds model old s) → IsGroupOf old.journal.format entries payload → IsGroupOf u.contents.format entries payload
+  group_there : (old : KeeperStore D) (s : ServerState) (entries : List Entry) (payload : List ℕ) → (u : Upholds model old s) → IsGroupOf old.journal.format entries payload → IsGroupOf u.contents.format entries payload
   group_there old s entries payload u is = subst (λ (f : Format). IsGroupOf f entries payload) u.keeps.format_is is
 
   -- a stop leaves the state before, or that with the whole group
-  pub append_leaves : (old : Store D) (new : D) (s : ServerState) (entries : List Entry) (payload : List ℕ) → Upholds model old s → IsGroupOf old.journal.format entries payload → AreLegal s entries
+  pub append_leaves : (old : KeeperStore D) (new : D) (s : ServerState) (entries : List Entry) (payload : List ℕ) → Upholds model old s → IsGroupOf old.journal.format entries payload → AreLegal s entries
       → ((c : Contents) (draft : Option Draft) → KeepsContents model old.journal c draft → LeavesOnly model old.journal.disk new (HoldsEither c (with_group c payload)))
       → LeavesOnly model old.journal.disk new (StandsForEither s (after_all s entries))
   append_leaves old new s entries payload u is legal run =
@@ -111,7 +111,7 @@ module _ {D : Type 0} (model : Ghosts D) where
       (run u.contents u.draft u.keeps)
 
   -- and after it the store upholds the state after the batch
-  pub append_upholds : (old new : Store D) (s : ServerState) (entries : List Entry) (payload : List ℕ) → Upholds model old s → IsGroupOf old.journal.format entries payload → AreLegal s entries
+  pub append_upholds : (old new : KeeperStore D) (s : ServerState) (entries : List Entry) (payload : List ℕ) → Upholds model old s → IsGroupOf old.journal.format entries payload → AreLegal s entries
       → ((c : Contents) (draft : Option Draft) → KeepsContents model old.journal c draft → KeepsContents model new.journal (with_group c payload) draft)
       → CatchesUp entries old.checkpoint new.checkpoint → Upholds model new (after_all s entries)
   append_upholds old new s entries payload u is legal kept caught = record {
@@ -220,7 +220,7 @@ pub group_size : (format : Format) (entries : List Entry) (payload : List ℕ) �
 group_size format entries payload is = ap length is.spelled ∙ length-group format entries is.fits
 
 -- what is always true of a store is true of it after a batch
-pub sound_then : {D : Type 0} (old new : Store D) (entries : List Entry) (disk : D) (used : ℕ) → IsStore old → fits (store_of old) entries ≡ true → new.journal ≡ record old.journal { disk = disk; used = used }
+pub sound_then : {D : Type 0} (old new : KeeperStore D) (entries : List Entry) (disk : D) (used : ℕ) → IsStore old → fits (store_of old) entries ≡ true → new.journal ≡ record old.journal { disk = disk; used = used }
     → 1 ≤ length entries → new.place ≡ old.place + length entries → new.place ≤ greatest_place → batch_bytes ≤ vec_capacity new.group → CatchesUp entries old.checkpoint new.checkpoint → IsStore new
 sound_then {D} old new entries disk used h fit journal some place low group more =
     let parts = fits_parts (store_of old) entries fit in
@@ -234,7 +234,7 @@ sound_then {D} old new entries disk used h fit journal some place low group more
     }
 
 -- and what callers see of it
-pub value_then : {D : Type 0} (old new : Store D) (entries : List Entry) (disk : D) (size : ℕ) → new.journal ≡ record old.journal { disk = disk; used = old.journal.used + (5 + size) } → size ≡ length entries * record_bytes old.journal.format
+pub value_then : {D : Type 0} (old new : KeeperStore D) (entries : List Entry) (disk : D) (size : ℕ) → new.journal ≡ record old.journal { disk = disk; used = old.journal.used + (5 + size) } → size ≡ length entries * record_bytes old.journal.format
     → new.place ≡ old.place + length entries → CatchesUp entries old.checkpoint new.checkpoint → store_of new ≡ record (appended (store_of old) entries) { disk = disk }
 value_then {D} old new entries disk size journal is place more =
     let d : new.journal.disk ≡ disk = ap (λ (j : JournalState D). j.disk) journal in

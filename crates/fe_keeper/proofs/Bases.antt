@@ -3,7 +3,7 @@ use Rattle.std.proofs.Common.{◌≡◌, ℕ, ◌≤◌, List, length, Result, O
 use Rattle.std.specs.Prelude.{IsOk}
 use Rattle.fe_state.specs.State.{ServerState}
 use Rattle.fe_state.specs.History.{IsHistory}
-use Rattle.fe_codec.specs.FirstFault.{◌followed_by◌, header_at, state_at, told_at, image_at}
+use Rattle.fe_codec.specs.FirstFault.{◌followed_by◌, header_at, state_at, error_at_offset, image_at}
 use Rattle.fe_codec.proofs.ImageOnly.{one_image, spellings_read}
 use Rattle.fe_format.specs.declared.format.Format.{Format}
 use Rattle.fe_journal.specs.Contents.{Contents}
@@ -37,7 +37,7 @@ goes_from_base c s base format generation image groups parts stands is =
 
 -- ---- the fields of an image that are read before any memory is taken
 
-told : {A : Type 0} (size : ℕ) (r : Result A ℕ) (x : A) → told_at size r ≡ Ok x → r ≡ Ok x
+told : {A : Type 0} (size : ℕ) (r : Result A ℕ) (x : A) → error_at_offset size r ≡ Ok x → r ≡ Ok x
 told size (Ok y) x is = is
 told size (Err left) x is = absurd cc
 

@@ -13,7 +13,7 @@ use Rattle.fe_keeper.specs.Stands.{Stands, StandsFor}
 use Rattle.fe_keeper.specs.within.Upholds.{IsDraftOf, IsDrafted, Upholds, progress_of}
 use Rattle.fe_keeper.specs.within.Slices.{KeepsDraft}
 use Rattle.fe_keeper.specs.declared.checkpoint.Checkpoint.{Checkpoint}
-use Rattle.fe_keeper.specs.declared.store.Store.{Store}
+use Rattle.fe_keeper.specs.declared.keeper_store.KeeperStore.{KeeperStore}
 use Rattle.fe_disk.specs.declared.disk.Disk.{Ghosts}
 
 -- an image that holds what stands for a state stands for it
@@ -71,24 +71,24 @@ slice_is_draft c d s end slice more slice_is is =
     }
 
 module _ {D : Type 0} (model : Ghosts D) where
-  settled : (store : Store D) (s : ServerState) → store.checkpoint ≡ None → (u : Upholds model store s) → KeepsContents model store.journal u.contents None
+  settled : (store : KeeperStore D) (s : ServerState) → store.checkpoint ≡ None → (u : Upholds model store s) → KeepsContents model store.journal u.contents None
   settled store s none u =
       let drafted : IsDrafted None u.draft s = subst (λ (o : Option Checkpoint). IsDrafted o u.draft s) none u.drafted in
       subst (λ (o : Option Draft). KeepsContents model store.journal u.contents o) (drafted_none u.draft s drafted) u.keeps
 
   -- a store that does nothing
-  pub stays : (store : Store D) (s : ServerState) → ((image : List ℕ) → model.left_since store.journal.disk (model.moment store.journal.disk) image → model.may_leave store.journal.disk image) → Upholds model store s
+  pub stays : (store : KeeperStore D) (s : ServerState) → ((image : List ℕ) → model.left_since store.journal.disk (model.moment store.journal.disk) image → model.may_leave store.journal.disk image) → Upholds model store s
       → LeavesOnly model store.journal.disk store.journal.disk (λ image. StandsFor image s)
   stays store s only_now u =
       started model store.journal.disk (λ image. StandsFor image s) (λ image left. holds_stand u.contents s u.stands image (u.keeps.left image (only_now image left)).holds)
 
-  pub begin_moments : (store : Store D) (s : ServerState) (new : D) → store.checkpoint ≡ None → Upholds model store s
+  pub begin_moments : (store : KeeperStore D) (s : ServerState) (new : D) → store.checkpoint ≡ None → Upholds model store s
       → ((c : Contents) → KeepsContents model store.journal c None → LeavesOnly model store.journal.disk new (Holds c))
       → LeavesOnly model store.journal.disk new (λ image. StandsFor image s)
   begin_moments store s new none u run =
       weaker model store.journal.disk new (Holds u.contents) (λ image. StandsFor image s) (holds_stand u.contents s u.stands) (run u.contents (settled store s none u))
 
-  pub begin_upheld : (store : Store D) (s : ServerState) (j : JournalState D) (c : Checkpoint) (generation n : ℕ) → store.checkpoint ≡ None → Upholds model store s
+  pub begin_upheld : (store : KeeperStore D) (s : ServerState) (j : JournalState D) (c : Checkpoint) (generation n : ℕ) → store.checkpoint ≡ None → Upholds model store s
       → ((k : Contents) → KeepsContents model store.journal k None → KeepsContents model j k (Some (new_draft Two generation n)))
       → FitsImage Two s → c.image.items ≡ image_spelling Two s → c.written ≡ 0 → c.place ≡ s.place → c.catch_up.items ≡ []
       → Upholds model (record { journal = j; group = store.group; place = store.place; checkpoint = Some c }) s
@@ -102,19 +102,19 @@ module _ {D : Type 0} (model : Ghosts D) where
       }
 
   -- the draft of the checkpoint under way
-  pub draft_kept : (store : Store D) (s : ServerState) (c : Checkpoint) → store.checkpoint ≡ Some c → (u : Upholds model store s) → KeepsDraft model store.journal u.contents c s
+  pub draft_kept : (store : KeeperStore D) (s : ServerState) (c : Checkpoint) → store.checkpoint ≡ Some c → (u : Upholds model store s) → KeepsDraft model store.journal u.contents c s
   draft_kept store s c some u =
       let drafted : IsDrafted (Some c) u.draft s = subst (λ (o : Option Checkpoint). IsDrafted o u.draft s) some u.drafted in
       let found = drafted_some c u.draft s drafted in
       record { draft = found.0; keeps = subst (λ (o : Option Draft). KeepsContents model store.journal u.contents o) found.1 u.keeps; is_draft = found.2 }
 
-  pub step_moments : (store : Store D) (s : ServerState) (c : Checkpoint) (new : D) → store.checkpoint ≡ Some c → Upholds model store s
+  pub step_moments : (store : KeeperStore D) (s : ServerState) (c : Checkpoint) (new : D) → store.checkpoint ≡ Some c → Upholds model store s
       → ((k : Contents) → KeepsDraft model store.journal k c s → LeavesOnly model store.journal.disk new (Holds k))
       → LeavesOnly model store.journal.disk new (λ image. StandsFor image s)
   step_moments store s c new some u run =
       weaker model store.journal.disk new (Holds u.contents) (λ image. StandsFor image s) (holds_stand u.contents s u.stands) (run u.contents (draft_kept store s c some u))
 
-  pub step_upheld : {T E : Type 0} (result : Result T E) (store : Store D) (s : ServerState) (c made : Checkpoint) (j : JournalState D) → store.checkpoint ≡ Some c → Upholds model store s
+  pub step_upheld : {T E : Type 0} (result : Result T E) (store : KeeperStore D) (s : ServerState) (c made : Checkpoint) (j : JournalState D) → store.checkpoint ≡ Some c → Upholds model store s
       → ((k : Contents) → KeepsDraft model store.journal k c s → OnOk result (KeepsDraft model j k made s))
       → OnOk result (Upholds model (record { journal = j; group = store.group; place = store.place; checkpoint = Some made }) s)
   step_upheld (Ok x) store s c made j some u goes =

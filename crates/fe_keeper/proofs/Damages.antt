@@ -26,9 +26,9 @@ use Rattle.fe_keeper.proofs.Bases.{fields_stand}
 use Rattle.fe_keeper.proofs.Going.{none_bad}
 use Rattle.fe_keeper.proofs.Openings.{stands_by}
 
--- ---- what is told
+-- ---- what is said of a store
 
--- what the journal told
+-- what the journal said
 pub tells_found : (image : List ℕ) (before now : Calls) (fault : StoreFault) → journal.TellsFound fault image → (fault ≡ store.NoMemory → ReadsInPart before now) → TellsStore (fault_of_store fault) image before now
 tells_found image before now store.Unformatted told short = told
 tells_found image before now (store.Damaged offset) told short = InSlot told.0 told.1
@@ -97,7 +97,7 @@ module _ (c : Contents) (s : ServerState) (stands : Stands c s) where
       } in
       none_bad c.format c.groups base (area_of c.slot) offset goes bad
 
--- a store is told one thing
+-- one thing is said of a store
 pub told_apart : AreToldApart
 told_apart image =
     record {

@@ -23,8 +23,8 @@ use Rattle.fe_keeper.specs.within.Upholds.{store_of}
 use Rattle.fe_keeper.specs.declared.fault.Fault.{Fault}
 use Rattle.fe_keeper.specs.declared.fault.Fault.TheVariants.{Device, NoMemory}
 use Rattle.fe_keeper.specs.declared.keeper.Keeper.TheInside.{Inside}
-use Rattle.fe_keeper.specs.declared.store.Store.{Store}
-use Rattle.fe_keeper.specs.declared.store.Store.{Store}
+use Rattle.fe_keeper.specs.declared.keeper_store.KeeperStore.{KeeperStore}
+use Rattle.fe_keeper.specs.declared.keeper_store.KeeperStore.{KeeperStore}
 use Rattle.fe_disk.specs.declared.disk.Disk.{Ghosts}
 
 -- ---- calls one after the other
@@ -42,13 +42,13 @@ then_ends model (Err fault) old mid new first honesty second = record {
 }
 
 -- it carries over what the first carried
-pub then_carries : {T D : Type 0} (model : Ghosts D) (result : Result T JournalFault) (old mid new : Store D) (s : ServerState)
+pub then_carries : {T D : Type 0} (model : Ghosts D) (result : Result T JournalFault) (old mid new : KeeperStore D) (s : ServerState)
     → LeavesOnly model old.journal.disk mid.journal.disk (λ image. StandsFor image s) → Carries model result mid new s → Carries model result old new s
 then_carries model result old mid new s first second =
     record { any_moment = joined model old.journal.disk mid.journal.disk new.journal.disk (λ image. StandsFor image s) first second.any_moment; upheld = second.upheld }
 
 -- a batch that is stored once there is room for it
-pub then_counts : {T D : Type 0} (result : Result T JournalFault) (old mid new : Store D) (n : ℕ) → mid.place ≡ old.place → CountsBatch result mid new n → CountsBatch result old new n
+pub then_counts : {T D : Type 0} (result : Result T JournalFault) (old mid new : KeeperStore D) (n : ℕ) → mid.place ≡ old.place → CountsBatch result mid new n → CountsBatch result old new n
 then_counts (Ok x) old mid new n same h = record { sound = h.sound; place = h.place ∙ ap (λ (p : ℕ). p + n) same }
 then_counts (Err fault) old mid new n same h = record { sound = h.sound; place = h.place ∙ same }
 
@@ -89,7 +89,7 @@ append_fails {D} model was old new batch back told fault entries is same spelled
     (subst (λ (f : Fault). Fails model (ForBatch was batch.first entries) was new f) (sym is) fails))
 
 -- a call of the store in which the device fails, as the keeper tells it
-pub device_told : {T D : Type 0} (model : Ghosts D) (Cause : Fault → Type 0) (result : Result T Fault) (fault : JournalFault) (inside : Inside D) (new : Store D) (old : KeeperState D) → kept_of inside ≡ old
+pub device_told : {T D : Type 0} (model : Ghosts D) (Cause : Fault → Type 0) (result : Result T Fault) (fault : JournalFault) (inside : Inside D) (new : KeeperStore D) (old : KeeperState D) → kept_of inside ≡ old
     → IsErrAnd result (λ f. f ≡ fault_of_journal fault) → inside.store.journal.has_failed ≡ false → (fault ≡ journal.Device) × BreaksOff model inside.store.journal new.journal → Cause Device
     → Ends model Cause result old (record { state = inside.state; store = store_of new })
 device_told {D = D} model Cause result fault inside new old same is works failed cause =

@@ -22,7 +22,7 @@ use Rattle.fe_keeper.specs.within.Upholds.{IsDraftOf, IsUnderWay, IsCheckpoint, 
 use Rattle.fe_keeper.specs.Keeper.{has_slices}
 use Rattle.fe_keeper.specs.within.Slices.{KeepsDraft}
 use Rattle.fe_keeper.specs.declared.checkpoint.Checkpoint.{Checkpoint}
-use Rattle.fe_keeper.specs.declared.store.Store.{Store}
+use Rattle.fe_keeper.specs.declared.keeper_store.KeeperStore.{KeeperStore}
 use Rattle.fe_keeper.proofs.Appending.{length-group}
 use Rattle.fe_keeper.proofs.Checkpoints.{holds_stand, draft_kept}
 use Rattle.fe_disk.specs.declared.disk.Disk.{Ghosts}
@@ -92,7 +92,7 @@ begun_format j d generation n written of_draft of_checkpoint =
     (ap (λ (b : Begun). b.format) same, ap (λ (b : Begun). b.generation) same)
 
 module _ {D : Type 0} (model : Ghosts D) where
-  module _ (store : Store D) (s : ServerState) (c : Checkpoint) (bytes : List ℕ) (bytes_are : bytes ≡ c.catch_up.items) (some : store.checkpoint ≡ Some c) (sound : IsStore store)
+  module _ (store : KeeperStore D) (s : ServerState) (c : Checkpoint) (bytes : List ℕ) (bytes_are : bytes ≡ c.catch_up.items) (some : store.checkpoint ≡ Some c) (sound : IsStore store)
       (none_left : has_slices (option_map progress_of store.checkpoint) ≡ false) where
     under_way : IsUnderWay store.place store.journal c
     under_way = under_way_there store.place store.journal store.checkpoint c some sound.checkpoint

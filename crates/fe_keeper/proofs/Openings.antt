@@ -56,7 +56,7 @@ each_stands model j s keeps = λ image left. record { contents = keeps.contents;
 -- what opening did to the disk, where the keeper of what was found is made or memory runs out
 pub opens_keeper : {D T : Type 0} (model : Ghosts D) (found : T) (disk : D) (j : JournalState D) (s : ServerState) (result : Result (KeeperState D) (Fault × D))
     → AsksToOpen model store.Device (Ok found) disk j.disk → IfOk result (λ keeper. keeper ≡ keeper_over j s) → IfErr result (λ e. (e.0 ≡ NoMemory) × (e.1 ≡ j.disk))
-    → AsksToOpen model Device (told result) disk (disk_after result)
+    → AsksToOpen model Device (without_disk result) disk (disk_after result)
 opens_keeper {D} {T} model found disk j s (Ok keeper) asks made refused =
     let result : Result (KeeperState D) Fault = Ok keeper in
     subst (λ (k : KeeperState D). AsksToOpen model Device result disk k.store.disk) (sym made)

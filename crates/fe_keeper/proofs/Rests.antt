@@ -17,7 +17,7 @@ use Rattle.fe_keeper.specs.Stands.{StandsFor}
 use Rattle.fe_keeper.specs.within.Ends.{StoreEnds, StaysSound, Carries}
 use Rattle.fe_keeper.specs.within.Ready.{HasCheckpoint}
 use Rattle.fe_keeper.specs.within.Upholds.{Upholds, store_of}
-use Rattle.fe_keeper.specs.declared.store.Store.{Store}
+use Rattle.fe_keeper.specs.declared.keeper_store.KeeperStore.{KeeperStore}
 use Rattle.fe_keeper.proofs.Checkpoints.{stays}
 use Rattle.fe_disk.specs.declared.disk.Disk.{Ghosts}
 
@@ -26,12 +26,12 @@ abbrev pub bytes_left : Option Progress → ℕ
 bytes_left checkpoint = option_map_or (λ p. p.size - p.written) checkpoint 0
 
 -- Over an honest disk: what stops leave stands for the state, and the store upholds it still.
-pub record GoesOn {D : Type 0} (model : Ghosts D) (old now : Store D) (s : ServerState) : Type 0 where
+pub record GoesOn {D : Type 0} (model : Ghosts D) (old now : KeeperStore D) (s : ServerState) : Type 0 where
   pub run : LeavesOnly model old.journal.disk now.journal.disk (λ image. StandsFor image s)
   pub upheld : Upholds model now s
 
 -- What slices leave of a store: nothing that a finish takes is changed.
-pub record IsWriting {D : Type 0} (model : Ghosts D) (old now : Store D) : Type 0 where
+pub record IsWriting {D : Type 0} (model : Ghosts D) (old now : KeeperStore D) : Type 0 where
   pub ready : HasCheckpoint now
   pub goes_on : model.honest old.journal.disk → (s : ServerState) → Upholds model old s → GoesOn model old now s
   pub value : finished (store_of now) ≡ record (finished (store_of old)) { disk = now.journal.disk }
@@ -111,7 +111,7 @@ some_left (Some p) is = let far = above p.size p.written is in omega (arith, far
 
 module _ {D : Type 0} (model : Ghosts D) where
   -- before the first slice
-  pub none_yet : (old : Store D) → ((image : List ℕ) → model.honest old.journal.disk → model.left_since old.journal.disk (model.moment old.journal.disk) image → model.may_leave old.journal.disk image) → HasCheckpoint old
+  pub none_yet : (old : KeeperStore D) → ((image : List ℕ) → model.honest old.journal.disk → model.left_since old.journal.disk (model.moment old.journal.disk) image → model.may_leave old.journal.disk image) → HasCheckpoint old
       → IsWriting model old old
   none_yet old only_now ready =
       record {
@@ -128,7 +128,7 @@ module _ {D : Type 0} (model : Ghosts D) where
       }
 
   -- a run that went on by one call
-  pub moments_more : {T : Type 0} (result : Result T JournalFault) (old now new : Store D) → IsWriting model old now
+  pub moments_more : {T : Type 0} (result : Result T JournalFault) (old now new : KeeperStore D) → IsWriting model old now
       → (model.honest now.journal.disk → (s : ServerState) → Upholds model now s → Carries model result now new s)
       → model.honest old.journal.disk → (s : ServerState) → Upholds model old s → LeavesOnly model old.journal.disk new.journal.disk (λ image. StandsFor image s)
   moments_more result old now new so_far carries is s upholds =
@@ -136,7 +136,7 @@ module _ {D : Type 0} (model : Ghosts D) where
       joined model old.journal.disk now.journal.disk new.journal.disk (λ image. StandsFor image s) on.run (carries (so_far.honesty.1 is) s on.upheld).any_moment
 
   -- a slice more
-  pub one_more : (more : Bool) (old now new : Store D) → IsWriting model old now → StaysSound now new → HasCheckpoint new
+  pub one_more : (more : Bool) (old now new : KeeperStore D) → IsWriting model old now → StaysSound now new → HasCheckpoint new
       → (model.honest now.journal.disk → (s : ServerState) → Upholds model now s → Carries model (Ok more) now new s)
       → store_of new ≡ record (stepped (store_of now)) { disk = new.journal.disk } → StoreEnds model (Ok more) now.journal new.journal
       → MakesAtMost 0 1 0 (model.calls now.journal.disk) (model.calls new.journal.disk) → (has_slices (store_of now).checkpoint ≡ false → new ≡ now)
@@ -146,7 +146,7 @@ module _ {D : Type 0} (model : Ghosts D) where
       let taken : StoreState D → StoreState D = λ t. record t { disk = new.journal.disk } in
       let again = ap taken so_far.value in
       let fewer = counted (store_of now) (store_of new) new.journal.disk (model.calls now.journal.disk).writes (model.calls new.journal.disk).writes value made.1.1
-      (λ none. ap (λ (t : Store D). (model.calls t.journal.disk).writes) (rests none)) in
+      (λ none. ap (λ (t : KeeperStore D). (model.calls t.journal.disk).writes) (rests none)) in
       record {
         ready = ready;
         goes_on = λ is s upholds. record {
@@ -168,7 +168,7 @@ module _ {D : Type 0} (model : Ghosts D) where
   rises_since old now new still rises = subst (λ (n : ℕ). Rises n (model.failures new)) still rises
 
   -- the calls of a run that a slice ended
-  pub calls_more : (old now new : Store D) → IsWriting model old now → MakesAtMost 0 1 0 (model.calls now.journal.disk) (model.calls new.journal.disk)
+  pub calls_more : (old now new : KeeperStore D) → IsWriting model old now → MakesAtMost 0 1 0 (model.calls now.journal.disk) (model.calls new.journal.disk)
       → has_slices (store_of now).checkpoint ≡ true → MakesAtMost 0 (slices_left (store_of old).checkpoint) 0 (model.calls old.journal.disk) (model.calls new.journal.disk)
   calls_more old now new so_far made is =
       let some = some_left (store_of now).checkpoint is in

@@ -22,7 +22,7 @@ use Rattle.fe_keeper.specs.within.Fresh.{IsImageOf, whole_slices}
 use Rattle.fe_keeper.specs.within.Kept.{IsKept, kept_of}
 use Rattle.fe_keeper.specs.within.Upholds.{Upholds, store_of}
 use Rattle.fe_keeper.specs.declared.checkpoint.Checkpoint.{Checkpoint}
-use Rattle.fe_keeper.specs.declared.store.Store.{Store}
+use Rattle.fe_keeper.specs.declared.keeper_store.KeeperStore.{KeeperStore}
 use Rattle.fe_keeper.specs.declared.keeper.Keeper.TheInside.{Inside}
 use Rattle.fe_disk.specs.declared.disk.Disk.{Ghosts}
 
@@ -43,24 +43,24 @@ memory_alone P (Err fault) refused told none p = (told ∙ memory_told refused n
 
 pub same_kept : {D : Type 0} (old new : Inside D) → new.state ≡ old.state → new.store ≡ old.store → kept_of new ≡ kept_of old
 same_kept {D} old new state store =
-    ap (λ (s : ServerState). kept_in s new.store) state ∙ ap (λ (t : Store D). kept_in old.state t) store
+    ap (λ (s : ServerState). kept_in s new.store) state ∙ ap (λ (t : KeeperStore D). kept_in old.state t) store
   where
-    kept_in : ServerState → Store D → KeeperState D
+    kept_in : ServerState → KeeperStore D → KeeperState D
     kept_in s t = record { state = s; store = store_of t }
 
 -- ---- over the moments of a call
 
 module _ {D : Type 0} (model : Ghosts D) where
-  pub each_stands : (store : Store D) (s : ServerState) → Upholds model store s → EachStandsFor model store.journal.disk s
+  pub each_stands : (store : KeeperStore D) (s : ServerState) → Upholds model store s → EachStandsFor model store.journal.disk s
   each_stands store s u = λ image left. record { contents = u.contents; holds = (u.keeps.left image left).holds; stands = u.stands }
 
   -- a call that does nothing
-  pub none_left : (store : Store D) (s : ServerState) → ((image : List ℕ) → model.left_since store.journal.disk (model.moment store.journal.disk) image → model.may_leave store.journal.disk image) → Upholds model store s
+  pub none_left : (store : KeeperStore D) (s : ServerState) → ((image : List ℕ) → model.left_since store.journal.disk (model.moment store.journal.disk) image → model.may_leave store.journal.disk image) → Upholds model store s
       → LeavesOnly model store.journal.disk store.journal.disk (λ image. StandsFor image s)
   none_left store s only_now u = started model store.journal.disk (λ image. StandsFor image s) (λ image left. each_stands store s u image (only_now image left))
 
   -- a call of the store that carries the state over leaves the keeper's state as it is
-  pub carries_rest : {T : Type 0} (result : Result T JournalFault) (inside : Inside D) (new : Store D) (old : KeeperState D) → IsKept model inside → kept_of inside ≡ old
+  pub carries_rest : {T : Type 0} (result : Result T JournalFault) (inside : Inside D) (new : KeeperStore D) (old : KeeperState D) → IsKept model inside → kept_of inside ≡ old
       → (model.honest inside.store.journal.disk → Upholds model inside.store inside.state → Carries model result inside.store new inside.state)
       → (model.honest new.journal.disk ↔ model.honest inside.store.journal.disk) → Rests model old (record { state = inside.state; store = store_of new })
   carries_rest result inside new old kept same carries honesty =
@@ -68,7 +68,7 @@ module _ {D : Type 0} (model : Ghosts D) where
       (record { state = refl; any_moment = λ h works. (carries h (kept.upheld h works)).any_moment; honesty = honesty })
 
   -- and what it leaves is durable
-  pub carries_durable : (inside : Inside D) (new : Store D) → IsKept model inside → inside.store.journal.has_failed ≡ false → (model.honest new.journal.disk ↔ model.honest inside.store.journal.disk)
+  pub carries_durable : (inside : Inside D) (new : KeeperStore D) → IsKept model inside → inside.store.journal.has_failed ≡ false → (model.honest new.journal.disk ↔ model.honest inside.store.journal.disk)
       → (model.honest inside.store.journal.disk → Upholds model inside.store inside.state → Upholds model new inside.state)
       → IsDurable model (record { state = inside.state; store = store_of new })
   carries_durable inside new kept works honesty upholds =

@@ -22,7 +22,7 @@ abbrev pub AreToldApart : Type 0
 AreToldApart = (image : List ℕ) → IsToldApart image
 
 -- What was kept of a history and the history that went on from there, one after the other.
-pub record GoesOn (beginning : ServerState) (history next : List (List Entry)) (k : ℕ) (s : ServerState) : Type 0 where
+pub record IsContinued (beginning : ServerState) (history next : List (List Entry)) (k : ℕ) (s : ServerState) : Type 0 where
   pub kept : ℕ
   pub least : k ≤ kept
   pub most : kept ≤ length history
@@ -33,4 +33,4 @@ pub record GoesOn (beginning : ServerState) (history next : List (List Entry)) (
 -- which no number of a session takes effect twice (`fe_state::numbers_finish_once`).
 abbrev pub StopsJoin : Type 0
 StopsJoin = (beginning s : ServerState) (history next : List (List Entry)) (k : ℕ) → IsHistory beginning history
-    → IsCrashPrefix beginning history k s → IsHistory s next → GoesOn beginning history next k s
+    → IsCrashPrefix beginning history k s → IsHistory s next → IsContinued beginning history next k s

@@ -6,7 +6,7 @@ ghost use Rattle.fe_keeper.specs.within.Rooms.{AreRooms};
 ghost use Rattle.fe_keeper.specs.declared.fault.Fault.TheVariants.{NoMemory};
 
 use crate::keeper::Keeper;
-use crate::store::Store;
+use crate::keeper_store::KeeperStore;
 use crate::{Fault, Format};
 use fe_disk::Disk;
 use fe_journal::Journal;
@@ -48,7 +48,7 @@ pub(crate) fn keeper_over<D: Disk>(
 {
     let Rooms { group, log } = rooms;
     let place = state.place();
-    let store = Store {
+    let store = KeeperStore {
         journal,
         group,
         place,

@@ -12,12 +12,12 @@ ghost use Rattle.fe_keeper.specs.within.Upholds.{Upholds, store_of};
 
 use crate::Format;
 use crate::checkpoint::Checkpoint;
-use crate::store::Store;
+use crate::keeper_store::KeeperStore;
 use fe_disk::Disk;
 use fe_journal::JournalFault;
 use fe_state::Entry;
 
-impl<D: Disk> Store<D> {
+impl<D: Disk> KeeperStore<D> {
     /// Begins a checkpoint that is made: begins the other slot for it.
     pub(crate) fn begin(&mut self, checkpoint: Checkpoint) -> Result<(), JournalFault>
         requires can { CanTake self.old checkpoint }

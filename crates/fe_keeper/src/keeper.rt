@@ -15,7 +15,7 @@ ghost use Rattle.fe_keeper.specs.within.Upholds.{store_of};
 ghost use Rattle.fe_keeper.specs.declared.fault.Fault.TheVariants.{NoMemory};
 
 use crate::checkpoint::Checkpoint;
-use crate::store::Store;
+use crate::keeper_store::KeeperStore;
 use crate::{Fault, Format};
 use fe_disk::Disk;
 use fe_replica::take;
@@ -27,9 +27,9 @@ use std::marker::Model;
 /// it is answered.
 ///
 /// After a fault of the device every call returns `Failed` and makes no device call. Opening the store again
-/// tells what was stored.
+/// says what was stored.
 pub struct Keeper<D: Disk> {
-    pub(crate) store: Store<D>,
+    pub(crate) store: KeeperStore<D>,
     pub(crate) state: State,
     /// The way back from a batch that is taken and not yet stored.
     pub(crate) log: UndoLog,
@@ -230,7 +230,7 @@ impl<D: Disk> Keeper<D> {
         } = self;
         drop(state);
         drop(log);
-        let Store { journal, .. } = store;
+        let KeeperStore { journal, .. } = store;
         journal.into_disk()
     }
 }
@@ -246,7 +246,7 @@ fn limits(state: &State)
 /// for that time the replica is that state. So all memory is taken before any call of the device.
 fn whole_before<D: Disk>(
     alloc: Global,
-    store: &Store<D>,
+    store: &KeeperStore<D>,
     state: &mut State,
     log: &mut UndoLog,
     first: u64,

@@ -9,10 +9,10 @@ mod checkpoint;
 mod checkpointing;
 mod fault;
 mod keeper;
+mod keeper_store;
 mod laws;
 mod opening;
 mod recovering;
-mod store;
 
 pub use fault::Fault;
 pub use fe_format::Format;

@@ -44,7 +44,7 @@ impl<D: Disk> Keeper<D> {
         // Of any disk.
         ensures ready { IfOk result IsReady }
         ensures faults { IfErr result (λ e. IsOpenFault e.0) }
-        ensures device { AsksToOpen D.Disk Device (told result) disk (disk_after result) }
+        ensures device { AsksToOpen D.Disk Device (without_disk result) disk (disk_after result) }
         ensures sized { IfOk result (λ keeper. D.size disk ≡ device_bytes) }
     {
         let Found {
@@ -74,7 +74,7 @@ impl<D: Disk> Keeper<D> {
         ensures state { IfOk result (λ keeper. keeper.state ≡ first_state) }
         ensures store { IfOk result (λ keeper. keeper.store ≡ first_store keeper.store.disk) }
         ensures sized { IfOk result (λ keeper. D.size disk ≡ device_bytes) }
-        ensures ends { Formats D.Disk Unformatted Device NoMemory (told result) disk
+        ensures ends { Formats D.Disk Unformatted Device NoMemory (without_disk result) disk
             (disk_after result) }
     {
         if disk.size() != DEVICE_BYTES {

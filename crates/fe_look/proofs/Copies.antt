@@ -11,9 +11,9 @@ use Rattle.fe_journal.proofs.Bytes.{SameBytes, same_back, same_part, same_bytes_
 use Rattle.fe_journal.proofs.Frames.{image_short}
 use Rattle.fe_journal.proofs.Founds.{counts_one}
 use Rattle.fe_look.specs.Copy.{IsCopyOf}
-use Rattle.fe_look.specs.Header.{Counts}
+use Rattle.fe_look.specs.HeaderBytes.{Counts}
 use Rattle.fe_look.specs.Slot.{GatesEnd, IsAreaCopied, IsSlotCopy}
-use Rattle.fe_look.specs.declared.header.Header.{Header}
+use Rattle.fe_look.specs.declared.header.HeaderBytes.{HeaderBytes}
 use Rattle.fe_look.proofs.Areas.{SameGroups, same_to_end, same_whole, gates_same}
 use Rattle.fe_look.proofs.Slots.{equal_same}
 
@@ -85,7 +85,7 @@ module _ (xs ys : List ℕ) (slot : ℕ) (f : Format) (same : SameSlot xs ys slo
       (s.groups.opens g groups stand is_open) (λ there. odd (s.groups.fits g groups stand is_open there)) at
 
 -- A slot that was copied into zeros.
-module _ (image zeros copy : List ℕ) (slot : ℕ) (header : Header) (whole : length image ≡ 4202496) (room : length zeros ≡ 4202496) (zero : (i : ℕ) → get_or zeros i 0 ≡ 0) (found : Counts image (Some (slot, header)))
+module _ (image zeros copy : List ℕ) (slot : ℕ) (header : HeaderBytes) (whole : length image ≡ 4202496) (room : length zeros ≡ 4202496) (zero : (i : ℕ) → get_or zeros i 0 ≡ 0) (found : Counts image (Some (slot, header)))
     (is : IsSlotCopy image slot header.fields zeros copy) where
   low : slot < 2
   low = found.1.1.is_slot

@@ -5,11 +5,11 @@ use Rattle.fe_format.specs.declared.format.Format.{Format}
 use Rattle.fe_journal.specs.Layout.{header_of, number_at}
 use Rattle.fe_journal.specs.Contents.{IsValidAs, SlotCounts, generation_at}
 use Rattle.fe_journal.proofs.Bytes.{SameBytes, same_part, same_number_at, known_same}
-use Rattle.fe_look.specs.Header.{IsValid, IsHeaderOf, IsChosen, Counts, generation_in}
-use Rattle.fe_look.specs.declared.header.Header.{Header}
+use Rattle.fe_look.specs.HeaderBytes.{IsValid, IsHeaderOf, IsChosen, Counts, generation_in}
+use Rattle.fe_look.specs.declared.header.HeaderBytes.{HeaderBytes}
 
 -- a header that was read of a slot
-module _ (image : List ℕ) (slot : ℕ) (header : Header) (whole : length image ≡ 4202496) (is_slot : slot < 2) (is : IsHeaderOf image slot header) where
+module _ (image : List ℕ) (slot : ℕ) (header : HeaderBytes) (whole : length image ≡ 4202496) (is_slot : slot < 2) (is : IsHeaderOf image slot header) where
   fields_same : SameBytes image (header_of slot) header.fields 0 20
   fields_same = known_same image (header_of slot) 20 header.fields (omega arith) (sym is.fields_are)
 
@@ -25,7 +25,7 @@ module _ (image : List ℕ) (slot : ℕ) (header : Header) (whole : length image
   pub valid_read : (f : Format) → IsValidAs image slot f → IsValid header f
   valid_read f valid = record { is_open = is.gate_is ∙ valid.is_open; magic = sym magic_same ∙ valid.magic }
 
-module _ (image : List ℕ) (first second : Header) (whole : length image ≡ 4202496) (one : IsHeaderOf image 0 first) (two : IsHeaderOf image 1 second) where
+module _ (image : List ℕ) (first second : HeaderBytes) (whole : length image ≡ 4202496) (one : IsHeaderOf image 0 first) (two : IsHeaderOf image 1 second) where
   none_valid : IsChosen first second None → Counts image None
   none_valid none = λ slot f is_slot valid.
       ⊎_elim (λ (low : slot < 1). let at : slot ≡ 0 = omega arith in none.0 f (valid_read image 0 first whole (omega arith) one f (subst (λ (k : ℕ). IsValidAs image k f) at valid)))
@@ -57,11 +57,11 @@ module _ (image : List ℕ) (first second : Header) (whole : length image ≡ 42
       }
 
   -- which slot counts, from what both headers say
-  pub chosen_counts : (found : Option (ℕ × Header)) → IsChosen first second found → Counts image found
+  pub chosen_counts : (found : Option (ℕ × HeaderBytes)) → IsChosen first second found → Counts image found
   chosen_counts None is = none_valid is
   chosen_counts (Some (slot, header)) (inl is) =
       subst (λ (k : ℕ). Counts image (Some (k, header))) (sym is.0)
-      (subst (λ (h : Header). Counts image (Some (0, h))) (sym is.1) (one, (is.2.0, first_counts is.2.0 is.2.1 is.3)))
+      (subst (λ (h : HeaderBytes). Counts image (Some (0, h))) (sym is.1) (one, (is.2.0, first_counts is.2.0 is.2.1 is.3)))
   chosen_counts (Some (slot, header)) (inr is) =
       subst (λ (k : ℕ). Counts image (Some (k, header))) (sym is.0)
-      (subst (λ (h : Header). Counts image (Some (1, h))) (sym is.1) (two, (is.2.0, second_counts is.2.0 is.2.1 is.3)))
+      (subst (λ (h : HeaderBytes). Counts image (Some (1, h))) (sym is.1) (two, (is.2.0, second_counts is.2.0 is.2.1 is.3)))

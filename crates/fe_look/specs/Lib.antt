@@ -1,6 +1,6 @@
 pub mod Look
 pub mod Copy
 pub mod Calls
-pub mod Header
+pub mod HeaderBytes
 pub mod Slot
 pub mod Reading

@@ -4,7 +4,7 @@ ghost use Rattle.std.specs.Prelude.{◌≡◌, ◌<◌, IfOk, IfSome};
 ghost use Rattle.fe_journal.specs.Layout.{device_bytes, number_at};
 ghost use Rattle.fe_journal.specs.Steps.{OnlyReads};
 ghost use Rattle.fe_look.specs.Calls.{OnlyAsks};
-ghost use Rattle.fe_look.specs.Header.{IsFormatIn, IsHeaderOf, Counts, IsChosen};
+ghost use Rattle.fe_look.specs.HeaderBytes.{IsFormatIn, IsHeaderOf, Counts, IsChosen};
 
 use crate::parts::read_byte;
 use byteorder::{BigEndian, ByteOrder};
@@ -17,12 +17,12 @@ pub(crate) const FIELDS: usize = 20;
 
 /// The fields of a slot's header, as bytes, and its gate.
 #[derive(Clone, Copy)]
-pub(crate) struct Header {
+pub(crate) struct HeaderBytes {
     pub(crate) fields: [u8; FIELDS],
     gate: u8,
 }
 
-impl Header {
+impl HeaderBytes {
     // The format of the slot, if the slot is valid.
     fn format(&self) -> Option<Format>
         ensures { IsFormatIn self.now result }
@@ -47,7 +47,9 @@ impl Header {
 }
 
 /// The slot that counts, and its header.
-pub(crate) fn read_counting<D: Disk>(disk: &mut D) -> Result<Option<(usize, Header)>, DeviceFault>
+pub(crate) fn read_counting<D: Disk>(
+    disk: &mut D,
+) -> Result<Option<(usize, HeaderBytes)>, DeviceFault>
     requires device { D.size disk.old ≡ device_bytes }
     ensures counts { D.honest disk.old → IfOk result (Counts (D.seen disk.old)) }
     ensures is_slot { IfOk result (λ found. IfSome found (λ s. s.0 < 2)) }
@@ -60,7 +62,7 @@ pub(crate) fn read_counting<D: Disk>(disk: &mut D) -> Result<Option<(usize, Head
 }
 
 // Which slot counts, if the slots have these headers.
-fn chosen(first: &Header, second: &Header) -> Option<(usize, Header)>
+fn chosen(first: &HeaderBytes, second: &HeaderBytes) -> Option<(usize, HeaderBytes)>
     ensures counts { IsChosen first.now second.now result }
 {
     match (first.format(), second.format()) {
@@ -78,7 +80,7 @@ fn chosen(first: &Header, second: &Header) -> Option<(usize, Header)>
 }
 
 /// The header of a slot. The gate, just before the image, is read after the fields.
-pub(crate) fn read_header<D: Disk>(disk: &mut D, slot: usize) -> Result<Header, DeviceFault>
+pub(crate) fn read_header<D: Disk>(disk: &mut D, slot: usize) -> Result<HeaderBytes, DeviceFault>
     requires is_slot { slot < 2 }
     requires device { D.size disk.old ≡ device_bytes }
     ensures header { D.honest disk.old → IfOk result (IsHeaderOf (D.seen disk.old) slot) }
@@ -88,5 +90,5 @@ pub(crate) fn read_header<D: Disk>(disk: &mut D, slot: usize) -> Result<Header, 
     let mut fields = [0; FIELDS];
     disk.read_at(header_of(slot), &mut fields)?;
     let gate = read_byte(disk, image_of(slot) - 1)?;
-    Ok(Header { fields, gate })
+    Ok(HeaderBytes { fields, gate })
 }

@@ -6,9 +6,9 @@ ghost use Rattle.fe_journal.specs.Layout.{area_bytes, device_bytes, header_bytes
 ghost use Rattle.fe_journal.specs.Steps.{OnlyReads};
 ghost use Rattle.fe_look.specs.Calls.{OnlyAsks};
 ghost use Rattle.fe_look.specs.Slot.{IsLengthAfter, EndsAt, HasParts, IsSlotCopy};
-ghost use Rattle.fe_look.specs.Header.{IsHeaderOf};
+ghost use Rattle.fe_look.specs.HeaderBytes.{IsHeaderOf};
 
-use crate::header::{FIELDS, Header, read_header};
+use crate::header::{FIELDS, HeaderBytes, read_header};
 use crate::parts::{read_byte, read_number, read_part};
 use fe_disk::{DeviceFault, Disk};
 use fe_journal::{AREA_BYTES, DEVICE_BYTES, header_of, image_of};
@@ -22,7 +22,7 @@ pub(crate) fn read_slot<D: Disk>(
     disk: &mut D,
     bytes: &mut [u8],
     slot: usize,
-    header: &Header,
+    header: &HeaderBytes,
 ) -> Result<bool, DeviceFault>
     requires is_slot { slot < 2 }
     requires device { D.size disk.old ≡ device_bytes }

@@ -8,7 +8,7 @@ use Rattle.std.specs.FinMap.{FinMap, get, insert, remove}
 use Rattle.fe_state.proofs.Maps.{get_inserted, get_beside, get_removed, get_left, same_or_other}
 use Rattle.fe_state.specs.declared.entry.Entry.{Entry}
 use Rattle.fe_state.specs.declared.entry.Entry.TheVariants.{Attached, Closed, Settled, Finished}
-use Rattle.fe_seats.specs.Seating.{holder_of, is_closing}
+use Rattle.fe_attachments.specs.AttachmentsState.{holder_of, is_closing}
 use Rattle.fe_service.specs.Events.{left}
 use Rattle.fe_mail.specs.Books.{mail_refused_by_box, mail_taken}
 use Rattle.fe_mail.specs.Connections.{first_connection, session_on, mails_on, with_session, with_mails}
@@ -87,7 +87,7 @@ module _ (P : ℕ → Mail → Type 0) where
       by (Some session) all = in_with_session f.connections conn None all
 
   pub boxes-freed : (f : FrontState) (session : ℕ) → AllIn P f.connections → AllIn P (freed f session).connections
-  boxes-freed f session = by (holder_of f.service.seats session)
+  boxes-freed f session = by (holder_of f.service.attachments session)
     where
       by : (o : Option ℕ) → AllIn P f.connections → AllIn P (option_map_or (λ conn. parted f conn session) o f).connections
       by None all = all
@@ -140,21 +140,21 @@ module _ (P : ℕ → Mail → Type 0) where
   -- ---- posting
 
   -- `May` is which connections may get mail of which sessions: of a front that `Has` it, those that have the session
-  module _ (May : ℕ → ℕ → Type 0) (Has : FrontState → Type 0) (holders : (f : FrontState) → Has f → (session conn : ℕ) → holder_of f.service.seats session ≡ Some conn → May conn session)
+  module _ (May : ℕ → ℕ → Type 0) (Has : FrontState → Type 0) (holders : (f : FrontState) → Has f → (session conn : ℕ) → holder_of f.service.attachments session ≡ Some conn → May conn session)
       (stays : (f : FrontState) (e : Entry) (place : ℕ) → Has f → Has (posted_entry f e place)) where
     -- the mail of an entry is such, to a connection that may get it
     abbrev IsPosted : Entry → ℕ → Type 0
     IsPosted e place = (conn : ℕ) → May conn (session_of e) → P conn (mail_of e place)
 
     boxes-delivered : (f : FrontState) (e : Entry) (place : ℕ) → IsPosted e place → Has f → AllIn P f.connections → AllIn P (delivered f e place).connections
-    boxes-delivered f e place such has all = by (holder_of f.service.seats (session_of e)) refl
+    boxes-delivered f e place such has all = by (holder_of f.service.attachments (session_of e)) refl
       where
-        by : (o : Option ℕ) → holder_of f.service.seats (session_of e) ≡ o → AllIn P (option_map_or (λ conn. mailed f conn (mail_of e place)) o f).connections
+        by : (o : Option ℕ) → holder_of f.service.attachments (session_of e) ≡ o → AllIn P (option_map_or (λ conn. mailed f conn (mail_of e place)) o f).connections
         by None is = all
         by (Some conn) is = boxes-mailed f conn (mail_of e place) (such conn (holders f has (session_of e) conn is)) all
 
     boxes-vacated : (f : FrontState) (session : ℕ) → AllIn P f.connections → AllIn P (vacated f session).connections
-    boxes-vacated f session all = by (is_closing f.service.seats session)
+    boxes-vacated f session all = by (is_closing f.service.attachments session)
       where
         by : (b : Bool) → AllIn P (if b then record f { service = left f.service session } else f).connections
         by true = all

@@ -16,16 +16,16 @@ use Rattle.fe_mail.specs.declared.refusal.Refusal.{Refusal}
 use Rattle.fe_mail.specs.declared.refusal.Refusal.TheVariants.{NotAttached, Closing, SessionLimit, Spent, NoMemory}
 use Rattle.fe_wire.specs.declared.client_message.ClientMessage.{ClientMessage}
 use Rattle.fe_wire.specs.declared.client_message.ClientMessage.TheVariants as message
-use Rattle.fe_report.specs.Report.{report_text, attached_seats}
+use Rattle.fe_report.specs.Report.{report_text, held_attachments}
 use Rattle.fe_front.specs.Front.{FrontState, IsFront, is_connected, is_spent}
 use Rattle.fe_front.specs.Event as event
 use Rattle.fe_front.specs.Step.{FrontStep}
 use Rattle.fe_front.specs.Steps.{released, freed, mailed, attached_to, settled_to, closed_by, cancelled_from, cancelled_by}
-use Rattle.fe_front.specs.Refusals.{attaching, settling, leaving, cancelling, has_no_seat}
+use Rattle.fe_front.specs.Refusals.{attaching, settling, leaving, cancelling, has_no_attachment}
 use Rattle.fe_front.specs.Call.{Called, IsCallRefused, WantsMemory, call_refused_by, kept_at, repeated}
 use Rattle.fe_front.specs.declared.outcome.Outcome.{Outcome}
 use Rattle.fe_front.specs.declared.outcome.Outcome.TheVariants as outcome
-use Rattle.fe_seats.specs.Seating.{is_closing}
+use Rattle.fe_attachments.specs.AttachmentsState.{is_closing}
 use Rattle.fe_front.proofs.Keeping.{Keeps, itself, both, released-keeps, freed-keeps, mailed-keeps}
 use Rattle.fe_front.proofs.Events.{Answers, attach_step, settle_step, bye_step, cancel_step, refusal_told, call_refusal_told}
 use Rattle.fe_front.proofs.Leading.{steps_lead}
@@ -230,10 +230,10 @@ module _ (f g k : FrontState) (conn : ℕ) where
 
   -- ---- the report
 
-  pub report_taken : (text : List ℕ) → text ≡ report_text f.service.waiting (attached_seats f) → k ≡ mailed f conn (mail.Report text) → Taken f conn message.Report k
+  pub report_taken : (text : List ℕ) → text ≡ report_text f.service.waiting (held_attachments f) → k ≡ mailed f conn (mail.Report text) → Taken f conn message.Report k
   report_taken text is told =
-      let front : k ≡ mailed f conn (mail.Report (report_text f.service.waiting (attached_seats f))) = told ∙ ap (λ (t : List ℕ). mailed f conn (mail.Report t)) is in
-      ([], inl (tt, record { entries = refl; front = front }), mailed_enters f k conn (mail.Report (report_text f.service.waiting (attached_seats f))) front)
+      let front : k ≡ mailed f conn (mail.Report (report_text f.service.waiting (held_attachments f))) = told ∙ ap (λ (t : List ℕ). mailed f conn (mail.Report t)) is in
+      ([], inl (tt, record { entries = refl; front = front }), mailed_enters f k conn (mail.Report (report_text f.service.waiting (held_attachments f))) front)
 
   pub report_refused : k ≡ mailed f conn (mail.Refused 0 NoMemory) → Taken f conn message.Report k
   report_refused told = ([], inr (record { entries = refl; front = told }), mailed_enters f k conn (mail.Refused 0 NoMemory) told)

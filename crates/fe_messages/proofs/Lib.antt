@@ -3,4 +3,4 @@ pub mod Recorded
 pub mod Answers
 pub mod Boxes
 pub mod Boxing
-pub mod Seated
+pub mod AttachmentLaws

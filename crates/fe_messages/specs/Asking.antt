@@ -1,6 +1,6 @@
 -- Which sessions connections ask for, and which of them they have.
 use Rattle.std.specs.Prelude.{◌≡◌, ℕ, Some}
-use Rattle.fe_seats.specs.Seating.{holder_of}
+use Rattle.fe_attachments.specs.AttachmentsState.{holder_of}
 use Rattle.fe_mail.specs.Connections.{session_on}
 use Rattle.fe_wire.specs.declared.client_message.ClientMessage.{ClientMessage}
 use Rattle.fe_wire.specs.declared.client_message.ClientMessage.TheVariants.{Attach, Call, Cancel, Settle, Bye, Report}
@@ -22,5 +22,5 @@ AsksOnly asked Report = Unit {0}
 
 -- a connection has a session, and a session has a connection, only where the connection asked for the session
 pub record HasOnly (asked : ℕ → ℕ → Type 0) (f : FrontState) : Type 0 where
-  pub holders : (session conn : ℕ) → holder_of f.service.seats session ≡ Some conn → asked conn session
+  pub holders : (session conn : ℕ) → holder_of f.service.attachments session ≡ Some conn → asked conn session
   pub sessions : (conn session : ℕ) → session_on f.connections conn ≡ Some session → asked conn session

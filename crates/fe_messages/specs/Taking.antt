@@ -7,7 +7,7 @@ use Rattle.fe_mail.specs.declared.refusal.Refusal.{Refusal}
 use Rattle.fe_mail.specs.declared.refusal.Refusal.TheVariants.{NoMemory}
 use Rattle.fe_wire.specs.declared.client_message.ClientMessage.{ClientMessage}
 use Rattle.fe_wire.specs.declared.client_message.ClientMessage.TheVariants.{Attach, Call, Cancel, Settle, Bye, Report}
-use Rattle.fe_report.specs.Report.{report_text, attached_seats}
+use Rattle.fe_report.specs.Report.{report_text, held_attachments}
 use Rattle.fe_front.specs.Front.{FrontState}
 use Rattle.fe_front.specs.Event as event
 use Rattle.fe_front.specs.Step.{FrontStep}
@@ -40,4 +40,4 @@ Takes f conn (Settle floor) es g =
 Takes f conn Bye es g =
     FrontStep f (event.Bye conn) es g ⊎ ((r : Refusal) × (leaving f conn ≡ Err r) × IsRefused f conn 0 r es g)
 Takes f conn Report es g =
-    FrontStep f (event.Tell conn (mail.Report (report_text f.service.waiting (attached_seats f)))) es g ⊎ IsRefused f conn 0 NoMemory es g
+    FrontStep f (event.GiveMail conn (mail.Report (report_text f.service.waiting (held_attachments f)))) es g ⊎ IsRefused f conn 0 NoMemory es g

@@ -203,8 +203,8 @@ pub fn arguments<'a, S: AsStr>(alloc: Global, words: &'a [S]) -> Result<Invocati
 pub fn not_text(alloc: Global) -> Error
     ensures { (kind_of result ≡ ErrorKind.InvalidValue) ⊎ (kind_of result ≡ ErrorKind.OutOfMemory) }
 {
-    let told = "invalid UTF-8 was detected in one or more arguments";
-    match error_of(alloc, ErrorKind::InvalidValue, told) {
+    let complaint = "invalid UTF-8 was detected in one or more arguments";
+    match error_of(alloc, ErrorKind::InvalidValue, complaint) {
         Ok(error) => error,
         Err(short) => Error::from(short),
     }

@@ -5,7 +5,7 @@ use Rattle.std.proofs.lemmas.Bool.{cases_lt}
 use Rattle.std.proofs.Math.Seq.{map-set_same}
 use Rattle.fe_pool.specs.declared.family.Family.{Family}
 use Rattle.fe_pool.specs.declared.family.Family.TheVariants.{OfWord, OfSession}
-use Rattle.fe_pool.specs.declared.cells.Entry.{Entry}
+use Rattle.fe_pool.specs.declared.cells.NodeContents.{NodeContents}
 use Rattle.fe_pool.specs.declared.cells.Cell.{Cell}
 use Rattle.fe_pool.specs.declared.cells.Cell.TheVariants.{Free, Taken}
 use Rattle.fe_pool.specs.Columns.{Columns, Link, with_links, links_of}
@@ -42,7 +42,7 @@ module _ {T : Type 0} where
       (column-set_same session_link_of ps n x _ read (ap session_link_of (sym free)))
 
   -- a node on no list becomes free
-  pub vacated : (ps : List (Cell T)) (n : ℕ) (x : Cell T) (entry : Entry T) (follower : Option ℕ) → n < length ps → x ≡ get_or ps n x → x ≡ Taken entry → get_or (map word_link_of ps) n None ≡ None → get_or (map session_link_of ps) n None ≡ None → columns_of (set ps n (Free follower)) ≡ record (columns_of ps) { items = set (map item_of ps) n None; followers = set (map follower_of ps) n follower }
+  pub vacated : (ps : List (Cell T)) (n : ℕ) (x : Cell T) (entry : NodeContents T) (follower : Option ℕ) → n < length ps → x ≡ get_or ps n x → x ≡ Taken entry → get_or (map word_link_of ps) n None ≡ None → get_or (map session_link_of ps) n None ≡ None → columns_of (set ps n (Free follower)) ≡ record (columns_of ps) { items = set (map item_of ps) n None; followers = set (map follower_of ps) n follower }
   vacated ps n x entry follower within read taken of_word of_session =
       same_columns _ _ _ _ _ _ _ _
       (map-set item_of ps n _)
@@ -51,7 +51,7 @@ module _ {T : Type 0} where
       (column-set_same session_link_of ps n x _ read (sym of_session ∙ column session_link_of ps n x None within read))
 
   -- the neighbours of a taken node are written, in one family
-  pub linked : (ps : List (Cell T)) (n : ℕ) (x : Cell T) (entry : Entry T) (family : Family) (to : Link) → x ≡ get_or ps n x → x ≡ Taken entry → columns_of (set ps n (Taken (with_link entry family to))) ≡ with_links (columns_of ps) family (set (links_of (columns_of ps) family) n to)
+  pub linked : (ps : List (Cell T)) (n : ℕ) (x : Cell T) (entry : NodeContents T) (family : Family) (to : Link) → x ≡ get_or ps n x → x ≡ Taken entry → columns_of (set ps n (Taken (with_link entry family to))) ≡ with_links (columns_of ps) family (set (links_of (columns_of ps) family) n to)
   linked ps n x entry OfWord to read taken =
       same_columns _ _ _ _ _ _ _ _
       (column-set_same item_of ps n x _ read (ap item_of (sym taken)))

@@ -14,18 +14,18 @@ use std::mem;
 #[derive(Drop)]
 enum Cell<T> {
     Free(Option<Node>),
-    Taken(Entry<T>),
+    Taken(NodeContents<T>),
 }
 
 // The contents of a taken node: its item, and its neighbours on its list of each family.
 #[derive(Drop)]
-struct Entry<T> {
+struct NodeContents<T> {
     item: T,
     of_word: Option<Neighbours>,
     of_session: Option<Neighbours>,
 }
 
-impl<T> Entry<T> {
+impl<T> NodeContents<T> {
     ghost use Rattle.fe_pool.specs.within.Cells.{with_link};
 
     fn set_link(&mut self, family: Family, to: Option<Neighbours>)
@@ -91,7 +91,7 @@ impl<T: Drop> Cells<T> {
               followers = slice_set self.old.followers node None;
             } }
     {
-        let entry = Entry {
+        let entry = NodeContents {
             item,
             of_word: None,
             of_session: None,

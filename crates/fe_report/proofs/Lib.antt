@@ -7,4 +7,4 @@ pub mod Rising
 pub mod Added
 pub mod Seen
 pub mod Spots
-pub mod Waiters
+pub mod WaitingAccesses

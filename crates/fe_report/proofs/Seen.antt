@@ -3,13 +3,13 @@ use Rattle.std.proofs.Common.{◌≡◌, ◌≢◌, ◌⊎◌, ℕ, ◌+◌, inl
 use Rattle.std.specs.Ordering.{nat_cmp}
 use Rattle.std.specs.FinMap.{FinMap, get, entries, get-empty}
 use Rattle.fe_words.specs.declared.op.Op.{Op}
-use Rattle.fe_waits.specs.Waiting.{Waiter}
+use Rattle.fe_waits.specs.Waiting.{WaitingAccess}
 use Rattle.fe_state.specs.SessionEffect.{IsUsable}
 use Rattle.fe_state.proofs.Maps.{get_beside, same_or_other}
 use Rattle.fe_table.proofs.TableCopyLemmas.{made, made-next}
 use Rattle.fe_service.specs.ServiceState.{ServiceState, IsService}
 use Rattle.fe_report.specs.Report.{Spot, by_word, by_session}
-use Rattle.fe_report.proofs.Waiters.{waits-by_word, counts-by_session}
+use Rattle.fe_report.proofs.WaitingAccesses.{waits-by_word, counts-by_session}
 
 module _ {X : Type 0} (m : FinMap nat_cmp X) where
   pub none_seen : {A : Type 0} (s : ℕ) → IsSome (get (made m 0) s) → A
@@ -30,7 +30,7 @@ is_there (Some x) P h = refl
 is_there None P h = absurd h
 
 module _ (s : ServiceState) (service : IsService s) where
-  waits_there : (key : ℕ × ℕ) (o : Option Waiter) → get s.waiting key ≡ o → IsSome o → IsSome (get s.state.sessions key.0)
+  waits_there : (key : ℕ × ℕ) (o : Option WaitingAccess) → get s.waiting key ≡ o → IsSome o → IsSome (get s.state.sessions key.0)
   waits_there key None g h = absurd (true≢false (sym h))
   waits_there key (Some w) g h = is_there (get s.state.sessions key.0) (λ x. IsUsable x key.1) (service.usable key w g)
 

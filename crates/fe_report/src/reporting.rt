@@ -1,6 +1,6 @@
 ghost use Rattle.std.specs.Prelude.{◌≡◌, ◌≤◌, IfOk, string_bytes, string_len};
 ghost use Rattle.fe_mail.specs.Limits.{longest_report};
-ghost use Rattle.fe_report.specs.Report.{report_text, attached_seats};
+ghost use Rattle.fe_report.specs.Report.{report_text, held_attachments};
 
 use crate::rows::{do_all_wait, rows_by_session, rows_by_word};
 use crate::text::{put_all_wait, put_count, put_sessions, put_words};
@@ -19,12 +19,12 @@ const OTHER_LINES: usize = 2976;
 /// gives back what the text doesn't use.
 pub fn report(alloc: Global, front: &Front) -> Result<String, AllocError>
     ensures text { IfOk result
-        (λ text. string_bytes text ≡ report_text front.now.service.waiting (attached_seats front.now)) }
+        (λ text. string_bytes text ≡ report_text front.now.service.waiting (held_attachments front.now)) }
     ensures some { IfOk result (λ text. 1 ≤ string_len text) }
     ensures few { IfOk result (λ text. string_len text ≤ longest_report) }
 {
     let _ = front.state();
-    let count = front.service().seats().len();
+    let count = front.service().attachments().len();
     let mut text = String::with_capacity(alloc, OTHER_LINES + WORD_LINE * count as usize)?;
     put_count(&mut text, count)?;
     if count == 0 {

@@ -2,7 +2,7 @@ ghost use Rattle.std.specs.Prelude.{◌≡◌, ◌≤◌, IfOk, OnOk, vec_len};
 ghost use Rattle.std.specs.BTreeMap.{btree_map_len};
 ghost use Rattle.std.specs.FinMap.{entries};
 ghost use Rattle.fe_state.specs.Limits.{most_sessions, most_waiting};
-ghost use Rattle.fe_report.specs.Report.{by_word, by_session, do_all_wait, attached_seats};
+ghost use Rattle.fe_report.specs.Report.{by_word, by_session, do_all_wait, held_attachments};
 ghost use Rattle.fe_report.specs.within.Rows.{IsAdded};
 
 use fe_front::Front;
@@ -22,8 +22,11 @@ fn add_session(
 ) -> Result<(), AllocError>
     ensures added { OnOk result (IsAdded front.now.service.waiting session rows.old.items rows.new.items) }
 {
-    let told = front.service().seats().told(alloc, session)?;
-    for row in &told {
+    let waiting_requests = front
+        .service()
+        .attachments()
+        .waiting_requests(alloc, session)?;
+    for row in &waiting_requests {
         let (number, (array, index, op)) = *row;
         rows.push((((array, index), (session, number)), op))?;
     }
@@ -36,7 +39,7 @@ pub(crate) fn rows_by_word(alloc: Global, front: &Front) -> Result<Vec<(Spot, Op
     ensures few { IfOk result (λ rows. vec_len rows ≤ most_waiting) }
 {
     let state = front.state();
-    let mut rows = Vec::with_capacity(alloc, front.service().seats().len() as usize)?;
+    let mut rows = Vec::with_capacity(alloc, front.service().attachments().len() as usize)?;
     for k in 0..state.session_count() {
         let session = state.session_at(k).unwrap();
         add_session(alloc, front, &mut rows, session)?;
@@ -57,7 +60,7 @@ pub(crate) fn rows_by_session(
     let mut rows = BTreeMap::new(alloc);
     for k in 0..state.session_count() {
         let session = state.session_at(k).unwrap();
-        let count = front.service().seats().count_of(session);
+        let count = front.service().attachments().count_of(session);
         if count > 0 {
             rows.insert(session, count)?;
         }
@@ -67,7 +70,7 @@ pub(crate) fn rows_by_session(
 
 /// Whether a session is attached, and each attached session has a waiting request.
 pub(crate) fn do_all_wait(front: &Front) -> bool
-    ensures { result ≡ do_all_wait front.now.service.waiting (attached_seats front.now) }
+    ensures { result ≡ do_all_wait front.now.service.waiting (held_attachments front.now) }
 {
     let state = front.state();
     let mut attached = false;
@@ -75,7 +78,7 @@ pub(crate) fn do_all_wait(front: &Front) -> bool
     for k in 0..state.session_count() {
         let session = state.session_at(k).unwrap();
         let here = front.attached(session);
-        let none = front.service().seats().count_of(session) == 0;
+        let none = front.service().attachments().count_of(session) == 0;
         attached |= here;
         idle |= here & none;
     }

@@ -2,7 +2,7 @@
 use Rattle.std.proofs.Common.{◌≡◌, List, [], ◌∷◌, ◌++◌, Option, refl, sym, ap, ◌∙◌, subst}
 use Rattle.fe_disk.specs.Memory.{MemoryState}
 use Rattle.fe_desk.specs.Crash.{DeskState, disk_of}
-use Rattle.fe_desk.specs.Standing.{Standing}
+use Rattle.fe_desk.specs.DeskRunState.{DeskRunState}
 use Rattle.fe_desk.specs.Steps.{DeskRun}
 use Rattle.fe_desk.specs.declared.step.Step.{Step}
 use Rattle.fe_schedules.specs.Ready.{Moves, ChecksEach}
@@ -11,8 +11,8 @@ use Rattle.fe_text.specs.declared.line.Line.{Line}
 use Rattle.fe_text.specs.declared.line.Line.TheVariants as line
 use Rattle.fe_schedules.specs.declared.machine.Machine.{Machine}
 
-pub runs_both : (xs ys : List Step) (s u t : Standing) → DeskRun s xs u → DeskRun u ys t → DeskRun s (xs ++ ys) t
-runs_both [] ys s u t e f = subst (λ (w : Standing). DeskRun w ys t) e f
+pub runs_both : (xs ys : List Step) (s u t : DeskRunState) → DeskRun s xs u → DeskRun u ys t → DeskRun s (xs ++ ys) t
+runs_both [] ys s u t e f = subst (λ (w : DeskRunState). DeskRun w ys t) e f
 runs_both (x ∷ xs) ys s u t e f = (e.0, e.1, runs_both xs ys e.0 u t e.2 f)
 
 checks_both : (xs ys : List Step) (d m e : DeskState MemoryState) → ChecksEach d xs m → ChecksEach m ys e → ChecksEach d (xs ++ ys) e
@@ -23,7 +23,7 @@ pub moves_none : (d : DeskState MemoryState) → Moves d [] d
 moves_none d = record { runs = refl; from = λ begun from. from; checks = refl }
 
 pub moves_both : (d m e : DeskState MemoryState) (xs ys : List Step) → Moves d xs m → Moves m ys e → Moves d (xs ++ ys) e
-moves_both d m e xs ys p q = record { runs = runs_both xs ys d.standing m.standing e.standing p.runs q.runs; from = λ begun from. q.from begun (p.from begun from); checks = checks_both xs ys d m e p.checks q.checks }
+moves_both d m e xs ys p q = record { runs = runs_both xs ys d.run_state m.run_state e.run_state p.runs q.runs; from = λ begun from. q.from begun (p.from begun from); checks = checks_both xs ys d m e p.checks q.checks }
 
 -- no call of the disk failed
 pub calm_disk : (m : Machine) → IsMachine m → (last_disk m).failures ≡ 0

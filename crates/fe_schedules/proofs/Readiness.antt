@@ -9,7 +9,7 @@ use Rattle.fe_keeper.specs.Stands.{StandsFor, EachStandsFor}
 use Rattle.fe_keeper.specs.Prefix.{LeavesPrefix}
 use Rattle.fe_keeper.specs.declared.fault.Fault.TheVariants as store
 use Rattle.fe_desk.specs.Crash.{DeskState, Advances, IsFrom, disk_of}
-use Rattle.fe_desk.specs.Standing.{Standing, IsFirstStanding}
+use Rattle.fe_desk.specs.DeskRunState.{DeskRunState, IsFirstRunState}
 use Rattle.fe_desk.specs.Steps.{DeskStep}
 use Rattle.fe_desk.specs.declared.step.Step.{Step}
 use Rattle.fe_desk.specs.Anew.{desk_anew}
@@ -37,22 +37,22 @@ use Rattle.fe_keeper.specs.Ends.{Works}
 -- what a step of the desk promises of the store
 abbrev pub Stands : DeskState MemoryState → Type 0
 Stands d =
-    IsHonest (disk_of d) → (begun : ServerState) → IsFrom begun d → (image : List ℕ) → LeavesNow (disk_of d) image → LeavesPrefix begun d.standing.groups d.synced image
+    IsHonest (disk_of d) → (begun : ServerState) → IsFrom begun d → (image : List ℕ) → LeavesNow (disk_of d) image → LeavesPrefix begun d.run_state.groups d.synced image
 
 -- where all groups are stored, each image stands for the keeper's state
-each_stands : (d : DeskState MemoryState) (begun : ServerState) → IsFrom begun d → d.synced ≡ length d.standing.groups → (image : List ℕ) → LeavesPrefix begun d.standing.groups d.synced image → StandsFor image d.keeper.state
+each_stands : (d : DeskState MemoryState) (begun : ServerState) → IsFrom begun d → d.synced ≡ length d.run_state.groups → (image : List ℕ) → LeavesPrefix begun d.run_state.groups d.synced image → StandsFor image d.keeper.state
 each_stands d begun from synced image left =
     let q = left.prefix in
-    let groups : List (List Entry) = d.standing.groups in
+    let groups : List (List Entry) = d.run_state.groups in
     let most : length groups ≤ q.kept = omega (arith, synced, q.least) in
     let all : take q.kept groups ≡ groups = take_all q.kept groups most in
     let whole : take d.synced groups ≡ groups = take_all d.synced groups (omega (arith, synced)) in
     let same : left.state ≡ d.keeper.state = q.state_is ∙ ap (λ (gs : List (List Entry)). after_groups begun gs) (all ∙ sym whole) ∙ sym from.replica in
     subst (λ (s : ServerState). StandsFor image s) same left.stands
 
-pub ready_after : (old new : DeskState MemoryState) (x : Step) → IsReady old → DeskStep old.standing x new.standing
+pub ready_after : (old new : DeskState MemoryState) (x : Step) → IsReady old → DeskStep old.run_state x new.run_state
     → Advances memory_model old new → Stands new
-    → (new.keeper.store.has_failed ≡ false → new.synced ≡ length new.standing.groups) → Works memory_model old.keeper new.keeper → IsReady new
+    → (new.keeper.store.has_failed ≡ false → new.synced ≡ length new.run_state.groups) → Works memory_model old.keeper new.keeper → IsReady new
 ready_after old new x ready step more stands synced fine =
     let honest : IsHonest (disk_of new) = more.honesty.1 ready.honest in
     let from : IsFrom ready.begun new = more.from ready.begun ready.from in
@@ -64,11 +64,11 @@ ready_after old new x ready step more stands synced fine =
       from = from;
       stands = λ image may. each_stands new ready.begun from (synced fine.after) image (stands honest ready.begun from image may);
       synced = synced fine.after;
-      owes = ap (λ (s : Standing). s.owes) step.after;
-      written = subst (λ (s : Standing). AreWritten s.clients) (sym step.after) (none_waits step.last.front step.last.clients);
+      owes = ap (λ (s : DeskRunState). s.owes) step.after;
+      written = subst (λ (s : DeskRunState). AreWritten s.clients) (sym step.after) (none_waits step.last.front step.last.clients);
     }
 
-pub ready_first : (d : DeskState MemoryState) (s : ServerState) → IsHonest (disk_of d) → d.keeper.store.has_failed ≡ false → (disk_of d).failures ≡ 0 → IsFirstStanding s d.standing → d.keeper.state ≡ s → d.synced ≡ 0 → EachStandsFor memory_model (disk_of d) s → IsReady d
+pub ready_first : (d : DeskState MemoryState) (s : ServerState) → IsHonest (disk_of d) → d.keeper.store.has_failed ≡ false → (disk_of d).failures ≡ 0 → IsFirstRunState s d.run_state → d.keeper.state ≡ s → d.synced ≡ 0 → EachStandsFor memory_model (disk_of d) s → IsReady d
 ready_first d s honest works calm first is synced stands = record {
   works = works;
   calm = calm;
@@ -92,14 +92,14 @@ ready_anew d ready = record {
   stands = ready.stands;
   synced = refl;
   owes = ready.owes;
-  written = written_still d.standing.clients ready.written;
+  written = written_still d.run_state.clients ready.written;
 }
 
 -- all that was stored of a desk whose groups begin with a state
-pub all_stored : (d : DeskState MemoryState) (begun : ServerState) → IsReady d → IsFrom begun d → d.keeper.state ≡ after_groups begun d.standing.groups
+pub all_stored : (d : DeskState MemoryState) (begun : ServerState) → IsReady d → IsFrom begun d → d.keeper.state ≡ after_groups begun d.run_state.groups
 all_stored d begun ready from =
     let synced = ready.synced in
-    from.replica ∙ ap (λ (gs : List (List Entry)). after_groups begun gs) (take_all d.synced d.standing.groups (omega (arith, synced)))
+    from.replica ∙ ap (λ (gs : List (List Entry)). after_groups begun gs) (take_all d.synced d.run_state.groups (omega (arith, synced)))
 
 -- a stop leaves what a run has stored
 pub leaves_at : (r : Run) (here : Stage) → IsRun r → IsAt r here → LeavesStored (last_disk r.machine) here
@@ -124,7 +124,7 @@ abbrev machine_of : Option MachineFault → MachineFault
 machine_of None = machine.Memory
 machine_of (Some r) = r
 
--- the device is told, or memory
+-- the fault is the device, or memory
 device_tells : (f : DeskFault) (r : MachineFault) (disk : MemoryState) → f ≡ desk.Store store.Device → of_desk f ≡ Some r → 0 < disk.failures → TellsDisk disk r
 device_tells f r disk e is rises = subst (λ (x : MachineFault). TellsDisk disk x) (ap machine_of (sym (ap of_desk e) ∙ is)) rises
 
@@ -147,7 +147,7 @@ store_of other = Some 0
 no_device : (f : DeskFault) → f ≡ desk.NoMemory false → f ≡ desk.Store store.Device → ⊥
 no_device f e d = none-some 0 (ap store_of (sym e ∙ d))
 
--- what a step that was at fault tells of the disk
+-- what a step's fault says of the disk
 pub tells_of : {D : Type 0} (model : Ghosts D) (old : DeskState D) (x : Step) (new : DeskState D) (f : DeskFault) → Ends model old x (Err f) new → TellsStep model old new f
 tells_of model old x new (desk.Store cause) e = (e.0, e.1.failed)
 tells_of model old x new (desk.NoMemory fed) e = e.sound.fine

@@ -5,7 +5,7 @@ use Rattle.fe_state.specs.History.{after_groups}
 use Rattle.fe_state.specs.declared.entry.Entry.{Entry}
 use Rattle.fe_desk.specs.Anew.{anew}
 use Rattle.fe_desk.specs.Crash.{DeskState, IsFrom}
-use Rattle.fe_desk.specs.Standing.{Standing}
+use Rattle.fe_desk.specs.DeskRunState.{DeskRunState}
 use Rattle.fe_desk.specs.Steps.{DeskRun}
 use Rattle.fe_desk.proofs.Openings.{first_from}
 use Rattle.fe_text.specs.Line.{parsed}
@@ -20,36 +20,36 @@ use Rattle.fe_schedules.proofs.Readiness.{all_stored}
 record Beginning (l : Line) (at : Stage) (d : DeskState MemoryState) : Type 0 where
   mid : Stage
   begins : Begins l at mid
-  standing : mid.standing ≡ d.standing
+  run_state : mid.run_state ≡ d.run_state
   from : IsFrom mid.stored d
 
 again : (r : Run) (at : Stage) (d : DeskState MemoryState) → IsAt r at → BeginsAt line.Stop r.machine.desk d → Beginning line.Stop at d
 again r at d is b = record {
-  mid = record { stored = r.machine.desk.keeper.state; standing = d.standing; is_holding = false };
+  mid = record { stored = r.machine.desk.keeper.state; run_state = d.run_state; is_holding = false };
   begins = (sym is.stored, b.0);
-  standing = refl;
+  run_state = refl;
   from = b.1;
 }
 
 -- each line but a stop begins where the run is
-same : (r : Run) (at : Stage) (d : DeskState MemoryState) → IsRun r → IsAt r at → d ≡ r.machine.desk → (at.standing ≡ d.standing) × IsFrom at.stored d
+same : (r : Run) (at : Stage) (d : DeskState MemoryState) → IsRun r → IsAt r at → d ≡ r.machine.desk → (at.run_state ≡ d.run_state) × IsFrom at.stored d
 same r at d run is e =
     let here = r.machine.desk in
     let synced : here.synced ≡ 0 = run.machine.ready.synced ∙ ap (λ (gs : List (List Entry)). length gs) run.none in
-    subst (λ (x : DeskState MemoryState). (at.standing ≡ x.standing) × IsFrom at.stored x) (sym e) (is.standing, first_from at.stored here (sym is.stored) run.none synced)
+    subst (λ (x : DeskState MemoryState). (at.run_state ≡ x.run_state) × IsFrom at.stored x) (sym e) (is.run_state, first_from at.stored here (sym is.stored) run.none synced)
 
 beginning : (l : Line) (r : Run) (at : Stage) (d : DeskState MemoryState) → IsRun r → IsAt r at → BeginsAt l r.machine.desk d → Beginning l at d
 beginning (line.Message conn message) r at d run is b = let s = same r at d run is b in
-    record { mid = at; begins = (refl, refl); standing = s.0; from = s.1 }
+    record { mid = at; begins = (refl, refl); run_state = s.0; from = s.1 }
 beginning (line.Gone conn) r at d run is b = let s = same r at d run is b in
-    record { mid = at; begins = (refl, refl); standing = s.0; from = s.1 }
+    record { mid = at; begins = (refl, refl); run_state = s.0; from = s.1 }
 beginning line.Hold r at d run is b = let s = same r at d run is b in
-    record { mid = at; begins = (refl, refl); standing = s.0; from = s.1 }
+    record { mid = at; begins = (refl, refl); run_state = s.0; from = s.1 }
 beginning line.Flush r at d run is b = let s = same r at d run is b in
-    record { mid = at; begins = (refl, refl); standing = s.0; from = s.1 }
+    record { mid = at; begins = (refl, refl); run_state = s.0; from = s.1 }
 beginning line.Stop r at d run is b = again r at d is b
 beginning line.Check r at d run is b = let s = same r at d run is b in
-    record { mid = at; begins = (refl, refl); standing = s.0; from = s.1 }
+    record { mid = at; begins = (refl, refl); run_state = s.0; from = s.1 }
 
 -- The run is at a stage after the line.
 pub record Ran (at : Stage) (l : Line) (s : Run) (more : List ℕ) : Type 0 where
@@ -60,14 +60,14 @@ pub record Ran (at : Stage) (l : Line) (s : Run) (more : List ℕ) : Type 0 wher
 pub line_ran : (l : Line) (r s : Run) → IsRun r → (p : RanLine r l s) → (at : Stage) → IsAt r at → Ran at l s p.prints.more
 line_ran l r s run p at is =
     let b = beginning l r at p.mid run is p.begins in
-    let e = p.last.standing in
-    let next : Stage = record { stored = after_groups b.mid.stored e.groups; standing = anew e; is_holding = s.is_holding } in
+    let e = p.last.run_state in
+    let next : Stage = record { stored = after_groups b.mid.stored e.groups; run_state = anew e; is_holding = s.is_holding } in
     let stored : next.stored ≡ p.last.keeper.state = sym (all_stored p.last b.mid.stored p.ready (p.moves.from b.mid.stored b.from)) in
     record {
       next = next;
       is = record {
         stored = stored ∙ sym (ap (λ (d : DeskState MemoryState). d.keeper.state) p.anew);
-        standing = sym (ap (λ (d : DeskState MemoryState). d.standing) p.anew);
+        run_state = sym (ap (λ (d : DeskState MemoryState). d.run_state) p.anew);
         holding = refl;
       };
       runs = record {
@@ -76,11 +76,11 @@ line_ran l r s run p at is =
         steps = p.steps;
         are = p.are;
         last = e;
-        runs = subst (λ (u : Standing). DeskRun u (p.steps ++ endings s.is_holding) e) (sym b.standing) p.moves.runs;
+        runs = subst (λ (u : DeskRunState). DeskRun u (p.steps ++ endings s.is_holding) e) (sym b.run_state) p.moves.runs;
         holding = p.holding ∙ ap (λ (was : Bool). holds_after l was) (sym is.holding);
         prints = p.prints.prints;
         stored = refl;
-        standing = refl;
+        run_state = refl;
       };
     }
 
@@ -97,7 +97,7 @@ nothing_says bytes at e = subst (λ (bs : List ℕ). RunsBytes at bs at []) (sym
 counted : (r w : Run) (n : ℕ) (at : Stage) → w ≡ record r { begun = w.begun } → IsAt r at → IsAt (record w { lines = n }) at
 counted r w n at same is = record {
   stored = is.stored ∙ ap (λ (x : Run). x.machine.desk.keeper.state) (sym same);
-  standing = is.standing ∙ ap (λ (x : Run). x.machine.desk.standing) (sym same);
+  run_state = is.run_state ∙ ap (λ (x : Run). x.machine.desk.run_state) (sym same);
   holding = is.holding ∙ ap (λ (x : Run). x.is_holding) (sym same);
 }
 

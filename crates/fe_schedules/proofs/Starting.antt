@@ -10,7 +10,7 @@ use Rattle.fe_disk.specs.Memory.{MemoryState}
 use Rattle.fe_state.specs.State.{first_state}
 use Rattle.fe_mail.specs.Books.{first_books}
 use Rattle.fe_front.specs.Front.{FrontState}
-use Rattle.fe_desk.specs.Standing.{Standing, IsFirstStanding}
+use Rattle.fe_desk.specs.DeskRunState.{DeskRunState, IsFirstRunState}
 use Rattle.fe_desk.specs.declared.handed.Handed.TheVariants.{Nothing}
 use Rattle.fe_text.specs.declared.fault.StreamFault.{StreamFault}
 use Rattle.fe_schedules.specs.Fault.{of_machine, of_stream}
@@ -24,20 +24,20 @@ use Rattle.fe_schedules.specs.declared.run.Run.{Run}
 use Rattle.fe_schedules.proofs.Taking.{until, unread_left, all_ran, known, known_all}
 
 abbrev first_front : FrontState
-first_front = record { service = record { state = first_state; seats = empty; waiting = empty; pending = [] }; connections = empty; durable = 0; out = None; books = first_books }
+first_front = record { service = record { state = first_state; attachments = empty; waiting = empty; pending = [] }; connections = empty; durable = 0; out = None; books = first_books }
 
-abbrev first_standing : Standing
-first_standing = record { front = first_front; clients = []; handed = Nothing; making = None; groups = []; owes = false }
+abbrev first_run_state : DeskRunState
+first_run_state = record { front = first_front; clients = []; handed = Nothing; making = None; groups = []; owes = false }
 
 abbrev first_stage : Stage
-first_stage = record { stored = first_state; standing = first_standing; is_holding = false }
+first_stage = record { stored = first_state; run_state = first_run_state; is_holding = false }
 
 none_mapped : {A B : Type 0} (f : A → B) {o : Option A} → o ≡ None → option_map f o ≡ None
 none_mapped f e = ap (option_map f) e
 
-is_first : IsFirstStanding first_state first_standing
+is_first : IsFirstRunState first_state first_run_state
 is_first = record {
-  front = record { state = refl; seats = λ session. get-empty nat_cmp session ∙ sym (none_mapped _ (get-empty nat_cmp session)); waiting = refl; pending = refl; connections = refl; durable = refl; out = refl; books = refl };
+  front = record { state = refl; attachments = λ session. get-empty nat_cmp session ∙ sym (none_mapped _ (get-empty nat_cmp session)); waiting = refl; pending = refl; connections = refl; durable = refl; out = refl; books = refl };
   clients = refl;
   handed = refl;
   making = refl;
@@ -46,7 +46,7 @@ is_first = record {
 }
 
 starts : IsStart first_stage
-starts = record { stored = refl; standing = is_first; is_holding = refl }
+starts = record { stored = refl; run_state = is_first; is_holding = refl }
 
 -- no line ran, and nothing is printed
 none_ran : Prints [] []

@@ -75,7 +75,7 @@ took_line read before now r s bytes so none ran =
 
 -- ---- faults
 
--- a line that says something, of which memory or the disk is told
+-- a line that says something, whose fault is memory or the disk
 pub said_fault : (number : ℕ) (bytes : List ℕ) (l : Line) (f : MachineFault) → SaysLine bytes (Some l) → IsFaultOf number bytes (of_machine f)
 said_fault number bytes l machine.Memory said = (said.0, l, said.1)
 said_fault number bytes l machine.Device said = (said.0, l, said.1)
@@ -88,12 +88,12 @@ abbrev prints_as : (lines : List (List ℕ)) (a b : List ℕ) → a ≡ b → Pr
 prints_as lines a b e p = record { start = p.start; starts = p.starts; end = p.end; runs = subst (λ (x : List ℕ). RunsLines p.start lines p.end x) e p.runs }
 
 at_line : (writer : StreamFault → Type 0) (end : ScheduleFault) (number : ℕ) (line : List ℕ) (lines left : List (List ℕ)) → number ≡ length lines → IsFaultOf (number + 1) line end → EndsWithin writer end lines (line ∷ left) []
-at_line writer (fault.Line told) number line lines left counts is = inl (refl, (is.0 ∙ ap (λ (n : ℕ). n + 1) counts, (is.1, is.2)))
+at_line writer (fault.Line found) number line lines left counts is = inl (refl, (is.0 ∙ ap (λ (n : ℕ). n + 1) counts, (is.1, is.2)))
 at_line writer fault.Input number line lines left counts is = inl (refl, omega (arith, counts, is))
 at_line writer fault.Memory number line lines left counts is = inl (refl, is)
 at_line writer fault.Device number line lines left counts is = inl (refl, is)
 
--- a line outside the syntax is told as a fault of it
+-- a line outside the syntax is a fault of it
 pub stray_fault : (number : ℕ) (bytes : List ℕ) (end : ScheduleFault) → IsStray number bytes end → IsFaultOf number bytes end
 stray_fault number bytes end is = subst (λ (e : ScheduleFault). IsFaultOf number bytes e) (sym is.0) (refl, is.1, is.2)
 
@@ -161,7 +161,7 @@ took_front read before now r s bytes so none same begun =
       start = so.start;
       starts = so.starts;
       here = so.here;
-      is = subst (λ (x : Run). IsAt x so.here) (sym same) (record { stored = so.is.stored; standing = so.is.standing; holding = so.is.holding });
+      is = subst (λ (x : Run). IsAt x so.here) (sym same) (record { stored = so.is.stored; run_state = so.is.run_state; holding = so.is.holding });
       text = so.text;
       runs = subst (λ (x : List ℕ). RunsLines so.start so.lines so.here (so.text ++ x)) text so.runs;
       written = so.written;
@@ -179,7 +179,7 @@ wrote read before now after r s so appends same empty = record {
   start = so.start;
   starts = so.starts;
   here = so.here;
-  is = subst (λ (x : Run). IsAt x so.here) (sym same) (record { stored = so.is.stored; standing = so.is.standing; holding = so.is.holding });
+  is = subst (λ (x : Run). IsAt x so.here) (sym same) (record { stored = so.is.stored; run_state = so.is.run_state; holding = so.is.holding });
   text = so.text ++ string_bytes r.text;
   runs = subst (λ (x : List ℕ). RunsLines so.start so.lines so.here x) (sym (append-nil (so.text ++ string_bytes r.text)) ∙ ap (λ (x : List ℕ). (so.text ++ string_bytes r.text) ++ x) (sym empty)) so.runs;
   written = Appends-trans before now after so.text (string_bytes r.text) so.written appends;

@@ -27,7 +27,7 @@ abbrev pub of_stream : StreamFault → ScheduleFault
 of_stream stream.Input = fault.Input
 of_stream stream.Memory = fault.Memory
 
--- the device is told exactly where a call of the disk failed
+-- the device is the fault exactly where a call of the disk failed
 abbrev pub TellsDisk : MemoryState → MachineFault → Type 0
 TellsDisk disk machine.Memory = disk.failures ≡ 0
 TellsDisk disk machine.Device = 0 < disk.failures
@@ -39,7 +39,7 @@ TellsOfDisk disk fault.Input = disk.failures ≡ 0
 TellsOfDisk disk fault.Memory = disk.failures ≡ 0
 TellsOfDisk disk fault.Device = 0 < disk.failures
 
--- a stream failed, and this is told of it
+-- a stream failed, and this is its fault
 abbrev pub IsOfStream : (StreamFault → Type 0) → ScheduleFault → Type 0
 IsOfStream fails end = (f : StreamFault) × fails f × (end ≡ of_stream f)
 

@@ -1,5 +1,5 @@
 pub mod Fault
-pub mod Told
+pub mod PrintedReply
 pub mod MemoryModel
 pub mod Ready
 pub mod Schedule

@@ -19,9 +19,9 @@ pub record IsReady (d : DeskState MemoryState) : Type 0 where
   pub begun : ServerState
   pub from : IsFrom begun d
   pub stands : EachStandsFor memory_model (disk_of d) d.keeper.state
-  pub synced : d.synced ≡ length d.standing.groups
-  pub owes : d.standing.owes ≡ false
-  pub written : AreWritten d.standing.clients
+  pub synced : d.synced ≡ length d.run_state.groups
+  pub owes : d.run_state.owes ≡ false
+  pub written : AreWritten d.run_state.clients
 
 -- the steps did to the store what each of them says, one after the other
 abbrev pub ChecksEach : DeskState MemoryState → List Step → DeskState MemoryState → Type 0
@@ -30,6 +30,6 @@ ChecksEach d (step ∷ steps) e = (mid : DeskState MemoryState) × Checks step d
 
 -- The desk took these steps, over the store that it had.
 pub record Moves (d : DeskState MemoryState) (steps : List Step) (e : DeskState MemoryState) : Type 0 where
-  pub runs : DeskRun d.standing steps e.standing
+  pub runs : DeskRun d.run_state steps e.run_state
   pub from : (begun : ServerState) → IsFrom begun d → IsFrom begun e
   pub checks : ChecksEach d steps e

@@ -5,14 +5,14 @@ use Rattle.fe_disk.specs.Memory.{MemoryState}
 use Rattle.fe_desk.specs.Crash.{DeskState, IsFrom, disk_of}
 use Rattle.fe_desk.specs.Anew.{desk_anew}
 use Rattle.fe_desk.specs.Messages.{outputs}
-use Rattle.fe_desk.specs.Standing.{Standing, IsFirstStanding}
+use Rattle.fe_desk.specs.DeskRunState.{DeskRunState, IsFirstRunState}
 use Rattle.fe_desk.specs.declared.step.Step.{Step}
 use Rattle.fe_wire.specs.declared.server_message.ServerMessage.{ServerMessage}
 use Rattle.fe_schedules.specs.Ready.{IsReady, Moves}
 use Rattle.fe_text.specs.Line.{parsed}
 use Rattle.fe_text.specs.Lines.{lines_of, HasNoFeed}
 use Rattle.fe_schedules.specs.Schedule.{Stage, AreStepsOf, holds_after, endings, RunsBytes, Prints, RunsLines, IsStart, EndsWithin, LeavesStored}
-use Rattle.fe_schedules.specs.Told.{IsPrinted, IsTold, told_to}
+use Rattle.fe_schedules.specs.PrintedReply.{IsPrinted, AreRepliesIn, printed_to}
 use Rattle.fe_text.specs.declared.fault.StreamFault.{StreamFault}
 use Rattle.fe_schedules.specs.declared.fault.ScheduleFault.{ScheduleFault}
 use Rattle.fe_schedules.specs.declared.fault.ScheduleFault.TheVariants as fault
@@ -21,18 +21,18 @@ use Rattle.fe_text.specs.declared.line.Line.{Line}
 use Rattle.fe_text.specs.declared.line.Line.TheVariants as line
 use Rattle.fe_schedules.specs.declared.machine.Machine.{Machine}
 use Rattle.fe_schedules.specs.declared.run.Run.{Run}
-use Rattle.fe_schedules.specs.declared.told.Told.{Told}
+use Rattle.fe_schedules.specs.declared.printed_reply.PrintedReply.{PrintedReply}
 
 -- ---- what is printed of what is written
 
 -- what was written to a connection number, as replies
-pub record ToldMore (conn : ℕ) (written : List ℕ) (before after : List Told) : Type 0 where
+pub record HasMoreReplies (conn : ℕ) (written : List ℕ) (before after : List PrintedReply) : Type 0 where
   pub replies : List ServerMessage
-  pub are : IsTold written replies
-  pub is : after ≡ before ++ map (told_to conn) replies
+  pub are : AreRepliesIn written replies
+  pub is : after ≡ before ++ map (printed_to conn) replies
 
--- the text grows by what the desk told
-pub record PrintsMore (s : Standing) (before after : List ℕ) : Type 0 where
+-- the text grows by the desk's replies
+pub record PrintsMore (s : DeskRunState) (before after : List ℕ) : Type 0 where
   pub more : List ℕ
   pub prints : IsPrinted (outputs s) more
   pub is : after ≡ before ++ more
@@ -54,7 +54,7 @@ pub record IsMachine (m : Machine) : Type 0 where
 
 -- where the steps of a line begin
 abbrev pub BeginsAt : Line → DeskState MemoryState → DeskState MemoryState → Type 0
-BeginsAt line.Stop d e = IsFirstStanding d.keeper.state e.standing × IsFrom d.keeper.state e
+BeginsAt line.Stop d e = IsFirstRunState d.keeper.state e.run_state × IsFrom d.keeper.state e
 BeginsAt other d e = e ≡ d
 
 -- the machine took the steps of a line
@@ -70,12 +70,12 @@ pub record ActsOn (m : Machine) (l : Line) (n : Machine) : Type 0 where
 -- The trace is empty. The line that has begun may still be one of the syntax, and there is room for all of it.
 pub record IsRun (r : Run) : Type 0 where
   pub machine : IsMachine r.machine
-  pub none : r.machine.desk.standing.groups ≡ []
+  pub none : r.machine.desk.run_state.groups ≡ []
   pub few : length r.begun.items ≤ longest_line
   pub room : longest_line ≤ vec_capacity r.begun
   pub count : r.lines < 2 ^ 64 - 1
 
--- a line does what it says, and then what is pending is stored and posted; what is told is printed, and the trace begins anew
+-- a line does what it says, and then what is pending is stored and posted; the replies are printed, and the trace begins anew
 pub record RanLine (r : Run) (l : Line) (s : Run) : Type 0 where
   pub mid : DeskState MemoryState
   pub begins : BeginsAt l r.machine.desk mid
@@ -86,12 +86,12 @@ pub record RanLine (r : Run) (l : Line) (s : Run) : Type 0 where
   pub ready : IsReady last
   pub anew : s.machine.desk ≡ desk_anew last
   pub holding : s.is_holding ≡ holds_after l r.is_holding
-  pub prints : PrintsMore last.standing (string_bytes r.text) (string_bytes s.text)
+  pub prints : PrintsMore last.run_state (string_bytes r.text) (string_bytes s.text)
 
 -- the run is there
 pub record IsAt (r : Run) (s : Stage) : Type 0 where
   pub stored : s.stored ≡ r.machine.desk.keeper.state
-  pub standing : s.standing ≡ r.machine.desk.standing
+  pub run_state : s.run_state ≡ r.machine.desk.run_state
   pub holding : s.is_holding ≡ r.is_holding
 
 -- ---- lines
@@ -109,7 +109,7 @@ abbrev pub SaysLine : List ℕ → Option Line → Type 0
 SaysLine bytes None = bytes ≡ []
 SaysLine bytes (Some said) = (bytes ≢ []) × (parsed bytes ≡ Some said)
 
--- the line of these bytes is outside the syntax, and its number is told
+-- the line of these bytes is outside the syntax, and its number is given
 abbrev pub IsStray : ℕ → List ℕ → ScheduleFault → Type 0
 IsStray number bytes end = (end ≡ fault.Line number) × (bytes ≢ []) × (parsed bytes ≡ None)
 
@@ -120,7 +120,7 @@ IsTooLong number bytes end = (end ≡ fault.Line number) × (longest_line < leng
 -- What a fault says of the line of these bytes with this number: it is outside the syntax; or it says something, which found no
 -- memory or a disk that failed; or no line after it can be counted.
 abbrev pub IsFaultOf : ℕ → List ℕ → ScheduleFault → Type 0
-IsFaultOf number bytes (fault.Line told) = (told ≡ number) × (bytes ≢ []) × (parsed bytes ≡ None)
+IsFaultOf number bytes (fault.Line found) = (found ≡ number) × (bytes ≢ []) × (parsed bytes ≡ None)
 IsFaultOf number bytes fault.Memory = (bytes ≢ []) × (l : Line) × (parsed bytes ≡ Some l)
 IsFaultOf number bytes fault.Device = (bytes ≢ []) × (l : Line) × (parsed bytes ≡ Some l)
 IsFaultOf number bytes fault.Input = number ≡ 2 ^ 64 - 1

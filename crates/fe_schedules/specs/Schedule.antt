@@ -10,7 +10,7 @@ use Rattle.fe_wire.specs.declared.client_message.ClientMessage.{ClientMessage}
 use Rattle.fe_keeper.specs.Stands.{EachStandsFor}
 use Rattle.fe_desk.specs.Anew.{anew}
 use Rattle.fe_desk.specs.Messages.{outputs}
-use Rattle.fe_desk.specs.Standing.{Standing, IsFirstStanding}
+use Rattle.fe_desk.specs.DeskRunState.{DeskRunState, IsFirstRunState}
 use Rattle.fe_desk.specs.Steps.{DeskRun}
 use Rattle.fe_desk.specs.declared.step.Step.{Step}
 use Rattle.fe_desk.specs.declared.step.Step.TheVariants as step
@@ -19,7 +19,7 @@ use Rattle.fe_text.specs.Lines.{lines_of}
 use Rattle.fe_text.specs.declared.fault.StreamFault.{StreamFault}
 use Rattle.fe_text.specs.declared.fault.StreamFault.TheVariants as stream
 use Rattle.fe_schedules.specs.Fault.{IsOfStream}
-use Rattle.fe_schedules.specs.Told.{IsPrinted}
+use Rattle.fe_schedules.specs.PrintedReply.{IsPrinted}
 use Rattle.fe_schedules.specs.declared.fault.ScheduleFault.{ScheduleFault}
 use Rattle.fe_schedules.specs.declared.fault.ScheduleFault.TheVariants as fault
 use Rattle.fe_text.specs.declared.line.Line.{Line}
@@ -28,7 +28,7 @@ use Rattle.fe_text.specs.declared.line.Line.TheVariants as line
 -- Where a schedule stands between two lines: all that is stored, the desk with an empty trace, and whether it is on hold.
 pub record Stage : Type 0 where
   pub stored : ServerState
-  pub standing : Standing
+  pub run_state : DeskRunState
   pub is_holding : Bool
 
 -- each image that a stop may leave of the disk stands for that state
@@ -38,7 +38,7 @@ LeavesStored disk s = EachStandsFor memory_model disk s.stored
 -- a desk over a new store, and no hold
 pub record IsStart (s : Stage) : Type 0 where
   pub stored : s.stored ≡ first_state
-  pub standing : IsFirstStanding first_state s.standing
+  pub run_state : IsFirstRunState first_state s.run_state
   pub is_holding : s.is_holding ≡ false
 
 -- ---- what a line does
@@ -60,8 +60,8 @@ AreStepsOf line.Check steps = steps ≡ step.CheckBegin ∷ step.CheckFinish ∷
 
 -- where its steps begin: at a stop with a desk over all that was stored, else where the schedule stands
 abbrev pub Begins : Line → Stage → Stage → Type 0
-Begins line.Stop s t = (t.stored ≡ s.stored) × IsFirstStanding t.stored t.standing
-Begins other s t = (t.stored ≡ s.stored) × (t.standing ≡ s.standing)
+Begins line.Stop s t = (t.stored ≡ s.stored) × IsFirstRunState t.stored t.run_state
+Begins other s t = (t.stored ≡ s.stored) × (t.run_state ≡ s.run_state)
 
 -- whether it is on hold after a line
 abbrev pub holds_after : Line → Bool → Bool
@@ -75,18 +75,18 @@ abbrev pub endings : Bool → List Step
 endings true = []
 endings false = step.Cut ∷ step.Append ∷ step.Post ∷ []
 
--- The steps of the line run, and the text is what they tell. The groups are stored, and the trace begins anew.
+-- The steps of the line run, and the text is their replies. The groups are stored, and the trace begins anew.
 pub record RunsLine (s : Stage) (l : Line) (t : Stage) (text : List ℕ) : Type 0 where
   pub mid : Stage
   pub begins : Begins l s mid
   pub steps : List Step
   pub are : AreStepsOf l steps
-  pub last : Standing
-  pub runs : DeskRun mid.standing (steps ++ endings t.is_holding) last
+  pub last : DeskRunState
+  pub runs : DeskRun mid.run_state (steps ++ endings t.is_holding) last
   pub holding : t.is_holding ≡ holds_after l s.is_holding
   pub prints : IsPrinted (outputs last) text
   pub stored : t.stored ≡ after_groups mid.stored last.groups
-  pub standing : t.standing ≡ anew last
+  pub run_state : t.run_state ≡ anew last
 
 -- ---- lines of bytes
 

@@ -7,12 +7,12 @@ mod fault;
 mod faults;
 mod line;
 mod machine;
+mod printed_reply;
 mod reading;
 mod run;
 mod schedule;
 mod serving;
 mod streams;
-mod told;
 
 pub use counted_reader::CountedReader;
 pub use counted_writer::CountedWriter;

@@ -4,7 +4,7 @@ ghost use Rattle.std.specs.Prelude.{◌≡◌, [], ◌∷◌, length, string_byt
 ghost use Rattle.fe_disk.specs.Memory.{IsHonest};
 ghost use Rattle.fe_journal.specs.Layout.{device_bytes};
 ghost use Rattle.fe_wire.specs.Spelling.{Fits};
-ghost use Rattle.fe_desk.specs.Standing.{IsFirstStanding};
+ghost use Rattle.fe_desk.specs.DeskRunState.{IsFirstRunState};
 ghost use Rattle.fe_desk.specs.Anew.{desk_anew};
 ghost use Rattle.fe_state.specs.State.{first_state};
 ghost use Rattle.fe_text.specs.Line.{LineFits};
@@ -14,9 +14,9 @@ ghost use Rattle.fe_schedules.specs.Schedule.{endings};
 ghost use Rattle.fe_schedules.specs.Runs.{IsMachine, ActsOn, PrintsMore, last_disk};
 
 use crate::fault::MachineFault;
+use crate::printed_reply::{PrintedReply, print_replies, sort};
 use crate::reading::read_all;
 use crate::serving::{new_desk, stopped, take};
-use crate::told::{Told, print_told, sort};
 use fe_desk::{Desk, Step};
 use fe_disk::MemoryDisk;
 use fe_journal::DEVICE_BYTES;
@@ -43,7 +43,7 @@ impl Machine {
         requires honest { IsHonest disk }
         requires calm { disk.failures ≡ 0 }
         ensures machine { IfOk result IsMachine }
-        ensures first { IfOk result (λ machine. IsFirstStanding first_state machine.desk.standing) }
+        ensures first { IfOk result (λ machine. IsFirstRunState first_state machine.desk.run_state) }
         ensures state { IfOk result (λ machine. machine.desk.keeper.state ≡ first_state) }
         ensures fault { IfErr result (λ e. TellsDisk e.1 e.0) }
     {
@@ -176,18 +176,26 @@ impl Machine {
         fault
     }
 
-    /// Prints what each connection was told, and lets go of it and of the groups.
-    pub fn print(&mut self, text: &mut String, told: &mut Vec<Told>) -> Result<(), AllocError>
+    /// Prints the replies to each connection, and lets go of them and of the groups.
+    pub fn print(
+        &mut self,
+        text: &mut String,
+        printed_replies: &mut Vec<PrintedReply>,
+    ) -> Result<(), AllocError>
         requires { IsMachine self.old }
         ensures machine { OnOk result (IsMachine self.new) }
         ensures desk { OnOk result (self.new.desk ≡ desk_anew self.old.desk) }
         ensures disk { last_disk self.new ≡ last_disk self.old }
         ensures text { OnOk result
-            (PrintsMore self.old.desk.standing (string_bytes text.old) (string_bytes text.new)) }
+            (PrintsMore self.old.desk.run_state (string_bytes text.old) (string_bytes text.new)) }
     {
-        read_all(self.alloc, self.desk.trace().ports.as_slice(), told)?;
-        sort(told)?;
-        print_told(text, told.as_slice())?;
+        read_all(
+            self.alloc,
+            self.desk.trace().ports.as_slice(),
+            printed_replies,
+        )?;
+        sort(printed_replies)?;
+        print_replies(text, printed_replies.as_slice())?;
         self.desk.clear_trace();
         Ok(())
     }

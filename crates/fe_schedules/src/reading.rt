@@ -7,10 +7,10 @@ ghost use Rattle.fe_wire.specs.Spelling.{reply_spelling, ReplyFits};
 ghost use Rattle.fe_wire.specs.declared.server_message.ServerMessage.{ServerMessage as Reply};
 ghost use Rattle.fe_desk.specs.Frames.{AreReplies};
 ghost use Rattle.fe_schedules.specs.within.Frames.{frame_at};
-ghost use Rattle.fe_schedules.specs.Runs.{ToldMore};
-ghost use Rattle.fe_schedules.specs.Told.{AreTold, told_to};
+ghost use Rattle.fe_schedules.specs.Runs.{HasMoreReplies};
+ghost use Rattle.fe_schedules.specs.PrintedReply.{ArePrintedReplies, printed_to};
 
-use crate::told::Told;
+use crate::printed_reply::PrintedReply;
 use byteorder::{BigEndian, ByteOrder};
 use fe_desk::Port;
 use fe_wire::{ServerMessage, read_reply};
@@ -46,16 +46,16 @@ fn reply_in(alloc: Global, frame: &[u8]) -> Result<ServerMessage, AllocError>
 }
 
 /// Reads the replies to the connection in these frames.
-fn read_told(
+fn read_replies(
     alloc: Global,
     conn: u64,
     frames: &[u8],
-    told: &mut Vec<Told>,
+    printed_replies: &mut Vec<PrintedReply>,
 ) -> Result<(), AllocError>
     requires { AreReplies frames.now }
     // Frames of replies are read as these, after what was there.
     ensures { (replies : List Reply) → AllByRecursion ReplyFits replies → frames.now ≡ flat_map reply_spelling replies
-        → OnOk result (told.new.items ≡ told.old.items ++ map (told_to conn) replies) }
+        → OnOk result (printed_replies.new.items ≡ printed_replies.old.items ++ map (printed_to conn) replies) }
 {
     let mut rest = frames;
     while !rest.is_empty() {
@@ -63,30 +63,35 @@ fn read_told(
             unreachable!();
         };
         let reply = reply_in(alloc, frame)?;
-        told.push(Told { conn, reply })?;
+        printed_replies.push(PrintedReply { conn, reply })?;
         rest = others;
     }
     Ok(())
 }
 
 /// Reads what a port was written as replies.
-fn read_port(alloc: Global, port: &Port, told: &mut Vec<Told>) -> Result<(), AllocError>
-    ensures { OnOk result (ToldMore port.now.conn port.now.written told.old.items told.new.items) }
+fn read_port(
+    alloc: Global,
+    port: &Port,
+    printed_replies: &mut Vec<PrintedReply>,
+) -> Result<(), AllocError>
+    ensures { OnOk result
+        (HasMoreReplies port.now.conn port.now.written printed_replies.old.items printed_replies.new.items) }
 {
-    read_told(alloc, port.conn, port.written.as_slice(), told)
+    read_replies(alloc, port.conn, port.written.as_slice(), printed_replies)
 }
 
 /// Reads what all ports were written.
 pub(crate) fn read_all(
     alloc: Global,
     ports: &[Port],
-    told: &mut Vec<Told>,
+    printed_replies: &mut Vec<PrintedReply>,
 ) -> Result<(), AllocError>
-    ensures { OnOk result (AreTold (map (λ p. (p.conn, p.written)) ports.now) told.new.items) }
+    ensures { OnOk result (ArePrintedReplies (map (λ p. (p.conn, p.written)) ports.now) printed_replies.new.items) }
 {
-    told.clear();
+    printed_replies.clear();
     for port in ports {
-        read_port(alloc, port, told)?;
+        read_port(alloc, port, printed_replies)?;
     }
     Ok(())
 }

@@ -12,8 +12,8 @@ ghost use Rattle.fe_schedules.specs.Runs.{IsRun, IsAt, RanLine, RanBytes, SaysLi
 use crate::fault::{MachineFault, ScheduleFault};
 use crate::line::{holds_after, line_in};
 use crate::machine::Machine;
+use crate::printed_reply::PrintedReply;
 use crate::streams::Sink;
-use crate::told::Told;
 use fe_disk::MemoryDisk;
 use fe_state::{Request, named};
 use fe_text::{LONGEST_LINE, Line, first_line};
@@ -36,8 +36,8 @@ pub(crate) struct Run {
     text: String,
     /// What the line at hand prints.
     line: String,
-    /// What it tells.
-    told: Vec<Told>,
+    /// Its replies.
+    printed_replies: Vec<PrintedReply>,
 }
 
 impl Run {
@@ -64,7 +64,7 @@ impl Run {
             begun,
             text: String::new(alloc),
             line: String::new(alloc),
-            told: Vec::new(alloc),
+            printed_replies: Vec::new(alloc),
         })
     }
 
@@ -218,7 +218,7 @@ impl Run {
         line.ok_or(stray)
     }
 
-    /// Runs a line, and prints what it tells.
+    /// Runs a line, and prints its replies.
     fn run_line(&mut self, line: &Line) -> Result<(), MachineFault>
         requires run { IsRun self.old }
         requires fits { LineFits line.now }
@@ -233,7 +233,8 @@ impl Run {
         self.is_holding = holds_after(line, self.is_holding);
         self.machine.commit(self.is_holding)?;
         self.line.clear();
-        self.machine.print(&mut self.line, &mut self.told)?;
+        self.machine
+            .print(&mut self.line, &mut self.printed_replies)?;
         Ok(self.text.push_str(self.line.as_str())?)
     }
 }

@@ -14,12 +14,13 @@ use fe_disk::MemoryDisk;
 use fe_text::{PIECE, READS, buffer};
 use std::alloc::Global;
 
-/// Makes a new store on the disk, runs the lines of the reader, and prints their replies to the writer. What the lines of one
-/// read print is written before the next read.
+/// Makes a new store on the disk, runs the lines of the reader, and prints their replies to the writer. What the lines
+/// of one read print is written before the next read.
 ///
-/// `Line` is the number of the first line outside the syntax, counted from 1; empty lines count, and do nothing. `Input` means
-/// that the reader or the writer failed, or was called 2^40 times. At a fault, what earlier lines print is written, unless the
-/// writer failed. The disk comes back: after `Ok` with all that was stored, after a fault to tell whether the device failed.
+/// `Line` is the number of the first line outside the syntax, counted from 1; empty lines count, and do nothing.
+/// `Input` means that the reader or the writer failed, or was called 2^40 times. At a fault, what earlier lines print
+/// is written, unless the writer failed. The disk comes back: after `Ok` with all that was stored, after a fault to
+/// show whether the device failed.
 pub fn run_schedule<R: Source, W: Sink>(
     alloc: Global,
     disk: MemoryDisk,
@@ -34,8 +35,8 @@ pub fn run_schedule<R: Source, W: Sink>(
     ensures ok { OnOk result.0
         (RunsAll (R.remaining reader.old) (W.contents writer.old) (W.contents writer.new) result.1) }
     ensures handed { OnOk result.0 (W.is_handed_on writer.new) }
-    // At a fault lines at the front of the input ran. The fault is what ended them, and what they print is written, unless the
-    // writer failed.
+    // At a fault lines at the front of the input ran. The fault is what ended them, and what they print is written,
+    // unless the writer failed.
     ensures fault { IfErr result.0
         (λ end. RunsUntil (ReaderFails R.has_failed R.was_read reader.old reader.new) (W.has_failed writer.new)
         (reader.new ≡ reader.old) end (R.remaining reader.old) (W.contents writer.old) (W.contents writer.new)) }

@@ -5,7 +5,7 @@ ghost use Rattle.fe_disk.specs.Memory.{IsHonest};
 ghost use Rattle.fe_journal.specs.Layout.{device_bytes};
 ghost use Rattle.fe_state.specs.State.{first_state};
 ghost use Rattle.fe_desk.specs.Crash.{IsFrom, disk_of};
-ghost use Rattle.fe_desk.specs.Standing.{IsFirstStanding};
+ghost use Rattle.fe_desk.specs.DeskRunState.{IsFirstRunState};
 ghost use Rattle.fe_schedules.specs.Fault.{TellsDisk};
 ghost use Rattle.fe_schedules.specs.Ready.{IsReady, Moves};
 
@@ -24,7 +24,7 @@ pub(crate) fn new_desk(
     requires honest { IsHonest disk }
     requires calm { disk.failures ≡ 0 }
     ensures ready { IfOk result IsReady }
-    ensures first { IfOk result (λ desk. IsFirstStanding first_state desk.standing) }
+    ensures first { IfOk result (λ desk. IsFirstRunState first_state desk.run_state) }
     ensures state { IfOk result (λ desk. desk.keeper.state ≡ first_state) }
     ensures fault { IfErr result (λ e. TellsDisk e.1 e.0) }
 {
@@ -56,7 +56,7 @@ pub(crate) fn stopped(
     ensures ready { IfOk result IsReady }
     // It has all that was stored, and nothing else.
     ensures kept { IfOk result (λ again. again.keeper.state ≡ desk.keeper.state) }
-    ensures first { IfOk result (λ again. IsFirstStanding desk.keeper.state again.standing) }
+    ensures first { IfOk result (λ again. IsFirstRunState desk.keeper.state again.run_state) }
     ensures from { IfOk result (IsFrom desk.keeper.state) }
     ensures fault { IfErr result (λ e. TellsDisk e.1 e.0) }
 {

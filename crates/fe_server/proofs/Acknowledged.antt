@@ -14,16 +14,16 @@ use Rattle.fe_keeper.specs.Keeper.{KeeperState}
 use Rattle.fe_keeper.specs.Prefix.{LeavesPrefix}
 use Rattle.fe_messages.specs.Answers.{IsAnswerIn}
 use mathlib.Core.List.{IsPrefix}
-use Rattle.fe_history.proofs.Acts.{goes_at, prefix_self, prefix_trans, stores_rise, told_asked}
+use Rattle.fe_history.proofs.Acts.{goes_at, prefix_self, prefix_trans, stores_rise, issued_asked}
 use Rattle.fe_hall.proofs.Committed.{appends_length}
-use Rattle.fe_history.specs.Acts.{Account, EachTold, GoesOn, HasMore, IsAccountOf, IsLegal, StandsIn, batches_of, entries_in, stores_in}
-use Rattle.fe_hall.specs.Commits.{Append, AreAppends, AreNoted, AreNotes, Commits, HoldsSince, noted}
+use Rattle.fe_history.specs.Acts.{Account, EachIssued, FollowEachOther, HasMore, IsAccountOf, IsLegal, StandsIn, batches_of, entries_in, stores_in}
+use Rattle.fe_hall.specs.Commits.{Append, AreAppends, AppendsAreNoted, AreNotesOf, Commits, HoldsSince, note_of}
 use Rattle.fe_history.specs.declared.act.Act.{Act}
-use Rattle.fe_history.specs.declared.act.Act.TheVariants.{Asked, Began, Told}
+use Rattle.fe_history.specs.declared.act.Act.TheVariants.{Asked, Began, Issued}
 use Rattle.fe_hall.specs.declared.commit_end.CommitEnd.{CommitEnd}
 use Rattle.fe_history.specs.declared.receipt.Receipt.{Receipt}
 use Rattle.fe_server.specs.Acknowledged.{IsHeld, IsAcknowledged}
-use Rattle.fe_server.specs.Serving.{HasNoted}
+use Rattle.fe_server.specs.Serving.{HasCommittedAndNoted}
 use Rattle.fe_disk.specs.declared.disk.Disk.{Ghosts}
 
 -- ---- what was told
@@ -31,9 +31,9 @@ use Rattle.fe_disk.specs.declared.disk.Disk.{Ghosts}
 contains_act : (acts : List Act) (a : Act) → StandsIn acts a → Contains acts a
 contains_act acts a is = (is.0, slice_get_within acts is.0 a is.1, get_or_from_slice_get acts is.0 a a is.1)
 
-contains_told : (acts : List Act) (receipts : List Receipt) → EachTold receipts acts → AllByRecursion (λ r. Contains acts (Told r)) receipts
-contains_told acts [] told = tt
-contains_told acts (r ∷ receipts) told = (contains_act acts (Told r) told.0, contains_told acts receipts told.1)
+contains_issued : (acts : List Act) (receipts : List Receipt) → EachIssued receipts acts → AllByRecursion (λ r. Contains acts (Issued r)) receipts
+contains_issued acts [] issued = tt
+contains_issued acts (r ∷ receipts) issued = (contains_act acts (Issued r) issued.0, contains_issued acts receipts issued.1)
 
 -- ---- the group of an entry
 
@@ -92,7 +92,7 @@ front_is xs ys p = sym (ap (λ t. take (length xs) t) (sym p.1) ∙ first xs p.0
     first (x ∷ xs) rest = ap (λ t. x ∷ t) (first xs rest)
 
 -- what was noted is of the first appends
-notes_front : {D : Type 0} (model : Ghosts D) (appends : List (Append D)) (end : Option CommitEnd) (notes : List (Batch × ℕ)) → AreNotes model appends end notes → IsPrefix notes (map (noted model) appends)
+notes_front : {D : Type 0} (model : Ghosts D) (appends : List (Append D)) (end : Option CommitEnd) (notes : List (Batch × ℕ)) → AreNotesOf model appends end notes → IsPrefix notes (map (noted model) appends)
 notes_front model appends end notes (inl all) = ([], append-nil notes ∙ all)
 notes_front model appends end notes (inr (strange, last, all)) = (last ∷ [], all)
 
@@ -122,21 +122,21 @@ module _ {D : Type 0} (model : Ghosts D) (old new : KeeperState D) (end : Commit
   abbrev stored_groups : List (List Entry)
   stored_groups = take commits.stored commits.groups
 
-  module _ (acts : List Act) (front : IsPrefix (stores_in acts) (map (noted model) commits.appends)) (goes : GoesOn old.state [] acts) (earlier later : List Act) (r : Receipt) (is : acts ≡ earlier ++ Told r ∷ later) where
+  module _ (acts : List Act) (front : IsPrefix (stores_in acts) (map (noted model) commits.appends)) (goes : FollowEachOther old.state [] acts) (earlier later : List Act) (r : Receipt) (is : acts ≡ earlier ++ Issued r ∷ later) where
     count : ℕ
     count = length (stores_in earlier)
 
     -- what was stored before the answer was told
     before_it : stores_in earlier ≡ take (length (stores_in earlier)) (map (noted model) commits.appends)
     before_it = front_is (stores_in earlier) (map (noted model) commits.appends)
-        (prefix_trans (stores_in earlier) (stores_in acts) (map (noted model) commits.appends) (stores_rise earlier acts (Told r ∷ later, sym is)) front)
+        (prefix_trans (stores_in earlier) (stores_in acts) (map (noted model) commits.appends) (stores_rise earlier acts (Issued r ∷ later, sym is)) front)
 
     entries_are : entries_in (batches_of (stores_in earlier)) ≡ flat (take (length (stores_in earlier)) stored_groups)
     entries_are = ap (λ (s : List (Batch × ℕ)). entries_in (batches_of s)) before_it ∙ noted_entries model old.state stored_groups commits.appends (length (stores_in earlier)) commits.are_appends
 
     few : length (stores_in earlier) ≤ commits.stored
     few =
-        let p = prefix_trans (stores_in earlier) (stores_in acts) (map (noted model) commits.appends) (stores_rise earlier acts (Told r ∷ later, sym is)) front in
+        let p = prefix_trans (stores_in earlier) (stores_in acts) (map (noted model) commits.appends) (stores_rise earlier acts (Issued r ∷ later, sym is)) front in
         let all = ap length p.1 in
         let some = length-append (stores_in earlier) p.0 in
         let each = length-map commits.appends (noted model) in
@@ -147,14 +147,14 @@ module _ {D : Type 0} (model : Ghosts D) (old new : KeeperState D) (end : Commit
     answer_is : IsAnswerIn old.state (flat (take (length (stores_in earlier)) stored_groups)) r.session r.number r.answer r.place
     answer_is =
         subst (λ (es : List Entry). IsAnswerIn old.state es r.session r.number r.answer r.place) entries_are
-        (goes_at old.state [] earlier later (Told r) (subst (λ (a : List Act). GoesOn old.state [] a) is goes)).0
+        (goes_at old.state [] earlier later (Issued r) (subst (λ (a : List Act). FollowEachOther old.state [] a) is goes)).0
 
-    told_right : IsAnswerIn old.state (flat (take (length (stores_in earlier)) commits.groups)) r.session r.number r.answer r.place
-    told_right =
+    issued_right : IsAnswerIn old.state (flat (take (length (stores_in earlier)) commits.groups)) r.session r.number r.answer r.place
+    issued_right =
         subst (λ (gs : List (List Entry)). IsAnswerIn old.state (flat gs) r.session r.number r.answer r.place) (take-take (length (stores_in earlier)) commits.stored commits.groups few) answer_is
 
-    told_held : model.honest old.store.disk → old.store.has_failed ≡ false → (r.place < old.state.place) ⊎ IsHeld model old.state commits.groups commits.appends new.store.disk (length (stores_in earlier)) r.place
-    told_held h fine = by answer_is
+    issued_held : model.honest old.store.disk → old.store.has_failed ≡ false → (r.place < old.state.place) ⊎ IsHeld model old.state commits.groups commits.appends new.store.disk (length (stores_in earlier)) r.place
+    issued_held h fine = by answer_is
       where
         by : IsAnswerIn old.state (flat (take (length (stores_in earlier)) stored_groups)) r.session r.number r.answer r.place
             → (r.place < old.state.place) ⊎ IsHeld model old.state commits.groups commits.appends new.store.disk (length (stores_in earlier)) r.place
@@ -175,38 +175,38 @@ module _ {D : Type 0} (model : Ghosts D) (old new : KeeperState D) (end : Commit
                   (append_holds model old.state commits.groups new.store.disk 0 old.store.disk commits.appends g.at g.append g.is_there (commits.any_moment h fine));
             })
 
-  module _ (acts : List Act) (front : IsPrefix (stores_in acts) (map (noted model) commits.appends)) (goes : GoesOn old.state [] acts) where
-    all_right : (earlier later : List Act) (r : Receipt) → Began old.state ∷ acts ≡ earlier ++ Told r ∷ later
+  module _ (acts : List Act) (front : IsPrefix (stores_in acts) (map (noted model) commits.appends)) (goes : FollowEachOther old.state [] acts) where
+    all_right : (earlier later : List Act) (r : Receipt) → Began old.state ∷ acts ≡ earlier ++ Issued r ∷ later
         → IsAnswerIn old.state (flat (take (length (stores_in earlier)) commits.groups)) r.session r.number r.answer r.place
     all_right [] later r is = absurd (cc is)
     all_right (e ∷ earlier) later r is =
         let head : Began old.state ≡ e = cc is in
-        let tail : acts ≡ earlier ++ Told r ∷ later = cc is in
-        subst (λ (a : Act). IsAnswerIn old.state (flat (take (length (stores_in (a ∷ earlier))) commits.groups)) r.session r.number r.answer r.place) head (told_right acts front goes earlier later r tail)
+        let tail : acts ≡ earlier ++ Issued r ∷ later = cc is in
+        subst (λ (a : Act). IsAnswerIn old.state (flat (take (length (stores_in (a ∷ earlier))) commits.groups)) r.session r.number r.answer r.place) head (issued_right acts front goes earlier later r tail)
 
-    all_held : model.honest old.store.disk → old.store.has_failed ≡ false → (earlier later : List Act) (r : Receipt) → Began old.state ∷ acts ≡ earlier ++ Told r ∷ later
+    all_held : model.honest old.store.disk → old.store.has_failed ≡ false → (earlier later : List Act) (r : Receipt) → Began old.state ∷ acts ≡ earlier ++ Issued r ∷ later
         → (r.place < old.state.place) ⊎ IsHeld model old.state commits.groups commits.appends new.store.disk (length (stores_in earlier)) r.place
     all_held h fine [] later r is = absurd (cc is)
     all_held h fine (e ∷ earlier) later r is =
         let head : Began old.state ≡ e = cc is in
-        let tail : acts ≡ earlier ++ Told r ∷ later = cc is in
+        let tail : acts ≡ earlier ++ Issued r ∷ later = cc is in
         subst (λ (a : Act). (r.place < old.state.place) ⊎ IsHeld model old.state commits.groups commits.appends new.store.disk (length (stores_in (a ∷ earlier))) r.place) head
-        (told_held acts front goes earlier later r tail h fine)
+        (issued_held acts front goes earlier later r tail h fine)
 
-  all_asked : (acts : List Act) → GoesOn old.state [] acts → (earlier later : List Act) (r : Receipt) → Began old.state ∷ acts ≡ earlier ++ Told r ∷ later → StandsIn earlier (Asked r.conn r.session)
+  all_asked : (acts : List Act) → FollowEachOther old.state [] acts → (earlier later : List Act) (r : Receipt) → Began old.state ∷ acts ≡ earlier ++ Issued r ∷ later → StandsIn earlier (Asked r.conn r.session)
   all_asked acts goes [] later r is = absurd (cc is)
   all_asked acts goes (e ∷ earlier) later r is =
-      let tail : acts ≡ earlier ++ Told r ∷ later = cc is in
-      let before : StandsIn earlier (Asked r.conn r.session) = told_asked old.state acts earlier later r goes tail in
+      let tail : acts ≡ earlier ++ Issued r ∷ later = cc is in
+      let before : StandsIn earlier (Asked r.conn r.session) = issued_asked old.state acts earlier later r goes tail in
       (suc before.0, before.1)
 
-  pub acknowledged : (account : Account) (seat : List Act) → AreNoted model commits.appends (Some end) (Began old.state ∷ []) seat → IsPrefix seat account.history → IsLegal account.history
-      → MatchBool account.own (stores_in account.history ≡ stores_in seat) (HasMore (stores_in seat) (stores_in account.history)) → EachTold account.receipts account.history
+  pub acknowledged : (account : Account) (seat : List Act) → AppendsAreNoted model commits.appends (Some end) (Began old.state ∷ []) seat → IsPrefix seat account.history → IsLegal account.history
+      → MatchBool account.own (stores_in account.history ≡ stores_in seat) (HasMore (stores_in seat) (stores_in account.history)) → EachIssued account.receipts account.history
       → IsAcknowledged model old new end account
-  acknowledged account seat (p, notes, is, are_notes) this legal own told =
+  acknowledged account seat (p, notes, is, are_notes) this legal own issued =
       let whole = prefix_trans (Began old.state ∷ []) seat account.history p this in
       let begins : Began old.state ∷ whole.0 ≡ account.history = whole.1 in
-      let goes : GoesOn old.state [] whole.0 = (subst IsLegal (sym begins) legal).1 in
+      let goes : FollowEachOther old.state [] whole.0 = (subst IsLegal (sym begins) legal).1 in
       let stored : MatchBool account.own (stores_in account.history ≡ notes) (HasMore notes (stores_in account.history)) =
       subst (λ (s : List (Batch × ℕ)). MatchBool account.own (stores_in account.history ≡ s) (HasMore s (stores_in account.history))) is own in
       let front : account.own ≡ true → IsPrefix (stores_in whole.0) (map (noted model) commits.appends) =
@@ -218,7 +218,7 @@ module _ {D : Type 0} (model : Ghosts D) (old new : KeeperState D) (end : Commit
         notes = notes;
         are_notes = are_notes;
         stored = stored;
-        told = contains_told account.history account.receipts told;
+        issued = contains_issued account.history account.receipts issued;
         right = λ alone earlier later r at. all_right whole.0 (front alone) goes earlier later r (begins ∙ at);
         held = λ alone h fine earlier later r at. all_held whole.0 (front alone) goes h fine earlier later r (begins ∙ at);
         asked = λ earlier later r at. all_asked whole.0 goes earlier later r (begins ∙ at);
@@ -226,12 +226,12 @@ module _ {D : Type 0} (model : Ghosts D) (old new : KeeperState D) (end : Commit
 
 -- with what a committing side gave back, and the account of its hall
 pub ended_acknowledged : {D : Type 0} (model : Ghosts D) (old new : KeeperState D) (end : CommitEnd) (seat : List Act) (account : Account)
-    (receipts : List Receipt) (seen : List Act) → HasNoted model old new end seat → IsAccountOf seat receipts seen account → EachTold account.receipts account.history → IsAcknowledged model old new end account
-ended_acknowledged model old new end seat account receipts (all, notes) of told = acknowledged model old new end all.commits account seat notes of.this of.legal of.own told
+    (receipts : List Receipt) (seen : List Act) → HasCommittedAndNoted model old new end seat → IsAccountOf seat receipts seen account → EachIssued account.receipts account.history → IsAcknowledged model old new end account
+ended_acknowledged model old new end seat account receipts seen (all, notes) of issued = acknowledged model old new end all.commits account seat notes of.this of.legal of.own issued
 
 -- a hall that did not begin
 pub unbegun_acknowledged : {D : Type 0} (model : Ghosts D) (old new : KeeperState D) (end : CommitEnd) (account : Account) (acts : List Act)
-    → HasNoted model old new end (Began old.state ∷ []) → account ≡ record { receipts = []; history = acts; own = true } → acts ≡ Began old.state ∷ [] → IsLegal acts → IsAcknowledged model old new end account
+    → HasCommittedAndNoted model old new end (Began old.state ∷ []) → account ≡ record { receipts = []; history = acts; own = true } → acts ≡ Began old.state ∷ [] → IsLegal acts → IsAcknowledged model old new end account
 unbegun_acknowledged model old new end account acts (all, notes) is here legal =
     let began : List Act = Began old.state ∷ [] in
     let none : Account = record { receipts = []; history = began; own = true } in

@@ -12,17 +12,17 @@ use Rattle.fe_server.specs.declared.served.Served.{Served}
 use Rattle.fe_server.specs.declared.stop_fault.StopFault.{StopFault}
 use Rattle.fe_server.specs.declared.stop_fault.StopFault.TheVariants as fault
 use Rattle.fe_server.specs.FinishedConnections.{lacks}
-use Rattle.fe_server.specs.Serving.{HasNoted, IsAnswerAt, fault_of_end}
+use Rattle.fe_server.specs.Serving.{HasCommittedAndNoted, IsAnswerAt, fault_of_end}
 use Rattle.fe_disk.specs.declared.disk.Disk.{Ghosts}
 
 module _ {D : Type 0} (model : Ghosts D) where
   -- nothing was done
   pub none_committed : ((disk : D) (image : List ℕ) → model.honest disk → model.left_since disk (model.moment disk) image → model.may_leave disk image) → (k : KeeperState D)
-      → (model.honest k.store.disk → k.store.has_failed ≡ false → EachStandsFor model k.store.disk k.state) → HasNoted model k k Stopped (Began k.state ∷ [])
+      → (model.honest k.store.disk → k.store.has_failed ≡ false → EachStandsFor model k.store.disk k.state) → HasCommittedAndNoted model k k Stopped (Began k.state ∷ [])
   none_committed only_now k stands =
       let rests = rests_itself model only_now k stands in
       let kept = kept_noted model k k (Some Stopped) rests (Began k.state ∷ []) in
-      (record { commits = kept.0; stands = stands; tells = still_itself model k; honesty = rests.honesty }, kept.1)
+      (record { commits = kept.0; stands = stands; ended_as = still_itself model k; honesty = rests.honesty }, kept.1)
 
 -- a hall that was stopped is closed
 pub closed_answers : (end : CommitEnd) → fault_of_end end ≡ None → IsAnswerAt end None
@@ -32,18 +32,18 @@ closed_answers Strange none = absurd (cc none)
 closed_answers Spent none = absurd (cc none)
 
 -- memory was short for that, or something was strange
-pub unclosed_answers : (end : CommitEnd) (told : StopFault) → fault_of_end end ≡ None → (told ≡ fault.Memory) ⊎ (told ≡ fault.Strange) → IsAnswerAt end (Some told)
-unclosed_answers Stopped told none why = why
-unclosed_answers (Store fault) told none why = absurd (cc none)
-unclosed_answers Strange told none why = absurd (cc none)
-unclosed_answers Spent told none why = absurd (cc none)
+pub unclosed_answers : (end : CommitEnd) (given : StopFault) → fault_of_end end ≡ None → (given ≡ fault.Memory) ⊎ (given ≡ fault.Strange) → IsAnswerAt end (Some given)
+unclosed_answers Stopped given none why = why
+unclosed_answers (Store fault) given none why = absurd (cc none)
+unclosed_answers Strange given none why = absurd (cc none)
+unclosed_answers Spent given none why = absurd (cc none)
 
 -- a fault of the end is the answer
-pub fault_answers : (end : CommitEnd) (told : StopFault) → fault_of_end end ≡ Some told → IsAnswerAt end (Some told)
-fault_answers Stopped told is = absurd (cc is)
-fault_answers (Store why) told is = sym is
-fault_answers Strange told is = sym is
-fault_answers Spent told is = sym is
+pub fault_answers : (end : CommitEnd) (given : StopFault) → fault_of_end end ≡ Some given → IsAnswerAt end (Some given)
+fault_answers Stopped given is = absurd (cc is)
+fault_answers (Store why) given is = sym is
+fault_answers Strange given is = sym is
+fault_answers Spent given is = sym is
 
 -- where the number of connections is bounded, receipts are kept, and are whole
 pub all_whole : {D E : Type 0} (answer : Result (Served D) E) (keeps : Bool) (accepts : ℕ) → keeps ≡ nat_lt 0 accepts → IfOk answer (λ (s : Served D). IsTrue keeps → IsTrue s.audit.whole)

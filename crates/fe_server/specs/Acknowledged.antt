@@ -9,15 +9,15 @@ use Rattle.fe_keeper.specs.Keeper.{KeeperState}
 use Rattle.fe_keeper.specs.Prefix.{LeavesPrefix}
 use Rattle.fe_messages.specs.Answers.{IsAnswerIn}
 use Rattle.fe_history.specs.Acts.{Account, HasMore, StandsIn, stores_in}
-use Rattle.fe_hall.specs.Commits.{Append, AreNotes, Commits}
+use Rattle.fe_hall.specs.Commits.{Append, AreNotesOf, Commits}
 use Rattle.fe_history.specs.declared.act.Act.{Act}
-use Rattle.fe_history.specs.declared.act.Act.TheVariants.{Asked, Told}
+use Rattle.fe_history.specs.declared.act.Act.TheVariants.{Asked, Issued}
 use Rattle.fe_hall.specs.declared.commit_end.CommitEnd.{CommitEnd}
 use Rattle.fe_history.specs.declared.receipt.Receipt.{Receipt}
 use Rattle.fe_disk.specs.declared.disk.Disk.{Ghosts}
 
--- One of the first n groups has the entry of that place. From the end of its append on, up to the last disk, each image that a stop leaves
--- stands for a prefix of the history with that group.
+-- One of the first n groups has the entry of that place. From the end of its append on, up to the last disk, each image that a stop
+-- leaves stands for a prefix of the history with that group.
 pub record IsHeld {D : Type 0} (model : Ghosts D) (begun : ServerState) (groups : List (List Entry)) (appends : List (Append D)) (last : D) (n place : ℕ) : Type 0 where
   pub at : ℕ
   pub append : Append D
@@ -27,19 +27,19 @@ pub record IsHeld {D : Type 0} (model : Ghosts D) (begun : ServerState) (groups 
   pub has_it : place < append.after.state.place
   pub every_image : LeavesOnly model append.after.store.disk last (LeavesPrefix begun groups (at + 1))
 
--- A server ended so. It stored groups and noted these of them; its history has the notes in their order, and the answer of each receipt.
--- If nobody else noted groups in its hall, then each answer that was told is that of its entry in the groups that were stored before, or
--- it was kept from the beginning; and every image since its group was stored has that group. Whoever noted groups, each answer was told
--- to a connection that had asked for its session before.
+-- A server ended so. It stored groups and noted these of them; its history has the notes in their order, and the answer of each
+-- receipt. If nobody else noted groups in its hall, then each answer that was issued is that of its entry in the groups that were
+-- stored before, or it was kept from the beginning; and every image since its group was stored has that group. Whoever noted
+-- groups, each answer was issued to a connection that had asked for its session before.
 pub record IsAcknowledged {D : Type 0} (model : Ghosts D) (old new : KeeperState D) (end : CommitEnd) (account : Account) : Type 0 where
   pub commits : Commits model old new (Some end)
   pub notes : List (Batch × ℕ)
-  pub are_notes : AreNotes model commits.appends (Some end) notes
+  pub are_notes : AreNotesOf model commits.appends (Some end) notes
   pub stored : MatchBool account.own (stores_in account.history ≡ notes) (HasMore notes (stores_in account.history))
-  pub told : AllByRecursion (λ r. Contains account.history (Told r)) account.receipts
-  pub right : account.own ≡ true → (earlier later : List Act) (r : Receipt) → account.history ≡ earlier ++ Told r ∷ later
+  pub issued : AllByRecursion (λ r. Contains account.history (Issued r)) account.receipts
+  pub right : account.own ≡ true → (earlier later : List Act) (r : Receipt) → account.history ≡ earlier ++ Issued r ∷ later
       → IsAnswerIn old.state (flat_map (λ group. group) (take (length (stores_in earlier)) commits.groups)) r.session r.number r.answer r.place
-  pub held : account.own ≡ true → model.honest old.store.disk → old.store.has_failed ≡ false → (earlier later : List Act) (r : Receipt) → account.history ≡ earlier ++ Told r ∷ later
+  pub held : account.own ≡ true → model.honest old.store.disk → old.store.has_failed ≡ false → (earlier later : List Act) (r : Receipt) → account.history ≡ earlier ++ Issued r ∷ later
       → (r.place < old.state.place) ⊎ IsHeld model old.state commits.groups commits.appends new.store.disk (length (stores_in earlier)) r.place
-  pub asked : (earlier later : List Act) (r : Receipt) → account.history ≡ earlier ++ Told r ∷ later
+  pub asked : (earlier later : List Act) (r : Receipt) → account.history ≡ earlier ++ Issued r ∷ later
       → StandsIn earlier (Asked r.conn r.session)

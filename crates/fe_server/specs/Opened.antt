@@ -9,7 +9,7 @@ use Rattle.fe_server.specs.Serving.{HasCommitted, IsAnswerAt, account_in, fault_
 use Rattle.fe_disk.specs.declared.disk.Disk.{Ghosts}
 
 -- A keeper was just opened: its disk works, and no checkpoint is under way. It was served, and comes back with what was stored since;
--- the answer is that of the committing side's end; and the account says what was told.
+-- the answer is that of the committing side's end; and the account says what was issued.
 pub record WasServed {D : Type 0} (model : Ghosts D) (answer : Result (Served D) (Failed D)) : Type 0 where
   pub opened : KeeperState D
   pub works : opened.store.has_failed ≡ false

@@ -9,7 +9,7 @@ use Rattle.fe_server.specs.declared.served.Served.{Served}
 use Rattle.fe_server.specs.declared.stop_fault.StopFault.{StopFault}
 use Rattle.fe_server.specs.declared.stop_fault.StopFault.TheVariants as fault
 use Rattle.fe_history.specs.Acts.{Account}
-use Rattle.fe_hall.specs.Commits.{AreNoted, Commits, TellsEnd}
+use Rattle.fe_hall.specs.Commits.{AppendsAreNoted, Commits, EndsAs}
 use Rattle.fe_shared.specs.Seats.{most_connections}
 use Rattle.fe_history.specs.declared.act.Act.{Act}
 use Rattle.fe_history.specs.declared.act.Act.TheVariants.{Began}
@@ -23,18 +23,18 @@ abbrev pub IsBlankOf : ℕ → ℕ → ℕ → ℕ → ℕ → Type 0
 IsBlankOf tally_name tally_parts all name parts = (name ≡ tally_name) × (parts ≡ tally_parts) × (all ≡ tally_parts) × (all ≡ most_connections + 1)
 
 -- A keeper was lent to a committing side, which ended so: it stored a history, of which each image that a stop leaves stands
--- for a prefix at every moment; what may be left of a disk that works stands for the keeper's state; and the end tells of the
+-- for a prefix at every moment; what may be left of a disk that works stands for the keeper's state; and the end says of the
 -- disk's faults.
 pub record HasCommitted {D : Type 0} (model : Ghosts D) (old new : KeeperState D) (end : CommitEnd) : Type 0 where
   pub commits : Commits model old new (Some end)
   pub stands : model.honest new.store.disk → new.store.has_failed ≡ false → EachStandsFor model new.store.disk new.state
-  pub tells : TellsEnd model old new (Some end)
+  pub ended_as : EndsAs model old new (Some end)
   pub honesty : model.honest new.store.disk ↔ model.honest old.store.disk
 
 -- The same, and the history of a hall that began with that keeper notes what was stored.
-abbrev pub HasNoted : {D : Type 0} → Ghosts D → KeeperState D → KeeperState D → CommitEnd → List Act → Type 0
-HasNoted model old new end acts =
-    (all : HasCommitted model old new end) × AreNoted model all.commits.appends (Some end) (Began old.state ∷ []) acts
+abbrev pub HasCommittedAndNoted : {D : Type 0} → Ghosts D → KeeperState D → KeeperState D → CommitEnd → List Act → Type 0
+HasCommittedAndNoted model old new end acts =
+    (all : HasCommitted model old new end) × AppendsAreNoted model all.commits.appends (Some end) (Began old.state ∷ []) acts
 
 -- ---- what a server answers
 
@@ -61,7 +61,7 @@ fault_in (Err failed) = Some failed.fault
 -- that a receipt or a seat is strange.
 abbrev pub IsAnswerAt : CommitEnd → Option StopFault → Type 0
 IsAnswerAt Stopped None = Unit {0}
-IsAnswerAt Stopped (Some told) = (told ≡ fault.Memory) ⊎ (told ≡ fault.Strange)
+IsAnswerAt Stopped (Some given) = (given ≡ fault.Memory) ⊎ (given ≡ fault.Strange)
 IsAnswerAt (Store why) answer = answer ≡ fault_of_end (Store why)
 IsAnswerAt Strange answer = answer ≡ fault_of_end Strange
 IsAnswerAt Spent answer = answer ≡ fault_of_end Spent

@@ -2,16 +2,16 @@
 use Rattle.std.specs.Prelude.{◌≡◌, ◌≢◌, ◌⊎◌, ℕ, ◌+◌, ◌≤◌, Bool, true, false, List, []}
 use Rattle.fe_mail.specs.declared.mail.Mail.{Mail}
 use Rattle.fe_wire.specs.declared.client_message.ClientMessage.{ClientMessage}
-use Rattle.fe_history.specs.Acts.{AreTold, Receipts}
+use Rattle.fe_history.specs.Acts.{AreIssued, Receipts}
 use Rattle.fe_hall.specs.declared.ends.ReadEnd.{ReadEnd}
 use Rattle.fe_hall.specs.declared.ends.ReadEnd.TheVariants as read_end
 use Rattle.fe_hall.specs.declared.write_end.WriteEnd.{WriteEnd}
 use Rattle.fe_hall.specs.declared.write_end.WriteEnd.TheVariants as write_end
 use Rattle.fe_hall.specs.Reads as reads
 use Rattle.fe_hall.specs.Writes as writes
-use Rattle.fe_shared.specs.Seats.{HasDeparted, HasRested, ReadSeat, WriteSeat}
-use Rattle.fe_server.specs.declared.reads.Reads.{Reads}
-use Rattle.fe_server.specs.declared.reads.Reads.TheVariants as most
+use Rattle.fe_shared.specs.Seats.{HasDeparted, HasRested, CallSeatState, MailSeatState}
+use Rattle.fe_server.specs.declared.reads.ReadLimit.{ReadLimit}
+use Rattle.fe_server.specs.declared.reads.ReadLimit.TheVariants as most
 
 -- whether a read side that ended so ends the stream: not where the write side may go on
 abbrev pub ends_stream : ReadEnd → Bool
@@ -25,29 +25,29 @@ ends_stream read_end.Spent = true
 ends_stream (read_end.NoMemory short) = true
 
 -- how many reads are made from a connection at most, with the number that the settings say
-abbrev pub most_reads : Reads → ℕ → ℕ
+abbrev pub most_reads : ReadLimit → ℕ → ℕ
 most_reads most.All turns = turns
 most_reads (most.None unstarted) turns = 0
 
--- A read side read a half, at most `turns` times: what it handled is the front of the stream, if the half tells its bytes and had told none;
--- and it ended so. It ends for the number of its reads only after all of them.
-pub record HasHandled {H : Type 0} (tells : H → Type 0) (told : H → List ℕ) (reads_of : H → ℕ) (turns : ℕ) (old new : H) (seat left : ReadSeat) (sent : List ClientMessage) (end : ReadEnd) : Type 0 where
+-- A read side read a half, at most `turns` times: what it handled is the front of the stream, if the half's bytes are known and
+-- none was read before; and it ended so. It ends for the number of its reads only after all of them.
+pub record HasHandled {H : Type 0} (is_known : H → Type 0) (known : H → List ℕ) (reads_of : H → ℕ) (turns : ℕ) (old new : H) (seat left : CallSeatState) (sent : List ClientMessage) (end : ReadEnd) : Type 0 where
   pub own : left.conn ≡ seat.conn
-  pub handled : tells old → told old ≡ [] → reads.HandlesStream (told new) seat left sent end
+  pub handled : is_known old → known old ≡ [] → reads.HandlesStream (known new) seat left sent end
   pub made : end ≡ read_end.Turns → reads_of new ≡ reads_of old + turns
   pub few : reads_of new ≤ reads_of old + turns
-  pub hall : reads.IsTold end left.standing
+  pub hall : reads.IsEndAfter end left.last_answer
   pub departed : end ≢ read_end.Stopped → HasDeparted left
   pub rested : reads.IsQuietEnd end → HasRested left
 
 -- A write side wrote to a half: of the mails that its seat counts the half got the frames, and the receipts are of the answers among
 -- them; and it ended so.
-pub record HasWritten {W : Type 0} (tells : W → Type 0) (got : W → List ℕ) (old new : W) (seat left : WriteSeat) (receipts : Receipts) (end : WriteEnd) : Type 0 where
+pub record HasWritten {W : Type 0} (is_known : W → Type 0) (got : W → List ℕ) (old new : W) (seat left : MailSeatState) (receipts : Receipts) (end : WriteEnd) : Type 0 where
   pub own : left.conn ≡ seat.conn
   pub receipts_own : receipts.conn ≡ left.conn
   pub mails : List Mail
   pub taken : writes.AreTaken seat left receipts.items mails
-  pub written : tells old → writes.IsWritten (got old) mails end (got new)
-  pub told : AreTold seat.conn mails receipts.history
-  pub hall : writes.IsTold end left.standing
+  pub written : is_known old → writes.IsWritten (got old) mails end (got new)
+  pub issued : AreIssued seat.conn mails receipts.history
+  pub hall : writes.IsEndAfter end left.last_answer
   pub departed : end ≢ write_end.Stopped → left.departed ≡ true

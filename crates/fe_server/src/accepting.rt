@@ -3,10 +3,10 @@
 ghost use Rattle.std.specs.Prelude.{◌≡◌};
 ghost use Rattle.fe_server.specs.Arrivals.{HasEnded};
 
-use crate::arrival::{Arrival, Ended};
+use crate::arrival::{Arrival, ArrivalEnded};
 use crate::connection::{Accepted, Connection, STACK};
 use crate::listener::Listener;
-use crate::reads::{Reads, Unstarted};
+use crate::reads::{ReadLimit, Unstarted};
 use crate::register::{NoMore, Waiting};
 use crate::running_server::RunningServer;
 use core::thread::{Anything, Stack};
@@ -156,14 +156,14 @@ impl<
         let started = Stack::new().stack_size(STACK).spawn_scoped_with(
             scope,
             Anything,
-            move || -> Ended
+            move || -> ArrivalEnded
                 requires { (C.all ≡ C.parts) × (M.all ≡ M.parts) }
-            { serve_late(rt, alloc, server, right, gate, Reads::All, ROOM_WAIT) },
+            { serve_late(rt, alloc, server, right, gate, ReadLimit::All, ROOM_WAIT) },
         );
         match started {
             Ok(thread) => waiting.begins(thread.forget_promise()),
             Err(refused) => {
-                let reads = Reads::None(Unstarted::refused(&refused));
+                let reads = ReadLimit::None(Unstarted::refused(&refused));
                 drop(waiting.ends(serve_late(rt, alloc, server, right, gate, reads, 0)));
             }
         }
@@ -180,14 +180,14 @@ impl<
                 let started = Stack::new().stack_size(STACK).spawn_scoped_with(
                     scope,
                     Anything,
-                    move || -> Ended
+                    move || -> ArrivalEnded
                         requires { (C.all ≡ C.parts) × (M.all ≡ M.parts) }
-                    { serve_next(rt, alloc, server, gate, Reads::All) },
+                    { serve_next(rt, alloc, server, gate, ReadLimit::All) },
                 );
                 match started {
                     Ok(thread) => waiting.begins(thread.forget_promise()),
                     Err(refused) => {
-                        let reads = Reads::None(Unstarted::refused(&refused));
+                        let reads = ReadLimit::None(Unstarted::refused(&refused));
                         drop(waiting.ends(serve_next(rt, alloc, server, gate, reads)));
                     }
                 }
@@ -203,13 +203,13 @@ fn serve_next<
     M: Tally + Send + Sync,
     G: Gate + Sync,
     R: Clock + Threads + Wait + Sync,
->(rt: &R, alloc: Global, server: &RunningServer<C, M>, gate: &G, reads: Reads) -> Ended
+>(rt: &R, alloc: Global, server: &RunningServer<C, M>, gate: &G, reads: ReadLimit) -> ArrivalEnded
     requires calls { C.all ≡ C.parts }
     requires mails { M.all ≡ M.parts }
 {
     match server.take(rt) {
         Ok(arrival) => arrival.serve(rt, alloc, server, gate, reads),
-        Err(none) => Ended::of(none),
+        Err(none) => ArrivalEnded::of(none),
     }
 }
 
@@ -225,23 +225,23 @@ fn serve_late<
     server: &RunningServer<C, M>,
     right: &ConnectRight,
     gate: &G,
-    reads: Reads,
+    reads: ReadLimit,
     millis: u64,
-) -> Ended
+) -> ArrivalEnded
     requires calls { C.all ≡ C.parts }
     requires mails { M.all ≡ M.parts }
 {
     let (accepted, expected) = match server.take_late(rt) {
         Ok(late) => late,
-        Err(none) => return Ended::of(none),
+        Err(none) => return ArrivalEnded::of(none),
     };
     let admission = match server.enter_late(rt, expected, millis) {
         Ok(admission) => admission,
-        Err(full) => return Ended::away(accepted, full),
+        Err(full) => return ArrivalEnded::away(accepted, full),
     };
     let arrival = match server.connect(rt, right, Connection::of(accepted, admission)) {
         Ok(arrival) => arrival,
-        Err(unserved) => return Ended::unserved(rt, server, unserved),
+        Err(unserved) => return ArrivalEnded::unserved(rt, server, unserved),
     };
     match server.put(rt, arrival) {
         Ok(waiting) => waiting.ends(serve_next(rt, alloc, server, gate, reads)),

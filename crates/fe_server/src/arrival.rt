@@ -3,8 +3,8 @@
 ghost use Rattle.std.specs.Prelude.{◌≡◌, IfOk};
 
 use crate::connection::{Accepted, Connection, Unshared};
-use crate::reads::{Reads, Unstarted};
-use crate::register::{Admission, Full, NoNewcomer};
+use crate::reads::{ReadLimit, Unstarted};
+use crate::register::{Admission, Full, NoArrival};
 use crate::running_server::RunningServer;
 use fe_hall::{ConnectRight, Gate, Hall, NewSeats, Short, Tally, Unconnected};
 use std::alloc::Global;
@@ -22,19 +22,19 @@ pub(crate) struct Arrival<C: Tally, M: Tally> {
 /// Shows that a client that waited for its thread was served or sent away, or that none waited. Only `Arrival::serve` and the functions
 /// below make it.
 #[derive(Drop)]
-pub(crate) struct Ended(());
+pub(crate) struct ArrivalEnded(());
 
-impl Ended {
+impl ArrivalEnded {
     /// No client waited.
-    pub(crate) fn of(none: NoNewcomer) -> Ended {
+    pub(crate) fn of(none: NoArrival) -> ArrivalEnded {
         drop(none);
-        Ended(())
+        ArrivalEnded(())
     }
 
     /// The client was sent away, since there was no place for it.
-    pub(crate) fn away(accepted: Accepted, full: Full) -> Ended {
+    pub(crate) fn away(accepted: Accepted, full: Full) -> ArrivalEnded {
         accepted.close(full);
-        Ended(())
+        ArrivalEnded(())
     }
 
     /// The connection was closed, since the hall made no seats for it.
@@ -42,9 +42,9 @@ impl Ended {
         rt: &R,
         server: &RunningServer<C, M>,
         unserved: Unserved,
-    ) -> Ended {
+    ) -> ArrivalEnded {
         server.refuse(rt, unserved);
-        Ended(())
+        ArrivalEnded(())
     }
 }
 
@@ -80,12 +80,12 @@ impl<C: Tally + Send + Sync, M: Tally + Send + Sync> Unkept<C, M> {
         alloc: Global,
         server: &RunningServer<C, M>,
         gate: &G,
-    ) -> Ended
+    ) -> ArrivalEnded
         requires calls { C.all ≡ C.parts }
         requires mails { M.all ≡ M.parts }
     {
         let Unkept { arrival, unstarted } = self;
-        arrival.serve(rt, alloc, server, gate, Reads::None(unstarted))
+        arrival.serve(rt, alloc, server, gate, ReadLimit::None(unstarted))
     }
 }
 
@@ -129,8 +129,8 @@ impl<C: Tally + Send + Sync, M: Tally + Send + Sync> Arrival<C, M> {
         alloc: Global,
         server: &RunningServer<C, M>,
         gate: &G,
-        reads: Reads,
-    ) -> Ended
+        reads: ReadLimit,
+    ) -> ArrivalEnded
         requires calls { C.all ≡ C.parts }
         requires mails { M.all ≡ M.parts }
     {
@@ -138,6 +138,6 @@ impl<C: Tally + Send + Sync, M: Tally + Send + Sync> Arrival<C, M> {
         let (calls, mails) = seats.begin();
         let outcome = connection.serve(rt, alloc, server, gate, calls, mails, reads);
         server.leave(rt, connection, outcome);
-        Ended(())
+        ArrivalEnded(())
     }
 }

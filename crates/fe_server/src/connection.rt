@@ -5,8 +5,8 @@
 //! that it is a socket.
 
 ghost use Rattle.std.specs.Prelude.{◌≡◌, ◌≢◌, ◌⊎◌, ◌∷◌, ◌++◌, [], List, true, false, IfOk, IsSome, IsTrue};
-ghost use Rattle.fe_history.specs.Acts.{AreTold};
-ghost use Rattle.fe_mail.specs.declared.mail.Mail.{Mail as Told};
+ghost use Rattle.fe_history.specs.Acts.{AreIssued};
+ghost use Rattle.fe_mail.specs.declared.mail.Mail.{Mail as TakenMail};
 ghost use Rattle.fe_streams.specs.Incoming.{bytes_read};
 ghost use Rattle.fe_hall.specs.Reads.{HandlesStream};
 ghost use Rattle.fe_hall.specs.Writes.{AreTaken, IsWritten};
@@ -15,7 +15,7 @@ ghost use Rattle.fe_server.specs.Sides.{HasHandled, HasWritten, ends_stream, mos
 ghost use Rattle.fe_server.specs.Streams.{known_bytes};
 
 use crate::finished_connections::FinishedConnections;
-use crate::reads::{Reads, Unstarted};
+use crate::reads::{ReadLimit, Unstarted};
 use crate::register::{Admission, Full};
 use crate::running_server::RunningServer;
 use crate::socket_handle::SocketHandle;
@@ -176,8 +176,8 @@ impl Connection {
         gate: &G,
         calls: CallSeat<C>,
         mails: MailSeat<M>,
-        reads: Reads,
-    ) -> Outcome<C, M>
+        reads: ReadLimit,
+    ) -> ConnectionOutcome<C, M>
         requires calls { calls.conn ≡ self.now.admission.conn }
         requires mails { mails.conn ≡ self.now.admission.conn }
         ensures own { result.mails.conn ≡ self.now.admission.conn }
@@ -201,19 +201,19 @@ impl Connection {
 
 /// What the two sides of a connection did. Only serving a connection makes one, and only `add_to` uses it up: it is not `Drop`, so the
 /// seats, the list and the receipts of each connection that was served are added.
-pub(crate) struct Outcome<C: Tally, M: Tally> {
+pub(crate) struct ConnectionOutcome<C: Tally, M: Tally> {
     calls: CallSeat<C>,
     sent: Vec<ClientMessage>,
     read: ReadEnd,
     mails: MailSeat<M>,
     receipts: Receipts<M>,
     write: WriteEnd,
-    reads: Reads,
+    reads: ReadLimit,
     ghost one: { calls.conn ≡ mails.conn },
     ghost own: { receipts.conn ≡ mails.conn },
 }
 
-impl<C: Tally, M: Tally> Outcome<C, M> {
+impl<C: Tally, M: Tally> ConnectionOutcome<C, M> {
     fn of(
         calls: CallSeat<C>,
         sent: Vec<ClientMessage>,
@@ -221,10 +221,10 @@ impl<C: Tally, M: Tally> Outcome<C, M> {
         mails: MailSeat<M>,
         receipts: Receipts<M>,
         write: WriteEnd,
-        reads: Reads,
+        reads: ReadLimit,
         _reader: Parted,
         _writer: Parted,
-    ) -> Outcome<C, M>
+    ) -> ConnectionOutcome<C, M>
         requires one { calls.conn ≡ mails.conn }
         requires own { receipts.conn ≡ mails.conn }
         // The write side has ended the stream, and so has the read side, unless the write side could go on.
@@ -238,7 +238,7 @@ impl<C: Tally, M: Tally> Outcome<C, M> {
         ensures write { result.write ≡ write }
         ensures reads { result.reads ≡ reads }
     {
-        Outcome {
+        ConnectionOutcome {
             calls,
             sent,
             read,
@@ -260,7 +260,7 @@ impl<C: Tally, M: Tally> Outcome<C, M> {
             → (departed.new.sent.items ≡ departed.old.sent.items ++ self.sent ∷ [])
             × (departed.new.receipts.items ≡ departed.old.receipts.items ++ self.receipts.items) }
     {
-        let Outcome {
+        let ConnectionOutcome {
             calls,
             sent,
             read: _,
@@ -286,7 +286,7 @@ impl<W: WriteHalf + Drop, M: Tally> Promise<(MailSeat<M>, Receipts<M>, WriteEnd,
     ghost use Rattle.std.specs.Prelude.{◌≡◌, true};
     ghost use Rattle.fe_server.specs.Sides.{HasWritten};
 
-    ghost kept_by = { λ p r. HasWritten W.tells W.got p.before.value r.3 p.seat.value r.0 r.1 r.2
+    ghost kept_by = { λ p r. HasWritten W.is_known W.got p.before.value r.3 p.seat.value r.0 r.1 r.2
         × (r.4.is_shut ≡ true) };
 }
 
@@ -310,17 +310,17 @@ fn serve_streams<
     reader: I,
     writer: O,
     ends: &E,
-    reads: Reads,
-) -> (StreamRead<I>, StreamWrite<O>, Outcome<C, M>)
+    reads: ReadLimit,
+) -> (StreamRead<I>, StreamWrite<O>, ConnectionOutcome<C, M>)
     requires one { calls.conn ≡ mails.conn }
     ensures own { result.2.mails.conn ≡ mails.conn }
     ensures handled { let incoming = result.0.incoming in IsSome (I.remaining reader)
         → HandlesStream (known_bytes (bytes_read (I.remaining incoming.began.value) (I.remaining incoming.reader)))
         calls result.2.calls result.2.sent.items result.2.read }
-    ensures wrote { (all : List Told) × AreTaken mails result.2.mails result.2.receipts.items all
+    ensures wrote { (all : List TakenMail) × AreTaken mails result.2.mails result.2.receipts.items all
         × (IsSome (O.contents writer)
         → IsWritten (known_bytes (O.contents writer)) all result.2.write (known_bytes (O.contents result.1.writer)))
-        × AreTold mails.conn all result.2.receipts.history }
+        × AreIssued mails.conn all result.2.receipts.history }
     ensures departed { result.2.write ≢ WriteEnd.Stopped → result.2.mails.departed ≡ true }
     // It ends for the number of its reads only after all of them.
     ensures turns { result.2.read ≡ ReadEnd.Turns → result.0.reads ≡ most_reads result.2.reads server.now.turns }
@@ -348,23 +348,23 @@ fn serve_over<
     from: H,
     to: W,
     ends: &E,
-    reads: Reads,
-) -> (H, W, Outcome<C, M>)
+    reads: ReadLimit,
+) -> (H, W, ConnectionOutcome<C, M>)
     requires one { calls.conn ≡ mails.conn }
     // The front of the client's stream was handled.
-    ensures handled { HasHandled H.tells H.told H.reads (most_reads result.2.reads server.now.turns)
+    ensures handled { HasHandled H.is_known H.known H.reads (most_reads result.2.reads server.now.turns)
         from result.0 calls result.2.calls result.2.sent.items result.2.read }
     // The client got the frames of the mails that were taken.
-    ensures wrote { HasWritten W.tells W.got to result.1 mails result.2.mails result.2.receipts result.2.write }
+    ensures wrote { HasWritten W.is_known W.got to result.1 mails result.2.mails result.2.receipts result.2.write }
 {
     thread::scope(
         thread::scope_env(),
         rt,
-        move |scope| -> (H, W, Outcome<C, M>)
+        move |scope| -> (H, W, ConnectionOutcome<C, M>)
             requires { calls.conn ≡ mails.conn }
-            ensures { HasHandled H.tells H.told H.reads (most_reads result.2.reads server.entry.now.turns)
+            ensures { HasHandled H.is_known H.known H.reads (most_reads result.2.reads server.entry.now.turns)
                 from result.0 calls result.2.calls result.2.sent.items result.2.read
-                × HasWritten W.tells W.got to result.1 mails result.2.mails result.2.receipts result.2.write }
+                × HasWritten W.is_known W.got to result.1 mails result.2.mails result.2.receipts result.2.write }
         {
             serve_in(
                 rt, alloc, scope, server, gate, calls, mails, from, to, ends, reads,
@@ -395,12 +395,12 @@ fn serve_in<
     from: H,
     to: W,
     ends: &'s E,
-    reads: Reads,
-) -> (H, W, Outcome<C, M>)
+    reads: ReadLimit,
+) -> (H, W, ConnectionOutcome<C, M>)
     requires one { calls.conn ≡ mails.conn }
-    ensures { HasHandled H.tells H.told H.reads (most_reads result.2.reads server.now.turns)
+    ensures { HasHandled H.is_known H.known H.reads (most_reads result.2.reads server.now.turns)
         from result.0 calls result.2.calls result.2.sent.items result.2.read
-        × HasWritten W.tells W.got to result.1 mails result.2.mails result.2.receipts result.2.write }
+        × HasWritten W.is_known W.got to result.1 mails result.2.mails result.2.receipts result.2.write }
 {
     let promise = Wrote {
         before: Snapshot::of(&to),
@@ -411,7 +411,7 @@ fn serve_in<
         scope,
         promise,
         move || -> (MailSeat<M>, Receipts<M>, WriteEnd, W, Parted)
-            ensures { HasWritten W.tells W.got to result.3 mails result.0 result.1 result.2
+            ensures { HasWritten W.is_known W.got to result.3 mails result.0 result.1 result.2
                 × (result.4.is_shut ≡ true) }
         { run_write_side(rt, alloc, server, mails, to, StreamEnd::of(ends)) },
     );
@@ -424,14 +424,14 @@ fn serve_in<
             (
                 from,
                 to,
-                Outcome::of(
+                ConnectionOutcome::of(
                     calls, sent, read, mails, receipts, write, reads, reader, writer,
                 ),
             )
         }
         Err(refused) => {
             // Without a writing thread, nothing is read.
-            let reads = Reads::None(Unstarted::refused(&refused));
+            let reads = ReadLimit::None(Unstarted::refused(&refused));
             let (from, calls, sent, read, reader) = run_read_side(
                 rt, alloc, server, gate, calls, from, own, &reads,
             );
@@ -439,7 +439,7 @@ fn serve_in<
             (
                 from,
                 to,
-                Outcome::of(
+                ConnectionOutcome::of(
                     calls, sent, read, mails, receipts, write, reads, reader, writer,
                 ),
             )
@@ -457,9 +457,9 @@ fn run_read_side<C: Tally, M: Tally, G: Gate, R: Clock + Wait, H: ReadHalf + Dro
     seat: CallSeat<C>,
     from: H,
     stream: StreamEnd<'_, E>,
-    reads: &Reads,
+    reads: &ReadLimit,
 ) -> (H, CallSeat<C>, Vec<ClientMessage>, ReadEnd, Parted)
-    ensures handled { HasHandled H.tells H.told H.reads (most_reads reads.now server.now.turns)
+    ensures handled { HasHandled H.is_known H.known H.reads (most_reads reads.now server.now.turns)
         from result.0 seat result.1 result.2.items result.3 }
     ensures parted { result.4.is_shut ≡ ends_stream result.3 }
 {
@@ -485,7 +485,7 @@ fn run_write_side<C: Tally, M: Tally, R: Wait, W: WriteHalf + Drop, E: HangUp>(
     to: W,
     stream: StreamEnd<'_, E>,
 ) -> (MailSeat<M>, Receipts<M>, WriteEnd, W, Parted)
-    ensures { HasWritten W.tells W.got to result.3 seat result.0 result.1 result.2
+    ensures { HasWritten W.is_known W.got to result.3 seat result.0 result.1 result.2
         × (result.4.is_shut ≡ true) }
 {
     let mut to = to;

@@ -2,7 +2,7 @@
 
 ghost use Rattle.std.specs.Prelude.{◌≡◌, ◌⊎◌, ◌∷◌, ◌++◌, [], true, false, Some, IsTrue, All, IfOk, IfErr, IsSome, map};
 ghost use mathlib.Core.List.{IsPrefix};
-ghost use Rattle.fe_history.specs.Acts.{EachTold, IsAccountOf};
+ghost use Rattle.fe_history.specs.Acts.{EachIssued, IsAccountOf};
 ghost use Rattle.fe_hall.specs.Audits.{IsAudit, account_left};
 ghost use Rattle.fe_history.specs.Receipts.{IsBorneOut};
 ghost use Rattle.fe_shared.specs.Seats.{Seats as Totals};
@@ -105,7 +105,7 @@ impl<C: Tally, M: Tally> FinishedConnections<C, M> {
     pub(crate) fn account(self, hall: Hall<C, M>, seat: StoreSeat<M>, over: ServerEnded) -> Account
         requires fault { IsSome (fault_of_end over.end) }
         ensures leaves { IsAccountOf seat self.receipts.items self.receipts.history result }
-        ensures told { EachTold result.receipts result.history }
+        ensures issued { EachIssued result.receipts result.history }
     {
         drop(over);
         self.left(hall, seat)
@@ -114,7 +114,7 @@ impl<C: Tally, M: Tally> FinishedConnections<C, M> {
     /// The account of a hall that is not closed.
     fn left(self, hall: Hall<C, M>, seat: StoreSeat<M>) -> Account
         ensures leaves { IsAccountOf seat self.receipts.items self.receipts.history result }
-        ensures told { EachTold result.receipts result.history }
+        ensures issued { EachIssued result.receipts result.history }
     {
         let FinishedConnections { receipts, .. } = self;
         let (receipts, history) = receipts.into_parts();
@@ -147,7 +147,7 @@ impl<C: Tally, M: Tally> FinishedConnections<C, M> {
         ensures borne_out { IfOk result (λ audit. All (IsBorneOut state.now audit.sent) audit.receipts) }
         ensures whole { IfOk result (λ audit. IsTrue keeps → IsTrue audit.whole) }
         ensures leaves { IsAccountOf seat self.receipts.items self.receipts.history (account_left result) }
-        ensures told { EachTold (account_left result).receipts (account_left result).history }
+        ensures issued { EachIssued (account_left result).receipts (account_left result).history }
         ensures faults { IfErr result
             (λ e. ((e.0 ≡ fault.Memory) × (lacks self.short keeps self.receipts.whole ≡ true))
             ⊎ ((e.0 ≡ fault.Strange) × (lacks self.short keeps self.receipts.whole ≡ false))) }

@@ -25,21 +25,21 @@ impl Unstarted {
 
 /// How many reads are made from a connection at most.
 #[derive(Drop)]
-pub(crate) enum Reads {
+pub(crate) enum ReadLimit {
     /// As many as the settings say.
     All,
     /// None, since a thread of it could not be started.
     None(Unstarted),
 }
 
-impl Reads {
+impl ReadLimit {
     /// Their number, where the settings say `turns`.
     pub(crate) fn most(&self, turns: u64) -> u64
         ensures { result ≡ most_reads self.now turns }
     {
         match self {
-            Reads::All => turns,
-            Reads::None(_) => 0,
+            ReadLimit::All => turns,
+            ReadLimit::None(_) => 0,
         }
     }
 }

@@ -5,8 +5,8 @@ ghost use Rattle.fe_server.specs.FinishedConnections.{IsAdded, joined_to, withou
 ghost use Rattle.fe_server.specs.Arrivals.{HasEnded, awaited_after, kept_from};
 ghost use Rattle.fe_server.specs.Serving.{fault_of_end};
 
-use crate::arrival::{Arrival, Bar, Ended, Unkept, Unserved};
-use crate::connection::{Accepted, Outcome};
+use crate::arrival::{Arrival, ArrivalEnded, Bar, Unkept, Unserved};
+use crate::connection::{Accepted, ConnectionOutcome};
 use crate::finished_connections::FinishedConnections;
 use crate::socket_handle::SocketHandle;
 use crate::stop_fault::StopFault;
@@ -59,13 +59,13 @@ pub(crate) struct Waiting(());
 
 impl Waiting {
     /// A thread was started that takes a client and serves it.
-    pub(crate) fn begins(self, thread: JoinHandle<Ended>) {
+    pub(crate) fn begins(self, thread: JoinHandle<ArrivalEnded>) {
         let Waiting(()) = self;
         drop(thread);
     }
 
     /// A client was taken here, and served or sent away.
-    pub(crate) fn ends(self, ended: Ended) -> Ended {
+    pub(crate) fn ends(self, ended: ArrivalEnded) -> ArrivalEnded {
         let Waiting(()) = self;
         ended
     }
@@ -73,7 +73,7 @@ impl Waiting {
 
 /// Shows that no client waited for its thread. Only `Register::take` and `Register::take_late` make it.
 #[derive(Drop)]
-pub(crate) struct NoNewcomer(());
+pub(crate) struct NoArrival(());
 
 /// Shows that a server had not ended. Only `Register::running` makes it, and no connection is accepted without it.
 #[derive(Drop)]
@@ -176,14 +176,14 @@ impl<C: Tally, M: Tally> Register<C, M> {
     }
 
     /// Takes a connection whose threads have not begun, the last that was put.
-    pub(crate) fn take(&mut self) -> Result<Arrival<C, M>, NoNewcomer>
+    pub(crate) fn take(&mut self) -> Result<Arrival<C, M>, NoArrival>
         ensures taken { IfOk result (λ arrival. self.old.newcomers.items ≡ self.new.newcomers.items ++ arrival ∷ []) }
         ensures none { OnErr result (self.old.newcomers.items ≡ []) }
         ensures departed { self.new.departed ≡ self.old.departed }
     {
         match self.newcomers.pop() {
             Some(arrival) => Ok(arrival),
-            None => Err(NoNewcomer(())),
+            None => Err(NoArrival(())),
         }
     }
 
@@ -232,14 +232,14 @@ impl<C: Tally, M: Tally> Register<C, M> {
     }
 
     /// Takes a client that waits for a place and whose thread has not begun, the last that was put.
-    pub(crate) fn take_late(&mut self) -> Result<(Accepted, Expected), NoNewcomer>
+    pub(crate) fn take_late(&mut self) -> Result<(Accepted, Expected), NoArrival>
         ensures taken { IfOk result (λ late. self.old.latecomers.items ≡ self.new.latecomers.items ++ late ∷ []) }
         ensures none { OnErr result (self.old.latecomers.items ≡ []) }
         ensures departed { self.new.departed ≡ self.old.departed }
     {
         match self.latecomers.pop() {
             Some(late) => Ok(late),
-            None => Err(NoNewcomer(())),
+            None => Err(NoArrival(())),
         }
     }
 
@@ -285,7 +285,12 @@ impl<C: Tally, M: Tally> Register<C, M> {
     }
 
     /// A connection has ended, and leaves what its sides did, and room for another one.
-    pub(crate) fn leave(&mut self, admission: Admission, outcome: Outcome<C, M>, keeps: bool)
+    pub(crate) fn leave(
+        &mut self,
+        admission: Admission,
+        outcome: ConnectionOutcome<C, M>,
+        keeps: bool,
+    )
         requires own { outcome.mails.conn ≡ admission.conn }
         requires calls { C.all ≡ C.parts }
         requires mails { M.all ≡ M.parts }

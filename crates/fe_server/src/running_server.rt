@@ -2,25 +2,25 @@
 
 ghost use Rattle.std.specs.Prelude.{◌≡◌, ◌⊎◌, ◌∷◌, [], IsTrue, All, IfOk, IfErr, IsSome, nat_lt};
 ghost use Rattle.fe_front.specs.Front.{IsFirst};
-ghost use Rattle.fe_history.specs.Acts.{EachTold, GatheredReceipts as Kept, IsAccountOf};
+ghost use Rattle.fe_history.specs.Acts.{EachIssued, GatheredReceipts as Kept, IsAccountOf};
 ghost use Rattle.fe_hall.specs.Audits.{account_left};
 ghost use Rattle.fe_history.specs.Receipts.{IsBorneOut};
 ghost use Rattle.fe_history.specs.declared.act.Act.TheVariants as act;
-ghost use Rattle.fe_shared.specs.declared.standing.Standing.TheVariants as Standing;
+ghost use Rattle.fe_shared.specs.declared.last_answer.LastAnswer.TheVariants as LastAnswer;
 ghost use Rattle.fe_server.specs.Arrivals.{HasEnded};
 ghost use Rattle.fe_server.specs.FinishedConnections.{IsClean};
 ghost use Rattle.fe_server.specs.Sides.{most_reads};
-ghost use Rattle.fe_server.specs.Serving.{HasNoted, IsBlankOf, fault_of_end};
+ghost use Rattle.fe_server.specs.Serving.{HasCommittedAndNoted, IsBlankOf, fault_of_end};
 ghost use Rattle.fe_server.specs.declared.stop_fault.StopFault.TheVariants as fault;
 
 use crate::accepting::AllServed;
 use crate::arrival::{Arrival, Unkept, Unserved};
-use crate::connection::{Accepted, Connection, Outcome};
+use crate::connection::{Accepted, Connection, ConnectionOutcome};
 use crate::finished_connections::FinishedConnections;
 use crate::listener::Listener;
-use crate::reads::Reads;
+use crate::reads::ReadLimit;
 use crate::register::{
-    Admission, Expected, Full, NoMore, NoNewcomer, Register, Running, ServerEnded, Waiting,
+    Admission, Expected, Full, NoArrival, NoMore, Register, Running, ServerEnded, Waiting,
 };
 use crate::stop_fault::StopFault;
 use fe_disk::Disk;
@@ -39,7 +39,7 @@ use std::sync::{Condvar, CondvarTimeouts, Mutex, Wait};
 use std::thread::SpawnError;
 use std::time::{Clock, Duration};
 
-/// How many milliseconds the write sides have for writing what was told, once nothing is stored any more.
+/// How many milliseconds the write sides have for writing what was issued, once nothing is stored any more.
 const LAST_WAIT: u64 = 400;
 
 /// What the threads of a server share: the hall and the register.
@@ -147,7 +147,7 @@ impl<C: Tally, M: Tally> Opened<C, M> {
     pub(crate) fn account(self, over: ServerEnded, seat: StoreSeat<M>) -> Account
         requires fault { IsSome (fault_of_end over.end) }
         ensures leaves { (kept : Kept) × IsAccountOf seat kept.items kept.history result }
-        ensures told { EachTold result.receipts result.history }
+        ensures issued { EachIssued result.receipts result.history }
     {
         let (hall, departed, _) = self.into_parts();
         departed.account(hall, seat, over)
@@ -169,7 +169,7 @@ impl<C: Tally, M: Tally> Opened<C, M> {
         // If they are to be kept, no receipt is missing.
         ensures whole { IfOk result (λ audit. IsTrue self.server.keeps → IsTrue audit.whole) }
         ensures leaves { (kept : Kept) × IsAccountOf seat kept.items kept.history (account_left result) }
-        ensures told { EachTold (account_left result).receipts (account_left result).history }
+        ensures issued { EachIssued (account_left result).receipts (account_left result).history }
         ensures faults { IfErr result (λ e. (e.0 ≡ fault.Memory) ⊎ (e.0 ≡ fault.Strange)) }
     {
         drop(over);
@@ -202,7 +202,7 @@ impl<C: Tally, M: Tally> RunningServer<C, M> {
     }
 
     /// Takes a client that waits for a place and whose thread has not begun.
-    pub(crate) fn take_late<R: Wait>(&self, rt: &R) -> Result<(Accepted, Expected), NoNewcomer> {
+    pub(crate) fn take_late<R: Wait>(&self, rt: &R) -> Result<(Accepted, Expected), NoArrival> {
         self.register.lock(rt).take_late()
     }
 
@@ -241,12 +241,17 @@ impl<C: Tally, M: Tally> RunningServer<C, M> {
     }
 
     /// Takes a connection whose threads have not begun.
-    pub(crate) fn take<R: Wait>(&self, rt: &R) -> Result<Arrival<C, M>, NoNewcomer> {
+    pub(crate) fn take<R: Wait>(&self, rt: &R) -> Result<Arrival<C, M>, NoArrival> {
         self.register.lock(rt).take()
     }
 
     /// A connection has ended. The register gets what its sides did.
-    pub(crate) fn leave<R: Wait>(&self, rt: &R, connection: Connection, outcome: Outcome<C, M>)
+    pub(crate) fn leave<R: Wait>(
+        &self,
+        rt: &R,
+        connection: Connection,
+        outcome: ConnectionOutcome<C, M>,
+    )
         requires own { outcome.mails.conn ≡ connection.admission.conn }
         requires calls { C.all ≡ C.parts }
         requires mails { M.all ≡ M.parts }
@@ -279,7 +284,7 @@ impl<C: Tally, M: Tally> RunningServer<C, M> {
     }
 
     /// How many reads are made from a connection at most.
-    pub(crate) fn most_reads(&self, reads: &Reads) -> u64
+    pub(crate) fn most_reads(&self, reads: &ReadLimit) -> u64
         ensures { result ≡ most_reads reads.now self.now.turns }
     {
         reads.most(self.turns)
@@ -293,7 +298,7 @@ impl<C: Tally, M: Tally> RunningServer<C, M> {
         seat: StoreSeat<M>,
     ) -> (Keeper<D>, ServerEnded, StoreSeat<M>)
         requires { seat ≡ act.Began keeper.state ∷ [] }
-        ensures { HasNoted D.Disk keeper result.0 result.1.end result.2 }
+        ensures { HasCommittedAndNoted D.Disk keeper result.0 result.1.end result.2 }
     {
         let mut keeper = keeper;
         let mut seat = seat;
@@ -303,7 +308,7 @@ impl<C: Tally, M: Tally> RunningServer<C, M> {
     }
 
     /// The committing side has ended: no connection comes any more, and those that are there end. A write side ends its stream once it
-    /// has written what was told. If its client does not take that in time, the stream is ended here.
+    /// has written what was issued. If its client does not take that in time, the stream is ended here.
     fn end<R: Clock + Wait>(&self, rt: &R, end: CommitEnd) -> ServerEnded
         ensures { result.end ≡ end }
     {
@@ -342,22 +347,22 @@ impl<C: Tally, M: Tally> RunningServer<C, M> {
         served.end(self.hall.stop(rt));
     }
 
-    /// The committing thread could not be started, which the closing tells as a lack of memory. So the hall stops.
+    /// The committing thread could not be started, which the closing reports as a lack of memory. So the hall stops.
     pub(crate) fn fall_short<R: Wait, F>(&self, rt: &R, _refused: &SpawnError<F>) {
         self.register.lock(rt).departed.short = true;
         self.hall.stop(rt);
     }
 
-    /// A read side was told that a book of the hall is full, so the hall stops.
+    /// A read side ended since a book of the hall is full, so the hall stops.
     pub(crate) fn spend_calls<R: Wait>(&self, rt: &R, _seat: &CallSeat<C>)
-        requires { _seat.now.standing ≡ Standing.Spent }
+        requires { _seat.now.last_answer ≡ LastAnswer.Spent }
     {
         self.spend(rt);
     }
 
-    /// A write side was told so.
+    /// A write side ended so.
     pub(crate) fn spend_mails<R: Wait>(&self, rt: &R, _seat: &MailSeat<M>)
-        requires { _seat.now.standing ≡ Standing.Spent }
+        requires { _seat.now.last_answer ≡ LastAnswer.Spent }
     {
         self.spend(rt);
     }

@@ -2,16 +2,16 @@
 
 ghost use Rattle.std.specs.Prelude.{◌≡◌, ◌≢◌, ◌<◌, ◌∷◌, ℕ, [], false, IsTrue, All, IfOk, IsErrOf, nat_lt};
 ghost use Rattle.fe_mail.specs.Books.{AddUp};
-ghost use Rattle.fe_history.specs.Acts.{EachTold, GatheredReceipts as Kept, IsAccountOf};
+ghost use Rattle.fe_history.specs.Acts.{EachIssued, GatheredReceipts as Kept, IsAccountOf};
 ghost use Rattle.fe_history.specs.Receipts.{IsBorneOut};
 ghost use Rattle.fe_history.specs.declared.act.Act.TheVariants as act;
-ghost use Rattle.fe_hall.specs.declared.commit_end.CommitEnd.{CommitEnd as Ended};
+ghost use Rattle.fe_hall.specs.declared.commit_end.CommitEnd.{CommitEnd};
 ghost use Rattle.fe_hall.specs.declared.commit_end.CommitEnd.TheVariants as hall;
 ghost use Rattle.fe_journal.specs.Layout.{device_bytes};
 ghost use Rattle.fe_store.specs.declared.fault.OpenFault.TheVariants as store;
 ghost use Rattle.fe_server.specs.Acknowledged.{IsAcknowledged};
 ghost use Rattle.fe_server.specs.Opened.{WasServed};
-ghost use Rattle.fe_server.specs.Serving.{HasCommitted, HasNoted, IsAnswerAt, IsBlankOf, account_in, fault_in, keeper_in};
+ghost use Rattle.fe_server.specs.Serving.{HasCommitted, HasCommittedAndNoted, IsAnswerAt, IsBlankOf, account_in, fault_in, keeper_in};
 ghost use Rattle.fe_server.specs.declared.serve_fault.ServeFault.TheVariants as served;
 ghost use Rattle.fe_server.specs.declared.stop_fault.StopFault.TheVariants as fault;
 
@@ -43,15 +43,16 @@ use std::time::Clock;
 /// How many parts the ledgers of a hall have, 2^62 + 1.
 const PARTS: u64 = 4611686018427387905;
 
-/// Serves the store that the settings name, at the socket that they name, and gives what the server left. It opens the store before it
-/// makes the socket, so the socket's file means that the server is ready.
+/// Serves the store that the settings name, at the socket that they name, and gives what the server left. It opens the
+/// store before it makes the socket, so the socket's file means that the server is ready.
 pub fn serve<R: Files<File = File> + Net + Clock + Threads + Wait + Sync, G: Gate + Sync>(
     rt: &R,
     alloc: Global,
     settings: &Settings,
     gate: &G,
 ) -> Result<Result<Served<FileDisk>, Failed<FileDisk>>, Unopened>
-    // The store that was opened was served: its keeper comes back with what was stored since, and its account says what was told.
+    // The store that was opened was served: its keeper comes back with what was stored since, and its account says what
+    // was issued.
     ensures served { IfOk result (let disk = ⟦<FileDisk as Disk>⟧ in
         WasServed disk.honest disk.moment disk.left_since disk.may_leave disk.failures) }
     ensures add_up { IfOk result (λ answer. IfOk answer (λ served. AddUp served.audit.books)) }
@@ -78,9 +79,9 @@ pub fn serve_store<D: Disk + Drop + Send, G: Gate + Sync, R: Clock + Threads + W
     keeper: Keeper<D>,
     gate: &G,
 ) -> Result<Served<D>, Failed<D>>
-    // Whatever the end, the keeper comes back: it is the one before with what was stored since; and the answer is that of the
-    // committing side's end.
-    ensures committed { (end : Ended)
+    // Whatever the end, the keeper comes back: it is the one before with what was stored since; and the answer is that
+    // of the committing side's end.
+    ensures committed { (end : CommitEnd)
         × HasCommitted D.Disk keeper (keeper_in result) end
         × IsAnswerAt end (fault_in result) }
     // The books of a server that ended by itself: each call and each mail is in one column.
@@ -91,10 +92,11 @@ pub fn serve_store<D: Disk + Drop + Send, G: Gate + Sync, R: Clock + Threads + W
         (λ served. All (IsBorneOut served.keeper.state served.audit.sent) served.audit.receipts) }
     // If the number of connections is bounded, these are the receipts of each of them.
     ensures whole { IfOk result (λ served. 0 < settings.now.accepts → IsTrue served.audit.whole) }
-    // Of each answer in the account's history: it was told to a connection that had asked for its session before. If the account's `own` is
-    // true, as after `Ok`, it is also the one of its entry, in a group that was stored before, and each image since the end of that group's
-    // append stands for a state with it; or it was kept from the beginning. Each receipt's answer is in that history.
-    ensures acknowledged { (end : Ended) × IsAnswerAt end (fault_in result)
+    // Of each answer in the account's history: it was issued to a connection that had asked for its session before. If
+    // the account's `own` is true, as after `Ok`, it is also the one of its entry, in a group that was stored before,
+    // and each image since the end of that group's append stands for a state with it; or it was kept from the
+    // beginning. Each receipt's answer is in that history.
+    ensures acknowledged { (end : CommitEnd) × IsAnswerAt end (fault_in result)
         × IsAcknowledged D.Disk keeper (keeper_in result) end (account_in result) }
 {
     let history = NewHistory::new(keeper.state());
@@ -132,7 +134,7 @@ fn serve_as<
     requires mails { IsBlankOf M.name M.parts M.all mails.name mails.parts }
     requires history { history.book ≡ M.book }
     requires acts { history.acts ≡ act.Began keeper.state ∷ [] }
-    ensures committed { (end : Ended)
+    ensures committed { (end : CommitEnd)
         × HasCommitted D.Disk keeper (keeper_in result) end
         × IsAnswerAt end (fault_in result) }
     ensures add_up { IfOk result (λ served. AddUp served.audit.books) }
@@ -140,7 +142,7 @@ fn serve_as<
     ensures borne_out { IfOk result
         (λ served. All (IsBorneOut served.keeper.state served.audit.sent) served.audit.receipts) }
     ensures whole { IfOk result (λ served. 0 < settings.now.accepts → IsTrue served.audit.whole) }
-    ensures acknowledged { (end : Ended) × IsAnswerAt end (fault_in result)
+    ensures acknowledged { (end : CommitEnd) × IsAnswerAt end (fault_in result)
         × IsAcknowledged D.Disk keeper (keeper_in result) end (account_in result) }
 {
     let nothing = history.account(alloc);
@@ -179,7 +181,7 @@ fn closed<C: Tally, M: Tally, D: Disk>(
         (λ served. All (IsBorneOut served.keeper.state served.audit.sent) served.audit.receipts) }
     ensures whole { IfOk result (λ served. IsTrue opened.server.keeps → IsTrue served.audit.whole) }
     ensures leaves { (kept : Kept) × IsAccountOf seat kept.items kept.history (account_in result) }
-    ensures told { EachTold (account_in result).receipts (account_in result).history }
+    ensures issued { EachIssued (account_in result).receipts (account_in result).history }
 {
     if let Some(fault) = over.fault() {
         let account = opened.account(over, seat);
@@ -201,7 +203,7 @@ fn closed<C: Tally, M: Tally, D: Disk>(
 
 /// What a server leaves if memory is short before it serves a client.
 fn unserved<D: Disk>(keeper: Keeper<D>, account: Account) -> Failed<D>
-    ensures committed { HasNoted D.Disk keeper result.keeper hall.Stopped
+    ensures committed { HasCommittedAndNoted D.Disk keeper result.keeper hall.Stopped
         (act.Began keeper.state ∷ []) }
     ensures fault { result.fault ≡ fault.Memory }
     ensures account { result.account ≡ account }
@@ -222,10 +224,10 @@ struct Committed<D: Disk + Drop> {
 }
 
 impl<D: Disk + Drop, M: Tally> Promise<(Keeper<D>, ServerEnded, StoreSeat<M>)> for Committed<D> {
-    ghost use Rattle.fe_server.specs.Serving.{HasNoted};
+    ghost use Rattle.fe_server.specs.Serving.{HasCommittedAndNoted};
 
     ghost kept_by = { λ p r.
-        HasNoted D.Disk p.before.value r.0 r.1.end r.2 };
+        HasCommittedAndNoted D.Disk p.before.value r.0 r.1.end r.2 };
 }
 
 /// Serves clients, and stores what they do. The keeper comes back.
@@ -253,7 +255,7 @@ fn run<
     requires turns { opened.now.server.turns ≡ settings.now.turns }
     requires keeps { opened.now.server.keeps ≡ nat_lt 0 settings.now.accepts }
     requires seat { seat ≡ act.Began keeper.state ∷ [] }
-    ensures { HasNoted D.Disk keeper result.0 result.1.end result.2 }
+    ensures { HasCommittedAndNoted D.Disk keeper result.0 result.1.end result.2 }
 {
     let server = opened.server();
     thread::scope(
@@ -261,7 +263,7 @@ fn run<
         rt,
         move |scope| -> (Keeper<D>, ServerEnded, StoreSeat<M>)
             requires { (C.all ≡ C.parts) × (M.all ≡ M.parts) × (seat ≡ act.Began keeper.state ∷ []) }
-            ensures { HasNoted D.Disk keeper
+            ensures { HasCommittedAndNoted D.Disk keeper
                 result.0 result.1.end result.2 }
         {
             run_in(
@@ -295,7 +297,7 @@ fn run_in<
     requires calls { C.all ≡ C.parts }
     requires mails { M.all ≡ M.parts }
     requires seat { seat ≡ act.Began keeper.state ∷ [] }
-    ensures { HasNoted D.Disk keeper result.0 result.1.end result.2 }
+    ensures { HasCommittedAndNoted D.Disk keeper result.0 result.1.end result.2 }
 {
     let promise = Committed {
         before: Snapshot::of(&keeper),
@@ -304,7 +306,7 @@ fn run_in<
         promise,
         move || -> (Keeper<D>, ServerEnded, StoreSeat<M>)
             requires { seat ≡ act.Began keeper.state ∷ [] }
-            ensures { HasNoted D.Disk keeper
+            ensures { HasCommittedAndNoted D.Disk keeper
                 result.0 result.1.end result.2 }
         { server.commit(rt, keeper, seat) },
     );

@@ -3,14 +3,15 @@
 ghost use Rattle.std.specs.Prelude.{◌≡◌};
 
 use fe_hall::{HalfFault, ReadCount, ReadHalf, WriteHalf};
-use fe_streams::{Failed, Incoming, write_some};
+use fe_streams::{Incoming, StreamFailed, write_some};
 use std::io::{Read, Write};
 
-/// The direction from the client, over a reader. It tells its bytes where those of the reader are known; those of a socket are not.
+/// The direction from the client, over a reader. Its bytes are known where those of the reader are; those of a socket
+/// are not.
 #[derive(Drop)]
 pub struct StreamRead<R: Read> {
     incoming: Incoming<R>,
-    failure: Option<Failed>,
+    failure: Option<StreamFailed>,
     reads: ReadCount,
 }
 
@@ -35,9 +36,10 @@ impl<R: Read> ReadHalf for StreamRead<R> {
     ghost use Rattle.fe_streams.specs.Incoming.{bytes_read};
     ghost use Rattle.fe_server.specs.Streams.{known_bytes};
 
-    ghost tells = { λ h. IsSome (R.remaining h.incoming.began.value) };
+    ghost is_known = { λ h. IsSome (R.remaining h.incoming.began.value) };
 
-    ghost told = { λ h. known_bytes (bytes_read (R.remaining h.incoming.began.value) (R.remaining h.incoming.reader)) };
+    ghost known = { λ h. known_bytes (bytes_read (R.remaining h.incoming.began.value)
+        (R.remaining h.incoming.reader)) };
 
     ghost reads = { λ h. h.reads };
 
@@ -57,11 +59,12 @@ impl<R: Read> ReadHalf for StreamRead<R> {
     }
 }
 
-/// The direction to the client, over a writer. It tells its bytes where those of the writer are known; those of a socket are not.
+/// The direction to the client, over a writer. Its bytes are known where those of the writer are; those of a socket are
+/// not.
 #[derive(Drop)]
 pub struct StreamWrite<W: Write> {
     writer: W,
-    failure: Option<Failed>,
+    failure: Option<StreamFailed>,
 }
 
 impl<W: Write> StreamWrite<W> {
@@ -80,7 +83,7 @@ impl<W: Write> WriteHalf for StreamWrite<W> {
     ghost use Rattle.std.specs.Prelude.{IsSome};
     ghost use Rattle.fe_server.specs.Streams.{known_bytes};
 
-    ghost tells = { λ h. IsSome (W.contents h.writer) };
+    ghost is_known = { λ h. IsSome (W.contents h.writer) };
 
     ghost got = { λ h. known_bytes (W.contents h.writer) };
 

@@ -19,7 +19,7 @@ use Rattle.fe_state.specs.declared.entry.Entry.TheVariants.{Finished}
 use Rattle.fe_waits.proofs.MemberLemmas.{some_same}
 use Rattle.fe_service.specs.Service.{IsQuiet}
 use Rattle.fe_service.specs.ServiceState.{AreSoundParts}
-use Rattle.fe_service.specs.declared.parts.Parts.{Parts}
+use Rattle.fe_service.specs.declared.service_inner.ServiceInner.{ServiceInner}
 use Rattle.fe_service.proofs.Quiet.{none_on_absent}
 use Rattle.fe_service.proofs.Completing.{IsEntered, entered_quiet_at}
 use Rattle.fe_service.proofs.Sizes.{len_within}
@@ -33,11 +33,11 @@ next_absent s limits = by_array (get s.arrays s.next_id) refl
     by_array (Some a) is = let older = (limits.directory.each s.next_id a is).older in absurd (omega (arith, older))
 
 -- a creation leaves the words of all arrays that were there, and nobody waited on those of the one that it makes
-pub created_quiet : (old mid : Parts) (session number : ℕ) (name : List ℕ) (size : ℕ) (tag : Tag) (answer : Answer) → IsWithinLimits old.state → IsQuiet old.state old.seats.waiting
-    → IsEntered old mid (Finished session number (Create name size tag) answer) → IsQuiet mid.state mid.seats.waiting
+pub created_quiet : (old mid : ServiceInner) (session number : ℕ) (name : List ℕ) (size : ℕ) (tag : Tag) (answer : Answer) → IsWithinLimits old.state → IsQuiet old.state old.attachments.waiting
+    → IsEntered old mid (Finished session number (Create name size tag) answer) → IsQuiet mid.state mid.attachments.waiting
 created_quiet old mid session number name size tag answer limits quiet e key w waits =
     let was = subst (λ m. get m key ≡ Some w) e.waiting waits in
-    let other : w.array ≢ old.state.next_id = λ own. none_on_absent old.state old.seats.waiting old.state.next_id quiet (ap words_in (next_absent old.state limits)) key w was own in
+    let other : w.array ≢ old.state.next_id = λ own. none_on_absent old.state old.attachments.waiting old.state.next_id quiet (ap words_in (next_absent old.state limits)) key w was own in
     entered_quiet_at old mid session number (Create name size tag) answer quiet e w.array w.index other key w waits (refl, refl)
 
 -- what has to hold where an array is made
@@ -47,9 +47,9 @@ created_is s name size tag id words answered =
     (next, same, creation.room)
 
 -- there are no more arrays on the waiting lists than in the state
-pub few_arrays : (p : Parts) → AreSoundParts p → len p.state.arrays < 64 → len p.seats.arrays < 64
+pub few_arrays : (p : ServiceInner) → AreSoundParts p → len p.state.arrays < 64 → len p.attachments.arrays < 64
 few_arrays p sound few =
-    let within = len_within (len p.seats.arrays) p.seats.arrays p.state.arrays refl (λ k there. by_array k (get p.state.arrays k) (sym (ap is_some (sound.arrays k)) ∙ there)) in
+    let within = len_within (len p.attachments.arrays) p.attachments.arrays p.state.arrays refl (λ k there. by_array k (get p.state.arrays k) (sym (ap is_some (sound.arrays k)) ∙ there)) in
     omega (arith, within, few)
   where
     by_array : (k : ℕ) (here : Option Array) → is_some (words_in here) ≡ true → is_some here ≡ true
@@ -81,7 +81,7 @@ created_lengths s lengths session number name size tag id words answered tied ot
     ]
 
 -- the array that is made is not on the waiting lists yet
-pub id_absent : (p : Parts) (name : List ℕ) (size : ℕ) (tag : Tag) (id words : ℕ) → AreSoundParts p → IsWithinLimits p.state → reply p.state (Create name size tag) ≡ Some (answers.Array id words) → get p.seats.arrays id ≡ None
+pub id_absent : (p : ServiceInner) (name : List ℕ) (size : ℕ) (tag : Tag) (id words : ℕ) → AreSoundParts p → IsWithinLimits p.state → reply p.state (Create name size tag) ≡ Some (answers.Array id words) → get p.attachments.arrays id ≡ None
 id_absent p name size tag id words sound limits answered =
     let (next, same, few) = created_is p.state name size tag id words answered in
     sound.arrays id ∙ ap (λ i. words_in (get p.state.arrays i)) next ∙ ap words_in (next_absent p.state limits)

@@ -21,22 +21,22 @@ use Rattle.fe_state.specs.declared.request.Request.TheVariants.{Create, Find, Re
 use Rattle.fe_state.specs.declared.entry.Entry.{Entry}
 use Rattle.fe_state.specs.declared.entry.Entry.TheVariants.{Finished}
 use Rattle.fe_service.specs.Service.{request_of, IsQuiet}
-use Rattle.fe_service.specs.declared.parts.Parts.{Parts}
+use Rattle.fe_service.specs.declared.service_inner.ServiceInner.{ServiceInner}
 use Rattle.fe_service.proofs.Completing.{IsEntered}
 use Rattle.fe_service.proofs.Lengths.{operated_lengths}
 
 -- with no effect the directory stays
-same_directory : (old mid : Parts) (own : Entry) → IsEntered old mid own → effect_in (directory_of old.state) own ≡ effects.Nothing → directory_of mid.state ≡ directory_of old.state
+same_directory : (old mid : ServiceInner) (own : Entry) → IsEntered old mid own → effect_in (directory_of old.state) own ≡ effects.Nothing → directory_of mid.state ≡ directory_of old.state
 same_directory old mid own e none = ap directory_of e.state ∙ nothing_changes (directory_of old.state) own none
 
 -- so what was quiet is quiet still
-pub unchanged_quiet : (old mid : Parts) (own : Entry) → IsQuiet old.state old.seats.waiting → IsEntered old mid own → effect_in (directory_of old.state) own ≡ effects.Nothing → IsQuiet mid.state mid.seats.waiting
+pub unchanged_quiet : (old mid : ServiceInner) (own : Entry) → IsQuiet old.state old.attachments.waiting → IsEntered old mid own → effect_in (directory_of old.state) own ≡ effects.Nothing → IsQuiet mid.state mid.attachments.waiting
 unchanged_quiet old mid own quiet e none key w waits =
     let was = subst (λ m. get m key ≡ Some w) e.waiting waits in
     ap (λ d. answer_in d (request_of w)) (same_directory old mid own e none) ∙ quiet key w was
 
 -- and the arrays have their lengths
-pub unchanged_lengths : (old mid : Parts) (own : Entry) → IsEntered old mid own → effect_in (directory_of old.state) own ≡ effects.Nothing → (id : ℕ) → words_in (get mid.state.arrays id) ≡ words_in (get old.state.arrays id)
+pub unchanged_lengths : (old mid : ServiceInner) (own : Entry) → IsEntered old mid own → effect_in (directory_of old.state) own ≡ effects.Nothing → (id : ℕ) → words_in (get mid.state.arrays id) ≡ words_in (get old.state.arrays id)
 unchanged_lengths old mid own e none id = ap (λ d. words_in (get d.arrays id)) (same_directory old mid own e none)
 
 -- a request with no effect makes no array

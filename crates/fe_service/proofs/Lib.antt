@@ -6,7 +6,7 @@ pub mod Quiet
 pub mod Remade
 pub mod Removing
 pub mod Replies
-pub mod Seating
+pub mod Attaching
 pub mod Serving
 pub mod Sizes
 pub mod Staying

@@ -6,7 +6,7 @@ use Rattle.fe_words.specs.declared.word.Word.{Word}
 use Rattle.fe_words.specs.Table.{row}
 use Rattle.fe_words.specs.declared.word.Tag.{Tag}
 use Rattle.fe_words.specs.declared.word.Tag.TheVariants.{Empty}
-use Rattle.fe_waits.specs.Waiting.{Waiter, NoneOnWord, NoneOnArray}
+use Rattle.fe_waits.specs.Waiting.{WaitingAccess, NoneOnWord, NoneOnArray}
 use Rattle.fe_waits.proofs.MemberLemmas.{none_some, some_same}
 use Rattle.fe_state.proofs.Maps.{same_or_other}
 use Rattle.fe_state.specs.Directory.{word_in, words_in}
@@ -16,12 +16,12 @@ use Rattle.fe_state.specs.declared.array.Array.{Array}
 use Rattle.fe_state.specs.declared.answer.Answer.{Answer}
 use Rattle.fe_state.specs.declared.request.Request.{Request}
 use Rattle.fe_state.specs.declared.entry.Entry.TheVariants.{Finished}
-use Rattle.fe_service.specs.Service.{Waiters, IsQuiet}
-use Rattle.fe_service.specs.within.Parts.{IsQuietAt, WaitAtTag}
+use Rattle.fe_service.specs.Service.{WaitingAccesses, IsQuiet}
+use Rattle.fe_service.specs.within.ServiceInner.{IsQuietAt, WaitAtTag}
 use Rattle.fe_service.proofs.Replies.{waits_there, other_waits, waits_by_tag}
 
 -- a request that finished leaves the words quiet that it is not about
-pub own_beside : (s : ServerState) (waiting : Waiters) (session number : ℕ) (request : Request) (answer : Answer) → IsQuiet s waiting → (b j : ℕ) → ¬ IsOwnWord (directory_of s) request b j
+pub own_beside : (s : ServerState) (waiting : WaitingAccesses) (session number : ℕ) (request : Request) (answer : Answer) → IsQuiet s waiting → (b j : ℕ) → ¬ IsOwnWord (directory_of s) request b j
     → IsQuietAt (after s (Finished session number request answer)) waiting b j
 own_beside s waiting session number request answer quiet b j other key w waits on =
     other_waits
@@ -34,20 +34,20 @@ own_beside s waiting session number request answer quiet b j other key w waits o
     (quiet key w waits)
 
 -- all that wait on a word wait where it has the tag that it has
-pub quiet_tag : (s : ServerState) (waiting : Waiters) (a i : ℕ) (word : Word) → IsQuiet s waiting → word_in (get s.arrays a) i ≡ Some word → WaitAtTag waiting a i word.tag
+pub quiet_tag : (s : ServerState) (waiting : WaitingAccesses) (a i : ℕ) (word : Word) → IsQuiet s waiting → word_in (get s.arrays a) i ≡ Some word → WaitAtTag waiting a i word.tag
 quiet_tag s waiting a i word quiet there key w waits on =
     let at = waits_there (directory_of s) w.array w.index w.op (quiet key w waits) in
     let same : at.word ≡ word = some_same (sym at.there ∙ ap (λ a. word_in (get s.arrays a) w.index) on.0 ∙ ap (λ i. word_in (get s.arrays a) i) on.1 ∙ there) in
     subst (λ (word : Word). row w.op word.tag 0 ≡ None) same (waits_by_tag w.op at.word.tag at.word.value 0 at.undefined)
 
 -- nobody waits on a word that is not there
-pub none_there : (s : ServerState) (waiting : Waiters) (a i : ℕ) → IsQuiet s waiting → word_in (get s.arrays a) i ≡ None → NoneOnWord waiting a i
+pub none_there : (s : ServerState) (waiting : WaitingAccesses) (a i : ℕ) → IsQuiet s waiting → word_in (get s.arrays a) i ≡ None → NoneOnWord waiting a i
 none_there s waiting a i quiet absent key w waits on =
     let at = waits_there (directory_of s) w.array w.index w.op (quiet key w waits) in
     none_some (sym absent ∙ sym (ap (λ a. word_in (get s.arrays a) w.index) on.0 ∙ ap (λ i. word_in (get s.arrays a) i) on.1) ∙ at.there)
 
 -- nor on an array that is not there
-pub none_on_absent : (s : ServerState) (waiting : Waiters) (a : ℕ) → IsQuiet s waiting → words_in (get s.arrays a) ≡ None → NoneOnArray waiting a
+pub none_on_absent : (s : ServerState) (waiting : WaitingAccesses) (a : ℕ) → IsQuiet s waiting → words_in (get s.arrays a) ≡ None → NoneOnArray waiting a
 none_on_absent s waiting a quiet absent key w waits same =
     let at = waits_there (directory_of s) w.array w.index w.op (quiet key w waits) in
     by_array (get s.arrays a) w.index at.word absent (sym (ap (λ a. word_in (get s.arrays a) w.index) same) ∙ at.there)
@@ -67,7 +67,7 @@ word_below None index word e = none_some e
 word_below (Some a) index word e = (length a.words, refl, index_below a.words index word e)
 
 -- a word that is quiet, and each other one
-pub quiet_there_and : (s' : ServerState) (waiting' : Waiters) (a i b j : ℕ) → IsQuietAt s' waiting' a i → (¬ ((b ≡ a) × (j ≡ i)) → IsQuietAt s' waiting' b j) → IsQuietAt s' waiting' b j
+pub quiet_there_and : (s' : ServerState) (waiting' : WaitingAccesses) (a i b j : ℕ) → IsQuietAt s' waiting' a i → (¬ ((b ≡ a) × (j ≡ i)) → IsQuietAt s' waiting' b j) → IsQuietAt s' waiting' b j
 quiet_there_and s' waiting' a i b j here beside =
     elim (same_or_other b a) as (λ _. IsQuietAt s' waiting' b j) [
       | inl array ↦
@@ -83,7 +83,7 @@ abbrev pub tag_in : Option Word → Tag
 tag_in None = Empty
 tag_in (Some word) = word.tag
 
-pub waits_at_tag : (s : ServerState) (waiting : Waiters) (a i : ℕ) → IsQuiet s waiting → WaitAtTag waiting a i (tag_in (word_in (get s.arrays a) i))
+pub waits_at_tag : (s : ServerState) (waiting : WaitingAccesses) (a i : ℕ) → IsQuiet s waiting → WaitAtTag waiting a i (tag_in (word_in (get s.arrays a) i))
 waits_at_tag s waiting a i quiet = by_word (word_in (get s.arrays a) i) refl
   where
     by_word : (here : Option Word) → word_in (get s.arrays a) i ≡ here → WaitAtTag waiting a i (tag_in here)
@@ -91,7 +91,7 @@ waits_at_tag s waiting a i quiet = by_word (word_in (get s.arrays a) i) refl
     by_word (Some word) is = quiet_tag s waiting a i word quiet is
 
 -- one that waits on an array does so below its length
-pub waits_below : (s : ServerState) (waiting : Waiters) (a n : ℕ) → IsQuiet s waiting → words_in (get s.arrays a) ≡ Some n → (key : ℕ × ℕ) (w : Waiter) → get waiting key ≡ Some w → w.array ≡ a → w.index < n
+pub waits_below : (s : ServerState) (waiting : WaitingAccesses) (a n : ℕ) → IsQuiet s waiting → words_in (get s.arrays a) ≡ Some n → (key : ℕ × ℕ) (w : WaitingAccess) → get waiting key ≡ Some w → w.array ≡ a → w.index < n
 waits_below s waiting a n quiet long key w waits same =
     let at = waits_there (directory_of s) w.array w.index w.op (quiet key w waits) in
     let (m, length, below) = word_below (get s.arrays w.array) w.index at.word at.there in

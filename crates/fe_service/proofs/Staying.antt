@@ -6,40 +6,40 @@ use Rattle.std.specs.Ordering.{nat_cmp}
 use Rattle.std.specs.FinMap.{FinMap, empty, get, get-empty, insert, remove}
 use Rattle.std.proofs.lemmas.Bool.Decides.{nat_tests}
 use Rattle.fe_waits.specs.Pair.{pair_cmp}
-use Rattle.fe_waits.specs.Waiting.{Waiter}
+use Rattle.fe_waits.specs.Waiting.{WaitingAccess}
 use Rattle.fe_waits.proofs.MemberLemmas.{key_cases, none_some, some_same, get-insert_here, get-remove_here, get-remove_other, get-insert_other, get-without_slot}
-use Rattle.fe_seats.specs.Seating.{without_session, with_holder, with_closing, is_closing, holder_of, count_of}
-use Rattle.fe_seats.specs.declared.seat.Seat.{Seat}
-use Rattle.fe_seats.proofs.SessionLemmas.{room-of_session}
+use Rattle.fe_attachments.specs.AttachmentsState.{without_session, with_holder, with_closing, is_closing, holder_of, count_of}
+use Rattle.fe_attachments.specs.declared.attachment.Attachment.{Attachment}
+use Rattle.fe_attachments.proofs.SessionLemmas.{room-of_session}
 use Rattle.fe_state.proofs.Maps.{get_inserted, get_beside, get_removed, get_left, get_retained, same_or_other}
 use Rattle.fe_state.specs.Sessions.{Session, MayRise, raised, put_session, opened, first_session}
 use Rattle.fe_state.specs.SessionEffect.{IsUsable}
 use Rattle.fe_state.specs.State.{reply}
-use Rattle.fe_service.specs.Service.{Waiters, request_of}
+use Rattle.fe_service.specs.Service.{WaitingAccesses, request_of}
 use Rattle.fe_service.specs.Events.{IsFree, MaySettle, held, left, waited, settled, closed, attached}
 use Rattle.fe_service.specs.ServiceState.{ServiceState, IsService, is_open}
 
 -- where each part is equal
-pub same_service : (s t : ServiceState) → t.state ≡ s.state → t.seats ≡ s.seats → t.waiting ≡ s.waiting → t.pending ≡ s.pending → IsService s → IsService t
-same_service s t state seats waiting pending =
-    subst IsService (λ i. record { state = sym state i; seats = sym seats i; waiting = sym waiting i; pending = sym pending i })
+pub same_service : (s t : ServiceState) → t.state ≡ s.state → t.attachments ≡ s.attachments → t.waiting ≡ s.waiting → t.pending ≡ s.pending → IsService s → IsService t
+same_service s t state attachments waiting pending =
+    subst IsService (λ i. record { state = sym state i; attachments = sym attachments i; waiting = sym waiting i; pending = sym pending i })
 
 -- where fewer wait
-pub fewer_service : (s : ServiceState) (few : Waiters) → ((key : ℕ × ℕ) (w : Waiter) → get few key ≡ Some w → get s.waiting key ≡ Some w) → IsService s → IsService (record s { waiting = few })
+pub fewer_service : (s : ServiceState) (few : WaitingAccesses) → ((key : ℕ × ℕ) (w : WaitingAccess) → get few key ≡ Some w → get s.waiting key ≡ Some w) → IsService s → IsService (record s { waiting = few })
 fewer_service s few within h = record {
   usable = λ key w waits. h.usable key w (within key w waits);
   quiet = λ key w waits. h.quiet key w (within key w waits);
-  seated = h.seated;
+  has_attachment = h.has_attachment;
 }
 
-pub within_remove : (m : Waiters) (k key : ℕ × ℕ) (w : Waiter) → get (remove m k) key ≡ Some w → get m key ≡ Some w
+pub within_remove : (m : WaitingAccesses) (k key : ℕ × ℕ) (w : WaitingAccess) → get (remove m k) key ≡ Some w → get m key ≡ Some w
 within_remove m k key w waits =
     elim (key_cases key k) as (λ _. get m key ≡ Some w) [
       | inl same ↦ none_some (sym (ap (get (remove m k)) same ∙ get-remove_here m k) ∙ waits)
       | inr other ↦ sym (get-remove_other m k key other) ∙ waits
     ]
 
-pub within_without : (m : Waiters) (session : ℕ) (key : ℕ × ℕ) (w : Waiter) → get (without_session m session) key ≡ Some w → (get m key ≡ Some w) × (key.0 ≢ session)
+pub within_without : (m : WaitingAccesses) (session : ℕ) (key : ℕ × ℕ) (w : WaitingAccess) → get (without_session m session) key ≡ Some w → (get m key ≡ Some w) × (key.0 ≢ session)
 within_without m session key w waits = by_test (key.0 == session) refl
   where
     by_test : (b : Bool) → (key.0 == session) ≡ b → (get m key ≡ Some w) × (key.0 ≢ session)
@@ -52,51 +52,51 @@ within_without m session key w waits = by_test (key.0 == session) refl
 nowhere : {P : Type 0} → false ≡ true → P
 nowhere e = cc
 
--- the seats that are open
-pub open_held : (seats : FinMap nat_cmp Seat) (session : ℕ) (holder : Option ℕ) → IsSome (get seats session) → (other : ℕ) → is_open (with_holder seats session holder) other ≡ is_open seats other
-open_held seats session holder seated other =
-    elim (same_or_other other session) as (λ _. is_open (with_holder seats session holder) other ≡ is_open seats other) [
+-- the attachments that are open
+pub open_held : (attachments : FinMap nat_cmp Attachment) (session : ℕ) (holder : Option ℕ) → IsSome (get attachments session) → (other : ℕ) → is_open (with_holder attachments session holder) other ≡ is_open attachments other
+open_held attachments session holder has_attachment other =
+    elim (same_or_other other session) as (λ _. is_open (with_holder attachments session holder) other ≡ is_open attachments other) [
       | inl same ↦
-          ap (is_open (with_holder seats session holder)) same
-          ∙ ap (λ (o : Option Seat). option_map_or (λ seat. not seat.closing) o false) (get_inserted seats session (record { holder = holder; closing = is_closing seats session }))
-          ∙ by_seat (get seats session) refl seated
-          ∙ ap (is_open seats) (sym same)
-      | inr differs ↦ ap (λ (o : Option Seat). option_map_or (λ seat. not seat.closing) o false) (get_beside seats session (record { holder = holder; closing = is_closing seats session }) other differs)
+          ap (is_open (with_holder attachments session holder)) same
+          ∙ ap (λ (o : Option Attachment). option_map_or (λ attachment. not attachment.closing) o false) (get_inserted attachments session (record { holder = holder; closing = is_closing attachments session }))
+          ∙ by_attachment (get attachments session) refl has_attachment
+          ∙ ap (is_open attachments) (sym same)
+      | inr differs ↦ ap (λ (o : Option Attachment). option_map_or (λ attachment. not attachment.closing) o false) (get_beside attachments session (record { holder = holder; closing = is_closing attachments session }) other differs)
     ]
   where
-    by_seat : (here : Option Seat) → get seats session ≡ here → IsSome here → not (is_closing seats session) ≡ is_open seats session
-    by_seat None is some = nowhere some
-    by_seat (Some seat) is some = ap (λ o. not (option_map_or (λ seat. seat.closing) o false)) is ∙ sym (ap (λ o. option_map_or (λ seat. not seat.closing) o false) is)
+    by_attachment : (here : Option Attachment) → get attachments session ≡ here → IsSome here → not (is_closing attachments session) ≡ is_open attachments session
+    by_attachment None is some = nowhere some
+    by_attachment (Some attachment) is some = ap (λ o. not (option_map_or (λ attachment. attachment.closing) o false)) is ∙ sym (ap (λ o. option_map_or (λ attachment. not attachment.closing) o false) is)
 
-pub held_service : (s : ServiceState) (session : ℕ) (holder : Option ℕ) → IsSome (get s.seats session) → IsService s → IsService (held s session holder)
-held_service s session holder seated h = record {
+pub held_service : (s : ServiceState) (session : ℕ) (holder : Option ℕ) → IsSome (get s.attachments session) → IsService s → IsService (held s session holder)
+held_service s session holder has_attachment h = record {
   usable = h.usable;
   quiet = h.quiet;
-  seated = λ other. h.seated other ∙ sym (open_held s.seats session holder seated other);
+  has_attachment = λ other. h.has_attachment other ∙ sym (open_held s.attachments session holder has_attachment other);
 }
 
 -- a session that is closing is not open
-closing_shut : (here : Option Seat) → option_map_or (λ seat. seat.closing) here false ≡ true → option_map_or (λ seat. not seat.closing) here false ≡ false
+closing_shut : (here : Option Attachment) → option_map_or (λ attachment. attachment.closing) here false ≡ true → option_map_or (λ attachment. not attachment.closing) here false ≡ false
 closing_shut None e = refl
-closing_shut (Some seat) e = ap not e
+closing_shut (Some attachment) e = ap not e
 
-pub left_service : (s : ServiceState) (session : ℕ) → is_closing s.seats session ≡ true → IsService s → IsService (left s session)
+pub left_service : (s : ServiceState) (session : ℕ) → is_closing s.attachments session ≡ true → IsService s → IsService (left s session)
 left_service s session closing h = record {
   usable = h.usable;
   quiet = h.quiet;
-  seated = λ other.
-      elim (same_or_other other session) as (λ _. is_some (get s.state.sessions other) ≡ is_open (remove s.seats session) other) [
+  has_attachment = λ other.
+      elim (same_or_other other session) as (λ _. is_some (get s.state.sessions other) ≡ is_open (remove s.attachments session) other) [
         | inl same ↦
-            h.seated other
-            ∙ ap (is_open s.seats) same
-            ∙ closing_shut (get s.seats session) closing
-            ∙ sym (ap (λ (o : Option Seat). option_map_or (λ seat. not seat.closing) o false) (get_removed s.seats session))
-            ∙ ap (is_open (remove s.seats session)) (sym same)
-        | inr differs ↦ h.seated other ∙ sym (ap (λ (o : Option Seat). option_map_or (λ seat. not seat.closing) o false) (get_left s.seats session other differs))
+            h.has_attachment other
+            ∙ ap (is_open s.attachments) same
+            ∙ closing_shut (get s.attachments session) closing
+            ∙ sym (ap (λ (o : Option Attachment). option_map_or (λ attachment. not attachment.closing) o false) (get_removed s.attachments session))
+            ∙ ap (is_open (remove s.attachments session)) (sym same)
+        | inr differs ↦ h.has_attachment other ∙ sym (ap (λ (o : Option Attachment). option_map_or (λ attachment. not attachment.closing) o false) (get_left s.attachments session other differs))
       ];
 }
 
-pub waited_service : (s : ServiceState) (session number : ℕ) (waiter : Waiter) → IsSomeAnd (get s.state.sessions session) (λ x. IsUsable x number) → reply s.state (request_of waiter) ≡ None → IsService s → IsService (waited s session number waiter)
+pub waited_service : (s : ServiceState) (session number : ℕ) (waiter : WaitingAccess) → IsSomeAnd (get s.state.sessions session) (λ x. IsUsable x number) → reply s.state (request_of waiter) ≡ None → IsService s → IsService (waited s session number waiter)
 waited_service s session number waiter usable idle h = record {
   usable = λ key w waits.
       elim (key_cases key (session, number)) as (λ _. IsSomeAnd (get s.state.sessions key.0) (λ x. IsUsable x key.1)) [
@@ -107,10 +107,10 @@ waited_service s session number waiter usable idle h = record {
       elim (key_cases key (session, number)) as (λ _. reply s.state (request_of w) ≡ None) [
         | inl same ↦
             let is : waiter ≡ w = some_same (sym (get-insert_here s.waiting (session, number) waiter) ∙ sym (ap (get (insert s.waiting (session, number) waiter)) same) ∙ waits) in
-            subst (λ (w : Waiter). reply s.state (request_of w) ≡ None) is idle
+            subst (λ (w : WaitingAccess). reply s.state (request_of w) ≡ None) is idle
         | inr other ↦ h.quiet key w (sym (get-insert_other s.waiting (session, number) waiter key other) ∙ waits)
       ];
-  seated = h.seated;
+  has_attachment = h.has_attachment;
 }
 
 -- a session that changes stays where it is
@@ -142,7 +142,7 @@ settled_service s session floor may h = record {
         | inr other ↦ subst (λ (o : Option Session). IsSomeAnd o (λ x. IsUsable x key.1)) (sym (put_beside (option_map (λ x. raised x floor) (get s.state.sessions session)) key.0 other)) (h.usable key w waits)
       ];
   quiet = h.quiet;
-  seated = λ other. present_put s.state.sessions session (λ x. raised x floor) (get s.state.sessions session) refl other ∙ h.seated other;
+  has_attachment = λ other. present_put s.state.sessions session (λ x. raised x floor) (get s.state.sessions session) refl other ∙ h.has_attachment other;
 }
   where
     put_beside : (new : Option Session) (other : ℕ) → other ≢ session → get (put_session s.state.sessions session new) other ≡ get s.state.sessions other
@@ -165,17 +165,17 @@ closed_service s session h = record {
       let (was, other) = within_without s.waiting session key w waits in
       subst (λ (o : Option Session). IsSomeAnd o (λ x. IsUsable x key.1)) (sym (get_left s.state.sessions session key.0 other)) (h.usable key w was);
   quiet = λ key w waits. h.quiet key w (within_without s.waiting session key w waits).0;
-  seated = λ other.
-      elim (same_or_other other session) as (λ _. is_some (get (remove s.state.sessions session) other) ≡ is_open (with_closing s.seats session) other) [
+  has_attachment = λ other.
+      elim (same_or_other other session) as (λ _. is_some (get (remove s.state.sessions session) other) ≡ is_open (with_closing s.attachments session) other) [
         | inl same ↦
             ap (λ n. is_some (get (remove s.state.sessions session) n)) same
             ∙ ap is_some (get_removed s.state.sessions session)
-            ∙ sym (ap (λ (o : Option Seat). option_map_or (λ seat. not seat.closing) o false) (get_inserted s.seats session (record { holder = holder_of s.seats session; closing = true })))
-            ∙ ap (is_open (with_closing s.seats session)) (sym same)
+            ∙ sym (ap (λ (o : Option Attachment). option_map_or (λ attachment. not attachment.closing) o false) (get_inserted s.attachments session (record { holder = holder_of s.attachments session; closing = true })))
+            ∙ ap (is_open (with_closing s.attachments session)) (sym same)
         | inr differs ↦
             ap is_some (get_left s.state.sessions session other differs)
-            ∙ h.seated other
-            ∙ sym (ap (λ (o : Option Seat). option_map_or (λ seat. not seat.closing) o false) (get_beside s.seats session (record { holder = holder_of s.seats session; closing = true }) other differs))
+            ∙ h.has_attachment other
+            ∙ sym (ap (λ (o : Option Attachment). option_map_or (λ attachment. not attachment.closing) o false) (get_beside s.attachments session (record { holder = holder_of s.attachments session; closing = true }) other differs))
       ];
 }
 
@@ -213,17 +213,17 @@ attached_service s session conn h = record {
         | inr other ↦ subst (λ (o : Option Session). IsSomeAnd o (λ x. IsUsable x key.1)) (sym (opened_beside s.state.sessions session key.0 other)) (h.usable key w waits)
       ];
   quiet = h.quiet;
-  seated = λ other.
-      elim (same_or_other other session) as (λ _. is_some (get (opened s.state.sessions session) other) ≡ is_open (insert s.seats session (record { holder = Some conn; closing = false })) other) [
+  has_attachment = λ other.
+      elim (same_or_other other session) as (λ _. is_some (get (opened s.state.sessions session) other) ≡ is_open (insert s.attachments session (record { holder = Some conn; closing = false })) other) [
         | inl same ↦
             ap (λ n. is_some (get (opened s.state.sessions session) n)) same
             ∙ opened_here s.state.sessions session
-            ∙ sym (ap (λ (o : Option Seat). option_map_or (λ seat. not seat.closing) o false) (get_inserted s.seats session (record { holder = Some conn; closing = false })))
-            ∙ ap (is_open (insert s.seats session (record { holder = Some conn; closing = false }))) (sym same)
+            ∙ sym (ap (λ (o : Option Attachment). option_map_or (λ attachment. not attachment.closing) o false) (get_inserted s.attachments session (record { holder = Some conn; closing = false })))
+            ∙ ap (is_open (insert s.attachments session (record { holder = Some conn; closing = false }))) (sym same)
         | inr differs ↦
             ap is_some (opened_beside s.state.sessions session other differs)
-            ∙ h.seated other
-            ∙ sym (ap (λ (o : Option Seat). option_map_or (λ seat. not seat.closing) o false) (get_beside s.seats session (record { holder = Some conn; closing = false }) other differs))
+            ∙ h.has_attachment other
+            ∙ sym (ap (λ (o : Option Attachment). option_map_or (λ attachment. not attachment.closing) o false) (get_beside s.attachments session (record { holder = Some conn; closing = false }) other differs))
       ];
 }
 
@@ -245,5 +245,5 @@ room_for s session number h free = by_session (get s.state.sessions session) ref
         usable.in_window.not_beyond
 
 -- nobody waits where nothing does
-pub none_waiting : {P : Type 0} (m : Waiters) → m ≡ empty → (key : ℕ × ℕ) (w : Waiter) → get m key ≡ Some w → P
+pub none_waiting : {P : Type 0} (m : WaitingAccesses) → m ≡ empty → (key : ℕ × ℕ) (w : WaitingAccess) → get m key ≡ Some w → P
 none_waiting m none key w waits = none_some (sym (get-empty pair_cmp key) ∙ sym (ap (λ m. get m key) none) ∙ waits)

@@ -3,9 +3,9 @@ use Rattle.std.specs.Prelude.{◌≡◌, ℕ, ◌+◌, ◌<◌, ◌≤◌, List,
 use Rattle.std.specs.Option.{option_map, option_map_or}
 use Rattle.std.specs.Ordering.{nat_cmp}
 use Rattle.std.specs.FinMap.{FinMap, get, insert, remove, len}
-use Rattle.fe_waits.specs.Waiting.{Waiter}
-use Rattle.fe_seats.specs.Seating.{without_session, with_holder, with_closing, is_closing, free_seat}
-use Rattle.fe_seats.specs.declared.seat.Seat.{Seat}
+use Rattle.fe_waits.specs.Waiting.{WaitingAccess}
+use Rattle.fe_attachments.specs.AttachmentsState.{without_session, with_holder, with_closing, is_closing, free_attachment}
+use Rattle.fe_attachments.specs.declared.attachment.Attachment.{Attachment}
 use Rattle.fe_state.specs.Sessions.{Session, MayRise}
 use Rattle.fe_state.specs.SessionEffect.{IsUsable}
 use Rattle.fe_state.specs.State.{after}
@@ -29,7 +29,7 @@ pub record HasRoom (s : ServiceState) : Type 0 where
 pub record Completes (old new : ServiceState) (own : Entry) (served : List Entry) : Type 0 where
   pub serves : Serves (after old.state own) old.waiting served new.state new.waiting
   pub pending : new.pending ≡ old.pending ++ own ∷ served
-  pub seats : new.seats ≡ old.seats
+  pub attachments : new.attachments ≡ old.attachments
 
 -- an entry that is made
 abbrev pub entered : ServiceState → Entry → ServiceState
@@ -42,7 +42,7 @@ floor_of s session = option_map_or (λ x. x.floor) (get s.state.sessions session
 -- the service after a connection attached a session
 abbrev pub attached : ServiceState → ℕ → ℕ → ServiceState
 attached s session conn =
-    record (entered s (Attached session (floor_of s session))) { seats = insert s.seats session (record { holder = Some conn; closing = false }) }
+    record (entered s (Attached session (floor_of s session))) { attachments = insert s.attachments session (record { holder = Some conn; closing = false }) }
 
 -- the service after a session's floor rose
 abbrev pub settled : ServiceState → ℕ → ℕ → ServiceState
@@ -50,7 +50,7 @@ settled s session floor = entered s (Settled session floor)
 
 -- the service after a session was closed: nothing of it waits, and it is closing
 abbrev pub closed : ServiceState → ℕ → ServiceState
-closed s session = record (entered s (Closed session)) { waiting = without_session s.waiting session; seats = with_closing s.seats session }
+closed s session = record (entered s (Closed session)) { waiting = without_session s.waiting session; attachments = with_closing s.attachments session }
 
 -- the service after what waits of a session was withdrawn, all of it or one request
 abbrev pub withdrawn : ServiceState → ℕ → ServiceState
@@ -61,26 +61,26 @@ cancelled s session number = record s { waiting = remove s.waiting (session, num
 
 -- the service after a connection got a session, or lost it
 abbrev pub held : ServiceState → ℕ → Option ℕ → ServiceState
-held s session holder = record s { seats = with_holder s.seats session holder }
+held s session holder = record s { attachments = with_holder s.attachments session holder }
 
 -- the service after a session that is closing left
 abbrev pub left : ServiceState → ℕ → ServiceState
-left s session = record s { seats = remove s.seats session }
+left s session = record s { attachments = remove s.attachments session }
 
 -- the service after a request began to wait
-abbrev pub waited : ServiceState → ℕ → ℕ → Waiter → ServiceState
+abbrev pub waited : ServiceState → ℕ → ℕ → WaitingAccess → ServiceState
 waited s session number waiter = record s { waiting = insert s.waiting (session, number) waiter }
 
 -- a session's requests wait at its new floor or above, to which it may rise
 pub record MaySettle (s : ServiceState) (session floor : ℕ) : Type 0 where
   pub rises : IsSomeAnd (get s.state.sessions session) (λ x. MayRise x.floor floor)
-  pub above : (number : ℕ) (w : Waiter) → get s.waiting (session, number) ≡ Some w → floor ≤ number
+  pub above : (number : ℕ) (w : WaitingAccess) → get s.waiting (session, number) ≡ Some w → floor ≤ number
 
--- a session has a seat, or there is one for it, and it is not closing
-pub record MaySit (s : ServiceState) (session : ℕ) : Type 0 where
-  pub not_closing : is_closing s.seats session ≡ false
-  pub seat : get s.seats session ≡ None → len s.seats < most_sessions
+-- a session has an attachment, or there is room for one, and it is not closing
+pub record IsAttachable (s : ServiceState) (session : ℕ) : Type 0 where
+  pub not_closing : is_closing s.attachments session ≡ false
+  pub attachment : get s.attachments session ≡ None → len s.attachments < most_sessions
 
--- one seat for each session of a state, which nobody has
-abbrev pub IsSeated : FinMap nat_cmp Session → FinMap nat_cmp Seat → Type 0
-IsSeated sessions seats = (session : ℕ) → get seats session ≡ option_map (λ _. free_seat) (get sessions session)
+-- one attachment for each session of a state, which nobody has
+abbrev pub AreFreeAttachments : FinMap nat_cmp Session → FinMap nat_cmp Attachment → Type 0
+AreFreeAttachments sessions attachments = (session : ℕ) → get attachments session ≡ option_map (λ _. free_attachment) (get sessions session)

@@ -3,10 +3,10 @@ use Rattle.std.specs.Prelude.{◌+◌, ◌≤◌, List, length}
 use Rattle.fe_state.specs.State.{ServerState}
 use Rattle.fe_state.specs.History.{AreLegal}
 use Rattle.fe_state.specs.declared.entry.Entry.{Entry}
-use Rattle.fe_service.specs.Service.{Waiters, AreUsable, Serves}
+use Rattle.fe_service.specs.Service.{WaitingAccesses, AreUsable, Serves}
 use Rattle.fe_state.specs.Limits.{greatest_place}
 
 -- Where there is a place for each entry of a service, they are legal one after the other.
 abbrev pub ServesLegally : Type 0
-ServesLegally = (s s' : ServerState) (waiting waiting' : Waiters) (es : List Entry)
+ServesLegally = (s s' : ServerState) (waiting waiting' : WaitingAccesses) (es : List Entry)
     → AreUsable s waiting → s.place + length es ≤ greatest_place → Serves s waiting es s' waiting' → AreLegal s es

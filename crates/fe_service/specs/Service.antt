@@ -2,7 +2,7 @@
 use Rattle.std.specs.Prelude.{◌≡◌, ℕ, Some, None, IsSome, IsSomeAnd, false, List, [], ◌∷◌}
 use Rattle.std.specs.FinMap.{FinMap, get, remove}
 use Rattle.fe_waits.specs.Pair.{pair_cmp}
-use Rattle.fe_waits.specs.Waiting.{Waiter}
+use Rattle.fe_waits.specs.Waiting.{WaitingAccess}
 use Rattle.fe_state.specs.State.{ServerState, reply, after, after_all}
 use Rattle.fe_state.specs.SessionEffect.{IsUsable}
 use Rattle.fe_state.specs.declared.answer.Answer.{Answer}
@@ -12,54 +12,54 @@ use Rattle.fe_state.specs.declared.entry.Entry.{Entry}
 use Rattle.fe_state.specs.declared.entry.Entry.TheVariants.{Attached, Closed, Settled, Finished}
 
 -- what waits, by session and number
-abbrev pub Waiters : Type 0
-Waiters = FinMap pair_cmp Waiter
+abbrev pub WaitingAccesses : Type 0
+WaitingAccesses = FinMap pair_cmp WaitingAccess
 
 -- the request of one that waits: one that must not wait never does
-abbrev pub request_of : Waiter → Request
+abbrev pub request_of : WaitingAccess → Request
 request_of w = Access w.array w.index w.op false
 
 -- one that waits may be served where its request has a reply
-abbrev pub IsEligible : ServerState → Waiter → Type 0
+abbrev pub IsEligible : ServerState → WaitingAccess → Type 0
 IsEligible s w = IsSome (reply s (request_of w))
 
 -- no one that waits may be served
-abbrev pub IsQuiet : ServerState → Waiters → Type 0
-IsQuiet s waiting = (key : ℕ × ℕ) (w : Waiter) → get waiting key ≡ Some w → reply s (request_of w) ≡ None
+abbrev pub IsQuiet : ServerState → WaitingAccesses → Type 0
+IsQuiet s waiting = (key : ℕ × ℕ) (w : WaitingAccess) → get waiting key ≡ Some w → reply s (request_of w) ≡ None
 
 -- each waiting request has its session in the state, and its number is in the session's window with nothing kept
-abbrev pub AreUsable : ServerState → Waiters → Type 0
-AreUsable s waiting = (key : ℕ × ℕ) (w : Waiter) → get waiting key ≡ Some w → IsSomeAnd (get s.sessions key.0) (λ x. IsUsable x key.1)
+abbrev pub AreUsable : ServerState → WaitingAccesses → Type 0
+AreUsable s waiting = (key : ℕ × ℕ) (w : WaitingAccess) → get waiting key ≡ Some w → IsSomeAnd (get s.sessions key.0) (λ x. IsUsable x key.1)
 
 -- an entry that serves one that waits, whichever may be served: it finishes with its reply
-pub record IsTurn (s : ServerState) (waiting : Waiters) (e : Entry) : Type 0 where
+pub record IsTurn (s : ServerState) (waiting : WaitingAccesses) (e : Entry) : Type 0 where
   pub session : ℕ
   pub number : ℕ
-  pub waiter : Waiter
+  pub waiter : WaitingAccess
   pub answer : Answer
   pub waits : get waiting (session, number) ≡ Some waiter
   pub answered : reply s (request_of waiter) ≡ Some answer
   pub entry : e ≡ Finished session number (request_of waiter) answer
 
 -- what waits without the request that an entry finishes
-abbrev pub without_turn : Waiters → Entry → Waiters
+abbrev pub without_turn : WaitingAccesses → Entry → WaitingAccesses
 without_turn waiting (Attached session floor) = waiting
 without_turn waiting (Closed session) = waiting
 without_turn waiting (Settled session floor) = waiting
 without_turn waiting (Finished session number request answer) = remove waiting (session, number)
 
 -- the same for entries, the first of them first
-abbrev pub without_turns : Waiters → List Entry → Waiters
+abbrev pub without_turns : WaitingAccesses → List Entry → WaitingAccesses
 without_turns waiting [] = waiting
 without_turns waiting (e ∷ es) = without_turns (without_turn waiting e) es
 
 -- entries that serve one after the other
-abbrev pub AreTurns : ServerState → Waiters → List Entry → Type 0
+abbrev pub AreTurns : ServerState → WaitingAccesses → List Entry → Type 0
 AreTurns s waiting [] = Unit {0}
 AreTurns s waiting (e ∷ es) = IsTurn s waiting e × AreTurns (after s e) (without_turn waiting e) es
 
 -- The service of what waits: one after the other is served until none is left that may be, whoever comes first.
-pub record Serves (s : ServerState) (waiting : Waiters) (es : List Entry) (s' : ServerState) (waiting' : Waiters) : Type 0 where
+pub record Serves (s : ServerState) (waiting : WaitingAccesses) (es : List Entry) (s' : ServerState) (waiting' : WaitingAccesses) : Type 0 where
   pub turns : AreTurns s waiting es
   pub state : s' ≡ after_all s es
   pub rest : waiting' ≡ without_turns waiting es

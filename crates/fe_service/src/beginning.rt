@@ -1,37 +1,37 @@
 ghost use Rattle.std.specs.Prelude.{◌≡◌, ℕ, IfOk};
 ghost use Rattle.std.specs.FinMap.{get, empty};
 ghost use Rattle.fe_state.specs.Directory.{words_in};
-ghost use Rattle.fe_service.specs.Events.{IsSeated};
+ghost use Rattle.fe_service.specs.Events.{AreFreeAttachments};
 
-use fe_seats::Seats;
+use fe_attachments::Attachments;
 use fe_state::State;
 use std::alloc::AllocError;
 
-// Each session of the state takes a seat.
-pub(crate) fn seat_sessions(state: &State, seats: &mut Seats)
-    requires { seats.old.seats ≡ empty }
-    ensures seats { IsSeated state.now.sessions seats.new.seats }
-    ensures waiting { seats.new.waiting ≡ seats.old.waiting }
-    ensures arrays { seats.new.arrays ≡ seats.old.arrays }
+// Gives each session of the state its attachment.
+pub(crate) fn begin_sessions(state: &State, attachments: &mut Attachments)
+    requires { attachments.old.attachments ≡ empty }
+    ensures attachments { AreFreeAttachments state.now.sessions attachments.new.attachments }
+    ensures waiting { attachments.new.waiting ≡ attachments.old.waiting }
+    ensures arrays { attachments.new.arrays ≡ attachments.old.arrays }
 {
     let _ = state.place();
     for k in 0..state.session_count() {
         let session = state.session_at(k).unwrap();
-        seats.sit(session);
+        attachments.begin_session(session);
     }
 }
 
 // Each array of the state comes on the waiting lists, with its length.
-pub(crate) fn add_arrays(state: &State, seats: &mut Seats) -> Result<(), AllocError>
-    requires { seats.old.arrays ≡ empty }
-    ensures arrays { IfOk result (λ _. (id : ℕ) → get seats.new.arrays id ≡ words_in (get state.now.arrays id)) }
-    ensures waiting { seats.new.waiting ≡ seats.old.waiting }
-    ensures seats { seats.new.seats ≡ seats.old.seats }
+pub(crate) fn add_arrays(state: &State, attachments: &mut Attachments) -> Result<(), AllocError>
+    requires { attachments.old.arrays ≡ empty }
+    ensures arrays { IfOk result (λ _. (id : ℕ) → get attachments.new.arrays id ≡ words_in (get state.now.arrays id)) }
+    ensures waiting { attachments.new.waiting ≡ attachments.old.waiting }
+    ensures attachments { attachments.new.attachments ≡ attachments.old.attachments }
 {
     let _ = state.place();
     for k in 0..state.array_count() {
         let (id, _, words) = state.array_entry(k).unwrap();
-        seats.add_array(id, words.len() as u32)?;
+        attachments.add_array(id, words.len() as u32)?;
     }
     Ok(())
 }

@@ -32,16 +32,16 @@ impl Service {
             × Completes self.old self.new (Finished session number request answer) served
             × (result ≡ 1 + length_of served) }
     {
-        self.parts.limits();
+        self.inner.limits();
         let entry = Entry::Finished {
             session,
             number,
             request,
             answer,
         };
-        self.parts
+        self.inner
             .enter(entry, Effect::Write { array, index, word });
-        1 + self.parts.serve_word(array, index)
+        1 + self.inner.serve_word(array, index)
     }
 
     /// Finishes a removal, and serves those that wait on the array's words. It counts the entries.
@@ -60,17 +60,17 @@ impl Service {
             × Completes self.old self.new (Finished session number (requests.Remove array) answer) served
             × (result ≡ 1 + length_of served) }
     {
-        self.parts.limits();
-        let length = self.parts.state.length(array).unwrap();
+        self.inner.limits();
+        let length = self.inner.state.length(array).unwrap();
         let entry = Entry::Finished {
             session,
             number,
             request: Request::Remove { array },
             answer,
         };
-        self.parts.enter(entry, Effect::Remove { array });
-        let served = self.parts.serve_array(array, length);
-        self.parts.seats.drop_array(array);
+        self.inner.enter(entry, Effect::Remove { array });
+        let served = self.inner.serve_array(array, length);
+        self.inner.attachments.drop_array(array);
         1 + served
     }
 
@@ -94,7 +94,7 @@ impl Service {
             request,
             answer,
         };
-        self.parts.enter(entry, Effect::Nothing);
+        self.inner.enter(entry, Effect::Nothing);
     }
 
     /// Makes an array. Fails only if memory runs out; then nothing has changed.
@@ -115,8 +115,8 @@ impl Service {
             (Finished session number (requests.Create name length tag) (answers.Array id length)) []) }
         ensures err { OnErr result (self.new ≡ self.old) }
     {
-        self.parts.limits();
-        self.parts.seats.add_array(id, length)?;
+        self.inner.limits();
+        self.inner.attachments.add_array(id, length)?;
         let entry = Entry::Finished {
             session,
             number,
@@ -124,11 +124,11 @@ impl Service {
             answer: Answer::Array { id, length },
         };
         let made = entry;
-        if let Err(fault) = self.parts.state.advance(made, Effect::Create) {
-            self.parts.seats.drop_array(id);
+        if let Err(fault) = self.inner.state.advance(made, Effect::Create) {
+            self.inner.attachments.drop_array(id);
             return Err(fault);
         }
-        self.parts.pending.push(entry);
+        self.inner.pending.push(entry);
         Ok(())
     }
 }

@@ -4,8 +4,8 @@
 mod beginning;
 mod finishing;
 mod laws;
-mod parts;
 mod service;
+mod service_inner;
 
 pub use laws::service_is_legal;
 pub use service::Service;

@@ -6,31 +6,32 @@ ghost use Rattle.fe_state.specs.State.{directory_of, reply, MakesArray};
 ghost use Rattle.fe_state.specs.declared.entry.Entry.{Entry};
 ghost use Rattle.fe_state.specs.declared.entry.Entry.TheVariants.{Finished};
 ghost use Rattle.fe_state.specs.declared.request.Request.TheVariants as requests;
-ghost use Rattle.fe_seats.specs.Seating.{count_of, is_closing};
+ghost use Rattle.fe_attachments.specs.AttachmentsState.{count_of, is_closing};
 ghost use Rattle.fe_service.specs.ServiceState.{IsService};
-ghost use Rattle.fe_service.specs.Events.{IsFree, HasRoom, MaySettle, MaySit, Completes, IsSeated, floor_of, attached, settled, closed, withdrawn, cancelled, held, left, waited};
+ghost use Rattle.fe_service.specs.Events.{IsFree, HasRoom, MaySettle, IsAttachable, Completes, AreFreeAttachments, floor_of, attached, settled, closed, withdrawn, cancelled, held, left, waited};
 ghost use Rattle.fe_state.specs.Limits.{most_batch_entries};
 
-use crate::beginning::{add_arrays, seat_sessions};
-use crate::parts::Parts;
-use fe_seats::Seats;
+use crate::beginning::{add_arrays, begin_sessions};
+use crate::service_inner::ServiceInner;
+use fe_attachments::Attachments;
 use fe_state::{Answer, Effect, Entries, Entry, Request, State};
 use fe_words::Op;
 use std::alloc::{AllocError, Global};
 use std::marker::Model;
 use std::mem;
 
-/// The state of the server with the sessions' seats, what waits, and the entries that were made and not yet taken.
+/// The state of the server with the sessions' attachments, what waits, and the entries that were made and not yet
+/// taken.
 ///
 /// After each call no waiting request may be served. Only `new` and a request that makes an array allocate memory.
 pub struct Service {
-    pub(crate) parts: Parts,
+    pub(crate) inner: ServiceInner,
 }
 
 impl Drop for Service {
     fn drop(self) {
-        let Service { parts } = self;
-        drop(parts);
+        let Service { inner } = self;
+        drop(inner);
     }
 }
 
@@ -41,30 +42,30 @@ impl Model for Service {
 
     ghost coded = { service_code };
 
-    ghost view = { λ s. service_of s.parts };
+    ghost view = { λ s. service_of s.inner };
 
-    ghost invariant = { λ s. AreSoundParts s.parts };
+    ghost invariant = { λ s. AreSoundParts s.inner };
 }
 
 impl Service {
-    /// The service of a state in which nothing waits. Allocates the memory for all seats, waiting lists and entries;
-    /// fails only if memory runs out.
+    /// The service of a state in which nothing waits. Allocates the memory for all attachments, waiting lists and
+    /// entries; fails only if memory runs out.
     pub fn new(alloc: Global, state: State) -> Result<Service, AllocError>
         ensures state { IfOk result (λ service. service.state ≡ state) }
-        ensures seats { IfOk result (λ service. IsSeated state.sessions service.seats) }
+        ensures attachments { IfOk result (λ service. AreFreeAttachments state.sessions service.attachments) }
         ensures waiting { IfOk result (λ service. service.waiting ≡ empty) }
         ensures pending { IfOk result (λ service. service.pending ≡ []) }
     {
         let pending = Entries::new(alloc)?;
-        let mut seats = Seats::new(alloc)?;
-        seat_sessions(&state, &mut seats);
-        add_arrays(&state, &mut seats)?;
-        let parts = Parts {
+        let mut attachments = Attachments::new(alloc)?;
+        begin_sessions(&state, &mut attachments);
+        add_arrays(&state, &mut attachments)?;
+        let inner = ServiceInner {
             state,
-            seats,
+            attachments,
             pending,
         };
-        Ok(Service { parts })
+        Ok(Service { inner })
     }
 
     /// The state. No waiting request can be served in it.
@@ -73,16 +74,16 @@ impl Service {
         ensures service { IsService self.now }
         ensures limits { states.IsWithinLimits self.now.state }
     {
-        self.parts.limits();
-        &self.parts.state
+        self.inner.limits();
+        &self.inner.state
     }
 
-    /// The seats of the sessions, and the requests that wait.
-    pub fn seats(&self) -> &Seats
-        ensures seats { result.now.seats ≡ self.now.seats }
+    /// The attachments of the sessions, and the requests that wait.
+    pub fn attachments(&self) -> &Attachments
+        ensures attachments { result.now.attachments ≡ self.now.attachments }
         ensures waiting { result.now.waiting ≡ self.now.waiting }
     {
-        &self.parts.seats
+        &self.inner.attachments
     }
 
     /// Looks for a session and the array of a request, so that the look-ups of them that follow take one comparison
@@ -90,9 +91,9 @@ impl Service {
     pub fn aim(&mut self, session: u64, request: &Request)
         ensures { self.new ≡ self.old }
     {
-        // Mostly the same sessions are in the state and have seats.
-        let guess = self.parts.seats.aim(session);
-        self.parts.state.aim(session, guess, request);
+        // Mostly the same sessions are in the state and have attachments.
+        let guess = self.inner.attachments.aim(session);
+        self.inner.state.aim(session, guess, request);
     }
 
     /// How many entries were made and not yet taken, 0 to `BATCH_ENTRIES`.
@@ -100,14 +101,14 @@ impl Service {
         ensures count { result ≡ length self.now.pending }
         ensures few { result ≤ most_batch_entries }
     {
-        self.parts.pending.as_slice().len()
+        self.inner.pending.as_slice().len()
     }
 
     // The least usable number of a session, 1 where it begins.
     fn floor(&self, session: u64) -> u64
         ensures { result ≡ floor_of self.now session }
     {
-        match self.parts.state.floor(session) {
+        match self.inner.state.floor(session) {
             Some(floor) => floor,
             None => 1,
         }
@@ -115,14 +116,14 @@ impl Service {
 
     /// Attaches a session to a connection, with an entry. A new session begins.
     pub fn attach(&mut self, session: u64, conn: u64)
-        requires sit { MaySit self.old session }
+        requires attachable { IsAttachable self.old session }
         requires room { HasRoom self.old }
         ensures { self.new ≡ attached self.old session conn }
     {
-        self.parts.limits();
+        self.inner.limits();
         let floor = self.floor(session);
-        self.parts.take_seat(session, conn);
-        self.parts
+        self.inner.take_attachment(session, conn);
+        self.inner
             .enter(Entry::Attached { session, floor }, Effect::Nothing);
     }
 
@@ -132,7 +133,7 @@ impl Service {
         requires room { HasRoom self.old }
         ensures { self.new ≡ settled self.old session floor }
     {
-        self.parts
+        self.inner
             .enter(Entry::Settled { session, floor }, Effect::Nothing);
     }
 
@@ -144,9 +145,9 @@ impl Service {
         ensures count { result ≡ count_of self.old.waiting session }
         ensures closed { self.new ≡ closed self.old session }
     {
-        let count = self.parts.seats.drop_session(session);
-        self.parts.seats.set_closing(session);
-        self.parts.enter(Entry::Closed { session }, Effect::Nothing);
+        let count = self.inner.attachments.drop_session(session);
+        self.inner.attachments.set_closing(session);
+        self.inner.enter(Entry::Closed { session }, Effect::Nothing);
         count
     }
 
@@ -155,7 +156,7 @@ impl Service {
         ensures count { result ≡ count_of self.old.waiting session }
         ensures withdrawn { self.new ≡ withdrawn self.old session }
     {
-        self.parts.seats.drop_session(session)
+        self.inner.attachments.drop_session(session)
     }
 
     /// Withdraws the waiting request of a session's number. Returns whether one waited.
@@ -163,23 +164,23 @@ impl Service {
         ensures waited { result ≡ is_some (get self.old.waiting (session, number)) }
         ensures cancelled { self.new ≡ cancelled self.old session number }
     {
-        self.parts.seats.cancel(session, number).is_some()
+        self.inner.attachments.cancel(session, number).is_some()
     }
 
     /// Says which connection holds the session from now on, if one does.
     pub fn set_holder(&mut self, session: u64, holder: Option<u64>)
-        requires { IsSome (get self.old.seats session) }
+        requires { IsSome (get self.old.attachments session) }
         ensures { self.new ≡ held self.old session holder }
     {
-        self.parts.seats.set_holder(session, holder);
+        self.inner.attachments.set_holder(session, holder);
     }
 
-    /// Takes the seat of a session that is closing.
+    /// Removes the attachment of a session that is closing.
     pub fn leave(&mut self, session: u64)
-        requires { is_closing self.old.seats session ≡ true }
+        requires { is_closing self.old.attachments session ≡ true }
         ensures { self.new ≡ left self.old session }
     {
-        self.parts.seats.leave(session);
+        self.inner.attachments.leave(session);
     }
 
     /// Completes a request with its reply and its effect, and serves the waiting requests that this lets through. It
@@ -232,7 +233,9 @@ impl Service {
         requires waits { reply self.old.state (requests.Access array index op false) ≡ None }
         ensures { self.new ≡ waited self.old session number (record { array = array; index = index; op = op }) }
     {
-        self.parts.seats.add(session, number, array, index, op);
+        self.inner
+            .attachments
+            .add(session, number, array, index, op);
     }
 
     /// Takes the entries that were made, and goes on with an empty list.
@@ -241,6 +244,6 @@ impl Service {
         ensures entries { result ≡ self.old.pending }
         ensures taken { self.new ≡ record self.old { pending = [] } }
     {
-        mem::replace(&mut self.parts.pending, spare)
+        mem::replace(&mut self.inner.pending, spare)
     }
 }

@@ -38,17 +38,17 @@ use Rattle.fe_messages.proofs.Answers.{answer_more, answered-append, answered-sp
 use Rattle.fe_messages.specs.Asking.{AsksOnly, HasOnly}
 use Rattle.fe_messages.proofs.Boxes.{AllIn, AllPosted, all_weaker, boxes-connected, boxes-dropped, boxes-posted_all, boxes-taken}
 use Rattle.fe_messages.proofs.Boxing.{message_boxes}
-use Rattle.fe_messages.proofs.Seated.{Loses, addressed_has, connected_loses, dropped_loses, first_has, has_lost, has_more, message_has, posted_entry_loses, posted_loses, taken_loses}
+use Rattle.fe_messages.proofs.AttachmentLaws.{Loses, addressed_has, connected_loses, dropped_loses, first_has, has_lost, has_more, message_has, posted_entry_loses, posted_loses, taken_loses}
 use Rattle.fe_history.specs.declared.act.Act.{Act}
-use Rattle.fe_history.specs.declared.act.Act.TheVariants.{Asked, Began, Cut, Told}
+use Rattle.fe_history.specs.declared.act.Act.TheVariants.{Asked, Began, Cut, Issued}
 use Rattle.fe_history.specs.declared.receipt.Receipt.{Receipt}
 use Rattle.fe_shared.specs.declared.taking.Taking.{Taking}
 use Rattle.fe_shared.specs.declared.taking.Taking.TheVariants as taking
-use Rattle.fe_history.specs.Acts.{IsLegal, MayCome, WasCut, WasStoredLast, batches_of, cuts_in, entries_in, stores_in}
-use Rattle.fe_shared.specs.Marks.{AskedIn, BoxesAsked, BoxesTell, IsBegun, IsMarked, MayBeTold, WasAskedFor, made_entries, out_batches, out_of}
-use Rattle.fe_history.specs.Rules.{ComesAfter, CutsAfter, Hears, pending_batch}
+use Rattle.fe_history.specs.Acts.{IsLegal, MayBeAppended, WasCut, WasStoredLast, batches_of, cuts_in, entries_in, stores_in}
+use Rattle.fe_shared.specs.Marks.{AskedIn, BoxesAsked, BoxesTell, IsBegun, IsMarked, MayBeIssued, WasAskedFor, made_entries, out_batches, out_of}
+use Rattle.fe_history.specs.Rules.{WasAppended, CutsAfter, Hears, pending_batch}
 use Rattle.fe_history.specs.Receipts.{receipt_of}
-use Rattle.fe_history.proofs.Acts.{answer_within, begins_so, cut_few, cuts_append, cuts_rise, entries_append, one_cut, prefix_self, prefix_trans, prefix_whole, stands_last, stands_later, stored_cut, stored_rise, told_may}
+use Rattle.fe_history.proofs.Acts.{answer_within, begins_so, cut_few, cuts_append, cuts_rise, entries_append, one_cut, prefix_self, prefix_trans, prefix_whole, stands_last, stands_later, stored_cut, stored_rise, issued_may}
 
 -- ---- answers in boxes
 
@@ -309,7 +309,7 @@ module _ (f : FrontState) (count : ℕ) (acts : List Act) (m : IsMarked f count 
       by : (n : ℕ) → nat_eq n 0 ≡ false → 0 < n
       by n is = grind (arith, nat_tests)
 
-  module _ (later : List Act) (legal : IsLegal later) (c : ComesAfter acts (Cut (pending_batch f)) later) (many : length (cuts_in c.earlier) ≡ count) where
+  module _ (later : List Act) (legal : IsLegal later) (c : WasAppended acts (Cut (pending_batch f)) later) (many : length (cuts_in c.earlier) ≡ count) where
     all_cut : cuts_in later ≡ m.posted ++ pending_batch f ∷ []
     all_cut =
         let before : IsPrefix m.posted (cuts_in c.earlier) = prefix_trans m.posted (cuts_in acts) (cuts_in c.earlier) posted_cut (cuts_rise acts c.earlier c.seen) in
@@ -423,7 +423,7 @@ module _ (f g : FrontState) (batch : Batch) (count : ℕ) (acts seat later : Lis
       by None w = absurd (subst (λ (o : Option Out). IsOut o batch) w.1 is_out)
       by (Some b) w = with_batch b w
 
--- ---- what may be told
+-- ---- what may be issued
 
 -- what is first in a box is as each mail in it
 first_in : (P : Mail → Type 0) (m : Mail) (ms : List Mail) → Some m ≡ slice_get ms 0 → AllByRecursion P ms → P m
@@ -435,14 +435,14 @@ asked_behind : (begun : ServerState) (past : List Act) (conn session : ℕ) → 
 asked_behind begun past conn session (zero, is) = absurd (cc is)
 asked_behind begun past conn session (suc k, is) = (k, is)
 
--- what is first in a box may be told
-pub first_may : (f : FrontState) (conn : ℕ) (m : Mail) (more : Bool) (count : ℕ) (acts : List Act) → Some m ≡ slice_get (mails_on f.connections conn) 0 → IsMarked f count acts → MayBeTold conn (taking.Mail m more) acts
+-- what is first in a box may be issued
+pub first_may : (f : FrontState) (conn : ℕ) (m : Mail) (more : Bool) (count : ℕ) (acts : List Act) → Some m ≡ slice_get (mails_on f.connections conn) 0 → IsMarked f count acts → MayBeIssued conn (taking.Mail m more) acts
 first_may f conn m more count acts first marked =
     by m (first_in (TellsAnswerIn marked.begun (entries_in marked.posted)) m (mails_on f.connections conn) first (marked.boxes conn)) (first_in (WasAskedFor acts conn) m (mails_on f.connections conn) first (marked.asked conn))
   where
-    by : (m : Mail) → TellsAnswerIn marked.begun (entries_in marked.posted) m → WasAskedFor acts conn m → MayBeTold conn (taking.Mail m more) acts
+    by : (m : Mail) → TellsAnswerIn marked.begun (entries_in marked.posted) m → WasAskedFor acts conn m → MayBeIssued conn (taking.Mail m more) acts
     by (mail.Answer session number answer place) is asked =
-        subst (λ (zs : List Act). MayCome zs (Told (record { conn = conn; session = session; number = number; answer = answer; place = place }))) (sym marked.begins) (
+        subst (λ (zs : List Act). MayBeAppended zs (Issued (record { conn = conn; session = session; number = number; answer = answer; place = place }))) (sym marked.begins) (
           answer_within marked.begun marked.posted (batches_of (stores_in marked.past)) session number answer place
               (subst (λ (zs : List Act). IsPrefix marked.posted (batches_of (stores_in zs))) marked.begins marked.stored) is,
           asked_behind marked.begun marked.past conn session (subst (λ (zs : List Act). AskedIn zs conn session) marked.begins asked),
@@ -454,13 +454,13 @@ first_may f conn m more count acts first marked =
     by (mail.Goodbye session) is asked = tt
     by (mail.Report text) is asked = tt
 
--- what may be told after some acts may be told later
-pub may_later : (conn : ℕ) (t : Taking) (xs ys : List Act) → IsPrefix xs ys → MayBeTold conn t xs → MayBeTold conn t ys
+-- what may be issued after some acts may be issued later
+pub may_later : (conn : ℕ) (t : Taking) (xs ys : List Act) → IsPrefix xs ys → MayBeIssued conn t xs → MayBeIssued conn t ys
 may_later conn (taking.Mail mail more) xs ys p may = by (receipt_of conn mail) may
   where
-    by : (o : Option Receipt) → IfSome o (λ r. MayCome xs (Told r)) → IfSome o (λ r. MayCome ys (Told r))
+    by : (o : Option Receipt) → IfSome o (λ r. MayBeAppended xs (Issued r)) → IfSome o (λ r. MayBeAppended ys (Issued r))
     by None may = tt
-    by (Some r) may = told_may xs ys r p may
+    by (Some r) may = issued_may xs ys r p may
 may_later conn taking.Gone xs ys p may = tt
 may_later conn taking.Stopped xs ys p may = tt
 may_later conn taking.Spent xs ys p may = tt

@@ -89,10 +89,10 @@ module _ (f g : FrontState) (conn : ℕ) (es : List Entry) (front : IsFront f) (
   other_goes : (e : event.Event) → calls_of e ≡ 0 → most_mails_of e ≤ 1 → FrontStep f e es g → Goes f g (calls_of e) (taken_of e)
   other_goes e none few step = step_goes f g e es front is_open (omega (arith, none, more.calls)) (omega (arith, few, more.mails)) step
 
-  -- a refusal that is told
+  -- a refusal that is given
   refused_goes : (number : ℕ) (r : Refusal) → IsRefused f conn number r es g → Goes f g 0 0
   refused_goes number r told =
-      other_goes (event.Tell conn (mail.Refused number r)) refl (omega arith) (tt, record { entries = told.entries; front = told.front })
+      other_goes (event.GiveMail conn (mail.Refused number r)) refl (omega arith) (tt, record { entries = told.entries; front = told.front })
 
   call_refused_goes : (number : ℕ) (r : Refusal) → g ≡ refused_to f conn number r → Goes f g 1 0
   call_refused_goes number r is =
@@ -111,7 +111,7 @@ module _ (f g : FrontState) (conn : ℕ) (es : List Entry) (front : IsFront f) (
   by_message (message.Settle shared) (inr told) = refused_goes shared told.0 told.2
   by_message message.Bye (inl step) = other_goes (event.Bye conn) refl (omega arith) step
   by_message message.Bye (inr told) = refused_goes 0 told.0 told.2
-  by_message message.Report (inl step) = other_goes (event.Tell conn _) refl (omega arith) step
+  by_message message.Report (inl step) = other_goes (event.GiveMail conn _) refl (omega arith) step
   by_message message.Report (inr told) = refused_goes 0 NoMemory told
 
 pub takes_goes : (f g : FrontState) (conn : ℕ) (m : ClientMessage) (es : List Entry) → IsFront f → IsOpen f.books → IsTrue (takes_more f.books) → Takes f conn m es g → Goes f g (calls_in m) 0

@@ -10,8 +10,8 @@ use Rattle.fe_history.specs.Acts.{WasCut}
 use Rattle.fe_history.specs.declared.act.Act.{Act}
 use Rattle.fe_shared.specs.Marks.{SharedState}
 use Rattle.fe_shared.specs.Seats.{most_connections, most_counted, posts_more}
-use Rattle.fe_shared.specs.declared.shared.batches.Cutting.{Cutting}
-use Rattle.fe_shared.specs.declared.shared.batches.Cutting.TheVariants as cutting
+use Rattle.fe_shared.specs.declared.shared.batches.CutOutcome.{CutOutcome}
+use Rattle.fe_shared.specs.declared.shared.batches.CutOutcome.TheVariants as cutting
 use Rattle.fe_shared.specs.declared.shared.batches.Unposted.{Unposted}
 use Rattle.fe_shared.specs.declared.shared.batches.Unposted.TheVariants as unposted
 use Rattle.fe_shared.specs.declared.taking.Taking.{Taking}
@@ -33,9 +33,9 @@ has_mail f conn = nat_lt 0 (length (mails_on f.connections conn))
 
 -- Why a connection was not made: one of its number is there, or all were made, or memory was short.
 abbrev pub IsUnconnected : FrontState → ℕ → ℕ → Unconnected → Type 0
-IsUnconnected f made conn (unconnected.InUse in_use) = is_connected f conn ≡ true
-IsUnconnected f made conn (unconnected.NoMemory short) = is_connected f conn ≡ false
-IsUnconnected f made conn (unconnected.Spent all) = (is_connected f conn ≡ false) × (made ≡ most_connections)
+IsUnconnected f connections_made conn (unconnected.InUse in_use) = is_connected f conn ≡ true
+IsUnconnected f connections_made conn (unconnected.NoMemory short) = is_connected f conn ≡ false
+IsUnconnected f connections_made conn (unconnected.Spent all) = (is_connected f conn ≡ false) × (connections_made ≡ most_connections)
 
 -- the connection is gone, with its box and what waits of its session
 abbrev pub Leaves : FrontState → ℕ → FrontState → Type 0
@@ -72,14 +72,14 @@ IsUnposted f batch (unposted.Strange strange) = (posts_more f.books batch ≡ tr
 
 -- A batch was cut; or none was, and where the hall is stopped all that was made is durable, so that nothing is left to store; or
 -- another side cut batches, and nothing happens.
-abbrev pub Cuts : FrontState → Bool → Option Cutting → FrontState → Type 0
+abbrev pub Cuts : FrontState → Bool → Option CutOutcome → FrontState → Type 0
 Cuts f stopped (Some (cutting.Batch cut)) g = FrontStep f (event.Cut (Some cut.batch)) [] g
 Cuts f stopped (Some (cutting.Stopped all)) g = FrontStep f (event.Cut None) [] g × (stopped ≡ true) × (g.durable ≡ g.service.state.place)
 Cuts f stopped (Some (cutting.Strange uncut)) g = g ≡ f
 Cuts f stopped None g = FrontStep f (event.Cut None) [] g
 
 -- the batch that was cut was cut in this history
-abbrev pub IsCutIn : Cutting → List Act → Type 0
+abbrev pub IsCutIn : CutOutcome → List Act → Type 0
 IsCutIn (cutting.Batch cut) acts = WasCut acts cut.count cut.batch
 IsCutIn (cutting.Stopped all) acts = Unit {0}
 IsCutIn (cutting.Strange uncut) acts = Unit {0}

@@ -13,11 +13,11 @@ use Rattle.fe_mail.specs.declared.mail.Mail.{Mail}
 use Rattle.fe_messages.specs.Answers.{AreAnswered, TellsAnswerIn}
 use Rattle.fe_messages.specs.Asking.{HasOnly}
 use Rattle.fe_history.specs.declared.act.Act.{Act}
-use Rattle.fe_history.specs.declared.act.Act.TheVariants.{Asked, Began, Told}
+use Rattle.fe_history.specs.declared.act.Act.TheVariants.{Asked, Began, Issued}
 use Rattle.fe_shared.specs.declared.watchers.Watcher.{Watcher}
 use Rattle.fe_shared.specs.declared.taking.Taking.{Taking}
 use Rattle.fe_shared.specs.declared.taking.Taking.TheVariants as taking
-use Rattle.fe_history.specs.Acts.{IsLegal, MayCome, StandsIn, WasTold, batches_of, cuts_in, entries_in, place_after, stores_in}
+use Rattle.fe_history.specs.Acts.{IsLegal, MayBeAppended, StandsIn, WasIssued, batches_of, cuts_in, entries_in, place_after, stores_in}
 use Rattle.fe_history.specs.Receipts.{receipt_of}
 
 -- a front as it begins, in a hall whose history is just this
@@ -78,23 +78,23 @@ pub record IsMarked (f : FrontState) (count : ℕ) (acts : List Act) : Type 0 wh
 pub record SharedState : Type 0 where
   pub front : FrontState
   pub history : List Act
-  pub made : ℕ
+  pub connections_made : ℕ
   pub stopped : Bool
   -- whether the event of this hold was made
   pub used : Bool
   -- the read sides that wait for their boxes
   pub watched : List Watcher
 
--- what came of a look into the box of a connection may be told to it after these acts
-abbrev pub MayBeTold : ℕ → Taking → List Act → Type 0
-MayBeTold conn (taking.Mail mail more) acts = IfSome (receipt_of conn mail) (λ r. MayCome acts (Told r))
-MayBeTold conn taking.Gone acts = Unit {0}
-MayBeTold conn taking.Stopped acts = Unit {0}
-MayBeTold conn taking.Spent acts = Unit {0}
+-- what came of a look into the box of a connection may be issued to it after these acts
+abbrev pub MayBeIssued : ℕ → Taking → List Act → Type 0
+MayBeIssued conn (taking.Mail mail more) acts = IfSome (receipt_of conn mail) (λ r. MayBeAppended acts (Issued r))
+MayBeIssued conn taking.Gone acts = Unit {0}
+MayBeIssued conn taking.Stopped acts = Unit {0}
+MayBeIssued conn taking.Spent acts = Unit {0}
 
--- what came of a look into the box of a connection was told to it, if it is an answer
-abbrev pub TakingTold : ℕ → Taking → List Act → Type 0
-TakingTold conn (taking.Mail mail more) acts = WasTold conn mail acts
-TakingTold conn taking.Gone acts = Unit {0}
-TakingTold conn taking.Stopped acts = Unit {0}
-TakingTold conn taking.Spent acts = Unit {0}
+-- what came of a look into the box of a connection was issued to it, if it is an answer
+abbrev pub TakingIssued : ℕ → Taking → List Act → Type 0
+TakingIssued conn (taking.Mail mail more) acts = WasIssued conn mail acts
+TakingIssued conn taking.Gone acts = Unit {0}
+TakingIssued conn taking.Stopped acts = Unit {0}
+TakingIssued conn taking.Spent acts = Unit {0}

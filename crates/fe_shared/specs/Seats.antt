@@ -5,13 +5,13 @@ use Rattle.fe_mail.specs.Books.{Books}
 use Rattle.fe_wire.specs.declared.client_message.ClientMessage.{ClientMessage}
 use Rattle.fe_wire.specs.declared.client_message.ClientMessage.TheVariants.{Attach, Call, Cancel, Settle, Bye, Report}
 use Rattle.fe_mail.specs.declared.mail.Mail.{Mail}
-use Rattle.fe_shared.specs.declared.standing.Standing.{Standing}
-use Rattle.fe_shared.specs.declared.standing.Standing.TheVariants.{Served, Gone, Stopped, Spent}
+use Rattle.fe_shared.specs.declared.last_answer.LastAnswer.{LastAnswer}
+use Rattle.fe_shared.specs.declared.last_answer.LastAnswer.TheVariants.{Served, Gone, Stopped, Spent}
 use Rattle.fe_shared.specs.declared.taking.Taking.{Taking}
 use Rattle.fe_shared.specs.declared.taking.Taking.TheVariants as taking
 
 -- what the read side of a connection did
-pub record ReadSeat : Type 0 where
+pub record CallSeatState : Type 0 where
   -- the connection's number
   pub conn : ℕ
   -- how many calls it made
@@ -21,14 +21,14 @@ pub record ReadSeat : Type 0 where
   -- the place after all entries that were made when the last of them was taken
   pub place : ℕ
   -- how it stood when the hall last answered it
-  pub standing : Standing
+  pub last_answer : LastAnswer
   -- whether it made its connection gone
   pub departed : Bool
   -- whether it did so once it need not wait for what came of its messages
   pub rested : Bool
 
 -- what the write side of a connection did
-pub record WriteSeat : Type 0 where
+pub record MailSeatState : Type 0 where
   -- the connection's number
   pub conn : ℕ
   -- how many mails it took
@@ -38,7 +38,7 @@ pub record WriteSeat : Type 0 where
   -- whether more were in its box then
   pub more : Bool
   -- how it stood when the hall last answered it
-  pub standing : Standing
+  pub last_answer : LastAnswer
   -- whether it made its connection gone
   pub departed : Bool
 
@@ -48,11 +48,11 @@ pub record Seats : Type 0 where
   pub amount : ℕ
 
 -- the seats of the two sides of a connection just made
-abbrev pub first_read_seat : ℕ → ReadSeat
-first_read_seat conn = record { conn = conn; calls = 0; messages = []; place = 0; standing = Served; departed = false; rested = false }
+abbrev pub first_call_seat : ℕ → CallSeatState
+first_call_seat conn = record { conn = conn; calls = 0; messages = []; place = 0; last_answer = Served; departed = false; rested = false }
 
-abbrev pub first_write_seat : ℕ → WriteSeat
-first_write_seat conn = record { conn = conn; mails = 0; taken = []; more = false; standing = Served; departed = false }
+abbrev pub first_mail_seat : ℕ → MailSeatState
+first_mail_seat conn = record { conn = conn; mails = 0; taken = []; more = false; last_answer = Served; departed = false }
 
 -- the seats of one connection, which booked this many, and of the connections of both
 abbrev pub one_seat : ℕ → Seats
@@ -85,47 +85,47 @@ calls_in Bye = 0
 calls_in Report = 0
 
 -- a message of a read side was taken, after which this is the place after all entries
-abbrev pub message_taken : ReadSeat → ClientMessage → ℕ → ReadSeat
-message_taken s m place = record s { calls = s.calls + calls_in m; messages = s.messages ++ m ∷ []; place = place; standing = Served }
+abbrev pub message_taken : CallSeatState → ClientMessage → ℕ → CallSeatState
+message_taken s m place = record s { calls = s.calls + calls_in m; messages = s.messages ++ m ∷ []; place = place; last_answer = Served }
 
 -- the seat of a read side whose message was answered so, at this place
-abbrev pub message_answered : ReadSeat → ClientMessage → ℕ → Standing → ReadSeat
+abbrev pub message_answered : CallSeatState → ClientMessage → ℕ → LastAnswer → CallSeatState
 message_answered s m place Served = message_taken s m place
-message_answered s m place Gone = record s { standing = Gone }
-message_answered s m place Stopped = record s { standing = Stopped }
-message_answered s m place Spent = record s { standing = Spent }
+message_answered s m place Gone = record s { last_answer = Gone }
+message_answered s m place Stopped = record s { last_answer = Stopped }
+message_answered s m place Spent = record s { last_answer = Spent }
 
 -- a mail was taken for a write side, and whether more are in its box
-abbrev pub mail_taken : WriteSeat → Mail → Bool → WriteSeat
-mail_taken s mail more = record s { mails = s.mails + 1; taken = s.taken ++ mail ∷ []; more = more; standing = Served }
+abbrev pub mail_taken : MailSeatState → Mail → Bool → MailSeatState
+mail_taken s mail more = record s { mails = s.mails + 1; taken = s.taken ++ mail ∷ []; more = more; last_answer = Served }
 
 -- the seat of a write side whose box was looked into with this outcome
-abbrev pub taking_answered : WriteSeat → Taking → WriteSeat
+abbrev pub taking_answered : MailSeatState → Taking → MailSeatState
 taking_answered s (taking.Mail mail more) = mail_taken s mail more
-taking_answered s taking.Gone = record s { standing = Gone }
-taking_answered s taking.Stopped = record s { standing = Stopped }
-taking_answered s taking.Spent = record s { standing = Spent }
+taking_answered s taking.Gone = record s { last_answer = Gone }
+taking_answered s taking.Stopped = record s { last_answer = Stopped }
+taking_answered s taking.Spent = record s { last_answer = Spent }
 
 -- a read side had no message taken in between
-pub record TookNoMessage (s t : ReadSeat) : Type 0 where
+pub record TookNoMessage (s t : CallSeatState) : Type 0 where
   pub conn : t.conn ≡ s.conn
   pub calls : t.calls ≡ s.calls
   pub messages : t.messages ≡ s.messages
   pub place : t.place ≡ s.place
 
 -- a write side took no mail in between
-pub record TookNoMail (s t : WriteSeat) : Type 0 where
+pub record TookNoMail (s t : MailSeatState) : Type 0 where
   pub conn : t.conn ≡ s.conn
   pub mails : t.mails ≡ s.mails
   pub taken : t.taken ≡ s.taken
 
--- the side made its connection gone, or was told that the hall is stopped
-abbrev pub HasDeparted : ReadSeat → Type 0
-HasDeparted s = (s.departed ≡ true) ⊎ (s.standing ≡ Stopped)
+-- the side made its connection gone, or the hall answered that it is stopped
+abbrev pub HasDeparted : CallSeatState → Type 0
+HasDeparted s = (s.departed ≡ true) ⊎ (s.last_answer ≡ Stopped)
 
--- the side made its connection gone once it need not wait, or was told that the hall is stopped
-abbrev pub HasRested : ReadSeat → Type 0
-HasRested s = ((s.departed ≡ true) × (s.rested ≡ true)) ⊎ (s.standing ≡ Stopped)
+-- the side made its connection gone once it need not wait, or the hall answered that it is stopped
+abbrev pub HasRested : CallSeatState → Type 0
+HasRested s = ((s.departed ≡ true) × (s.rested ≡ true)) ⊎ (s.last_answer ≡ Stopped)
 
 -- one message more may be taken
 abbrev pub takes_more : Books → Bool

@@ -1,10 +1,10 @@
 ghost use Rattle.std.specs.Prelude.{◌≡◌, ◌+◌, true};
-ghost use Rattle.fe_shared.specs.Seats.{calls_in, first_read_seat, message_taken, most_connections, one_seat};
+ghost use Rattle.fe_shared.specs.Seats.{calls_in, first_call_seat, message_taken, most_connections, one_seat};
 
+use crate::last_answer::LastAnswer;
 use crate::message_log::MessageLog;
 use crate::seats::Seats;
 use crate::shared::Rest;
-use crate::standing::Standing;
 use fe_history::Tally;
 use fe_wire::ClientMessage;
 use std::marker::Model;
@@ -21,7 +21,7 @@ pub struct CallSeat<C: Tally> {
     messages: MessageLog,
     /// The place after all entries that were made when the last of them was taken.
     place: u64,
-    standing: Standing,
+    last_answer: LastAnswer,
     /// The side made its connection gone.
     departed: bool,
     /// It did so once it need not wait for what came of its messages.
@@ -31,16 +31,16 @@ pub struct CallSeat<C: Tally> {
 impl<C: Tally> Model for CallSeat<C> {
     ghost use Rattle.std.specs.Prelude.{◌≡◌, ◌+◌};
     ghost use Rattle.fe_shared.specs.Logs.{messages_of};
-    ghost use Rattle.fe_shared.specs.Seats.{ReadSeat, most_connections};
+    ghost use Rattle.fe_shared.specs.Seats.{CallSeatState, most_connections};
 
-    ghost Value = { ReadSeat };
+    ghost Value = { CallSeatState };
 
     ghost view = { λ s. record {
       conn = s.conn;
       calls = s.share.amount;
       messages = messages_of s.messages;
       place = s.place;
-      standing = s.standing;
+      last_answer = s.last_answer;
       departed = s.departed;
       rested = s.rested;
     } };
@@ -54,14 +54,14 @@ impl<C: Tally> CallSeat<C> {
         requires part { share.parts ≡ 1 }
         requires nothing { share.amount ≡ 0 }
         requires all { C.all ≡ most_connections + 1 }
-        ensures { result ≡ first_read_seat conn }
+        ensures { result ≡ first_call_seat conn }
     {
         CallSeat {
             share,
             conn,
             messages: MessageLog::Empty,
             place: 0,
-            standing: Standing::Served,
+            last_answer: LastAnswer::Served,
             departed: false,
             rested: false,
         }
@@ -90,14 +90,14 @@ impl<C: Tally> CallSeat<C> {
         let before = Snapshot::of(&self.messages);
         self.messages = MessageLog::Then(before, Snapshot::of(message));
         self.place = place;
-        self.standing = Standing::Served;
+        self.last_answer = LastAnswer::Served;
     }
 
     /// Records what the hall answered the side last.
-    pub(crate) fn tell(&mut self, _book: &Book<C>, standing: Standing)
-        ensures { self.new ≡ record self.old { standing = standing } }
+    pub(crate) fn set_last_answer(&mut self, _book: &Book<C>, last_answer: LastAnswer)
+        ensures { self.new ≡ record self.old { last_answer = last_answer } }
     {
-        self.standing = standing;
+        self.last_answer = last_answer;
     }
 
     /// The side makes its connection gone.

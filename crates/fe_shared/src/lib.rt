@@ -5,6 +5,7 @@
 #![tactic(auto)]
 
 mod call_seat;
+mod last_answer;
 mod mail_log;
 mod mail_seat;
 mod message_log;
@@ -13,22 +14,21 @@ mod pace;
 mod seats;
 mod shared;
 mod short;
-mod standing;
 mod taking;
 mod unconnected;
 mod watchers;
 
 pub use call_seat::CallSeat;
+pub use last_answer::LastAnswer;
 pub use mail_log::MailLog;
 pub use mail_seat::MailSeat;
 pub use message_log::MessageLog;
 pub use new_seats::NewSeats;
 pub use seats::Seats;
 pub use shared::{
-    AllDurable, AllMade, ConnectRight, CutBatch, Cutting, FullBook, HasStopped, HoldRight, InUse,
-    Made, NotOut, PARTS, Posted, Rest, SeatMissing, Shared, Uncut, Unposted,
+    AllDurable, AllMade, ConnectRight, CutBatch, CutOutcome, FullBook, HasStopped, HoldRight,
+    InUse, NotOut, PARTS, PlaceThen, Posted, Rest, SeatMissing, Shared, Uncut, Unposted,
 };
 pub use short::{Short, feed, put, reserve_one, zeros};
-pub use standing::Standing;
 pub use taking::Taking;
 pub use unconnected::Unconnected;

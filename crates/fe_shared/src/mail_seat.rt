@@ -1,9 +1,9 @@
 ghost use Rattle.std.specs.Prelude.{◌≡◌, ◌+◌, true};
-ghost use Rattle.fe_shared.specs.Seats.{first_write_seat, mail_taken, most_connections, one_seat};
+ghost use Rattle.fe_shared.specs.Seats.{first_mail_seat, mail_taken, most_connections, one_seat};
 
+use crate::last_answer::LastAnswer;
 use crate::mail_log::MailLog;
 use crate::seats::Seats;
-use crate::standing::Standing;
 use fe_front::Mail;
 use fe_history::Tally;
 use std::marker::Model;
@@ -20,7 +20,7 @@ pub struct MailSeat<M: Tally> {
     taken: MailLog,
     /// Whether more mails were in the box when one was taken.
     more: bool,
-    standing: Standing,
+    last_answer: LastAnswer,
     /// The side made its connection gone.
     departed: bool,
 }
@@ -28,16 +28,16 @@ pub struct MailSeat<M: Tally> {
 impl<M: Tally> Model for MailSeat<M> {
     ghost use Rattle.std.specs.Prelude.{◌≡◌, ◌+◌};
     ghost use Rattle.fe_shared.specs.Logs.{mails_of};
-    ghost use Rattle.fe_shared.specs.Seats.{WriteSeat, most_connections};
+    ghost use Rattle.fe_shared.specs.Seats.{MailSeatState, most_connections};
 
-    ghost Value = { WriteSeat };
+    ghost Value = { MailSeatState };
 
     ghost view = { λ s. record {
       conn = s.conn;
       mails = s.share.amount;
       taken = mails_of s.taken;
       more = s.more;
-      standing = s.standing;
+      last_answer = s.last_answer;
       departed = s.departed;
     } };
 
@@ -50,14 +50,14 @@ impl<M: Tally> MailSeat<M> {
         requires part { share.parts ≡ 1 }
         requires nothing { share.amount ≡ 0 }
         requires all { M.all ≡ most_connections + 1 }
-        ensures { result ≡ first_write_seat conn }
+        ensures { result ≡ first_mail_seat conn }
     {
         MailSeat {
             share,
             conn,
             taken: MailLog::Empty,
             more: false,
-            standing: Standing::Served,
+            last_answer: LastAnswer::Served,
             departed: false,
         }
     }
@@ -85,14 +85,14 @@ impl<M: Tally> MailSeat<M> {
         let before = Snapshot::of(&self.taken);
         self.taken = MailLog::Then(before, Snapshot::of(mail));
         self.more = more;
-        self.standing = Standing::Served;
+        self.last_answer = LastAnswer::Served;
     }
 
     /// Records what the hall answered the side last.
-    pub(crate) fn tell(&mut self, _book: &Book<M>, standing: Standing)
-        ensures { self.new ≡ record self.old { standing = standing } }
+    pub(crate) fn set_last_answer(&mut self, _book: &Book<M>, last_answer: LastAnswer)
+        ensures { self.new ≡ record self.old { last_answer = last_answer } }
     {
-        self.standing = standing;
+        self.last_answer = last_answer;
     }
 
     /// The side makes its connection gone.

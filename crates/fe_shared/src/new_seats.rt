@@ -1,5 +1,5 @@
 ghost use Rattle.std.specs.Prelude.{◌≡◌, ◌+◌};
-ghost use Rattle.fe_shared.specs.Seats.{first_read_seat, first_write_seat, most_connections};
+ghost use Rattle.fe_shared.specs.Seats.{first_call_seat, first_mail_seat, most_connections};
 
 use crate::call_seat::CallSeat;
 use crate::mail_seat::MailSeat;
@@ -39,8 +39,8 @@ impl<C: Tally, M: Tally> NewSeats<C, M> {
 
     /// The seats of its two sides, which begin.
     pub fn begin(self) -> (CallSeat<C>, MailSeat<M>)
-        ensures calls { result.0 ≡ first_read_seat self }
-        ensures mails { result.1 ≡ first_write_seat self }
+        ensures calls { result.0 ≡ first_call_seat self }
+        ensures mails { result.1 ≡ first_mail_seat self }
     {
         let NewSeats { calls, mails, conn } = self;
         (CallSeat::new(calls, conn), MailSeat::new(mails, conn))

@@ -10,7 +10,7 @@ ghost use Rattle.fe_messages.specs.Taking.{Takes};
 ghost use mathlib.Core.List.{IsPrefix};
 ghost use Rattle.fe_history.specs.Acts.{IsLegal};
 ghost use Rattle.fe_history.specs.Rules.{Hears};
-ghost use Rattle.fe_shared.specs.Marks.{IsBegun, MayBeTold};
+ghost use Rattle.fe_shared.specs.Marks.{IsBegun, MayBeIssued};
 ghost use Rattle.fe_shared.specs.Holds.{Ends, IsDrained, IsOver, IsUnconnected, Leaves, MakesEvent, MakesNoEvent, TakesMail};
 ghost use Rattle.fe_front.specs.ConnectionSet.{may_have};
 ghost use Rattle.fe_shared.specs.Watching.{waits};
@@ -19,16 +19,16 @@ ghost use Rattle.fe_shared.specs.Seats.{HasRested, IsOpen, TookNoMessage, messag
 mod batches;
 
 use crate::call_seat::CallSeat;
+use crate::last_answer::LastAnswer;
 use crate::mail_seat::MailSeat;
 use crate::new_seats::NewSeats;
 use crate::pace::Paces;
 use crate::seats::Seats;
 use crate::short::{Short, connect};
-use crate::standing::Standing;
 use crate::taking::Taking;
 use crate::unconnected::Unconnected;
 use crate::watchers::Watchers;
-pub use batches::{AllDurable, CutBatch, Cutting, FullBook, NotOut, Posted, Uncut, Unposted};
+pub use batches::{AllDurable, CutBatch, CutOutcome, FullBook, NotOut, Posted, Uncut, Unposted};
 use fe_front::{Books, ConnectionSet, Front};
 use fe_history::{Account, History, HistoryWords, Tally};
 use fe_messages::take_message;
@@ -58,7 +58,7 @@ pub struct Shared<C: Tally, M: Tally> {
     /// How many batches were posted.
     posted: u64,
     /// How many connections were made.
-    made: u64,
+    connections_made: u64,
     watchers: Watchers,
     paces: Paces,
     stopped: bool,
@@ -67,10 +67,10 @@ pub struct Shared<C: Tally, M: Tally> {
     ghost open: { IsOpen front.books },
     ghost calls_agree: { calls.total ≡ front.books.calls },
     ghost mails_agree: { mails.total ≡ front.books.taken },
-    ghost few: { made ≤ most_connections },
-    ghost call_parts: { (spare_calls.parts + made ≡ C.all) × (spare_calls.amount ≡ 0)
+    ghost few: { connections_made ≤ most_connections },
+    ghost call_parts: { (spare_calls.parts + connections_made ≡ C.all) × (spare_calls.amount ≡ 0)
         × (C.all ≡ most_connections + 1) },
-    ghost mail_parts: { (spare_mails.parts + made ≡ M.all) × (spare_mails.amount ≡ 0)
+    ghost mail_parts: { (spare_mails.parts + connections_made ≡ M.all) × (spare_mails.amount ≡ 0)
         × (M.all ≡ most_connections + 1) },
 }
 
@@ -84,7 +84,7 @@ impl<C: Tally, M: Tally> Drop for Shared<C, M> {
             spare_mails,
             history,
             posted: _,
-            made: _,
+            connections_made: _,
             watchers,
             paces,
             stopped: _,
@@ -114,7 +114,7 @@ impl<C: Tally, M: Tally> Model for Shared<C, M> {
     ghost view = { λ s. record {
       front = s.front;
       history = s.history;
-      made = s.made;
+      connections_made = s.connections_made;
       stopped = s.stopped;
       used = s.used;
       watched = s.watchers.items.items;
@@ -143,13 +143,13 @@ pub struct AllMade(());
 #[derive(Clone, Copy)]
 pub struct HasStopped(());
 
-/// The place after all entries that were made when a read side looked. Only `Shared::made` makes one.
+/// The place after all entries that were made when a read side looked. Only `Shared::connections_made` makes one.
 #[derive(Drop)]
-pub struct Made {
+pub struct PlaceThen {
     place: u64,
 }
 
-impl Model for Made {
+impl Model for PlaceThen {
     ghost Value = { ℕ };
 
     ghost view = { λ m. m.place };
@@ -218,7 +218,7 @@ impl<C: Tally, M: Tally> Shared<C, M> {
             spare_mails,
             history,
             posted: 0,
-            made: 0,
+            connections_made: 0,
             watchers: Watchers::new(alloc),
             paces: Paces::new(alloc),
             stopped: false,
@@ -244,9 +244,9 @@ impl<C: Tally, M: Tally> Shared<C, M> {
         ensures step { OnOk result (FrontStep self.old.front (event.Connect conn) [] self.new.front) }
         ensures err { OnErr result (self.new.front ≡ self.old.front) }
         ensures in_use { is_connected self.old.front conn ≡ true → IsErr result }
-        ensures why { IfErr result (IsUnconnected self.old.front self.old.made conn) }
-        ensures made { OnOk result (self.new.made ≡ self.old.made + 1) }
-        ensures unmade { OnErr result (self.new.made ≡ self.old.made) }
+        ensures why { IfErr result (IsUnconnected self.old.front self.old.connections_made conn) }
+        ensures connections_made { OnOk result (self.new.connections_made ≡ self.old.connections_made + 1) }
+        ensures unmade { OnErr result (self.new.connections_made ≡ self.old.connections_made) }
         ensures event { MakesEvent self.old self.new }
         ensures seats { IfOk result (λ seats. seats ≡ conn) }
     {
@@ -254,7 +254,7 @@ impl<C: Tally, M: Tally> Shared<C, M> {
         if self.front.connected(conn) {
             return Err(Unconnected::InUse(InUse(())));
         }
-        if self.made == CONNECTIONS {
+        if self.connections_made == CONNECTIONS {
             return Err(Unconnected::Spent(AllMade(())));
         }
         let _ = self.front.state();
@@ -263,7 +263,7 @@ impl<C: Tally, M: Tally> Shared<C, M> {
         }
         let calls = self.spare_calls.split_off(1, 0);
         let mails = self.spare_mails.split_off(1, 0);
-        self.made += 1;
+        self.connections_made += 1;
         self.paces.begin(conn);
         Ok(NewSeats::new(calls, mails, conn))
     }
@@ -308,41 +308,41 @@ impl<C: Tally, M: Tally> Shared<C, M> {
         history_words: &HistoryWords<M>,
         message: &ClientMessage,
         seat: &mut CallSeat<C>,
-    ) -> Option<Standing>
+    ) -> Option<LastAnswer>
         requires fresh { self.old.used ≡ false }
-        ensures taken { result ≡ Some Standing.Served
+        ensures taken { result ≡ Some LastAnswer.Served
             → (es : List Entry) × Takes self.old.front seat.old.conn message.now es self.new.front }
-        ensures other { result ≢ Some Standing.Served → self.new.front ≡ self.old.front }
-        ensures heard { result ≡ Some Standing.Served
+        ensures other { result ≢ Some LastAnswer.Served → self.new.front ≡ self.old.front }
+        ensures heard { result ≡ Some LastAnswer.Served
             → Hears self.old.history seat.old.conn message.now self.new.history }
-        ensures unheard { result ≢ Some Standing.Served → self.new.history ≡ self.old.history }
+        ensures unheard { result ≢ Some LastAnswer.Served → self.new.history ≡ self.old.history }
         ensures seat { MatchOption result (seat.new ≡ seat.old)
             (λ s. seat.new ≡ message_answered seat.old message.now self.new.front.service.state.place s) }
         // Each other answer has its reason, and stopped comes first.
-        ensures stopped { (result ≡ Some Standing.Stopped) ↔ (self.old.stopped ≡ true) }
-        ensures gone { result ≡ Some Standing.Gone → is_connected self.old.front seat.old.conn ≡ false }
-        ensures spent { result ≡ Some Standing.Spent → takes_more self.old.front.books ≡ false }
+        ensures stopped { (result ≡ Some LastAnswer.Stopped) ↔ (self.old.stopped ≡ true) }
+        ensures gone { result ≡ Some LastAnswer.Gone → is_connected self.old.front seat.old.conn ≡ false }
+        ensures spent { result ≡ Some LastAnswer.Spent → takes_more self.old.front.books ≡ false }
         ensures full { result ≡ None → has_room self.old.front ≡ false }
         ensures event { MakesEvent self.old self.new }
     {
         self.used = true;
         if self.stopped {
-            seat.tell(&self.calls, Standing::Stopped);
-            return Some(Standing::Stopped);
+            seat.set_last_answer(&self.calls, LastAnswer::Stopped);
+            return Some(LastAnswer::Stopped);
         }
         if !self.front.connected(seat.conn()) {
-            seat.tell(&self.calls, Standing::Gone);
-            return Some(Standing::Gone);
+            seat.set_last_answer(&self.calls, LastAnswer::Gone);
+            return Some(LastAnswer::Gone);
         }
         if !self.takes_more() {
-            seat.tell(&self.calls, Standing::Spent);
-            return Some(Standing::Spent);
+            seat.set_last_answer(&self.calls, LastAnswer::Spent);
+            return Some(LastAnswer::Spent);
         }
         if !self.front.room() {
             return None;
         }
         self.take_message(alloc, history_words, *message, seat);
-        Some(Standing::Served)
+        Some(LastAnswer::Served)
     }
 
     /// Adds the connections whose read sides wait for their boxes.
@@ -398,10 +398,10 @@ impl<C: Tally, M: Tally> Shared<C, M> {
     }
 
     /// The place after all entries made so far.
-    pub fn made(&self) -> Made
+    pub fn place_then(&self) -> PlaceThen
         ensures { result ≡ self.now.front.service.state.place }
     {
-        Made {
+        PlaceThen {
             place: self.front.state().place(),
         }
     }
@@ -436,13 +436,13 @@ impl<C: Tally, M: Tally> Shared<C, M> {
 
     /// Whether the read side of a connection may hand on more: its write side is close behind, or has taken what came of all that was
     /// made before, or there is no memory to note that it waits. If not, it is noted.
-    pub fn may_go_on(&mut self, conn: u64, made: &Made) -> bool
-        ensures waits { result ≡ false → ¬ IsDrained self.old.front self.old.stopped conn made.now }
+    pub fn may_go_on(&mut self, conn: u64, place_then: &PlaceThen) -> bool
+        ensures waits { result ≡ false → ¬ IsDrained self.old.front self.old.stopped conn place_then.now }
         ensures watched { result ≡ false → IsTrue (waits self.new.watched conn) }
         ensures front { self.new.front ≡ self.old.front }
         ensures still { MakesNoEvent self.old self.new }
     {
-        if self.paces.is_close(conn) || self.is_drained(conn, made.place) {
+        if self.paces.is_close(conn) || self.is_drained(conn, place_then.place) {
             let _ = self.watchers.remove(conn);
             return true;
         }
@@ -450,18 +450,18 @@ impl<C: Tally, M: Tally> Shared<C, M> {
     }
 
     /// Whether all entries that were made before are stored and posted.
-    pub fn is_durable(&self, made: &Made) -> bool
-        ensures { IsTrue result ↔ (made.now ≤ self.now.front.durable) }
+    pub fn is_durable(&self, place_then: &PlaceThen) -> bool
+        ensures { IsTrue result ↔ (place_then.now ≤ self.now.front.durable) }
     {
-        self.front.durable() >= made.place
+        self.front.durable() >= place_then.place
     }
 
     /// Whether the read side of a connection that waits has to go on waiting: something of what was made before is left to take, and
     /// since it was noted that the side waits, its write side has taken nothing.
-    pub fn is_stuck(&self, conn: u64, made: &Made) -> bool
-        ensures { IsTrue result → ¬ IsDrained self.now.front self.now.stopped conn made.now }
+    pub fn is_stuck(&self, conn: u64, place_then: &PlaceThen) -> bool
+        ensures { IsTrue result → ¬ IsDrained self.now.front self.now.stopped conn place_then.now }
     {
-        !self.is_drained(conn, made.place) && self.watchers.is_still(conn)
+        !self.is_drained(conn, place_then.place) && self.watchers.is_still(conn)
     }
 
     /// How many mails were made, also those that met a full box.
@@ -476,7 +476,7 @@ impl<C: Tally, M: Tally> Shared<C, M> {
         requires fresh { self.old.used ≡ false }
         ensures takes { TakesMail self.old.front self.old.stopped seat.old.conn result self.new.front }
         ensures seat { MatchOption result (seat.new ≡ seat.old) (λ taking. seat.new ≡ taking_answered seat.old taking) }
-        ensures stored { IfSome result (λ taking. MayBeTold seat.old.conn taking self.new.history) }
+        ensures stored { IfSome result (λ taking. MayBeIssued seat.old.conn taking self.new.history) }
         ensures event { MakesEvent self.old self.new }
     {
         self.used = true;
@@ -508,15 +508,15 @@ impl<C: Tally, M: Tally> Shared<C, M> {
         ensures seat { MatchOption result (seat.new ≡ seat.old) (λ taking. seat.new ≡ taking_answered seat.old taking) }
     {
         if !self.front.connected(seat.conn()) {
-            seat.tell(&self.mails, Standing::Gone);
+            seat.set_last_answer(&self.mails, LastAnswer::Gone);
             return Some(Taking::Gone);
         }
         if self.stopped {
-            seat.tell(&self.mails, Standing::Stopped);
+            seat.set_last_answer(&self.mails, LastAnswer::Stopped);
             return Some(Taking::Stopped);
         }
         if self.front.books().taken >= MOST_COUNTED {
-            seat.tell(&self.mails, Standing::Spent);
+            seat.set_last_answer(&self.mails, LastAnswer::Spent);
             return Some(Taking::Spent);
         }
         None
@@ -568,7 +568,7 @@ impl<C: Tally, M: Tally> Shared<C, M> {
     {
         self.used = true;
         if self.stopped {
-            seat.tell(&self.calls, Standing::Stopped);
+            seat.set_last_answer(&self.calls, LastAnswer::Stopped);
             return;
         }
         self.drop_connection(seat.conn());
@@ -577,9 +577,10 @@ impl<C: Tally, M: Tally> Shared<C, M> {
 
     // Whether the seats are those of all connections that were made.
     fn made_all(&self, calls: &Seats<C>, mails: &Seats<M>) -> bool
-        ensures { IsTrue result ↔ ((calls.now.connections ≡ self.now.made) × (mails.now.connections ≡ self.now.made)) }
+        ensures { IsTrue result ↔ ((calls.now.connections ≡ self.now.connections_made) × (mails.now.connections
+            ≡ self.now.connections_made)) }
     {
-        calls.connections() == self.made && mails.connections() == self.made
+        calls.connections() == self.connections_made && mails.connections() == self.connections_made
     }
 
     /// The books, once all seats of the hall are here.
@@ -591,7 +592,8 @@ impl<C: Tally, M: Tally> Shared<C, M> {
         ensures add_up { IfOk result (λ books. AddUp books) }
         ensures unspent { IfOk result (λ books. books.spent ≡ false) }
         // No book is kept back where the seats are those of all connections that were made.
-        ensures missing { IsErr result → calls.connections ≡ self.made → mails.connections ≡ self.made → ⊥ }
+        ensures missing { IsErr result → calls.connections ≡ self.connections_made → mails.connections
+            ≡ self.connections_made → ⊥ }
     {
         if !self.made_all(&calls, &mails) {
             drop(self);
@@ -607,7 +609,7 @@ impl<C: Tally, M: Tally> Shared<C, M> {
             spare_mails,
             history,
             posted: _,
-            made: _,
+            connections_made: _,
             watchers,
             paces,
             stopped: _,

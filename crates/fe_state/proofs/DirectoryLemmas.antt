@@ -22,7 +22,7 @@ use Rattle.fe_table.proofs.TableLemmas.{first, second}
 use Rattle.fe_state.proofs.Totals.{total_added, total_removed, total_replaced}
 use Rattle.fe_state.specs.Directory.{Directory, IsDirectory, IsArray, answer_in, creation, word_count, word_in}
 use Rattle.fe_state.specs.Effect.{with_word, put_word}
-use Rattle.fe_state.specs.Change.{MayCome}
+use Rattle.fe_state.specs.Change.{MayBeAdded}
 use Rattle.fe_state.specs.declared.array.Array.{Array}
 use Rattle.fe_state.specs.declared.answer.Answer.{Answer}
 use Rattle.fe_state.specs.declared.answer.Answer.TheVariants as answer
@@ -111,7 +111,7 @@ pub first_kept : (arrays : FinMap nat_cmp Array) (next_id : ℕ) → arrays ≡ 
 first_kept arrays next_id is h = rw is (empty_directory next_id h, sym no_words)
 
 -- an array that comes
-pub come_kept : (d : Directory) (id : ℕ) (a : Array) → IsDirectory d → MayCome d id a → IsDirectory (record { arrays = insert d.arrays id a; next_id = d.next_id })
+pub come_kept : (d : Directory) (id : ℕ) (a : Array) → IsDirectory d → MayBeAdded d id a → IsDirectory (record { arrays = insert d.arrays id a; next_id = d.next_id })
 come_kept d id a h c = record {
   next_id = h.next_id;
   few_arrays = rw (len-insert nat_cmp_total, ap is_some c.id_free) (omega (arith, c.few_arrays));
@@ -150,7 +150,7 @@ here_before m k q a h =
     ]
 
 -- an array that went may come again
-pub gone_may_come : (d : Directory) (id : ℕ) (a : Array) → IsDirectory d → get d.arrays id ≡ Some a → MayCome (record { arrays = remove d.arrays id; next_id = d.next_id }) id a
+pub gone_may_come : (d : Directory) (id : ℕ) (a : Array) → IsDirectory d → get d.arrays id ≡ Some a → MayBeAdded (record { arrays = remove d.arrays id; next_id = d.next_id }) id a
 gone_may_come d id a h is = record {
   array = let k = h.each id a is in array_in d _ _ id a k.older k;
   id_free = get_removed d.arrays id;
@@ -203,7 +203,7 @@ creation_free d name size i n h e = rw (creation_id d name size i n e) (fresh (g
     fresh (Some x) e = absurd (omega (arith, (h.each d.next_id x e).older))
 
 -- where a creation is answered with an array, one of that name and size may come under any free id
-pub creation_may_come : (d : Directory) (name : List ℕ) (size i n next_id id : ℕ) (a : Array) → creation d name size ≡ answer.Array i n → 1 ≤ id → id < next_id → get d.arrays id ≡ None → a.name ≡ name → length a.words ≡ size → MayCome (record { arrays = d.arrays; next_id = next_id }) id a
+pub creation_may_come : (d : Directory) (name : List ℕ) (size i n next_id id : ℕ) (a : Array) → creation d name size ≡ answer.Array i n → 1 ≤ id → id < next_id → get d.arrays id ≡ None → a.name ≡ name → length a.words ≡ size → MayBeAdded (record { arrays = d.arrays; next_id = next_id }) id a
 creation_may_come d name size i n next_id id a e made older none called sized =
     let p = creation_passed d name size i n e in
     record {
@@ -229,7 +229,7 @@ removal_free d id e = by (get d.arrays id) e
     by (Some a) e = cc
 
 -- that of the creation itself comes under the next id
-pub creation_comes : (d : Directory) (name : List ℕ) (size i n : ℕ) (a : Array) → IsDirectory d → creation d name size ≡ answer.Array i n → a.name ≡ name → length a.words ≡ size → MayCome (record { arrays = d.arrays; next_id = d.next_id + 1 }) i a
+pub creation_comes : (d : Directory) (name : List ℕ) (size i n : ℕ) (a : Array) → IsDirectory d → creation d name size ≡ answer.Array i n → a.name ≡ name → length a.words ≡ size → MayBeAdded (record { arrays = d.arrays; next_id = d.next_id + 1 }) i a
 creation_comes d name size i n a h e called sized =
     let is = creation_id d name size i n e in
     creation_may_come d name size i n (d.next_id + 1) i a e (omega (arith, h.next_id)) (omega arith) (creation_free d name size i n h e) called sized

@@ -5,7 +5,7 @@ use Rattle.std.specs.FinMap.{empty, entries, get, get-empty, len-empty, len-entr
 use Rattle.std.proofs.lemmas.List.{length-replicate}
 use Rattle.fe_words.specs.declared.word.Tag.{Tag}
 use Rattle.fe_state.specs.Name.{is_plain}
-use Rattle.fe_state.specs.Change.{MayCome}
+use Rattle.fe_state.specs.Change.{MayBeAdded}
 use Rattle.fe_state.specs.Effect.{new_array}
 use Rattle.fe_state.specs.Directory.{IsDirectory, word_count}
 use Rattle.fe_state.specs.State.{IsWithinLimits}
@@ -47,7 +47,7 @@ empty_within place next_id fits least most = record {
 }
 
 -- a first array may come
-pub comes_first : (next_id id : ℕ) (name : List ℕ) (size : ℕ) (tag : Tag) → 1 ≤ id → id < next_id → is_plain name ≡ true → 1 ≤ size → size ≤ 65536 → MayCome (record { arrays = empty; next_id = next_id }) id (new_array name size tag)
+pub comes_first : (next_id id : ℕ) (name : List ℕ) (size : ℕ) (tag : Tag) → 1 ≤ id → id < next_id → is_plain name ≡ true → 1 ≤ size → size ≤ 65536 → MayBeAdded (record { arrays = empty; next_id = next_id }) id (new_array name size tag)
 comes_first next_id id name size tag made older plain least most = record {
   array = record {
     made = made;

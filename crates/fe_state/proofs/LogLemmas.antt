@@ -4,12 +4,12 @@ use Rattle.std.specs.Prelude.{slice_get}
 use Rattle.std.specs.Option.{option_map}
 use Rattle.fe_state.specs.declared.dropped.Dropped.{Dropped}
 use Rattle.fe_state.specs.State.{ServerState}
-use Rattle.fe_state.specs.UndoLog.{before_all, MayFollow, MayFollowAll}
+use Rattle.fe_state.specs.UndoLog.{before_all, CanUndo, MayFollowAll}
 use Rattle.fe_state.specs.declared.change.Change.{Change}
 use Rattle.fe_state.specs.declared.undo.Undo.{Undo}
 
 -- the latest of entries may be undone
-pub latest_follows : (undos : List Undo) (dropped : List Dropped) (s : ServerState) (u : Undo) → MayFollowAll undos dropped s → slice_get undos 0 ≡ Some u → MayFollow u dropped s
+pub latest_follows : (undos : List Undo) (dropped : List Dropped) (s : ServerState) (u : Undo) → MayFollowAll undos dropped s → slice_get undos 0 ≡ Some u → CanUndo u dropped s
 latest_follows [] dropped s u h is = absurd (cc)
 latest_follows (v ∷ us) dropped s u h is =
     let same : v ≡ u = cc in

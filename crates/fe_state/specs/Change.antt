@@ -16,7 +16,7 @@ restored (Removed id a) d = record { arrays = insert d.arrays id a; next_id = d.
 restored (Wrote id index w) d = record { arrays = put_word d.arrays id index w (get d.arrays id); next_id = d.next_id }
 
 -- an array that may come to a directory under an id: it has room there, and the id and the name are free
-pub record MayCome (d : Directory) (id : ℕ) (a : Array) : Type 0 where
+pub record MayBeAdded (d : Directory) (id : ℕ) (a : Array) : Type 0 where
   pub array : IsArray d id a
   pub id_free : get d.arrays id ≡ None
   pub name_free : named d.arrays a.name ≡ None
@@ -27,5 +27,5 @@ pub record MayCome (d : Directory) (id : ℕ) (a : Array) : Type 0 where
 abbrev pub CanRestore : Change → Directory → Type 0
 CanRestore Nothing d = Unit {0}
 CanRestore Created d = IsSome (get d.arrays (d.next_id - 1))
-CanRestore (Removed id a) d = MayCome d id a
+CanRestore (Removed id a) d = MayBeAdded d id a
 CanRestore (Wrote id index w) d = IsSome (word_in (get d.arrays id) index)

@@ -91,7 +91,7 @@ before u dropped s =
     record { arrays = d.arrays; sessions = put_back u.session_change dropped s.sessions u.session; next_id = d.next_id; place = s.place - 1 }
 
 -- a state that the entry may have left
-pub record MayFollow (u : Undo) (dropped : List Dropped) (s : ServerState) : Type 0 where
+pub record CanUndo (u : Undo) (dropped : List Dropped) (s : ServerState) : Type 0 where
   pub directory : CanRestore u.change (directory_of s)
   pub sessions : CanPutBack u.session_change dropped s.sessions u.session
   pub place : 1 ≤ s.place
@@ -127,7 +127,7 @@ rewound l s = before_all l.undos l.dropped s
 -- a state that entries may have led to, the latest last: each may be undone once those after it are
 abbrev pub MayFollowAll : List Undo → List Dropped → ServerState → Type 0
 MayFollowAll [] dropped s = Unit {0}
-MayFollowAll (u ∷ us) dropped s = MayFollow u dropped s × MayFollowAll us (left u.session_change dropped) (before u dropped s)
+MayFollowAll (u ∷ us) dropped s = CanUndo u dropped s × MayFollowAll us (left u.session_change dropped) (before u dropped s)
 
 -- a log that a state may have: the entries of the log may have led to it. An empty log is of every state
 abbrev pub IsLogOf : UndoLog → ServerState → Type 0

@@ -5,7 +5,7 @@ ghost use Rattle.std.specs.FinMap.{entries, get, insert, len, contains_key};
 ghost use Rattle.fe_words.specs.Table.{table};
 ghost use Rattle.fe_state.specs.Directory.{first_directory, named, creation, answer_of, answer_in, word_in};
 ghost use Rattle.fe_state.specs.Effect.{put_word, creating, effect_of, performed};
-ghost use Rattle.fe_state.specs.Change.{restored, CanRestore, MayCome};
+ghost use Rattle.fe_state.specs.Change.{restored, CanRestore, MayBeAdded};
 
 use crate::answer::Answer;
 use crate::array::Array;
@@ -238,7 +238,7 @@ impl Directory {
 
     /// Puts an array at an id. Allocates nothing.
     pub fn insert(&mut self, id: u64, array: Array)
-        requires { MayCome self.old id array }
+        requires { MayBeAdded self.old id array }
         ensures { self.new ≡ record { arrays = insert self.old.arrays id array; next_id = self.old.next_id } }
     {
         self.words += array.words.len();

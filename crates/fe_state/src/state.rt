@@ -1,7 +1,7 @@
 ghost use Rattle.std.specs.Prelude.{◌≡◌, ℕ, ◌+◌, ◌-◌, ◌^◌, ◌<◌, ◌≤◌, ◌↔◌, length, slice_get, None, IfOk, IfSome, OnOk, OnErr, IsOk, IsSome, IsSomeAnd, IsTrue, option_copied};
 ghost use Rattle.std.specs.Option.{option_map};
 ghost use Rattle.std.specs.FinMap.{get, keys, entries, len, empty, insert};
-ghost use Rattle.fe_state.specs.Change.{MayCome, restored, CanRestore};
+ghost use Rattle.fe_state.specs.Change.{MayBeAdded, restored, CanRestore};
 ghost use Rattle.fe_state.specs.Directory.{word_in, words_in};
 ghost use Rattle.fe_state.specs.Effect.{CreatesArray, effect_of, new_array, put_word};
 ghost use Rattle.fe_state.specs.Sessions.{kept_in, IsInWindow, keeping, put_session};
@@ -328,7 +328,7 @@ impl State {
 
     /// Adds an array of an image, its words empty and of value 0. Fails only if memory runs out.
     pub fn load_array(&mut self, id: u64, name: Name, length: u32) -> Result<(), AllocError>
-        requires { MayCome (directory_of self.old) id (new_array name length Empty) }
+        requires { MayBeAdded (directory_of self.old) id (new_array name length Empty) }
         ensures ok { OnOk result (self.new
             ≡ with_arrays self.old (insert self.old.arrays id (new_array name length Empty))) }
         ensures err { OnErr result (self.new ≡ self.old) }

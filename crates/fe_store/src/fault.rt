@@ -1,6 +1,6 @@
 ghost use Rattle.std.specs.Prelude.{◌≡◌};
 ghost use Rattle.fe_keeper.specs.Opened.{IsOpenFault};
-ghost use Rattle.fe_store.specs.within.Faults.{IsToldAs};
+ghost use Rattle.fe_store.specs.within.Faults.{IsOpenFaultOf};
 
 use fe_disk::{DeviceFault, FileFault};
 use fe_keeper::Fault;
@@ -59,9 +59,9 @@ impl From<DeviceFault> for OpenFault {
 }
 
 /// The fault when a keeper is not opened.
-pub(crate) fn told_as(fault: Fault) -> OpenFault
+pub(crate) fn open_fault_of(fault: Fault) -> OpenFault
     requires { IsOpenFault fault }
-    ensures { IsToldAs fault result }
+    ensures { IsOpenFaultOf fault result }
 {
     match fault {
         Fault::Device => OpenFault::Device,

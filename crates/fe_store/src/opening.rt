@@ -12,7 +12,7 @@ ghost use Rattle.fe_keeper.specs.Stands.{EachStandsFor};
 ghost use Rattle.fe_store.specs.Opening.{IsToFormat, IsReason, IsOpenedAs, disk_after};
 ghost use Rattle.fe_store.specs.declared.fault.OpenFault.TheVariants as fault;
 
-use crate::fault::{OpenFault, told_as};
+use crate::fault::{OpenFault, open_fault_of};
 use fe_disk::Disk;
 use fe_keeper::Keeper;
 use std::alloc::Global;
@@ -30,13 +30,13 @@ pub fn open_existing<D: Disk>(alloc: Global, disk: D) -> Result<Keeper<D>, (Open
     ensures reads { D.honest disk → OnlyReads D.Disk disk (disk_after result) }
 
     ensures ready { IfOk result IsReady }
-    ensures device { AsksToOpen D.Disk fault.Device (told result) disk
+    ensures device { AsksToOpen D.Disk fault.Device (without_disk result) disk
         (disk_after result) }
     ensures sized { IfErr result (λ e. (found : ℕ) → e.0 ≢ fault.Size found) }
 {
     match Keeper::open(alloc, disk) {
         Ok(keeper) => Ok(keeper),
-        Err((fault, disk)) => Err((told_as(fault), disk)),
+        Err((fault, disk)) => Err((open_fault_of(fault), disk)),
     }
 }
 
@@ -75,6 +75,6 @@ fn made_on<D: Disk>(alloc: Global, disk: D) -> Result<Keeper<D>, (OpenFault, D)>
 {
     match Keeper::format(alloc, disk) {
         Ok(keeper) => Ok(keeper),
-        Err((fault, disk)) => Err((told_as(fault), disk)),
+        Err((fault, disk)) => Err((open_fault_of(fault), disk)),
     }
 }

@@ -4,7 +4,7 @@ ghost use Rattle.std.specs.Prelude.{◌≡◌, ◌<◌, ◌≤◌, length, Some,
 ghost use Rattle.std.specs.Io.KnownBytes.{IsAtEnd, WriteAppends};
 ghost use Rattle.fe_streams.specs.Incoming.{HasRead, bytes_read};
 
-use crate::{Failed, read_some};
+use crate::{StreamFailed, read_some};
 use std::io::Read;
 use std::snapshot::Snapshot;
 
@@ -29,7 +29,7 @@ impl<R: Read> Incoming<R> {
 
     /// Reads at least one byte into the front of the buffer and returns how many; returns 0 only at the end of the stream
     /// or if the buffer is empty.
-    pub fn read_some(&mut self, buffer: &mut [u8]) -> Result<usize, Failed>
+    pub fn read_some(&mut self, buffer: &mut [u8]) -> Result<usize, StreamFailed>
         ensures fits { IfOk result (λ count. count ≤ length buffer.old) }
         ensures read { WriteAppends (bytes_read (R.remaining self.old.began.value) (R.remaining self.old.reader))
             (bytes_read (R.remaining self.new.began.value) (R.remaining self.new.reader)) result buffer.new }

@@ -15,11 +15,11 @@ const TRIES: u64 = 1 << 40;
 /// A read or a write failed, for a reason other than a signal, or a signal interrupted 2^40 tries; or a writer took no byte. Only the
 /// calls of this crate make it.
 #[derive(Clone, Copy, PartialEq, Eq)]
-pub struct Failed(());
+pub struct StreamFailed(());
 
 /// Reads at least one byte into the front of the buffer and returns how many; returns 0 only at the end of the stream
 /// or if the buffer is empty.
-pub fn read_some<R: Read>(reader: &mut R, buffer: &mut [u8]) -> Result<usize, Failed>
+pub fn read_some<R: Read>(reader: &mut R, buffer: &mut [u8]) -> Result<usize, StreamFailed>
     ensures fits { IfOk result (λ count. count ≤ length buffer.old) }
     ensures room { length buffer.new ≡ length buffer.old }
     ensures consumed { ReadConsumes (R.remaining reader.old) (R.remaining reader.new) result buffer.new }
@@ -29,16 +29,16 @@ pub fn read_some<R: Read>(reader: &mut R, buffer: &mut [u8]) -> Result<usize, Fa
             Ok(count) => return Ok(count),
             Err(error) => {
                 if error.kind() != ErrorKind::Interrupted {
-                    return Err(Failed(()));
+                    return Err(StreamFailed(()));
                 }
             }
         }
     }
-    Err(Failed(()))
+    Err(StreamFailed(()))
 }
 
 /// Writes at least one byte from the front, and returns how many; returns 0 only if there are none.
-pub fn write_some<W: Write>(writer: &mut W, bytes: &[u8]) -> Result<usize, Failed>
+pub fn write_some<W: Write>(writer: &mut W, bytes: &[u8]) -> Result<usize, StreamFailed>
     ensures fits { IfOk result (λ count. count ≤ length bytes.now) }
     ensures some { IfOk result (λ count. 0 < length bytes.now → 0 < count) }
     ensures wrote { WriteAppends (W.contents writer.old) (W.contents writer.new) result bytes.now }
@@ -47,16 +47,16 @@ pub fn write_some<W: Write>(writer: &mut W, bytes: &[u8]) -> Result<usize, Faile
         match writer.write(bytes) {
             Ok(count) => {
                 if count == 0 && !bytes.is_empty() {
-                    return Err(Failed(()));
+                    return Err(StreamFailed(()));
                 }
                 return Ok(count);
             }
             Err(error) => {
                 if error.kind() != ErrorKind::Interrupted {
-                    return Err(Failed(()));
+                    return Err(StreamFailed(()));
                 }
             }
         }
     }
-    Err(Failed(()))
+    Err(StreamFailed(()))
 }

@@ -64,18 +64,18 @@ message_in words = option_map_or (λ parts. numbered_in parts.0 parts.1) (words_
 -- a message from this connection
 abbrev message_of : ℕ → List ℕ → Option Line
 message_of conn words = do
-  told ← message_in words
-  Some (Message conn told)
+  one ← message_in words
+  Some (Message conn one)
 
 -- the line after the name of its connection
-unfoldable pub told_in : ℕ → List ℕ → Option Line
-told_in conn words = if bytes_eq words (codes "gone") then Some (Gone conn) else message_of conn words
+unfoldable pub conn_line_in : ℕ → List ℕ → Option Line
+conn_line_in conn words = if bytes_eq words (codes "gone") then Some (Gone conn) else message_of conn words
 
 -- a line that begins with the name of a connection
 abbrev named_in : List ℕ → List ℕ → Option Line
 named_in name words = do
   conn ← conn_of name
-  told_in conn words
+  conn_line_in conn words
 
 -- The line that the bytes spell. No line has more than `longest_line` bytes.
 unfoldable pub parsed : List ℕ → Option Line
@@ -85,7 +85,7 @@ parsed bytes =
 
 -- the line's message has a frame
 abbrev pub LineFits : Line → Type 0
-LineFits (Message conn told) = Fits told
+LineFits (Message conn one) = Fits one
 LineFits (Gone conn) = Unit {0}
 LineFits Hold = Unit {0}
 LineFits Flush = Unit {0}

@@ -1,7 +1,7 @@
 //! The lines of a schedule (`docs/schedules.md`).
 
 ghost use Rattle.std.specs.Prelude.{◌≡◌, IfSome};
-ghost use Rattle.fe_text.specs.Line.{parsed, conn_of, control_in, plain_in, numbered_in, message_in, told_in, LineFits};
+ghost use Rattle.fe_text.specs.Line.{parsed, conn_of, control_in, plain_in, numbered_in, message_in, conn_line_in, LineFits};
 ghost use Rattle.fe_wire.specs.Spelling.{Fits};
 
 use crate::request::request_in;
@@ -116,9 +116,9 @@ pub fn message_in(words: &[u8]) -> Option<ClientMessage>
 }
 
 /// The line after the name of its connection.
-#[tactic(auto, unfolding(crate::specs::Line::told_in))]
-fn told_in(conn: u64, words: &[u8]) -> Option<Line>
-    ensures line { result ≡ told_in conn words.now }
+#[tactic(auto, unfolding(crate::specs::Line::conn_line_in))]
+fn conn_line_in(conn: u64, words: &[u8]) -> Option<Line>
+    ensures line { result ≡ conn_line_in conn words.now }
     ensures fits { IfSome result LineFits }
 {
     if says(words, "gone") {
@@ -141,7 +141,7 @@ pub fn parse(bytes: &[u8]) -> Option<Line>
     match word_at(bytes) {
         Some((name, words)) => {
             let conn = conn_of(name)?;
-            told_in(conn, words)
+            conn_line_in(conn, words)
         }
         None => control_in(bytes),
     }

@@ -10,8 +10,8 @@ use Rattle.fe_pool.specs.declared.family.Family.{Family}
 use Rattle.fe_pool.specs.declared.family.Family.TheVariants.{OfWord, OfSession}
 use Rattle.fe_pool.specs.Pool.{Contents, IsChain, IsFree, IsOff, IsOnOne, KeepsOtherChains, KeepsOtherFamily, list_of, lists_of}
 use Rattle.fe_waits.specs.declared.row.Row.{Row}
-use Rattle.fe_waits.specs.Waiting.{key_of, waiter_of, count_of}
-use Rattle.fe_waits.specs.within.Words.{chain_at, with_chain}
+use Rattle.fe_waits.specs.Waiting.{key_of, waiting_access_of, count_of}
+use Rattle.fe_waits.specs.within.WordChains.{chain_at, with_chain}
 use Rattle.fe_waits.specs.within.Inner.{members_of, row_in, AreListed, AreDifferent, IsKept, session_of, word_of, length_of}
 use Rattle.fe_waits.proofs.ListedLemmas.{listed-moved, listed-pushed, row-set_here, row-set_other}
 use Rattle.fe_waits.proofs.KeptLemmas.{sum-set, sum-bound}
@@ -75,7 +75,7 @@ module _ (pool : Contents Row) (sessions : List Chain) (words : FinMap nat_cmp (
       abbrev pub nodes : List (Option Row)
       nodes = set pool.items node (Some row)
 
-      pub members-added : members_of nodes ≡ insert (members_of pool.items) (key_of row) (waiter_of row)
+      pub members-added : members_of nodes ≡ insert (members_of pool.items) (key_of row) (waiting_access_of row)
       members-added = members-taken pool.items node row free.0 free.1 is-new
 
       different : AreDifferent nodes
@@ -171,17 +171,17 @@ module _ (pool : Contents Row) (sessions : List Chain) (words : FinMap nat_cmp (
                       let is : session' ≡ chain = some_same (sym (slice_get-set sessions row.slot session' slot_below) ∙ ap (slice_get sessions') (sym same) ∙ e) in
                       let long : session'.length ≡ chain.length = ap length_of is in
                       let was = kept.counted row.slot session at_session in
-                      let now : count_of (members_of nodes) slot ≡ count_of (members_of pool.items) row.slot + 1 = ap (count_of (members_of nodes)) same ∙ ap (λ m. count_of m row.slot) members-added ∙ count-insert (members_of pool.items) (key_of row) (waiter_of row) new in
+                      let now : count_of (members_of nodes) slot ≡ count_of (members_of pool.items) row.slot + 1 = ap (count_of (members_of nodes)) same ∙ ap (λ m. count_of m row.slot) members-added ∙ count-insert (members_of pool.items) (key_of row) (waiting_access_of row) new in
                       (omega arith, omega arith)
                   | inr other ↦
                       let at = sym (slice_get-set_other sessions row.slot slot session' other) ∙ e in
-                      let now : count_of (members_of nodes) slot ≡ count_of (members_of pool.items) slot = ap (λ m. count_of m slot) members-added ∙ count-insert_other (members_of pool.items) (key_of row) (waiter_of row) slot other in
+                      let now : count_of (members_of nodes) slot ≡ count_of (members_of pool.items) slot = ap (λ m. count_of m slot) members-added ∙ count-insert_other (members_of pool.items) (key_of row) (waiting_access_of row) slot other in
                       (kept.counted slot chain at ∙ sym now, kept.few slot chain at)
                 ]
 
             kept_added : (arrays : len (with_chain words row.array row.index word') ≤ 64) → (p : Contents Row) → p ≡ added → p.items ≡ nodes → IsKept p sessions' (with_chain words row.array row.index word') (waiting + 1)
             kept_added arrays p p_is is =
-                let long : len (members_of p.items) ≡ len (members_of pool.items) + 1 = ap (λ l. len (members_of l)) is ∙ ap len members-added ∙ len-insert_new (members_of pool.items) (key_of row) (waiter_of row) new in
+                let long : len (members_of p.items) ≡ len (members_of pool.items) + 1 = ap (λ l. len (members_of l)) is ∙ ap len members-added ∙ len-insert_new (members_of pool.items) (key_of row) (waiting_access_of row) new in
                 let sum = sum-set sessions row.slot session session' at_session in
                 record {
                   sized = ap length is ∙ length-set pool.items node (Some row) ∙ kept.sized;

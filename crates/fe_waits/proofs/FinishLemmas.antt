@@ -10,8 +10,8 @@ use Rattle.fe_pool.specs.declared.family.Family.{Family}
 use Rattle.fe_pool.specs.declared.family.Family.TheVariants.{OfWord, OfSession}
 use Rattle.fe_pool.specs.Pool.{Contents, IsChain, IsOff, KeepsOtherChains, KeepsOtherFamily, list_of, lists_of, without}
 use Rattle.fe_waits.specs.declared.row.Row.{Row}
-use Rattle.fe_waits.specs.Waiting.{key_of, waiter_of, count_of}
-use Rattle.fe_waits.specs.within.Words.{chain_at, with_chain}
+use Rattle.fe_waits.specs.Waiting.{key_of, waiting_access_of, count_of}
+use Rattle.fe_waits.specs.within.WordChains.{chain_at, with_chain}
 use Rattle.fe_waits.specs.within.Inner.{members_of, row_in, AreListed, AreDifferent, IsKept, session_of, word_of, length_of}
 use Rattle.fe_waits.proofs.AddLemmas.{session-not_word, word-not_session, off-moved}
 use Rattle.fe_waits.proofs.KeptLemmas.{sum-set}
@@ -104,7 +104,7 @@ module _ (pool : Contents Row) (sessions : List Chain) (words : FinMap nat_cmp (
                     let long : session'.length ≡ chain.length = ap length_of is in
                     let was = kept.counted row.slot session at_session in
                     let few = kept.few row.slot session at_session in
-                    let now : count_of (members_of nodes) slot ≡ count_of (members_of pool.items) row.slot - 1 = ap (count_of (members_of nodes)) same ∙ ap (λ m. count_of m row.slot) members_nodes ∙ count-remove (members_of pool.items) (key_of row) (waiter_of row) (members-row pool.items kept.different node row is_row) in
+                    let now : count_of (members_of nodes) slot ≡ count_of (members_of pool.items) row.slot - 1 = ap (count_of (members_of nodes)) same ∙ ap (λ m. count_of m row.slot) members_nodes ∙ count-remove (members_of pool.items) (key_of row) (waiting_access_of row) (members-row pool.items kept.different node row is_row) in
                     (omega arith, omega arith)
                 | inr other ↦
                     let at = sym (slice_get-set_other sessions row.slot slot session' other) ∙ e in
@@ -129,7 +129,7 @@ module _ (pool : Contents Row) (sessions : List Chain) (words : FinMap nat_cmp (
 
             pub kept-finished : len (with_chain words row.array row.index word') ≤ 64 → IsKept freed (set sessions row.slot session') (with_chain words row.array row.index word') (waiting - 1)
             kept-finished arrays =
-                let less : len (members_of freed.items) ≡ len (members_of pool.items) - 1 = ap len members-finished ∙ len-remove_old (members_of pool.items) (key_of row) (waiter_of row) (members-row pool.items kept.different node row is_row) in
+                let less : len (members_of freed.items) ≡ len (members_of pool.items) - 1 = ap len members-finished ∙ len-remove_old (members_of pool.items) (key_of row) (waiting_access_of row) (members-row pool.items kept.different node row is_row) in
                 let sum = sum-set sessions row.slot session session' at_session in
                 record {
                   sized = ap length items_freed ∙ length-set pool.items node None ∙ kept.sized;

@@ -13,8 +13,8 @@ use Rattle.fe_pool.specs.Pool.{Contents, IsChain, first_or, list_of}
 use Rattle.fe_pool.proofs.AmongLemmas.{among-Contains}
 use Rattle.fe_waits.specs.declared.row.Row.{Row}
 use Rattle.fe_waits.specs.Pair.{pair_cmp}
-use Rattle.fe_waits.specs.Waiting.{Waiter, key_of, waiter_of, of_slot, count_of, IsWord, IsNodeOn, NoneOnWord, NoneOnArray, IsWithinLimits}
-use Rattle.fe_waits.specs.within.Words.{chain_at, lengths}
+use Rattle.fe_waits.specs.Waiting.{WaitingAccess, key_of, waiting_access_of, of_slot, count_of, IsWord, IsNodeOn, NoneOnWord, NoneOnArray, IsWithinLimits}
+use Rattle.fe_waits.specs.within.WordChains.{chain_at, lengths}
 use Rattle.fe_waits.specs.within.Inner.{members_of, row_in, AreListed, IsKept, IsNodeOfSlot, length_of, word_of, waiting_of, empty_chain}
 use Rattle.fe_waits.proofs.ListedLemmas.{contains-first, listed-replaced}
 use Rattle.fe_waits.proofs.MemberLemmas.{none_some, some_same, members-node, members-row, members-empty, of_slot-none}
@@ -87,14 +87,14 @@ module _ (pool : Contents Row) (sessions : List Chain) (words : FinMap nat_cmp (
       by_first None e = (tt, (λ _. word-none array index chain at e, λ _. refl))
       by_first (Some node) e =
           let on = word-first array index chain node at e in
-          (on, (λ none. absurd (true≢false none), λ none. absurd (none (key_of on.0) (waiter_of on.0) (members-row pool.items kept.different node on.0 on.1) on.2)))
+          (on, (λ none. absurd (true≢false none), λ none. absurd (none (key_of on.0) (waiting_access_of on.0) (members-row pool.items kept.different node on.0 on.1) on.2)))
 
   -- ---- the limits
 
   total_bound : waiting ≤ 2048
   total_bound = let bound = sum-bound sessions 32 kept.few in omega (arith, kept.total, kept.slots, bound)
 
-  slot_bound : (key : ℕ × ℕ) (waiter : Waiter) → get (members_of pool.items) key ≡ Some waiter → key.0 < 64
+  slot_bound : (key : ℕ × ℕ) (waiter : WaitingAccess) → get (members_of pool.items) key ≡ Some waiter → key.0 < 64
   slot_bound key waiter e =
       let found = members-node pool.items key waiter e in
       let on = kept.by_session.listed found.0 found.1 found.2 in
@@ -110,10 +110,10 @@ module _ (pool : Contents Row) (sessions : List Chain) (words : FinMap nat_cmp (
       omega arith
   count_bound slot (inr above) =
       let none = of_slot-none (members_of pool.items) slot (λ number waiter e. absurd (past number waiter e)) in
-      let zero_of = ap len none ∙ len-empty pair_cmp Waiter in
+      let zero_of = ap len none ∙ len-empty pair_cmp WaitingAccess in
       omega arith
     where
-      past : (number : ℕ) (waiter : Waiter) → get (members_of pool.items) (slot, number) ≡ Some waiter → ⊥
+      past : (number : ℕ) (waiter : WaitingAccess) → get (members_of pool.items) (slot, number) ≡ Some waiter → ⊥
       past number waiter e = let below = slot_bound (slot, number) waiter e in omega arith
 
   pub kept-limits : IsWithinLimits (waiting_of pool words)
@@ -189,7 +189,7 @@ module _ (pool : Contents Row) (sessions : List Chain) (words : FinMap nat_cmp (
           ]
 
       keeps : (node : ℕ) (row : Row) → row_in pool.items node ≡ Some row → chain_at (remove words array) (word_of row) ≡ chain_at words (word_of row)
-      keeps node row e = at-other (word_of row) (unused (key_of row) (waiter_of row) (members-row pool.items kept.different node row e))
+      keeps node row e = at-other (word_of row) (unused (key_of row) (waiting_access_of row) (members-row pool.items kept.different node row e))
 
 -- ---- the first value
 
@@ -210,9 +210,9 @@ kept-new pool sessions words items chains arrays =
         listed = λ node row e. no_row node row e;
         belongs = λ word chain node e on. no_chain word chain e;
       };
-      counted = λ slot chain e. ap length_of (empty_at slot chain e) ∙ sym (ap (λ m. count_of m slot) none ∙ ap len (of_slot-none empty slot (λ number waiter e. none_some (sym (get-empty pair_cmp (slot, number)) ∙ e))) ∙ len-empty pair_cmp Waiter);
+      counted = λ slot chain e. ap length_of (empty_at slot chain e) ∙ sym (ap (λ m. count_of m slot) none ∙ ap len (of_slot-none empty slot (λ number waiter e. none_some (sym (get-empty pair_cmp (slot, number)) ∙ e))) ∙ len-empty pair_cmp WaitingAccess);
       few = λ slot chain e. subst (λ c. c.length ≤ 32) (sym (empty_at slot chain e)) (omega arith);
-      all = sym (ap len none ∙ len-empty pair_cmp Waiter);
+      all = sym (ap len none ∙ len-empty pair_cmp WaitingAccess);
       total = sym (ap (sum_by length_of) chains ∙ sum-replicate 64);
       arrays = subst (λ m. len m ≤ 64) (sym arrays) (subst (λ n. n ≤ 64) (sym (len-empty nat_cmp (List Chain))) (omega arith));
     }

@@ -7,4 +7,4 @@ pub mod RoomLemmas
 pub mod WalkLemmas
 pub mod SearchLemmas
 pub mod WordLemmas
-pub mod ToldLemmas
+pub mod ListingLemmas

@@ -9,7 +9,7 @@ use Rattle.std.specs.FinMap.{FinMap, empty, get, insert, remove, len, get-empty,
 use Rattle.std.proofs.lemmas.Bool.{cases_eq, ne_eqb, eq-eqb}
 use Rattle.fe_waits.specs.declared.row.Row.{Row}
 use Rattle.fe_waits.specs.Pair.{pair_cmp, pair_cmp_total, pair_cmp-IsAntisymmetric}
-use Rattle.fe_waits.specs.Waiting.{Waiter, key_of, waiter_of, of_slot, count_of, without_slot}
+use Rattle.fe_waits.specs.Waiting.{WaitingAccess, key_of, waiting_access_of, of_slot, count_of, without_slot}
 use Rattle.fe_waits.specs.within.Inner.{members_of, row_in, AreDifferent}
 
 -- ---- keys that are pairs
@@ -106,55 +106,55 @@ pub members-new : (nodes : List (Option Row)) (key : ℕ × ℕ) → IsNew nodes
 members-new [] key new = get-empty pair_cmp key
 members-new (None ∷ nodes) key new = members-new nodes key (λ node row e. new (suc node) row e)
 members-new (Some row ∷ nodes) key new =
-    get-insert_other (members_of nodes) (key_of row) (waiter_of row) key (λ e. new 0 row refl (sym e)) ∙ members-new nodes key (λ node row e. new (suc node) row e)
+    get-insert_other (members_of nodes) (key_of row) (waiting_access_of row) key (λ e. new 0 row refl (sym e)) ∙ members-new nodes key (λ node row e. new (suc node) row e)
 
 -- a member is the request of a node
-pub members-node : (nodes : List (Option Row)) (key : ℕ × ℕ) (waiter : Waiter) → get (members_of nodes) key ≡ Some waiter → (node : ℕ) × (row : Row) × (row_in nodes node ≡ Some row) × (key_of row ≡ key) × (waiter_of row ≡ waiter)
+pub members-node : (nodes : List (Option Row)) (key : ℕ × ℕ) (waiter : WaitingAccess) → get (members_of nodes) key ≡ Some waiter → (node : ℕ) × (row : Row) × (row_in nodes node ≡ Some row) × (key_of row ≡ key) × (waiting_access_of row ≡ waiter)
 members-node [] key waiter e = none_some (sym (get-empty pair_cmp key) ∙ e)
 members-node (None ∷ nodes) key waiter e = let rest = members-node nodes key waiter e in (suc rest.0, rest.1, rest.2, rest.3, rest.4)
 members-node (Some row ∷ nodes) key waiter e =
-    elim (key_cases key (key_of row)) as (λ _. (node : ℕ) × (r : Row) × (row_in (Some row ∷ nodes) node ≡ Some r) × (key_of r ≡ key) × (waiter_of r ≡ waiter)) [
-      | inl same ↦ (0, row, refl, sym same, some_same (sym (ap (get (members_of (Some row ∷ nodes))) same ∙ get-insert_here (members_of nodes) (key_of row) (waiter_of row)) ∙ e))
-      | inr other ↦ let rest = members-node nodes key waiter (sym (get-insert_other (members_of nodes) (key_of row) (waiter_of row) key other) ∙ e) in (suc rest.0, rest.1, rest.2, rest.3, rest.4)
+    elim (key_cases key (key_of row)) as (λ _. (node : ℕ) × (r : Row) × (row_in (Some row ∷ nodes) node ≡ Some r) × (key_of r ≡ key) × (waiting_access_of r ≡ waiter)) [
+      | inl same ↦ (0, row, refl, sym same, some_same (sym (ap (get (members_of (Some row ∷ nodes))) same ∙ get-insert_here (members_of nodes) (key_of row) (waiting_access_of row)) ∙ e))
+      | inr other ↦ let rest = members-node nodes key waiter (sym (get-insert_other (members_of nodes) (key_of row) (waiting_access_of row) key other) ∙ e) in (suc rest.0, rest.1, rest.2, rest.3, rest.4)
     ]
 
 different-tail : (o : Option Row) (nodes : List (Option Row)) → AreDifferent (o ∷ nodes) → AreDifferent nodes
 different-tail o nodes d node other row else p q same = let e = d (suc node) (suc other) row else p q same in omega arith
 
 -- the request of a node is a member
-pub members-row : (nodes : List (Option Row)) → AreDifferent nodes → (node : ℕ) (row : Row) → row_in nodes node ≡ Some row → get (members_of nodes) (key_of row) ≡ Some (waiter_of row)
+pub members-row : (nodes : List (Option Row)) → AreDifferent nodes → (node : ℕ) (row : Row) → row_in nodes node ≡ Some row → get (members_of nodes) (key_of row) ≡ Some (waiting_access_of row)
 members-row [] d node row e = none_some e
-members-row (o ∷ nodes) d zero row e = subst (λ o. get (members_of (o ∷ nodes)) (key_of row) ≡ Some (waiter_of row)) (sym e) (get-insert_here (members_of nodes) (key_of row) (waiter_of row))
+members-row (o ∷ nodes) d zero row e = subst (λ o. get (members_of (o ∷ nodes)) (key_of row) ≡ Some (waiting_access_of row)) (sym e) (get-insert_here (members_of nodes) (key_of row) (waiting_access_of row))
 members-row (None ∷ nodes) d (suc node) row e = members-row nodes (different-tail None nodes d) node row e
 members-row (Some first ∷ nodes) d (suc node) row e =
-    get-insert_other (members_of nodes) (key_of first) (waiter_of first) (key_of row) (λ same. apart (d (suc node) 0 row first e refl same))
+    get-insert_other (members_of nodes) (key_of first) (waiting_access_of first) (key_of row) (λ same. apart (d (suc node) 0 row first e refl same))
     ∙ members-row nodes (different-tail (Some first) nodes d) node row e
   where
     apart : suc node ≡ 0 → ⊥
     apart e = omega arith
 
 -- a free node takes a new request
-pub members-taken : (nodes : List (Option Row)) (node : ℕ) (row : Row) → node < length nodes → row_in nodes node ≡ None → IsNew nodes (key_of row) → members_of (set nodes node (Some row)) ≡ insert (members_of nodes) (key_of row) (waiter_of row)
+pub members-taken : (nodes : List (Option Row)) (node : ℕ) (row : Row) → node < length nodes → row_in nodes node ≡ None → IsNew nodes (key_of row) → members_of (set nodes node (Some row)) ≡ insert (members_of nodes) (key_of row) (waiting_access_of row)
 members-taken [] node row below free new = absurd (omega arith)
-members-taken (o ∷ nodes) zero row below free new = ap (λ o. insert (members_of (o ∷ nodes)) (key_of row) (waiter_of row)) (sym free)
+members-taken (o ∷ nodes) zero row below free new = ap (λ o. insert (members_of (o ∷ nodes)) (key_of row) (waiting_access_of row)) (sym free)
 members-taken (None ∷ nodes) (suc node) row below free new = members-taken nodes node row (omega arith) free (λ n r e. new (suc n) r e)
 members-taken (Some first ∷ nodes) (suc node) row below free new =
-    ap (λ m. insert m (key_of first) (waiter_of first)) (members-taken nodes node row (omega arith) free (λ n r e. new (suc n) r e))
-    ∙ insert-insert (members_of nodes) (key_of row) (key_of first) (new 0 first refl) (waiter_of row) (waiter_of first)
+    ap (λ m. insert m (key_of first) (waiting_access_of first)) (members-taken nodes node row (omega arith) free (λ n r e. new (suc n) r e))
+    ∙ insert-insert (members_of nodes) (key_of row) (key_of first) (new 0 first refl) (waiting_access_of row) (waiting_access_of first)
 
 -- a node becomes free
 pub members-freed : (nodes : List (Option Row)) → AreDifferent nodes → (node : ℕ) (row : Row) → row_in nodes node ≡ Some row → members_of (set nodes node None) ≡ remove (members_of nodes) (key_of row)
 members-freed [] d node row e = none_some e
 members-freed (o ∷ nodes) d zero row e =
-    sym (remove-insert (members_of nodes) (key_of row) (waiter_of row) (members-new nodes (key_of row) (λ n r f same. apart n (d (suc n) 0 r row f e same))))
+    sym (remove-insert (members_of nodes) (key_of row) (waiting_access_of row) (members-new nodes (key_of row) (λ n r f same. apart n (d (suc n) 0 r row f e same))))
     ∙ ap (λ o. remove (members_of (o ∷ nodes)) (key_of row)) (sym e)
   where
     apart : (n : ℕ) → suc n ≡ 0 → ⊥
     apart n e = omega arith
 members-freed (None ∷ nodes) d (suc node) row e = members-freed nodes (different-tail None nodes d) node row e
 members-freed (Some first ∷ nodes) d (suc node) row e =
-    ap (λ m. insert m (key_of first) (waiter_of first)) (members-freed nodes (different-tail (Some first) nodes d) node row e)
-    ∙ insert-remove (members_of nodes) (key_of row) (key_of first) (λ same. apart (d 0 (suc node) first row refl e same)) (waiter_of first)
+    ap (λ m. insert m (key_of first) (waiting_access_of first)) (members-freed nodes (different-tail (Some first) nodes d) node row e)
+    ∙ insert-remove (members_of nodes) (key_of row) (key_of first) (λ same. apart (d 0 (suc node) first row refl e same)) (waiting_access_of first)
   where
     apart : 0 ≡ suc node → ⊥
     apart e = omega arith
@@ -168,20 +168,20 @@ members-empty (suc count) = members-empty count
 slot_test : (slot : ℕ) (q x : ℕ × ℕ) → pair_cmp q x ≡ Equal → (x.0 == slot) ≡ (q.0 == slot)
 slot_test slot q x t = ap (λ p. p.0 == slot) (sym (pair_cmp-IsAntisymmetric q x t))
 
-module _ (members : FinMap pair_cmp Waiter) (slot : ℕ) where
+module _ (members : FinMap pair_cmp WaitingAccess) (slot : ℕ) where
   pub get-of_slot : (q : ℕ × ℕ) → get (of_slot members slot) q ≡ cond (q.0 == slot) (get members q) None
   get-of_slot q = get-retain_keys members (λ key. key.0 == slot) q (slot_test slot q)
 
   pub get-without_slot : (q : ℕ × ℕ) → get (without_slot members slot) q ≡ cond (not (q.0 == slot)) (get members q) None
   get-without_slot q = get-retain_keys members (λ key. not (key.0 == slot)) q (λ x t. ap not (slot_test slot q x t))
 
-  pub of_slot-none : ((number : ℕ) (waiter : Waiter) → get members (slot, number) ≡ Some waiter → ⊥) → of_slot members slot ≡ empty
-  of_slot-none none = same_map pair_cmp_total pair_cmp-IsAntisymmetric _ _ (λ q. get-of_slot q ∙ elim (cases_eq q.0 slot) as (λ _. cond (q.0 == slot) (get members q) None ≡ get (empty {X = Waiter} {R = pair_cmp}) q) [
+  pub of_slot-none : ((number : ℕ) (waiter : WaitingAccess) → get members (slot, number) ≡ Some waiter → ⊥) → of_slot members slot ≡ empty
+  of_slot-none none = same_map pair_cmp_total pair_cmp-IsAntisymmetric _ _ (λ q. get-of_slot q ∙ elim (cases_eq q.0 slot) as (λ _. cond (q.0 == slot) (get members q) None ≡ get (empty {X = WaitingAccess} {R = pair_cmp}) q) [
     | inl same ↦ ap (λ b. cond b (get members q) None) (eq-eqb q.0 slot same) ∙ by_answer q same (get members q) refl
     | inr other ↦ ap (λ b. cond b (get members q) None) (ne_eqb q.0 slot other) ∙ sym (get-empty pair_cmp q)
   ])
     where
-      by_answer : (q : ℕ × ℕ) → q.0 ≡ slot → (o : Option Waiter) → get members q ≡ o → get members q ≡ get (empty {X = Waiter} {R = pair_cmp}) q
+      by_answer : (q : ℕ × ℕ) → q.0 ≡ slot → (o : Option WaitingAccess) → get members q ≡ o → get members q ≡ get (empty {X = WaitingAccess} {R = pair_cmp}) q
       by_answer q same None e = e ∙ sym (get-empty pair_cmp q)
       by_answer q same (Some waiter) e = absurd (none q.1 waiter (ap (λ s. get members (s, q.1)) (sym same) ∙ e))
 
@@ -194,14 +194,14 @@ module _ (members : FinMap pair_cmp Waiter) (slot : ℕ) where
     | inr other ↦ ap (λ b. cond (not b) (get members q) None) (ne_eqb q.0 slot other)
   ])
 
-pub len-insert_new : (m : FinMap pair_cmp Waiter) (k : ℕ × ℕ) (v : Waiter) → get m k ≡ None → len (insert m k v) ≡ len m + 1
+pub len-insert_new : (m : FinMap pair_cmp WaitingAccess) (k : ℕ × ℕ) (v : WaitingAccess) → get m k ≡ None → len (insert m k v) ≡ len m + 1
 len-insert_new m k v none = len-insert pair_cmp_total m k v ∙ ap (λ o. cond (is_some o) (len m) (len m + 1)) none
 
-pub len-remove_old : (m : FinMap pair_cmp Waiter) (k : ℕ × ℕ) (v : Waiter) → get m k ≡ Some v → len (remove m k) ≡ len m - 1
+pub len-remove_old : (m : FinMap pair_cmp WaitingAccess) (k : ℕ × ℕ) (v : WaitingAccess) → get m k ≡ Some v → len (remove m k) ≡ len m - 1
 len-remove_old m k v some = len-remove pair_cmp_total m k ∙ ap (λ o. cond (is_some o) (len m - 1) (len m)) some
 
-module _ (m : FinMap pair_cmp Waiter) (k : ℕ × ℕ) where
-  of_slot-insert : (v : Waiter) → of_slot (insert m k v) k.0 ≡ insert (of_slot m k.0) k v
+module _ (m : FinMap pair_cmp WaitingAccess) (k : ℕ × ℕ) where
+  of_slot-insert : (v : WaitingAccess) → of_slot (insert m k v) k.0 ≡ insert (of_slot m k.0) k v
   of_slot-insert v = same_map pair_cmp_total pair_cmp-IsAntisymmetric _ _ (λ q.
       get-of_slot (insert m k v) k.0 q ∙ ap (λ o. cond (q.0 == k.0) o None) (get-insert pair_cmp_total m k v q)
       ∙ by_key q (key_cases q k)
@@ -211,7 +211,7 @@ module _ (m : FinMap pair_cmp Waiter) (k : ℕ × ℕ) where
       by_key q (inl same) = rw (hit q k same, eq-eqb q.0 k.0 (ap (λ p. p.0) same)) refl
       by_key q (inr other) = rw (miss q k other) refl
 
-  of_slot-insert_other : (v : Waiter) (slot : ℕ) → slot ≢ k.0 → of_slot (insert m k v) slot ≡ of_slot m slot
+  of_slot-insert_other : (v : WaitingAccess) (slot : ℕ) → slot ≢ k.0 → of_slot (insert m k v) slot ≡ of_slot m slot
   of_slot-insert_other v slot n = same_map pair_cmp_total pair_cmp-IsAntisymmetric _ _ (λ q.
       get-of_slot (insert m k v) slot q ∙ by_slot q (cases_eq q.0 slot) ∙ sym (get-of_slot m slot q))
     where
@@ -241,13 +241,13 @@ module _ (m : FinMap pair_cmp Waiter) (k : ℕ × ℕ) where
   get-of_slot_own = get-of_slot m k.0 k ∙ ap (λ b. cond b (get m k) None) (eq-eqb k.0 k.0 refl)
 
   -- the number of a slot's requests after one is added or removed
-  pub count-insert : (v : Waiter) → get m k ≡ None → count_of (insert m k v) k.0 ≡ count_of m k.0 + 1
+  pub count-insert : (v : WaitingAccess) → get m k ≡ None → count_of (insert m k v) k.0 ≡ count_of m k.0 + 1
   count-insert v none = ap len (of_slot-insert v) ∙ len-insert_new (of_slot m k.0) k v (get-of_slot_own ∙ none)
 
-  pub count-insert_other : (v : Waiter) (slot : ℕ) → slot ≢ k.0 → count_of (insert m k v) slot ≡ count_of m slot
+  pub count-insert_other : (v : WaitingAccess) (slot : ℕ) → slot ≢ k.0 → count_of (insert m k v) slot ≡ count_of m slot
   count-insert_other v slot n = ap len (of_slot-insert_other v slot n)
 
-  pub count-remove : (v : Waiter) → get m k ≡ Some v → count_of (remove m k) k.0 ≡ count_of m k.0 - 1
+  pub count-remove : (v : WaitingAccess) → get m k ≡ Some v → count_of (remove m k) k.0 ≡ count_of m k.0 - 1
   count-remove v some = ap len of_slot-remove ∙ len-remove_old (of_slot m k.0) k v (get-of_slot_own ∙ some)
 
   pub count-remove_other : (slot : ℕ) → slot ≢ k.0 → count_of (remove m k) slot ≡ count_of m slot
@@ -264,20 +264,20 @@ module _ (m : FinMap pair_cmp Waiter) (k : ℕ × ℕ) where
 
 -- a node is free, or it represents a member
 pub free-or-full : (nodes : List (Option Row)) → AreDifferent nodes → ((node : ℕ) × (node < length nodes) × (row_in nodes node ≡ None)) ⊎ (len (members_of nodes) ≡ length nodes)
-free-or-full [] d = inr (len-empty pair_cmp Waiter)
+free-or-full [] d = inr (len-empty pair_cmp WaitingAccess)
 free-or-full (None ∷ nodes) d = inl (0, omega arith, refl)
 free-or-full (Some row ∷ nodes) d =
     elim (free-or-full nodes (different-tail (Some row) nodes d)) as (λ _. ((node : ℕ) × (node < length (Some row ∷ nodes)) × (row_in (Some row ∷ nodes) node ≡ None)) ⊎ (len (members_of (Some row ∷ nodes)) ≡ length (Some row ∷ nodes))) [
       | inl free ↦ let below : suc free.0 < length (Some row ∷ nodes) = omega (arith, free.1) in inl (suc free.0, below, free.2)
       | inr full ↦
-          let more = len-insert_new (members_of nodes) (key_of row) (waiter_of row) (members-new nodes (key_of row) (λ n r e same. apart n (d (suc n) 0 r row e refl same))) in
+          let more = len-insert_new (members_of nodes) (key_of row) (waiting_access_of row) (members-new nodes (key_of row) (λ n r e same. apart n (d (suc n) 0 r row e refl same))) in
           inr (more ∙ omega (arith, full))
     ]
   where
     apart : (n : ℕ) → suc n ≡ 0 → ⊥
     apart n e = omega arith
 
-pub len-positive : (m : FinMap pair_cmp Waiter) (k : ℕ × ℕ) (v : Waiter) → get m k ≡ Some v → 0 < len m
+pub len-positive : (m : FinMap pair_cmp WaitingAccess) (k : ℕ × ℕ) (v : WaitingAccess) → get m k ≡ Some v → 0 < len m
 len-positive m k v some =
     elim (cases_eq (len m) 0) as (λ _. 0 < len m) [
       | inl none ↦ none_some (sym (ap (λ n. get n k) (empty_of_len m none) ∙ get-empty pair_cmp k) ∙ some)
@@ -285,7 +285,7 @@ len-positive m k v some =
     ]
 
 -- a slot loses one request
-pub count-falls : (m : FinMap pair_cmp Waiter) (k : ℕ × ℕ) (v : Waiter) → get m k ≡ Some v → count_of (remove m k) k.0 < count_of m k.0
+pub count-falls : (m : FinMap pair_cmp WaitingAccess) (k : ℕ × ℕ) (v : WaitingAccess) → get m k ≡ Some v → count_of (remove m k) k.0 < count_of m k.0
 count-falls m k v some =
     let positive = len-positive (of_slot m k.0) k v (get-of_slot m k.0 k ∙ ap (λ b. cond b (get m k) None) (eq-eqb k.0 k.0 refl) ∙ some) in
     let less = count-remove m k v some in

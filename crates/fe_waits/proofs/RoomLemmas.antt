@@ -4,27 +4,27 @@ use Rattle.std.specs.FinMap.{FinMap, empty, get, insert, remove, len, len-empty,
 use Rattle.std.proofs.lemmas.Bool.{cases_eq, ne_eqb, eq-eqb}
 use Rattle.fe_words.specs.declared.op.Op.TheVariants.{ReadXx}
 use Rattle.fe_waits.specs.Pair.{pair_cmp, pair_cmp_total, pair_cmp-IsAntisymmetric}
-use Rattle.fe_waits.specs.Waiting.{Waiter, of_slot, count_of}
+use Rattle.fe_waits.specs.Waiting.{WaitingAccess, of_slot, count_of}
 use Rattle.fe_waits.proofs.MemberLemmas.{none_some, key_cases, get-of_slot, get-insert_other, get-remove_here, get-remove_other, len-insert_new}
 
 -- each key is of the slot, and its number is one of this many from the floor on
-abbrev pub AreWithin : FinMap pair_cmp Waiter → ℕ → ℕ → ℕ → Type 0
-AreWithin m slot floor many = (key : ℕ × ℕ) (waiter : Waiter) → get m key ≡ Some waiter → (key.0 ≡ slot) × (floor ≤ key.1) × (key.1 < floor + many)
+abbrev pub AreWithin : FinMap pair_cmp WaitingAccess → ℕ → ℕ → ℕ → Type 0
+AreWithin m slot floor many = (key : ℕ × ℕ) (waiter : WaitingAccess) → get m key ≡ Some waiter → (key.0 ≡ slot) × (floor ≤ key.1) × (key.1 < floor + many)
 
-len-less : (m : FinMap pair_cmp Waiter) (k : ℕ × ℕ) → len m ≤ len (remove m k) + 1
+len-less : (m : FinMap pair_cmp WaitingAccess) (k : ℕ × ℕ) → len m ≤ len (remove m k) + 1
 len-less m k = let e = len-remove pair_cmp_total m k in by_test (is_some (get m k)) e
   where
     by_test : (b : Bool) → len (remove m k) ≡ cond b (len m - 1) (len m) → len m ≤ len (remove m k) + 1
     by_test true e = omega arith
     by_test false e = omega arith
 
-within-bound : (many : ℕ) (m : FinMap pair_cmp Waiter) (slot floor : ℕ) → AreWithin m slot floor many → len m ≤ many
+within-bound : (many : ℕ) (m : FinMap pair_cmp WaitingAccess) (slot floor : ℕ) → AreWithin m slot floor many → len m ≤ many
 within-bound zero m slot floor within =
     let none : m ≡ empty = same_map pair_cmp_total pair_cmp-IsAntisymmetric _ _ (λ q. by_answer q (get m q) refl) in
-    let size = ap len none ∙ len-empty pair_cmp Waiter in
+    let size = ap len none ∙ len-empty pair_cmp WaitingAccess in
     omega arith
   where
-    by_answer : (q : ℕ × ℕ) (o : Option Waiter) → get m q ≡ o → get m q ≡ get (empty {X = Waiter} {R = pair_cmp}) q
+    by_answer : (q : ℕ × ℕ) (o : Option WaitingAccess) → get m q ≡ o → get m q ≡ get (empty {X = WaitingAccess} {R = pair_cmp}) q
     by_answer q None e = e ∙ sym (get-empty pair_cmp q)
     by_answer q (Some waiter) e = let in_window = within q waiter e in absurd (omega (arith, in_window.1, in_window.2))
 within-bound (suc many) m slot floor within =
@@ -50,13 +50,13 @@ within-bound (suc many) m slot floor within =
             ]
 
 -- if the numbers of a slot and one more are in a window of 32, the slot has room for that one
-pub room-in-window : (members : FinMap pair_cmp Waiter) (slot floor number : ℕ) → ((n : ℕ) (waiter : Waiter) → get members (slot, n) ≡ Some waiter → (floor ≤ n) × (n < floor + 32)) → get members (slot, number) ≡ None → floor ≤ number → number < floor + 32 → count_of members slot < 32
+pub room-in-window : (members : FinMap pair_cmp WaitingAccess) (slot floor number : ℕ) → ((n : ℕ) (waiter : WaitingAccess) → get members (slot, n) ≡ Some waiter → (floor ≤ n) × (n < floor + 32)) → get members (slot, number) ≡ None → floor ≤ number → number < floor + 32 → count_of members slot < 32
 room-in-window members slot floor number within new least most =
     let more = len-insert_new (of_slot members slot) (slot, number) waits (own-none) in
     let bound = within-bound 32 (insert (of_slot members slot) (slot, number) waits) slot floor all in
     omega arith
   where
-    waits : Waiter
+    waits : WaitingAccess
     waits = record { array = 0; index = 0; op = ReadXx }
 
     own-none : get (of_slot members slot) (slot, number) ≡ None

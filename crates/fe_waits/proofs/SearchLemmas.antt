@@ -9,7 +9,7 @@ use Rattle.fe_pool.specs.Pool.{Contents, list_of, IsNext}
 use Rattle.fe_pool.specs.within.Runs.{IsNodeAmong}
 use Rattle.fe_pool.proofs.AmongLemmas.{among-append_cases}
 use Rattle.fe_waits.specs.declared.row.Row.{Row}
-use Rattle.fe_waits.specs.Waiting.{Waiter, key_of, waiter_of, row_at}
+use Rattle.fe_waits.specs.Waiting.{WaitingAccess, key_of, waiting_access_of, row_at}
 use Rattle.fe_waits.specs.within.Inner.{members_of, row_in, IsKept}
 use Rattle.fe_waits.proofs.MemberLemmas.{some_same, members-node, members-row}
 use Rattle.fe_waits.proofs.WalkLemmas.{IsWalk, walk-begun, walk-ended, walk-all, walk-has, walk-row, walk-next}
@@ -28,7 +28,7 @@ module _ (pool : Contents Row) (sessions : List Chain) (words : FinMap nat_cmp (
     absent : list_of pool OfSession search.walk.chain ≡ search.walk.before → get (members_of pool.items) (slot, number) ≡ None
     absent all = by_answer (get (members_of pool.items) (slot, number)) refl
       where
-        by_answer : (o : Option Waiter) → get (members_of pool.items) (slot, number) ≡ o → get (members_of pool.items) (slot, number) ≡ None
+        by_answer : (o : Option WaitingAccess) → get (members_of pool.items) (slot, number) ≡ o → get (members_of pool.items) (slot, number) ≡ None
         by_answer None e = e
         by_answer (Some waiter) e =
             let found = members-node pool.items (slot, number) waiter e in
@@ -51,8 +51,8 @@ module _ (pool : Contents Row) (sessions : List Chain) (words : FinMap nat_cmp (
           let in_slot : row.slot ≡ slot = ap (λ (r : Row). r.slot) (sym rows) ∙ found.2 in
           is ∙ sym (own row (members-row pool.items kept.different node row is)) ∙ (λ i. row_at (members_of pool.items) (in_slot i) (same i))
         where
-          own : (row : Row) → get (members_of pool.items) (key_of row) ≡ Some (waiter_of row) → row_at (members_of pool.items) row.slot row.number ≡ Some row
-          own row e = ap (option_map (λ (w : Waiter). record { slot = row.slot; number = row.number; array = w.array; index = w.index; op = w.op })) e
+          own : (row : Row) → get (members_of pool.items) (key_of row) ≡ Some (waiting_access_of row) → row_at (members_of pool.items) row.slot row.number ≡ Some row
+          own row e = ap (option_map (λ (w : WaitingAccess). record { slot = row.slot; number = row.number; array = w.array; index = w.index; op = w.op })) e
 
       -- it has another number
       pub searched-next : (row : Row) (next : Option ℕ) → row_in pool.items node ≡ Some row → row.number ≢ number → IsNext pool OfSession node next → IsSearched pool sessions slot number next (steps + 1) end

@@ -11,14 +11,14 @@ use Rattle.fe_waits.specs.contracts.row.Row.{the_row as row_row}
 use Rattle.fe_waits.specs.Pair.{pair_cmp}
 
 -- what a request waits for: its word, and the operation on it
-pub record Waiter : Type 0 where
+pub record WaitingAccess : Type 0 where
   pub array : ℕ
   pub index : ℕ
   pub op : Op
 
 -- a waiter is stored as the tuple of its fields
-abbrev pub waiter_code : Coded Waiter
-waiter_code =
+abbrev pub waiting_access_code : Coded WaitingAccess
+waiting_access_code =
     code_by
     (ℕ × (ℕ × Op))
     (coded× coded_ℕ (coded× coded_ℕ op_row.coded))
@@ -30,17 +30,17 @@ waiter_code =
 -- represents
 pub record Waiting : Type 0 where
   pub arrays : FinMap nat_cmp ℕ
-  pub members : FinMap pair_cmp Waiter
+  pub members : FinMap pair_cmp WaitingAccess
   pub nodes : List (Option Row)
 
 -- the record is stored as the tuple of its fields
 abbrev pub waiting_code : Coded Waiting
 waiting_code =
     code_by
-    (FinMap nat_cmp ℕ × (FinMap pair_cmp Waiter × List (Option Row)))
+    (FinMap nat_cmp ℕ × (FinMap pair_cmp WaitingAccess × List (Option Row)))
     (coded×
     (code coded_ℕ coded_ℕ)
-    (coded× (code (coded× coded_ℕ coded_ℕ) waiter_code) (coded_list (coded_option row_row.coded))))
+    (coded× (code (coded× coded_ℕ coded_ℕ) waiting_access_code) (coded_list (coded_option row_row.coded))))
     (λ w. (w.arrays, (w.members, w.nodes)))
     (λ t. record { arrays = t.0; members = t.1.0; nodes = t.1.1 })
     (λ _. refl)
@@ -50,70 +50,70 @@ abbrev pub key_of : Row → ℕ × ℕ
 key_of row = (row.slot, row.number)
 
 -- the word and the operation of a request
-abbrev pub waiter_of : Row → Waiter
-waiter_of row = record { array = row.array; index = row.index; op = row.op }
+abbrev pub waiting_access_of : Row → WaitingAccess
+waiting_access_of row = record { array = row.array; index = row.index; op = row.op }
 
 -- the request that a node represents
 abbrev pub row_of : Waiting → ℕ → Option Row
 row_of w node = slice_index_or w.nodes node None
 
 -- the request with this slot and number, if it waits
-abbrev pub row_at : FinMap pair_cmp Waiter → ℕ → ℕ → Option Row
+abbrev pub row_at : FinMap pair_cmp WaitingAccess → ℕ → ℕ → Option Row
 row_at members slot number =
     option_map
     (λ waiter. record { slot = slot; number = number; array = waiter.array; index = waiter.index; op = waiter.op })
     (get members (slot, number))
 
--- what `told` lists of a waiter: the array and the index of its word, and its operation
-abbrev pub told_of : Waiter → ℕ × ℕ × Op
-told_of waiter = (waiter.array, waiter.index, waiter.op)
+-- what `waiting_requests` lists of a waiter: the array and the index of its word, and its operation
+abbrev pub access_fields : WaitingAccess → ℕ × ℕ × Op
+access_fields waiter = (waiter.array, waiter.index, waiter.op)
 
 -- the list has all waiting requests of a slot, by number, and no others
-abbrev pub AreWaitersOf : FinMap pair_cmp Waiter → ℕ → List (ℕ × (ℕ × ℕ × Op)) → Type 0
-AreWaitersOf members slot told =
-    (number : ℕ) (what : ℕ × ℕ × Op) → Contains told (number, what) ↔ (option_map told_of (get members (slot, number)) ≡ Some what)
+abbrev pub AreWaitingRequestsOf : FinMap pair_cmp WaitingAccess → ℕ → List (ℕ × (ℕ × ℕ × Op)) → Type 0
+AreWaitingRequestsOf members slot waiting_requests =
+    (number : ℕ) (what : ℕ × ℕ × Op) → Contains waiting_requests (number, what) ↔ (option_map access_fields (get members (slot, number)) ≡ Some what)
 
 -- no number is listed twice
 abbrev pub AreListedOnce : List (ℕ × (ℕ × ℕ × Op)) → Type 0
-AreListedOnce told = AllPairs (λ a b. a.0 ≢ b.0) told
+AreListedOnce waiting_requests = AllPairs (λ a b. a.0 ≢ b.0) waiting_requests
 
 -- the array is added, and the index is below its length
 abbrev pub IsWord : FinMap nat_cmp ℕ → ℕ → ℕ → Type 0
 IsWord arrays array index = (length : ℕ) × (get arrays array ≡ Some length) × (index < length)
 
 -- the waiter waits on the word
-abbrev pub IsOn : Waiter → ℕ → ℕ → Type 0
+abbrev pub IsOn : WaitingAccess → ℕ → ℕ → Type 0
 IsOn waiter array index = (waiter.array ≡ array) × (waiter.index ≡ index)
 
 -- the node represents a request that waits on the word
 abbrev pub IsNodeOn : Waiting → ℕ → ℕ → ℕ → Type 0
-IsNodeOn w array index node = (row : Row) × (row_of w node ≡ Some row) × IsOn (waiter_of row) array index
+IsNodeOn w array index node = (row : Row) × (row_of w node ≡ Some row) × IsOn (waiting_access_of row) array index
 
 -- no request waits on the word
-abbrev pub NoneOnWord : FinMap pair_cmp Waiter → ℕ → ℕ → Type 0
-NoneOnWord members array index = (key : ℕ × ℕ) (waiter : Waiter) → get members key ≡ Some waiter → ¬ (IsOn waiter array index)
+abbrev pub NoneOnWord : FinMap pair_cmp WaitingAccess → ℕ → ℕ → Type 0
+NoneOnWord members array index = (key : ℕ × ℕ) (waiter : WaitingAccess) → get members key ≡ Some waiter → ¬ (IsOn waiter array index)
 
 -- no request waits on a word of the array
-abbrev pub NoneOnArray : FinMap pair_cmp Waiter → ℕ → Type 0
-NoneOnArray members array = (key : ℕ × ℕ) (waiter : Waiter) → get members key ≡ Some waiter → waiter.array ≢ array
+abbrev pub NoneOnArray : FinMap pair_cmp WaitingAccess → ℕ → Type 0
+NoneOnArray members array = (key : ℕ × ℕ) (waiter : WaitingAccess) → get members key ≡ Some waiter → waiter.array ≢ array
 
 -- the requests of a slot, and their number
-abbrev pub of_slot : FinMap pair_cmp Waiter → ℕ → FinMap pair_cmp Waiter
+abbrev pub of_slot : FinMap pair_cmp WaitingAccess → ℕ → FinMap pair_cmp WaitingAccess
 of_slot members slot = retain_keys members (λ key. key.0 == slot)
 
-abbrev pub count_of : FinMap pair_cmp Waiter → ℕ → ℕ
+abbrev pub count_of : FinMap pair_cmp WaitingAccess → ℕ → ℕ
 count_of members slot = len (of_slot members slot)
 
 -- the requests of the other slots
-abbrev pub without_slot : FinMap pair_cmp Waiter → ℕ → FinMap pair_cmp Waiter
+abbrev pub without_slot : FinMap pair_cmp WaitingAccess → ℕ → FinMap pair_cmp WaitingAccess
 without_slot members slot = retain_keys members (λ key. not (key.0 == slot))
 
 -- the invariant: slots are below 64, each request is on a word of an added array, a slot has at most 32 requests,
 -- there are at most 2,048 requests and at most 64 arrays, and a node represents a waiting request
 pub record IsWithinLimits (w : Waiting) : Type 0 where
-  pub slots : (key : ℕ × ℕ) (waiter : Waiter) → get w.members key ≡ Some waiter → key.0 < 64
-  pub words : (key : ℕ × ℕ) (waiter : Waiter) → get w.members key ≡ Some waiter → IsWord w.arrays waiter.array waiter.index
+  pub slots : (key : ℕ × ℕ) (waiter : WaitingAccess) → get w.members key ≡ Some waiter → key.0 < 64
+  pub words : (key : ℕ × ℕ) (waiter : WaitingAccess) → get w.members key ≡ Some waiter → IsWord w.arrays waiter.array waiter.index
   pub few : (slot : ℕ) → count_of w.members slot ≤ 32
   pub all : len w.members ≤ 2048
   pub arrays : len w.arrays ≤ 64
-  pub nodes : (node : ℕ) (row : Row) → row_of w node ≡ Some row → get w.members (key_of row) ≡ Some (waiter_of row)
+  pub nodes : (node : ℕ) (row : Row) → row_of w node ≡ Some row → get w.members (key_of row) ≡ Some (waiting_access_of row)

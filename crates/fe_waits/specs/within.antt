@@ -1,2 +1,2 @@
 pub mod Inner
-pub mod Words
+pub mod WordChains

@@ -1,6 +1,6 @@
 ghost use Rattle.std.specs.Prelude.{◌≡◌};
 ghost use Rattle.fe_waits.specs.declared.waits.TheConstants.{SLOTS, NODES};
-ghost use Rattle.fe_waits.specs.declared.words.TheConstants.{ARRAYS};
+ghost use Rattle.fe_waits.specs.declared.word_chains.TheConstants.{ARRAYS};
 
 /// The code's constants are the limits of what waits.
 pub fn limits_are()

@@ -5,7 +5,7 @@ mod chains;
 mod laws;
 mod row;
 mod waits;
-mod words;
+mod word_chains;
 
 pub use laws::limits_are;
 pub use row::Row;

@@ -1,11 +1,11 @@
 ghost use Rattle.std.specs.Prelude.{◌≡◌, ◌≢◌, ◌↔◌, ◌<◌, Some, None, IfOk, OnErr, IfSome, IsSome, IsNone, IfNone};
 ghost use Rattle.std.specs.FinMap as map;
-ghost use Rattle.fe_waits.specs.Waiting.{key_of, waiter_of, row_of, row_at, of_slot, count_of, without_slot, IsWord, IsNodeOn, NoneOnWord, NoneOnArray, AreWaitersOf, AreListedOnce, IsWithinLimits};
+ghost use Rattle.fe_waits.specs.Waiting.{key_of, waiting_access_of, row_of, row_at, of_slot, count_of, without_slot, IsWord, IsNodeOn, NoneOnWord, NoneOnArray, AreWaitingRequestsOf, AreListedOnce, IsWithinLimits};
 ghost use Rattle.fe_waits.specs.within.Inner.{IsNodeOfSlot};
 
 use crate::chains::Chains;
 use crate::row::Row;
-use crate::words::Words;
+use crate::word_chains::WordChains;
 use fe_pool::{Family, Node, Pool};
 use fe_words::Op;
 use std::alloc::{AllocError, Global};
@@ -19,11 +19,11 @@ const NODES: u32 = 2048;
 
 /// The waiting requests of at most 64 sessions, on the words of at most 64 arrays.
 ///
-/// Only `new`, `add_array` and `told` allocate memory. A node is valid until the next change.
+/// Only `new`, `add_array` and `waiting_requests` allocate memory. A node is valid until the next change.
 pub struct Waits {
     pool: Pool<Row>,
     sessions: Chains,
-    words: Words,
+    words: WordChains,
     count: u32,
     alloc: Global,
 }
@@ -65,7 +65,7 @@ impl Waits {
     {
         let pool = Pool::with_nodes(alloc, NODES)?;
         let sessions = Chains::new(alloc, SLOTS)?;
-        let words = Words::new(alloc)?;
+        let words = WordChains::new(alloc)?;
         Ok(Waits {
             pool,
             sessions,
@@ -154,7 +154,7 @@ impl Waits {
     pub fn row(&self, node: Node) -> Row
         requires { IsSome (row_of self.now node) }
         ensures row { row_of self.now node ≡ Some result }
-        ensures member { map.get self.now.members (key_of result) ≡ Some (waiter_of result) }
+        ensures member { map.get self.now.members (key_of result) ≡ Some (waiting_access_of result) }
     {
         *self.pool.get(node)
     }
@@ -163,7 +163,7 @@ impl Waits {
     pub fn finish(&mut self, node: Node) -> Row
         requires { IsSome (row_of self.old node) }
         ensures row { row_of self.old node ≡ Some result }
-        ensures member { map.get self.old.members (key_of result) ≡ Some (waiter_of result) }
+        ensures member { map.get self.old.members (key_of result) ≡ Some (waiting_access_of result) }
         ensures removed { self.new.members ≡ map.remove self.old.members (key_of result) }
         ensures arrays { self.new.arrays ≡ self.old.arrays }
     {
@@ -189,22 +189,26 @@ impl Waits {
 
     /// The waiting requests of a slot, at most 32, in no particular order: the number of each, the array and the
     /// index of its word, and its operation. Walks along the list of the slot once. Fails only if memory runs out.
-    pub fn told(&self, alloc: Global, slot: u8) -> Result<Vec<(u64, (u64, u32, Op))>, AllocError>
+    pub fn waiting_requests(
+        &self,
+        alloc: Global,
+        slot: u8,
+    ) -> Result<Vec<(u64, (u64, u32, Op))>, AllocError>
         requires slot { slot < 64 }
-        ensures told { IfOk result (λ told. AreWaitersOf self.now.members slot told.items) }
-        ensures once { IfOk result (λ told. AreListedOnce told.items) }
+        ensures lists { IfOk result (λ list. AreWaitingRequestsOf self.now.members slot list.items) }
+        ensures once { IfOk result (λ list. AreListedOnce list.items) }
     {
         let _ = self.pool.capacity();
         let chain = self.sessions.at(slot as usize);
-        let mut told = Vec::with_capacity(alloc, chain.length as usize)?;
+        let mut waiting_requests = Vec::with_capacity(alloc, chain.length as usize)?;
         let mut at = chain.first;
         for _ in 0..chain.length {
             let node = at.unwrap();
             let row = *self.pool.get(node);
-            told.push((row.number, (row.array, row.index, row.op)))?;
+            waiting_requests.push((row.number, (row.array, row.index, row.op)))?;
             at = self.pool.next(Family::OfSession, node);
         }
-        Ok(told)
+        Ok(waiting_requests)
     }
 
     /// Removes the request with this slot and number, if it waits.

@@ -2,7 +2,7 @@
 //! the second, and so on (`scripts/refuse_test`), and once with memory enough.
 
 use crate::disk::DEVICE_BYTES;
-use crate::messages::{Said, first_frame, put_said, put_told};
+use crate::messages::{Said, first_frame, put_expected, put_said};
 use crate::paths::{BROADCAST, FIRST, LARGEST, Path, REMOVAL};
 use fe_desk::{Desk, DeskFault, Step};
 use fe_disk::Liar;
@@ -133,7 +133,7 @@ fn written_to(desk: &Desk<Liar>, conn: u64) -> &[u8] {
 }
 
 // Takes a line. Where it is refused because memory is short it is said again, and that is a creation or a report.
-fn take_told(
+fn take_expected(
     rt: &impl Abort,
     alloc: Global,
     desk: &mut Desk<Liar>,
@@ -158,9 +158,9 @@ fn put_bytes(rt: &impl Abort, out: &mut Vec<u8>, bytes: &[u8]) {
 // What a connection is told. Connection 1 asks for a report last.
 fn frames_for(rt: &impl Abort, alloc: Global, path: &Path, conn: u64) -> Vec<u8> {
     let mut frames = Vec::new(alloc);
-    for (to, told) in path.replies {
+    for (to, expected) in path.replies {
         if *to == conn {
-            put_told(rt, &mut frames, *told);
+            put_expected(rt, &mut frames, *expected);
         }
     }
     if conn == 1 {
@@ -182,10 +182,10 @@ fn check_written(rt: &impl Abort, desk: &Desk<Liar>, conn: u64, frames: &[u8]) {
 fn take_path(rt: &impl Abort, alloc: Global, desk: &mut Desk<Liar>, path: &Path) {
     for (conn, said) in path.lines {
         let frames = frames_for(rt, alloc, path, *conn);
-        take_told(rt, alloc, desk, *conn, *said, frames.as_slice());
+        take_expected(rt, alloc, desk, *conn, *said, frames.as_slice());
     }
     let frames = frames_for(rt, alloc, path, 1);
-    take_told(rt, alloc, desk, 1, Said::Report, frames.as_slice());
+    take_expected(rt, alloc, desk, 1, Said::Report, frames.as_slice());
     for step in [Step::CheckBegin, Step::CheckStep, Step::CheckFinish] {
         take(rt, desk, &step);
     }

@@ -21,7 +21,7 @@ pub enum Said {
 
 /// What a client is sent.
 #[derive(Clone, Copy)]
-pub enum Told {
+pub enum ExpectedReply {
     /// A session, whose floor is 1.
     Welcome(u64),
     Answer(u64, Answer),
@@ -98,14 +98,14 @@ fn put_answer(rt: &impl Abort, out: &mut Vec<u8>, number: u64, answer: Answer) {
 }
 
 /// Appends the frame, as `docs/formats.md` spells it. Where one allocation is refused it is done at the second try.
-pub fn put_told(rt: &impl Abort, out: &mut Vec<u8>, told: Told) {
-    match told {
-        Told::Welcome(session) => {
+pub fn put_expected(rt: &impl Abort, out: &mut Vec<u8>, expected: ExpectedReply) {
+    match expected {
+        ExpectedReply::Welcome(session) => {
             put(rt, out, &[0, 0, 0, 17, 65]);
             put(rt, out, &session.to_be_bytes());
             put(rt, out, &1u64.to_be_bytes());
         }
-        Told::Answer(number, answer) => put_answer(rt, out, number, answer),
+        ExpectedReply::Answer(number, answer) => put_answer(rt, out, number, answer),
     }
 }
 

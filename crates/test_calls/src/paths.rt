@@ -1,6 +1,6 @@
 //! Paths of messages, and what is sent for them.
 
-use crate::messages::{Said, Told};
+use crate::messages::{ExpectedReply, Said};
 use fe_state::Answer;
 use fe_words::{Op, Tag};
 
@@ -9,7 +9,7 @@ use fe_words::{Op, Tag};
 #[derive(Clone, Copy)]
 pub struct Path {
     pub lines: &'static [(u64, Said)],
-    pub replies: &'static [(u64, Told)],
+    pub replies: &'static [(u64, ExpectedReply)],
     pub groups: u64,
 }
 
@@ -25,11 +25,11 @@ pub const FIRST: Path = Path {
         (1, Said::Access(4, 0, Op::ReadXx)),
     ],
     replies: &[
-        (1, Told::Welcome(7)),
-        (1, Told::Answer(1, CELLS)),
-        (1, Told::Answer(2, Answer::Done)),
-        (1, Told::Answer(3, Answer::Value(42))),
-        (1, Told::Answer(4, Answer::Value(42))),
+        (1, ExpectedReply::Welcome(7)),
+        (1, ExpectedReply::Answer(1, CELLS)),
+        (1, ExpectedReply::Answer(2, Answer::Done)),
+        (1, ExpectedReply::Answer(3, Answer::Value(42))),
+        (1, ExpectedReply::Answer(4, Answer::Value(42))),
     ],
     groups: 5,
 };
@@ -48,15 +48,15 @@ pub const BROADCAST: Path = Path {
         (1, Said::Access(2, 1, Op::WriteEf(9))),
     ],
     replies: &[
-        (1, Told::Welcome(7)),
-        (1, Told::Answer(1, CELLS)),
-        (1, Told::Answer(2, Answer::Done)),
-        (2, Told::Welcome(8)),
-        (2, Told::Answer(1, Answer::Value(9))),
-        (3, Told::Welcome(9)),
-        (3, Told::Answer(1, Answer::Value(9))),
-        (4, Told::Welcome(10)),
-        (4, Told::Answer(1, Answer::Value(9))),
+        (1, ExpectedReply::Welcome(7)),
+        (1, ExpectedReply::Answer(1, CELLS)),
+        (1, ExpectedReply::Answer(2, Answer::Done)),
+        (2, ExpectedReply::Welcome(8)),
+        (2, ExpectedReply::Answer(1, Answer::Value(9))),
+        (3, ExpectedReply::Welcome(9)),
+        (3, ExpectedReply::Answer(1, Answer::Value(9))),
+        (4, ExpectedReply::Welcome(10)),
+        (4, ExpectedReply::Answer(1, Answer::Value(9))),
     ],
     groups: 6,
 };
@@ -76,16 +76,19 @@ pub const REMOVAL: Path = Path {
         (1, Said::Create(3, 1, Tag::Full)),
     ],
     replies: &[
-        (1, Told::Welcome(7)),
-        (1, Told::Answer(1, CELLS)),
-        (1, Told::Answer(2, Answer::Done)),
-        (1, Told::Answer(3, Answer::Array { id: 2, length: 1 })),
-        (2, Told::Welcome(8)),
-        (2, Told::Answer(1, Answer::NoArray)),
-        (3, Told::Welcome(9)),
-        (3, Told::Answer(1, Answer::NoArray)),
-        (4, Told::Welcome(10)),
-        (4, Told::Answer(1, Answer::NoArray)),
+        (1, ExpectedReply::Welcome(7)),
+        (1, ExpectedReply::Answer(1, CELLS)),
+        (1, ExpectedReply::Answer(2, Answer::Done)),
+        (
+            1,
+            ExpectedReply::Answer(3, Answer::Array { id: 2, length: 1 }),
+        ),
+        (2, ExpectedReply::Welcome(8)),
+        (2, ExpectedReply::Answer(1, Answer::NoArray)),
+        (3, ExpectedReply::Welcome(9)),
+        (3, ExpectedReply::Answer(1, Answer::NoArray)),
+        (4, ExpectedReply::Welcome(10)),
+        (4, ExpectedReply::Answer(1, Answer::NoArray)),
     ],
     groups: 7,
 };
@@ -97,10 +100,10 @@ pub const LARGEST: Path = Path {
         (1, Said::Create(1, 65_536, Tag::Empty)),
     ],
     replies: &[
-        (1, Told::Welcome(7)),
+        (1, ExpectedReply::Welcome(7)),
         (
             1,
-            Told::Answer(
+            ExpectedReply::Answer(
                 1,
                 Answer::Array {
                     id: 1,

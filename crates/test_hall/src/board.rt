@@ -2,7 +2,7 @@
 
 use crate::play::{Play, Replies, Script, Step};
 use crate::saying::{Say, put_said};
-use fe_disk::Hold;
+use fe_disk::SyncHold;
 use fe_hall::{ReadEnd, WriteEnd};
 use fe_state::WINDOW;
 use fe_words::Op;
@@ -30,7 +30,7 @@ pub struct Client {
 
 /// The answer to a client that asks what to send.
 #[derive(Clone, Copy, PartialEq, Eq)]
-pub enum Told {
+pub enum BoardAnswer {
     /// It sends something.
     Line,
     /// It waits, and asks again.
@@ -95,22 +95,22 @@ impl Board {
     pub fn next(
         &mut self,
         rt: &impl Wait,
-        hold: &Hold,
+        hold: &SyncHold,
         conn: u64,
         line: &mut Vec<u8>,
-    ) -> Result<Told, AllocError> {
+    ) -> Result<BoardAnswer, AllocError> {
         self.handled(conn);
         match self.script {
             Script::Windows(count) => self.next_window(conn, count, line),
             Script::Steps(steps) => {
                 if self.speaker.is_some() || self.heard < self.awaited {
-                    return Ok(Told::Nothing);
+                    return Ok(BoardAnswer::Nothing);
                 }
                 match steps.get(self.made) {
                     Some(step) if self.heard == self.awaited => {
                         self.make(rt, hold, conn, step, line)
                     }
-                    _ => Ok(Told::End),
+                    _ => Ok(BoardAnswer::End),
                 }
             }
         }
@@ -126,11 +126,11 @@ impl Board {
     fn make(
         &mut self,
         rt: &impl Wait,
-        hold: &Hold,
+        hold: &SyncHold,
         conn: u64,
         step: &Step,
         line: &mut Vec<u8>,
-    ) -> Result<Told, AllocError> {
+    ) -> Result<BoardAnswer, AllocError> {
         let is_made = match step {
             Step::Says(by, say, _) => return self.say(conn, *by, *say, 1, step.replies(), line),
             Step::Repeats(by, say, times) => return self.say(conn, *by, *say, *times, &[], line),
@@ -150,7 +150,7 @@ impl Board {
         if is_made {
             self.made = self.made.saturating_add(1);
         }
-        Ok(Told::Nothing)
+        Ok(BoardAnswer::Nothing)
     }
 
     fn say(
@@ -161,9 +161,9 @@ impl Board {
         times: usize,
         replies: Replies,
         line: &mut Vec<u8>,
-    ) -> Result<Told, AllocError> {
+    ) -> Result<BoardAnswer, AllocError> {
         if by != conn {
-            return Ok(Told::Nothing);
+            return Ok(BoardAnswer::Nothing);
         }
         for _ in 0..times {
             put_said(line, say)?;
@@ -178,18 +178,18 @@ impl Board {
         by: u64,
         bytes: &[u8],
         line: &mut Vec<u8>,
-    ) -> Result<Told, AllocError> {
+    ) -> Result<BoardAnswer, AllocError> {
         if by != conn {
-            return Ok(Told::Nothing);
+            return Ok(BoardAnswer::Nothing);
         }
         line.extend_from_slice(bytes)?;
         Ok(self.speaks(conn))
     }
 
-    fn speaks(&mut self, conn: u64) -> Told {
+    fn speaks(&mut self, conn: u64) -> BoardAnswer {
         self.made = self.made.saturating_add(1);
         self.speaker = Some(conn);
-        Told::Line
+        BoardAnswer::Line
     }
 
     /// The next window of a connection, once everything it sent before is answered.
@@ -198,20 +198,20 @@ impl Board {
         conn: u64,
         count: usize,
         line: &mut Vec<u8>,
-    ) -> Result<Told, AllocError> {
+    ) -> Result<BoardAnswer, AllocError> {
         let Some(client) = self.client(conn) else {
-            return Ok(Told::End);
+            return Ok(BoardAnswer::End);
         };
         let window = client.said;
         if client.heard < window.saturating_mul(REPLIES) {
-            return Ok(Told::Nothing);
+            return Ok(BoardAnswer::Nothing);
         }
         if window >= count {
-            return Ok(Told::End);
+            return Ok(BoardAnswer::End);
         }
         client.said = window.saturating_add(1);
         put_window(conn, window as u64, line)?;
-        Ok(Told::Line)
+        Ok(BoardAnswer::Line)
     }
 
     /// Notes frames that were written to a connection.

@@ -1,7 +1,7 @@
 //! The two halves of a client's connection.
 
-use crate::board::{Board, Told};
-use fe_disk::Hold;
+use crate::board::{Board, BoardAnswer};
+use fe_disk::SyncHold;
 use fe_hall::{HalfFault, ReadCount, ReadHalf, WriteHalf};
 use std::alloc::Global;
 use std::sync::{Mutex, Wait};
@@ -16,7 +16,7 @@ const TURNS: usize = 100_000;
 pub struct ClientRead<'r, 'b, 'h, R> {
     rt: &'r R,
     board: &'b Mutex<Board>,
-    hold: &'h Hold,
+    hold: &'h SyncHold,
     conn: u64,
     /// The maximum number of bytes in one read.
     piece: usize,
@@ -31,7 +31,7 @@ impl<'r, 'b, 'h, R: Clock + Wait> ClientRead<'r, 'b, 'h, R> {
         rt: &'r R,
         alloc: Global,
         board: &'b Mutex<Board>,
-        hold: &'h Hold,
+        hold: &'h SyncHold,
         conn: u64,
         piece: usize,
     ) -> ClientRead<'r, 'b, 'h, R> {
@@ -52,15 +52,15 @@ impl<'r, 'b, 'h, R: Clock + Wait> ClientRead<'r, 'b, 'h, R> {
 fn wait<R: Clock + Wait>(
     rt: &R,
     board: &Mutex<Board>,
-    hold: &Hold,
+    hold: &SyncHold,
     conn: u64,
     line: &mut Vec<u8>,
 ) -> Result<bool, HalfFault> {
     for _ in 0..TURNS {
         match board.lock(rt).next(rt, hold, conn, line) {
-            Ok(Told::Line) => return Ok(true),
-            Ok(Told::End) => return Ok(false),
-            Ok(Told::Nothing) => {}
+            Ok(BoardAnswer::Line) => return Ok(true),
+            Ok(BoardAnswer::End) => return Ok(false),
+            Ok(BoardAnswer::Nothing) => {}
             Err(_) => return Err(HalfFault),
         }
         thread::sleep(rt, Duration::from_millis(1));
@@ -71,9 +71,9 @@ fn wait<R: Clock + Wait>(
 impl<'r, 'b, 'h, R: Clock + Wait> ReadHalf for ClientRead<'r, 'b, 'h, R> {
     ghost use Rattle.std.specs.Prelude.{[], ⊤};
 
-    ghost tells = { λ _. ⊥ };
+    ghost is_known = { λ _. ⊥ };
 
-    ghost told = { λ _. [] };
+    ghost known = { λ _. [] };
 
     ghost reads = { λ r. r.reads };
 
@@ -115,7 +115,7 @@ impl<'r, 'b, R: Clock + Wait> ClientWrite<'r, 'b, R> {
 impl<'r, 'b, R: Clock + Wait> WriteHalf for ClientWrite<'r, 'b, R> {
     ghost use Rattle.std.specs.Prelude.{[], ⊤};
 
-    ghost tells = { λ _. ⊥ };
+    ghost is_known = { λ _. ⊥ };
 
     ghost got = { λ _. [] };
 

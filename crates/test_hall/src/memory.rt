@@ -65,9 +65,9 @@ struct Failing {
 impl ReadHalf for Failing {
     ghost use Rattle.std.specs.Prelude.{[], ⊤};
 
-    ghost tells = { λ _. ⊥ };
+    ghost is_known = { λ _. ⊥ };
 
-    ghost told = { λ _. [] };
+    ghost known = { λ _. [] };
 
     ghost reads = { λ f. ⟦<MemoryRead as ReadHalf>⟧.reads f.half };
 

@@ -8,7 +8,7 @@ use crate::board::Board;
 use crate::halves::{ClientRead, ClientWrite};
 use crate::play::Play;
 use crate::register::Register;
-use fe_disk::{Disk, Hold};
+use fe_disk::{Disk, SyncHold};
 use fe_front::Front;
 use fe_hall::{
     CallSeat, Closing, CommitEnd, ConnectRight, Hall, MailSeat, NewHistory, Open, StoreSeat, Tally,
@@ -35,7 +35,7 @@ const PIECE: usize = 1000;
 #[derive(Drop)]
 struct Stage<'a, C: Tally, M: Tally> {
     play: &'a Play,
-    hold: &'a Hold,
+    hold: &'a SyncHold,
     hall: Hall<C, M>,
     right: ConnectRight,
     register: Mutex<Register<C, M>>,
@@ -59,7 +59,7 @@ pub fn perform<D: Disk + Drop + Send, R: Abort + Clock + Threads + Wait + Sync>(
     rt: &R,
     alloc: Global,
     play: &Play,
-    hold: &Hold,
+    hold: &SyncHold,
     keeper: Keeper<D>,
 ) -> Played<D> {
     let history = NewHistory::new(keeper.state());
@@ -84,7 +84,7 @@ fn perform_as<
     rt: &R,
     alloc: Global,
     play: &Play,
-    hold: &Hold,
+    hold: &SyncHold,
     keeper: Keeper<D>,
     calls: Blank,
     mails: Blank,

@@ -8,7 +8,7 @@ use crate::rows::{
 };
 use crate::stage::{Played, perform};
 use crate::stores::{new_disk, new_store};
-use fe_disk::{Disk, Fuse, Guarded, Held, Hold, MemoryDisk};
+use fe_disk::{Disk, Fuse, Guarded, Held, MemoryDisk, SyncHold};
 use fe_front::Books;
 use fe_hall::{ReadEnd, WriteEnd};
 use fe_keeper::Keeper;
@@ -69,7 +69,7 @@ fn keeper_after<D: Disk + Drop + Send, R: Abort + Clock + Threads + Wait + Sync>
     rt: &R,
     alloc: Global,
     play: &Play,
-    hold: &Hold,
+    hold: &SyncHold,
     keeper: Keeper<D>,
 ) -> Keeper<D> {
     let played = perform(rt, alloc, play, hold, keeper);
@@ -85,7 +85,7 @@ pub fn store_after<R: Abort + Clock + Threads + Wait + Sync>(
     alloc: Global,
     play: &Play,
 ) -> Keeper<MemoryDisk> {
-    keeper_after(rt, alloc, play, &Hold::new(), new_store(rt, alloc))
+    keeper_after(rt, alloc, play, &SyncHold::new(), new_store(rt, alloc))
 }
 
 #[test]
@@ -127,7 +127,7 @@ fn full_box(rt: HostRuntime) {
 
 #[test]
 fn resend_between(rt: HostRuntime) -> Result<(), Fail> {
-    let hold = Arc::new(rt.alloc(), Hold::new())?;
+    let hold = Arc::new(rt.alloc(), SyncHold::new())?;
     let disk = Guarded::new(
         new_disk(&rt, rt.alloc()),
         Held::new(rt, Arc::try_clone(&hold)?),
@@ -143,7 +143,7 @@ fn resend_between(rt: HostRuntime) -> Result<(), Fail> {
 fn play_until_fault<R: Abort + Clock + Threads + Wait + Sync>(rt: &R, alloc: Global, play: &Play) {
     let disk = Guarded::new(new_store(rt, alloc).into_disk(), Fuse::new(CALLS));
     let keeper = Keeper::open(alloc, disk).ok().expect(rt, "opened");
-    drop(keeper_after(rt, alloc, play, &Hold::new(), keeper));
+    drop(keeper_after(rt, alloc, play, &SyncHold::new(), keeper));
 }
 
 #[test]
@@ -159,6 +159,6 @@ fn left_mail(rt: HostRuntime) {
 #[test]
 fn windows(rt: HostRuntime) {
     let keeper = store_after(&rt, rt.alloc(), &WORDS);
-    let keeper = keeper_after(&rt, rt.alloc(), &WINDOWS, &Hold::new(), keeper);
+    let keeper = keeper_after(&rt, rt.alloc(), &WINDOWS, &SyncHold::new(), keeper);
     drop(keeper);
 }

@@ -29,7 +29,7 @@ pub struct Lie<'a> {
 }
 
 // The image of the opened store or why it can't be opened, and whether the calls after that ended as they may.
-type Told = (Result<Vec<u8>, Fault>, bool);
+type LiarOutcome = (Result<Vec<u8>, Fault>, bool);
 
 impl<'a> Lie<'a> {
     // The bytes with this one changed.
@@ -42,7 +42,7 @@ impl<'a> Lie<'a> {
         Ok(Liar::new(bytes))
     }
 
-    fn kept(&self, liar: Liar) -> Result<Told, Trouble> {
+    fn kept(&self, liar: Liar) -> Result<LiarOutcome, Trouble> {
         match Keeper::open(self.alloc, liar) {
             Ok(keeper) => {
                 let mut keeper = keeper;
@@ -58,7 +58,7 @@ impl<'a> Lie<'a> {
     }
 
     // Makes each call of a keeper. None may end with a fault of the device, which never fails.
-    fn keep(&self, keeper: &mut Keeper<Liar>) -> Result<Told, Trouble> {
+    fn keep(&self, keeper: &mut Keeper<Liar>) -> Result<LiarOutcome, Trouble> {
         let image = image_of(self.alloc, keeper.state())?;
         let mut is_sound = true;
         for act in self.acts.chunks(1) {
@@ -68,7 +68,7 @@ impl<'a> Lie<'a> {
         Ok((Ok(image), is_sound))
     }
 
-    fn desked(&self, liar: Liar) -> Result<Told, Trouble> {
+    fn desked(&self, liar: Liar) -> Result<LiarOutcome, Trouble> {
         match Desk::open(self.alloc, liar) {
             Ok(desk) => {
                 let mut desk = desk;
@@ -84,7 +84,7 @@ impl<'a> Lie<'a> {
     }
 
     // Takes every step of a desk.
-    fn sit(&self, desk: &mut Desk<Liar>) -> Result<Told, Trouble> {
+    fn sit(&self, desk: &mut Desk<Liar>) -> Result<LiarOutcome, Trouble> {
         let image = image_of(self.alloc, desk.keeper().state())?;
         let made = take_all(self.alloc, desk, self.acts)?;
         let is_sound = made.fault.is_none() && made.is_sound;

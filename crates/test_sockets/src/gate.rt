@@ -1,7 +1,7 @@
 //! A server holds one connection at its gate, and serves another one at the same time.
 
 use fe_client::{StreamConnection, call_over};
-use fe_disk::Hold;
+use fe_disk::SyncHold;
 use fe_hall::Gate;
 use fe_options::read_settings;
 use fe_server::{books_text, serve};
@@ -29,7 +29,7 @@ const ANSWERS: usize = 3;
 /// Makes the messages of the first connection wait while they are held.
 #[derive(Drop)]
 struct Barrier {
-    hold: Hold,
+    hold: SyncHold,
 }
 
 impl Gate for Barrier {
@@ -41,7 +41,7 @@ impl Gate for Barrier {
 }
 
 /// Returns once a message is held.
-fn wait_until_held(rt: &(impl Wait + Clock + Abort), hold: &Hold) {
+fn wait_until_held(rt: &(impl Wait + Clock + Abort), hold: &SyncHold) {
     for _ in 0..TURNS {
         if hold.is_holding(rt) {
             return;
@@ -77,7 +77,7 @@ fn asks(rt: &(impl Abort + AllocGlobal), stream: &UnixStream, lines: &[u8], answ
 fn two_calls<R: Net + Clock + Threads + Wait + Sync + Abort + AllocGlobal>(
     rt: &R,
     socket: &str,
-    hold: &Hold,
+    hold: &SyncHold,
 ) {
     let first = connected(rt, socket);
     asks(rt, &first, b"attach 7\n", b"welcome 7 1\n");
@@ -120,7 +120,9 @@ fn gate_holds_one(rt: HostRuntime) {
     let settings = read_settings(rt.alloc(), text.as_str())
         .ok()
         .expect(&rt, "settings");
-    let gate = Barrier { hold: Hold::new() };
+    let gate = Barrier {
+        hold: SyncHold::new(),
+    };
     let (answer, _) = thread::join(
         &rt,
         || serve(&rt, rt.alloc(), &settings, &gate),

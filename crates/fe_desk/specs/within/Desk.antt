@@ -9,10 +9,10 @@ use Rattle.fe_front.specs.declared.out.Out.{Out}
 use Rattle.fe_keeper.specs.Prefix.{LeavesPrefix}
 use Rattle.fe_desk.specs.declared.handed.Handed.{Handed}
 use Rattle.fe_desk.specs.declared.handed.Handed.TheVariants.{Nothing, Cut, Stored}
-use Rattle.fe_desk.specs.declared.parts.Parts.{Parts}
+use Rattle.fe_desk.specs.declared.desk_inner.DeskInner.{DeskInner}
 use Rattle.fe_desk.specs.declared.port.Port.{Port}
 use Rattle.fe_desk.specs.Acknowledged.{cut_entries}
-use Rattle.fe_desk.specs.Standing.{Client, Standing}
+use Rattle.fe_desk.specs.DeskRunState.{Client, DeskRunState}
 use Rattle.fe_desk.specs.Steps.{find}
 use Rattle.fe_desk.specs.Crash.{DeskState, IsFrom, disk_of}
 use Rattle.fe_disk.specs.declared.disk.Disk.{Ghosts}
@@ -22,8 +22,8 @@ use Rattle.fe_disk.specs.declared.disk.Disk.{Ghosts}
 abbrev pub client_of : Port → Client
 client_of p = record { conn = p.conn; decoder = p.decoder; left = drop p.next p.left.items; reply = p.reply; written = p.written }
 
-abbrev pub standing_of : {D : Type 0} → Parts D → Standing
-standing_of p =
+abbrev pub run_state_of : {D : Type 0} → DeskInner D → DeskRunState
+run_state_of p =
     record {
       front = p.front;
       clients = map client_of p.trace.ports.items;
@@ -33,13 +33,13 @@ standing_of p =
       owes = p.owes;
     }
 
-abbrev pub desk_of : {D : Type 0} → Parts D → DeskState D
-desk_of p = record { standing = standing_of p; keeper = p.keeper; synced = p.trace.synced }
+abbrev pub desk_of : {D : Type 0} → DeskInner D → DeskState D
+desk_of p = record { run_state = run_state_of p; keeper = p.keeper; synced = p.trace.synced }
 
 -- ---- what ties them
 
 -- the entries that are made and not stored
-abbrev pub unstored : Standing → List Entry
+abbrev pub unstored : DeskRunState → List Entry
 unstored s = cut_entries s.handed ++ s.front.service.pending
 
 -- the batch that the desk has is the one that is out of the front
@@ -49,7 +49,7 @@ IsHanded (Cut batch) out = IsOut out batch × (0 < length batch.entries)
 IsHanded (Stored batch) out = IsOut out batch
 
 -- The front is ahead of the replica by the entries that are not stored.
-pub record IsAhead (s : Standing) (replica : ServerState) : Type 0 where
+pub record IsAhead (s : DeskRunState) (replica : ServerState) : Type 0 where
   pub handed : IsHanded s.handed s.front.out
   pub legal : AreLegal replica (unstored s)
   pub state : s.front.service.state ≡ after_all replica (unstored s)
@@ -57,9 +57,9 @@ pub record IsAhead (s : Standing) (replica : ServerState) : Type 0 where
 -- Each connection has a client; all groups are stored but perhaps the last, where the disk failed; and each image that a
 -- stop may leave stands for a prefix of the history that holds the groups that are stored.
 pub record IsDesk {D : Type 0} (model : Ghosts D) (d : DeskState D) : Type 0 where
-  pub tied : IsAhead d.standing d.keeper.state
-  pub known : (conn : ℕ) → is_connected d.standing.front conn ≡ true → is_some (find conn d.standing.clients) ≡ true
-  pub few : d.synced ≤ length d.standing.groups
-  pub all : d.keeper.store.has_failed ≡ false → d.synced ≡ length d.standing.groups
+  pub tied : IsAhead d.run_state d.keeper.state
+  pub known : (conn : ℕ) → is_connected d.run_state.front conn ≡ true → is_some (find conn d.run_state.clients) ≡ true
+  pub few : d.synced ≤ length d.run_state.groups
+  pub all : d.keeper.store.has_failed ≡ false → d.synced ≡ length d.run_state.groups
   pub upheld : model.honest (disk_of d) → (begun : ServerState) → IsFrom begun d → (image : List ℕ) → model.may_leave (disk_of d) image
-      → LeavesPrefix begun d.standing.groups d.synced image
+      → LeavesPrefix begun d.run_state.groups d.synced image

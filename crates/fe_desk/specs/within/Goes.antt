@@ -8,7 +8,7 @@ use Rattle.fe_keeper.specs.declared.fault.Fault.TheVariants.{Device, Failed, NoM
 use Rattle.fe_desk.specs.declared.fault.DeskFault.{DeskFault}
 use Rattle.fe_desk.specs.declared.fault.DeskFault.TheVariants as desk
 use Rattle.fe_desk.specs.declared.step.Step.{Step}
-use Rattle.fe_desk.specs.Standing.{Standing, emptied, discharged}
+use Rattle.fe_desk.specs.DeskRunState.{DeskRunState, emptied, discharged}
 use Rattle.fe_desk.specs.Quiet.{HasNoMail}
 use Rattle.fe_desk.specs.Writing.{WritesSome}
 use Rattle.fe_desk.specs.Storing.{is_making}
@@ -29,14 +29,14 @@ pub record Stores {D : Type 0} (model : Ghosts D) (old new : DeskState D) : Type
   pub grows : StoresMore old new
 
 -- the device failed the batch that was at hand where this holds
-pub record Loses {D : Type 0} (model : Ghosts D) (Until : Standing → Type 0) (old new : DeskState D) : Type 0 where
-  pub last : Standing
+pub record Loses {D : Type 0} (model : Ghosts D) (Until : DeskRunState → Type 0) (old new : DeskState D) : Type 0 where
+  pub last : DeskRunState
   pub until : Until last
   pub tears : Tears last new
   pub failed : Breaks model old.keeper new.keeper
 
 -- the faults of such a call: memory is short where it stops (`Short`), or the device failed it where it stopped (`Until`)
-abbrev pub Faults : {D : Type 0} → Ghosts D → (DeskState D → Type 0) → (Standing → Type 0) → DeskState D → DeskState D → Fault → Type 0
+abbrev pub Faults : {D : Type 0} → Ghosts D → (DeskState D → Type 0) → (DeskRunState → Type 0) → DeskState D → DeskState D → Fault → Type 0
 Faults model Short Until old new Device = Loses model Until old new
 Faults model Short Until old new Failed = ⊥
 Faults model Short Until old new NoMemory = Stores model old new × Short new
@@ -45,92 +45,92 @@ Faults model Short Until old new (Damaged offset) = ⊥
 Faults model Short Until old new Unformatted = ⊥
 
 -- A call goes on with the store, and leaves the mails that are owed as they were. It is done (`Done`), or it has a fault.
-pub record Goes {D : Type 0} (model : Ghosts D) (Done : Standing → Type 0) (Short : DeskState D → Type 0) (Until : Standing → Type 0)
+pub record Goes {D : Type 0} (model : Ghosts D) (Done : DeskRunState → Type 0) (Short : DeskState D → Type 0) (Until : DeskRunState → Type 0)
     (result : Result (Unit {0}) Fault) (old new : DeskState D) : Type 0 where
-  pub owes : new.standing.owes ≡ old.standing.owes
+  pub owes : new.run_state.owes ≡ old.run_state.owes
   pub advances : Advances model old new
-  pub ends : MatchResult result (λ _. Stores model old new × Done new.standing) (Faults model Short Until old new)
+  pub ends : MatchResult result (λ _. Stores model old new × Done new.run_state) (Faults model Short Until old new)
 
 -- the faults of such a call that reads a piece: memory is short before the piece is read, or after it (`fed`)
-abbrev pub PieceFaults : {D : Type 0} → Ghosts D → (Bool → Standing → Type 0) → (Standing → Type 0) → DeskState D → DeskState D → DeskFault → Type 0
+abbrev pub PieceFaults : {D : Type 0} → Ghosts D → (Bool → DeskRunState → Type 0) → (DeskRunState → Type 0) → DeskState D → DeskState D → DeskFault → Type 0
 PieceFaults model Short Until old new (desk.Store cause) = (cause ≡ Device) × Loses model Until old new
-PieceFaults model Short Until old new (desk.NoMemory fed) = Stores model old new × Short fed new.standing
+PieceFaults model Short Until old new (desk.NoMemory fed) = Stores model old new × Short fed new.run_state
 PieceFaults model Short Until old new desk.Unwritten = ⊥
 
-pub record GoesPiece {D : Type 0} (model : Ghosts D) (Done : Standing → Type 0) (Short : Bool → Standing → Type 0) (Until : Standing → Type 0)
+pub record GoesPiece {D : Type 0} (model : Ghosts D) (Done : DeskRunState → Type 0) (Short : Bool → DeskRunState → Type 0) (Until : DeskRunState → Type 0)
     (result : Result (Unit {0}) DeskFault) (old new : DeskState D) : Type 0 where
-  pub owes : new.standing.owes ≡ old.standing.owes
+  pub owes : new.run_state.owes ≡ old.run_state.owes
   pub advances : Advances model old new
-  pub ends : MatchResult result (λ _. Stores model old new × Done new.standing) (PieceFaults model Short Until old new)
+  pub ends : MatchResult result (λ _. Stores model old new × Done new.run_state) (PieceFaults model Short Until old new)
 
 -- ---- where such calls come to, and where they stop
 
 -- the run stands there
-abbrev pub Is : Standing → Standing → Type 0
+abbrev pub Is : DeskRunState → DeskRunState → Type 0
 Is there s = s ≡ there
 
 -- memory was short for the batch at hand, and nothing was done
 pub record IsUnstored {D : Type 0} (old new : DeskState D) : Type 0 where
-  pub at_hand : HasCut old.standing
+  pub at_hand : HasCut old.run_state
   pub same : new ≡ old
 
 -- memory was short for the batch at hand, where this holds
-pub record IsShort {D : Type 0} (Until : Standing → Type 0) (new : DeskState D) : Type 0 where
-  pub until : Until new.standing
-  pub at_hand : HasCut new.standing
+pub record IsShort {D : Type 0} (Until : DeskRunState → Type 0) (new : DeskState D) : Type 0 where
+  pub until : Until new.run_state
+  pub at_hand : HasCut new.run_state
 
 -- A call comes to a standing, or stops where this holds, for whichever fault.
-abbrev pub GoesTo : {D : Type 0} → Ghosts D → Standing → (Standing → Type 0) → Result (Unit {0}) Fault → DeskState D → DeskState D → Type 0
+abbrev pub GoesTo : {D : Type 0} → Ghosts D → DeskRunState → (DeskRunState → Type 0) → Result (Unit {0}) Fault → DeskState D → DeskState D → Type 0
 GoesTo model there Until result old new = Goes model (Is there) (IsShort Until) Until result old new
 
 -- room was begun for a message of this connection
-abbrev pub WasBegun : Standing → ℕ → Standing → Type 0
+abbrev pub WasBegun : DeskRunState → ℕ → DeskRunState → Type 0
 WasBegun s conn t = (is_making s conn ≡ true) × (t ≡ s)
 
 -- the messages of a connection that are left are taken
-abbrev pub TakesLeft : Standing → ℕ → Standing → Type 0
+abbrev pub TakesLeft : DeskRunState → ℕ → DeskRunState → Type 0
 TakesLeft s conn t = TakesAll (with_left s conn []) conn (left_of s conn) t
 
 -- memory was short for the next of them: it is left, with those after it, and they are taken on later as at once
-pub record LeavesSome (s : Standing) (conn : ℕ) (t : Standing) : Type 0 where
+pub record LeavesSome (s : DeskRunState) (conn : ℕ) (t : DeskRunState) : Type 0 where
   pub stops : StopsBefore s conn t
   pub still : 0 < length (left_of t conn)
-  pub again : (u : Standing) → TakesLeft t conn u → TakesLeft s conn u
+  pub again : (u : DeskRunState) → TakesLeft t conn u → TakesLeft s conn u
 
 -- the bytes of a connection are taken
-abbrev pub TakesStream : Standing → ℕ → List ℕ → Standing → Type 0
+abbrev pub TakesStream : DeskRunState → ℕ → List ℕ → DeskRunState → Type 0
 TakesStream s conn piece t = TakesBytes s (find conn s.clients) piece t
 
 -- memory was short for them: what was read and where it stopped; given again they are taken as at once
-pub record LeavesStream (s : Standing) (conn : ℕ) (piece : List ℕ) (fed : Bool) (t : Standing) : Type 0 where
+pub record LeavesStream (s : DeskRunState) (conn : ℕ) (piece : List ℕ) (fed : Bool) (t : DeskRunState) : Type 0 where
   pub stops : StopsShort fed s conn piece t
   pub read : MatchBool fed (ReadsPiece s conn piece t) (ReadsNone s t)
-  pub again : (u : Standing) → TakesStream t conn (if fed then [] else piece) u → TakesStream s conn piece u
+  pub again : (u : DeskRunState) → TakesStream t conn (if fed then [] else piece) u → TakesStream s conn piece u
 
 -- the device failed a batch while they were taken
-abbrev pub StopsStream : Standing → ℕ → List ℕ → Standing → Type 0
+abbrev pub StopsStream : DeskRunState → ℕ → List ℕ → DeskRunState → Type 0
 StopsStream s conn piece last = StopsBefore s conn last ⊎ StopsBehind s conn piece last
 
 -- ---- what a step does before the boxes are emptied
 
 -- it is done
 pub record HasActed {D : Type 0} (model : Ghosts D) (old : DeskState D) (step : Step) (new : DeskState D) : Type 0 where
-  pub acts : Acts old.standing step new.standing
+  pub acts : Acts old.run_state step new.run_state
   pub checked : Checks step old new
   pub fine : Works model old.keeper new.keeper
 
 -- memory was short for it
 pub record IsLacking {D : Type 0} (model : Ghosts D) (fed : Bool) (old : DeskState D) (step : Step) (new : DeskState D) : Type 0 where
   pub lacks : Lacks fed step old new
-  pub read : TellsFed fed old.standing step new.standing
-  pub again : (next : Step) (t : Standing) → IsAgain fed step next → Acts new.standing next t → Acts old.standing step t
-  pub silent : outputs new.standing ≡ outputs old.standing
+  pub read : TellsFed fed old.run_state step new.run_state
+  pub again : (next : Step) (t : DeskRunState) → IsAgain fed step next → Acts new.run_state next t → Acts old.run_state step t
+  pub silent : outputs new.run_state ≡ outputs old.run_state
   pub fine : Works model old.keeper new.keeper
 
 -- the device failed in it
 pub record IsBroken {D : Type 0} (model : Ghosts D) (old : DeskState D) (step : Step) (new : DeskState D) : Type 0 where
   pub breaks : TearsStep step old new
-  pub silent : outputs new.standing ≡ outputs old.standing
+  pub silent : outputs new.run_state ≡ outputs old.run_state
   pub failed : Breaks model old.keeper new.keeper
 
 abbrev pub ActEnds : {D : Type 0} → Ghosts D → DeskState D → Step → DeskState D → Result (Unit {0}) DeskFault → Type 0
@@ -141,26 +141,26 @@ ActEnds model old step new (Err desk.Unwritten) = ⊥
 
 -- A step acts, and leaves the mails that are owed as they were.
 pub record GoesAct {D : Type 0} (model : Ghosts D) (old : DeskState D) (step : Step) (result : Result (Unit {0}) DeskFault) (new : DeskState D) : Type 0 where
-  pub owes : new.standing.owes ≡ old.standing.owes
+  pub owes : new.run_state.owes ≡ old.run_state.owes
   pub advances : Advances model old new
   pub ends : ActEnds model old step new result
 
 -- ---- the boxes are emptied
 
 -- all of them
-pub record HasEmptied (s t : Standing) : Type 0 where
+pub record HasEmptied (s t : DeskRunState) : Type 0 where
   pub after : t ≡ emptied s
   pub quiet : HasNoMail t
 
 -- memory was short for some of the mails, which are owed now: written later, they come to the same
-pub record StillHolds (s t : Standing) : Type 0 where
+pub record StillHolds (s t : DeskRunState) : Type 0 where
   pub later : emptied t ≡ emptied s
   pub owes : t.owes ≡ true
   pub writes : WritesSome s t
 
-abbrev pub Empties : Result (Unit {0}) AllocError → Standing → Standing → Type 0
+abbrev pub Empties : Result (Unit {0}) AllocError → DeskRunState → DeskRunState → Type 0
 Empties result s t = MatchResult result (λ _. HasEmptied s t) (λ _. StillHolds s t)
 
 -- the mails that an earlier step left are written, or some of them
-abbrev pub Settles : Result (Unit {0}) AllocError → Standing → Standing → Type 0
+abbrev pub Settles : Result (Unit {0}) AllocError → DeskRunState → DeskRunState → Type 0
 Settles result s t = MatchResult result (λ _. t ≡ discharged s) (λ _. (s.owes ≡ true) × StillHolds s t)

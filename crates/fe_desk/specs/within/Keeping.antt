@@ -5,7 +5,7 @@ use Rattle.fe_front.specs.Front.{FrontState, is_connected}
 use Rattle.fe_desk.specs.Mails.{emptied_box}
 use Rattle.fe_desk.specs.Output.{output_of, Extends}
 use Rattle.fe_desk.specs.Crash.{DeskState}
-use Rattle.fe_desk.specs.Standing.{Client, told, all_told, all_emptied}
+use Rattle.fe_desk.specs.DeskRunState.{Client, written_out, all_written_out, all_emptied}
 
 -- the state, what is pending and what is out stay, and no connection comes
 pub record KeepsFront (f g : FrontState) : Type 0 where
@@ -18,7 +18,7 @@ pub record KeepsFront (f g : FrontState) : Type 0 where
 -- the groups, those that are stored and the keeper stay
 pub record HasStore {D : Type 0} (old new : DeskState D) : Type 0 where
   pub keeper : new.keeper ≡ old.keeper
-  pub groups : new.standing.groups ≡ old.standing.groups
+  pub groups : new.run_state.groups ≡ old.run_state.groups
   pub synced : new.synced ≡ old.synced
 
 -- no empty box gets a mail
@@ -26,14 +26,14 @@ pub record KeepsEmpty (f g : FrontState) : Type 0 where
   pub empty : (conn : ℕ) → mails_on f.connections conn ≡ [] → mails_on g.connections conn ≡ []
 
 -- some mails of a client are written and some are not: writing those comes to the same as writing all at the beginning
-pub record IsToldLater (f : FrontState) (c : Client) (g : FrontState) (d : Client) : Type 0 where
+pub record IsWrittenOutLater (f : FrontState) (c : Client) (g : FrontState) (d : Client) : Type 0 where
   pub conn : d.conn ≡ c.conn
   pub output : (more : List ℕ) × (d.written ≡ c.written ++ more)
   pub front : emptied_box g d.conn ≡ emptied_box f c.conn
-  pub client : told g d ≡ told f c
+  pub client : written_out g d ≡ written_out f c
 
 -- the same of all clients
-pub record AreToldLater (f : FrontState) (cs : List Client) (g : FrontState) (ds : List Client) : Type 0 where
+pub record AreWrittenOutLater (f : FrontState) (cs : List Client) (g : FrontState) (ds : List Client) : Type 0 where
   pub front : all_emptied g ds ≡ all_emptied f cs
-  pub clients : all_told g ds ≡ all_told f cs
+  pub clients : all_written_out g ds ≡ all_written_out f cs
   pub output : Extends (map output_of cs) (map output_of ds)

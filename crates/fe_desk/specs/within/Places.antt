@@ -3,7 +3,7 @@ use Rattle.std.specs.Prelude.{◌≡◌, ◌≢◌, ℕ, ◌<◌, List, length, 
 use Rattle.std.specs.Option.{option_map}
 use Rattle.fe_wire.specs.Stream.{Decoding}
 use Rattle.fe_front.specs.Steps.{connected}
-use Rattle.fe_desk.specs.Standing.{Client, Standing}
+use Rattle.fe_desk.specs.DeskRunState.{Client, DeskRunState}
 use Rattle.fe_desk.specs.Steps.{BeginsStream, clients_with}
 
 -- the number of the client at a place
@@ -17,7 +17,7 @@ pub record IsFirstAt (clients : List Client) (conn at : ℕ) : Type 0 where
   pub first : (i : ℕ) → i < at → client_number_at clients i ≢ Some conn
 
 -- a connection came, with a stream of its own; nothing else is different
-pub record Joins (s : Standing) (conn : ℕ) (t : Standing) : Type 0 where
+pub record Joins (s : DeskRunState) (conn : ℕ) (t : DeskRunState) : Type 0 where
   pub decoder : Decoding
   pub begins : BeginsStream decoder
   pub after : t ≡ record s { front = connected s.front conn; clients = clients_with s.clients conn decoder }

@@ -26,7 +26,7 @@ HasRoomFor None n = Unit {0}
 HasRoomFor (Some c) n = vec_len c.catch_up + n * record_bytes Two ≤ vec_capacity c.catch_up
 
 -- the same checkpoint, with the records of more entries after those that it catches up with
-pub record HasMore (entries : List Entry) (old new : Checkpoint) : Type 0 where
+pub record HasMoreToCatchUp (entries : List Entry) (old new : Checkpoint) : Type 0 where
   pub image : new.image ≡ old.image
   pub written : new.written ≡ old.written
   pub place : new.place ≡ old.place
@@ -40,4 +40,4 @@ abbrev pub CatchesUp : List Entry → Option Checkpoint → Option Checkpoint �
 CatchesUp entries None None = Unit {0}
 CatchesUp entries None (Some c) = ⊥
 CatchesUp entries (Some c) None = ⊥
-CatchesUp entries (Some old) (Some new) = HasMore entries old new
+CatchesUp entries (Some old) (Some new) = HasMoreToCatchUp entries old new

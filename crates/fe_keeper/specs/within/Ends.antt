@@ -15,7 +15,7 @@ use Rattle.fe_keeper.specs.within.Ready.{HasCheckpoint}
 use Rattle.fe_keeper.specs.within.Slices.{KeepsDraft}
 use Rattle.fe_keeper.specs.within.Upholds.{IsStore, Upholds, store_of}
 use Rattle.fe_keeper.specs.declared.checkpoint.Checkpoint.{Checkpoint}
-use Rattle.fe_keeper.specs.declared.store.Store.{Store}
+use Rattle.fe_keeper.specs.declared.keeper_store.KeeperStore.{KeeperStore}
 use Rattle.fe_disk.specs.declared.disk.Disk.{Ghosts}
 
 -- ---- how a call ends, where the device worked before it
@@ -38,28 +38,28 @@ pub record StoreEnds {T D : Type 0} (model : Ghosts D) (result : Result T Journa
 -- ---- what it carries over
 
 -- The store is sound, and no entry came.
-pub record StaysSound {D : Type 0} (old new : Store D) : Type 0 where
+pub record StaysSound {D : Type 0} (old new : KeeperStore D) : Type 0 where
   pub sound : IsStore new
   pub place : new.place ≡ old.place
 
 -- The store is sound, and counts the entries of a batch exactly where the batch is stored.
-pub record CountsBatch {T D : Type 0} (result : Result T JournalFault) (old new : Store D) (n : ℕ) : Type 0 where
+pub record CountsBatch {T D : Type 0} (result : Result T JournalFault) (old new : KeeperStore D) (n : ℕ) : Type 0 where
   pub sound : IsStore new
   pub place : MatchResult result (λ _. new.place ≡ old.place + n) (λ _. new.place ≡ old.place)
 
 -- The next slice is written, if one was left, and the result says whether slices are left then.
-pub record IsStepped {D : Type 0} (old new : Store D) (more : Bool) : Type 0 where
+pub record IsStepped {D : Type 0} (old new : KeeperStore D) (more : Bool) : Type 0 where
   pub value : store_of new ≡ record (stepped (store_of old)) { disk = new.journal.disk }
   pub more_is : more ≡ has_slices (store_of new).checkpoint
   pub ready : HasCheckpoint new
 
 -- Each image that a stop leaves stands for the state, and the store upholds it then, if the call succeeds.
-pub record Carries {T D : Type 0} (model : Ghosts D) (result : Result T JournalFault) (old new : Store D) (s : ServerState) : Type 0 where
+pub record Carries {T D : Type 0} (model : Ghosts D) (result : Result T JournalFault) (old new : KeeperStore D) (s : ServerState) : Type 0 where
   pub any_moment : LeavesOnly model old.journal.disk new.journal.disk (λ image. StandsFor image s)
   pub upheld : OnOk result (Upholds model new s)
 
 -- Each image that a stop leaves stands for one of two states, and the store upholds the second, if the call succeeds.
-pub record Leads {T D : Type 0} (model : Ghosts D) (result : Result T JournalFault) (old new : Store D) (s t : ServerState) : Type 0 where
+pub record Leads {T D : Type 0} (model : Ghosts D) (result : Result T JournalFault) (old new : KeeperStore D) (s t : ServerState) : Type 0 where
   pub any_moment : LeavesOnly model old.journal.disk new.journal.disk (StandsForEither s t)
   pub upheld : OnOk result (Upholds model new t)
 

@@ -1,4 +1,4 @@
--- What a keeper tells for the faults of the layers below it.
+-- What a keeper gives for the faults of the layers below it.
 use Rattle.fe_journal.specs.declared.fault.JournalFault.{JournalFault}
 use Rattle.fe_journal.specs.declared.fault.JournalFault.TheVariants as journal
 use Rattle.fe_journal.specs.declared.fault.StoreFault.{StoreFault}

@@ -11,7 +11,7 @@ use Rattle.fe_keeper.specs.within.Fresh.{IsFresh}
 use Rattle.fe_keeper.specs.within.Slices.{IsBegunFor}
 use Rattle.fe_keeper.specs.within.Upholds.{IsStore, store_of}
 use Rattle.fe_keeper.specs.declared.checkpoint.Checkpoint.{Checkpoint}
-use Rattle.fe_keeper.specs.declared.store.Store.{Store}
+use Rattle.fe_keeper.specs.declared.keeper_store.KeeperStore.{KeeperStore}
 
 -- The slot begun in the journal is the checkpoint's, and the device works.
 pub record CanWrite {D : Type 0} (journal : JournalState D) (c : Checkpoint) : Type 0 where
@@ -20,20 +20,20 @@ pub record CanWrite {D : Type 0} (journal : JournalState D) (c : Checkpoint) : T
   pub works : journal.has_failed ≡ false
 
 -- A checkpoint is under way, and the device works.
-pub record HasCheckpoint {D : Type 0} (store : Store D) : Type 0 where
+pub record HasCheckpoint {D : Type 0} (store : KeeperStore D) : Type 0 where
   pub sound : IsStore store
   pub works : store.journal.has_failed ≡ false
   pub under_way : IsSome store.checkpoint
 
 -- A checkpoint can be begun, this one is made for it, and the device works.
-pub record CanTake {D : Type 0} (store : Store D) (c : Checkpoint) : Type 0 where
+pub record CanTake {D : Type 0} (store : KeeperStore D) (c : Checkpoint) : Type 0 where
   pub sound : IsStore store
   pub works : store.journal.has_failed ≡ false
   pub can : IsTrue (can_begin (store_of store))
   pub fresh : IsFresh c store.place
 
 -- The entries are a batch for the store, and the device works.
-pub record CanStore {D : Type 0} (store : Store D) (entries : List Entry) : Type 0 where
+pub record CanStore {D : Type 0} (store : KeeperStore D) (entries : List Entry) : Type 0 where
   pub sound : IsStore store
   pub works : store.journal.has_failed ≡ false
   pub some : 1 ≤ length entries
@@ -42,6 +42,6 @@ pub record CanStore {D : Type 0} (store : Store D) (entries : List Entry) : Type
   pub place : store.place + length entries ≤ greatest_place
 
 -- A whole checkpoint is made for the batch exactly where it needs one.
-pub record IsWholeFor {D : Type 0} (store : Store D) (entries : List Entry) (whole : Option Checkpoint) : Type 0 where
+pub record IsWholeFor {D : Type 0} (store : KeeperStore D) (entries : List Entry) (whole : Option Checkpoint) : Type 0 where
   pub must : is_some whole ≡ must_begin (store_of store) entries
   pub fresh : IfSome whole (λ made. IsFresh made store.place)

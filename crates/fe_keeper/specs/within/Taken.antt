@@ -9,7 +9,7 @@ use Rattle.fe_keeper.specs.within.Upholds.{IsStore}
 use Rattle.fe_keeper.specs.within.Fresh.{IsImageOf}
 use Rattle.fe_keeper.specs.within.Ready.{IsWholeFor}
 use Rattle.fe_keeper.specs.declared.checkpoint.Checkpoint.{Checkpoint}
-use Rattle.fe_keeper.specs.declared.store.Store.{Store}
+use Rattle.fe_keeper.specs.declared.keeper_store.KeeperStore.{KeeperStore}
 
 -- Entries were taken from a state: they lead to the state now, and the log leads back.
 pub record HasTaken (before : ServerState) (entries : List Entry) (now : ServerState) (log : UndoLog) : Type 0 where
@@ -21,13 +21,13 @@ pub record HasTaken (before : ServerState) (entries : List Entry) (now : ServerS
   pub room : length entries ≤ log.room
 
 -- A batch is taken from the state that the store is at.
-pub record HasBatch {D : Type 0} (store : Store D) (now : ServerState) (log : UndoLog) (entries : List Entry) : Type 0 where
+pub record HasBatch {D : Type 0} (store : KeeperStore D) (now : ServerState) (log : UndoLog) (entries : List Entry) : Type 0 where
   pub sound : IsStore store
   pub few : length entries ≤ most_batch_entries
   pub taken : HasTaken (rewound log now) entries now log
   pub place : store.place ≡ (rewound log now).place
 
 -- A whole checkpoint of the state before the batch is made, exactly where the batch needs one.
-pub record IsMadeFor {D : Type 0} (store : Store D) (before : ServerState) (entries : List Entry) (whole : Option Checkpoint) : Type 0 where
+pub record IsMadeFor {D : Type 0} (store : KeeperStore D) (before : ServerState) (entries : List Entry) (whole : Option Checkpoint) : Type 0 where
   pub made : IsWholeFor store entries whole
   pub image : IfSome whole (λ made. IsImageOf made before)

@@ -15,7 +15,7 @@ use Rattle.fe_keeper.specs.Keeper.{Progress, StoreState}
 use Rattle.fe_keeper.specs.Stands.{Stands}
 use Rattle.fe_keeper.specs.within.CatchUp.{batch_bytes}
 use Rattle.fe_keeper.specs.declared.checkpoint.Checkpoint.{Checkpoint}
-use Rattle.fe_keeper.specs.declared.store.Store.{Store}
+use Rattle.fe_keeper.specs.declared.keeper_store.KeeperStore.{KeeperStore}
 use Rattle.fe_disk.specs.declared.disk.Disk.{Ghosts}
 
 -- ---- over any disk
@@ -41,7 +41,7 @@ IsCheckpoint place j None = j.begun ≡ None
 IsCheckpoint place j (Some c) = IsUnderWay place j c
 
 -- what is always true of the bytes side
-pub record IsStore {D : Type 0} (store : Store D) : Type 0 where
+pub record IsStore {D : Type 0} (store : KeeperStore D) : Type 0 where
   pub place : store.place ≤ greatest_place
   pub numbered : IsNumbered store.place store.journal
   pub group : batch_bytes ≤ vec_capacity store.group
@@ -51,7 +51,7 @@ pub record IsStore {D : Type 0} (store : Store D) : Type 0 where
 abbrev pub progress_of : Checkpoint → Progress
 progress_of c = record { size = vec_len c.image; written = c.written; place = c.place }
 
-abbrev pub store_of : {D : Type 0} → Store D → StoreState D
+abbrev pub store_of : {D : Type 0} → KeeperStore D → StoreState D
 store_of store =
     record {
       disk = store.journal.disk;
@@ -84,7 +84,7 @@ IsDrafted (Some c) None s = ⊥
 IsDrafted (Some c) (Some d) s = IsDraftOf c d s
 
 -- The journal keeps contents that stand for the state, and a checkpoint under way leads to it too.
-pub record Upholds {D : Type 0} (model : Ghosts D) (store : Store D) (s : ServerState) : Type 0 where
+pub record Upholds {D : Type 0} (model : Ghosts D) (store : KeeperStore D) (s : ServerState) : Type 0 where
   pub contents : Contents
   pub draft : Option Draft
   pub keeps : KeepsContents model store.journal contents draft

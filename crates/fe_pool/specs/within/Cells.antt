@@ -3,7 +3,7 @@ use Rattle.std.specs.Prelude.{ℕ, List, map, Option, Some, None}
 use Rattle.fe_pool.specs.Columns.{Link, Columns}
 use Rattle.fe_pool.specs.declared.family.Family.{Family}
 use Rattle.fe_pool.specs.declared.family.Family.TheVariants.{OfWord, OfSession}
-use Rattle.fe_pool.specs.declared.cells.Entry.{Entry}
+use Rattle.fe_pool.specs.declared.cells.NodeContents.{NodeContents}
 use Rattle.fe_pool.specs.declared.cells.Cell.{Cell}
 use Rattle.fe_pool.specs.declared.cells.Cell.TheVariants.{Free, Taken}
 
@@ -28,7 +28,7 @@ module _ {T : Type 0} where
   session_link_of (Taken entry) = entry.of_session
 
   -- the contents of a taken node, with other neighbours in one family
-  abbrev pub with_link : Entry T → Family → Link → Entry T
+  abbrev pub with_link : NodeContents T → Family → Link → NodeContents T
   with_link entry OfWord to = record entry { of_word = to }
   with_link entry OfSession to = record entry { of_session = to }
 

@@ -51,7 +51,7 @@ impl CutBatch {
 pub struct Uncut(());
 
 /// What a cut gave.
-pub enum Cutting {
+pub enum CutOutcome {
     Batch(CutBatch),
     /// The hall is stopped, and nothing is left to store.
     Stopped(AllDurable),
@@ -88,7 +88,11 @@ pub enum Unposted {
 
 impl<C: Tally, M: Tally> Shared<C, M> {
     /// Hands all pending entries out, if there are some and no batch is out. `None`: there may be some later. The history has the cut then.
-    pub fn cut(&mut self, history_words: &HistoryWords<M>, cuts: &mut History<M>) -> Option<Cutting>
+    pub fn cut(
+        &mut self,
+        history_words: &HistoryWords<M>,
+        cuts: &mut History<M>,
+    ) -> Option<CutOutcome>
         requires fresh { self.old.used ≡ false }
         ensures cuts { Cuts self.old.front self.old.stopped result self.new.front }
         ensures noted { IfSome result (λ cutting. IsCutIn cutting cuts.new) }
@@ -99,13 +103,13 @@ impl<C: Tally, M: Tally> Shared<C, M> {
             return Some(self.cut_batch(history_words, cuts));
         }
         if self.stopped && self.front.durable() == self.front.state().place() {
-            return Some(Cutting::Stopped(AllDurable(())));
+            return Some(CutOutcome::Stopped(AllDurable(())));
         }
         None
     }
 
     /// Hands all pending entries out, and notes the cut. Nothing changes if another side noted one.
-    fn cut_batch(&mut self, history_words: &HistoryWords<M>, cuts: &mut History<M>) -> Cutting
+    fn cut_batch(&mut self, history_words: &HistoryWords<M>, cuts: &mut History<M>) -> CutOutcome
         requires some { has_no_cut self.old.front ≡ false }
         ensures cuts { Cuts self.old.front self.old.stopped (Some result) self.new.front }
         ensures noted { IsCutIn result cuts.new }
@@ -115,14 +119,14 @@ impl<C: Tally, M: Tally> Shared<C, M> {
         let count = self.posted;
         let mut history = self.history.again();
         if !history.cut(history_words, count, &self.front) {
-            return Cutting::Strange(Uncut(()));
+            return CutOutcome::Strange(Uncut(()));
         }
         let Some(batch) = self.front.cut() else {
             unreachable!()
         };
         cuts.learn(&history);
         self.history = history;
-        Cutting::Batch(CutBatch { batch, count })
+        CutOutcome::Batch(CutBatch { batch, count })
     }
 
     /// Whether the mails of a batch stay within the books of a hall.

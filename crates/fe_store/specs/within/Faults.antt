@@ -14,10 +14,10 @@ fault_of_file (file.WrongSize found) = fault.Size found
 fault_of_file file.Device = fault.Device
 
 -- the fault when a keeper is not opened; it neither failed before nor refused a batch
-abbrev pub IsToldAs : keeper.Fault → OpenFault → Type 0
-IsToldAs store.Device told = told ≡ fault.Device
-IsToldAs store.NoMemory told = told ≡ fault.Memory
-IsToldAs (store.Damaged offset) told = told ≡ fault.Damaged offset
-IsToldAs store.Unformatted told = told ≡ fault.Unformatted
-IsToldAs store.Failed told = ⊥
-IsToldAs (store.Mismatch place) told = ⊥
+abbrev pub IsOpenFaultOf : keeper.Fault → OpenFault → Type 0
+IsOpenFaultOf store.Device answer = answer ≡ fault.Device
+IsOpenFaultOf store.NoMemory answer = answer ≡ fault.Memory
+IsOpenFaultOf (store.Damaged offset) answer = answer ≡ fault.Damaged offset
+IsOpenFaultOf store.Unformatted answer = answer ≡ fault.Unformatted
+IsOpenFaultOf store.Failed answer = ⊥
+IsOpenFaultOf (store.Mismatch place) answer = ⊥

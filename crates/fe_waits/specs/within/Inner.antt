@@ -8,14 +8,14 @@ use Rattle.fe_pool.specs.declared.family.Family.TheVariants.{OfWord, OfSession}
 use Rattle.fe_pool.specs.Pool.{Contents, IsChain, list_of}
 use Rattle.fe_waits.specs.declared.row.Row.{Row}
 use Rattle.fe_waits.specs.Pair.{pair_cmp}
-use Rattle.fe_waits.specs.Waiting.{Waiter, Waiting, key_of, waiter_of, row_of, count_of}
-use Rattle.fe_waits.specs.within.Words.{chain_at, lengths}
+use Rattle.fe_waits.specs.Waiting.{WaitingAccess, Waiting, key_of, waiting_access_of, row_of, count_of}
+use Rattle.fe_waits.specs.within.WordChains.{chain_at, lengths}
 
 -- the requests of the taken nodes, as a finite map
-abbrev pub members_of : List (Option Row) → FinMap pair_cmp Waiter
+abbrev pub members_of : List (Option Row) → FinMap pair_cmp WaitingAccess
 members_of [] = empty
 members_of (None ∷ nodes) = members_of nodes
-members_of (Some row ∷ nodes) = insert (members_of nodes) (key_of row) (waiter_of row)
+members_of (Some row ∷ nodes) = insert (members_of nodes) (key_of row) (waiting_access_of row)
 
 -- the request of a node
 abbrev pub row_in : List (Option Row) → ℕ → Option Row

@@ -22,7 +22,7 @@ returns-in-Err-clause-stands g c = λ honest s stands past. absurd past
 pub take_steps-fault-requires-clause-stands : goal.take_steps-fault-requires-clause-stands
 take_steps-fault-requires-clause-stands g c = λ honest begun from image may.
     let d = c.in-Ok.desk in
-    let few : d.synced ≤ length d.standing.groups = omega (arith, c.in-Ok.ensures.first.1) in
+    let few : d.synced ≤ length d.run_state.groups = omega (arith, c.in-Ok.ensures.first.1) in
     stands_at begun d image from few (c.in-Ok.ensures.stands (c.in-Ok.ensures.device.honesty.0 honest) image may)
 
 pub returns-in-Err-clause-ran : goal.returns-in-Err-clause-ran
@@ -31,7 +31,7 @@ returns-in-Err-clause-ran g c =
     let alone = device_alone c.in-Err.fault refused.device in
     record {
       is_fault = refused.faults;
-      told = refused.told;
+      says = refused.says;
       refused = refused.refused;
       unformatted = refused.unformatted;
       device = alone.0;

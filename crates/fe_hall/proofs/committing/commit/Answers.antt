@@ -1,7 +1,7 @@
 use Rattle.std.proofs.Common.{◌≡◌, ℕ, Some, None, [], ◌∷◌, ◌++◌, sym, ap, subst, rules}
 use Rattle.fe_state.specs.declared.batch.Batch.{Batch}
 use Rattle.fe_history.specs.Acts.{IsStored, stores_in}
-use Rattle.fe_hall.specs.Commits.{AreNoted, Commits, TellsEnd, end_of}
+use Rattle.fe_hall.specs.Commits.{AppendsAreNoted, Commits, EndsAs, end_of}
 use Rattle.fe_hall.specs.declared.commit_end.CommitEnd.{CommitEnd}
 use Rattle.fe_hall.specs.declared.commit_end.CommitEnd.TheVariants.{Strange}
 use Rattle.fe_hall.proofs.Committed.{group_noted, commits_fault, fault_tells, appended_works}
@@ -48,7 +48,7 @@ returns-in-Err-note-clause-commits g c =
     let new = c.append.new.self in
     let seat = c.args.seat.now in
     let batch : Batch = c.into_batch-batch.result.0 in
-    subst (λ (end : CommitEnd). (all : Commits g.D.Disk old new (Some end)) × AreNoted g.D.Disk all.appends (Some end) seat c.note.new.self)
+    subst (λ (end : CommitEnd). (all : Commits g.D.Disk old new (Some end)) × AppendsAreNoted g.D.Disk all.appends (Some end) seat c.note.new.self)
     (sym c.of_note.ensures)
     (group_noted g.D.Disk g.met.D.Disk.only_now old new (Some Strange) batch c.args.seat.now c.note.new.self e.continues.some e.continues.legal e.state
     (appended_works old.store new.store batch.entries new.store.disk e.store) c.append.ensures.honesty c.append.ensures.durable c.append.ensures.any_moment
@@ -62,13 +62,13 @@ returns-clause-commits g c =
     commits_fault g.D.Disk g.met.D.Disk.only_now c.args.keeper.now c.append.new.self c.append.ensures.durable c.in-Err.fault
     batch.first batch.entries e.ends e.err c.append.ensures.any_moment in
     let seat = c.args.seat.now in
-    subst (λ (end : CommitEnd). (all : Commits g.D.Disk c.args.keeper.now c.append.new.self (Some end)) × AreNoted g.D.Disk all.appends (Some end) seat seat)
+    subst (λ (end : CommitEnd). (all : Commits g.D.Disk c.args.keeper.now c.append.new.self (Some end)) × AppendsAreNoted g.D.Disk all.appends (Some end) seat seat)
     (sym c.of_store.ensures.end) (all.0, none_noted g.D.Disk all.0.appends (Some (end_of c.in-Err.fault)) seat all.1)
 
-pub returns-clause-tells : goal.returns-clause-tells
-returns-clause-tells g c =
+pub returns-clause-ended_as : goal.returns-clause-ended_as
+returns-clause-ended_as g c =
     let batch : Batch = c.into_batch-batch.result.0 in
-    subst (λ (end : CommitEnd). TellsEnd g.D.Disk c.args.keeper.now c.append.new.self (Some end)) (sym c.of_store.ensures.end)
+    subst (λ (end : CommitEnd). EndsAs g.D.Disk c.args.keeper.now c.append.new.self (Some end)) (sym c.of_store.ensures.end)
     (fault_tells g.D.Disk c.args.keeper.now c.append.new.self c.in-Err.fault batch.first batch.entries c.in-Err.ensures.ends)
 
 pub returns-in-Ok-post-clause-stored : goal.returns-in-Ok-post-clause-stored

@@ -1,5 +1,5 @@
 use Rattle.std.proofs.Common.{◌≡◌, sym, inl, inr, Option, Some, None, refl, subst, ◌∙◌, rules}
-use Rattle.fe_hall.specs.Commits.{AreNoted, Commits, TellsEnd, end_in}
+use Rattle.fe_hall.specs.Commits.{AppendsAreNoted, Commits, EndsAs, end_in}
 use Rattle.fe_keeper.specs.Ends.{IsStill}
 use Rattle.fe_hall.specs.declared.commit_end.CommitEnd.{CommitEnd}
 use Rattle.fe_hall.proofs.Committed.{kept_noted, both_commits, turn_commits, ended_noted, rests_itself, still_itself, still_both}
@@ -25,7 +25,7 @@ returns-in-Err-clause-commits g c =
     let stored = c.in-Err.ensures.commits in
     let old = c.args.keeper.now in
     let new = c.commit.new.keeper in
-    subst (λ (end : CommitEnd). (all : Commits g.D.Disk old new (Some end)) × AreNoted g.D.Disk all.appends (Some end) c.args.seat.now c.commit.new.seat)
+    subst (λ (end : CommitEnd). (all : Commits g.D.Disk old new (Some end)) × AppendsAreNoted g.D.Disk all.appends (Some end) c.args.seat.now c.commit.new.seat)
     (sym c.broken-in-Err.ensures)
     (both_commits g.D.Disk old c.loop.keeper new (Some c.in-Err.why) c.args.seat.now c.loop.seat c.commit.new.seat here.still.works here.honesty
     here.commits.0 here.commits.1 stored.0 stored.1)
@@ -39,10 +39,10 @@ loop-preserved g c =
     let here = c.loop.invariant in
     let rests = c.tend.ensures.rests in
     let none : end_in c.commit.result ≡ None = search rules in
-    let stored : (all : Commits g.D.Disk before after None) × AreNoted g.D.Disk all.appends None c.loop.seat c.commit.new.seat =
-    subst (λ (end : Option CommitEnd). (all : Commits g.D.Disk before after end) × AreNoted g.D.Disk all.appends end c.loop.seat c.commit.new.seat) none
+    let stored : (all : Commits g.D.Disk before after None) × AppendsAreNoted g.D.Disk all.appends None c.loop.seat c.commit.new.seat =
+    subst (λ (end : Option CommitEnd). (all : Commits g.D.Disk before after end) × AppendsAreNoted g.D.Disk all.appends end c.loop.seat c.commit.new.seat) none
     c.commit.ensures.commits in
-    let still : IsStill g.D.Disk before after = subst (λ (end : Option CommitEnd). TellsEnd g.D.Disk before after end) none c.commit.ensures.tells in
+    let still : IsStill g.D.Disk before after = subst (λ (end : Option CommitEnd). EndsAs g.D.Disk before after end) none c.commit.ensures.ended_as in
     let later : IsStill g.D.Disk after new = c.in-Ok.ensures.still in
     record {
       commits =
@@ -62,10 +62,10 @@ returns-in-Err-tend-clause-commits g c =
     let after = c.commit.new.keeper in
     let here = c.loop.invariant in
     let none : end_in c.commit.result ≡ None = search rules in
-    let stored : (all : Commits g.D.Disk before after None) × AreNoted g.D.Disk all.appends None c.loop.seat c.commit.new.seat =
-    subst (λ (end : Option CommitEnd). (all : Commits g.D.Disk before after end) × AreNoted g.D.Disk all.appends end c.loop.seat c.commit.new.seat) none
+    let stored : (all : Commits g.D.Disk before after None) × AppendsAreNoted g.D.Disk all.appends None c.loop.seat c.commit.new.seat =
+    subst (λ (end : Option CommitEnd). (all : Commits g.D.Disk before after end) × AppendsAreNoted g.D.Disk all.appends end c.loop.seat c.commit.new.seat) none
     c.commit.ensures.commits in
-    let still : IsStill g.D.Disk before after = subst (λ (end : Option CommitEnd). TellsEnd g.D.Disk before after end) none c.commit.ensures.tells in
+    let still : IsStill g.D.Disk before after = subst (λ (end : Option CommitEnd). EndsAs g.D.Disk before after end) none c.commit.ensures.ended_as in
     turn_commits g.D.Disk c.args.keeper.now before after c.tend.new.keeper (Some c.broken-in-Err-tend.result) c.args.seat.now c.loop.seat c.commit.new.seat
     here.still.works still.works here.honesty c.commit.ensures.honesty here.commits.0 here.commits.1 stored.0 stored.1 c.tend.ensures.rests
 

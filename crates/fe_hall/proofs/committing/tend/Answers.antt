@@ -3,7 +3,7 @@ use Rattle.fe_keeper.specs.Ends.{ForDevice, Breaks}
 use Rattle.fe_keeper.specs.Keeper.{has_slices}
 use Rattle.fe_keeper.specs.declared.fault.Fault.{Fault}
 use Rattle.fe_keeper.specs.declared.fault.Fault.TheVariants.{Device}
-use Rattle.fe_hall.proofs.Committed.{rests_both, stepped_works, finished_works, told, device_alone}
+use Rattle.fe_hall.proofs.Committed.{rests_both, stepped_works, finished_works, fault_is, device_alone}
 use Rattle.fe_hall.proofs.committing.tend.Goals as goal
 
 pub returns-then-slices-clause-rests : goal.returns-then-slices-clause-rests
@@ -25,7 +25,7 @@ returns-in_err-checkpoint_step-clause-device g c =
     let old = c.args.keeper.now in
     let new = c.checkpoint_step.new.self in
     let fault : Fault = c.in_err-checkpoint_step.field-0.0 in
-    told c.from_residual.result fault (λ f. (f ≡ Device) × Breaks g.D.Disk old new) c.from_residual.ensures.1
+    fault_is c.from_residual.result fault (λ f. (f ≡ Device) × Breaks g.D.Disk old new) c.from_residual.ensures.1
     (device_alone g.D.Disk old new (ForDevice (IsTrue (has_slices old.store.checkpoint))) fault c.requires.works (λ is x. x) (λ place x. x) c.in_err-checkpoint_step.ensures.ends)
 
 pub returns-in_err-checkpoint_finish-clause-device : goal.returns-in_err-checkpoint_finish-clause-device
@@ -33,5 +33,5 @@ returns-in_err-checkpoint_finish-clause-device g c =
     let old = c.args.keeper.now in
     let new = c.checkpoint_finish.new.self in
     let fault : Fault = c.in_err-checkpoint_finish.field-0.0 in
-    told c.from_residual-in_err-checkpoint_finish.result fault (λ f. (f ≡ Device) × Breaks g.D.Disk old new) c.from_residual-in_err-checkpoint_finish.ensures.1
+    fault_is c.from_residual-in_err-checkpoint_finish.result fault (λ f. (f ≡ Device) × Breaks g.D.Disk old new) c.from_residual-in_err-checkpoint_finish.ensures.1
     (device_alone g.D.Disk old new (ForDevice (IsTrue (is_some old.store.checkpoint))) fault c.requires.works (λ is x. x) (λ place x. x) c.in_err-checkpoint_finish.ensures.ends)

@@ -3,13 +3,13 @@ use Rattle.fe_hall.proofs.Streams.{begins}
 use Rattle.fe_hall.proofs.reading.read_side.Goals as goal
 
 pub returns-clause-handled : goal.returns-clause-handled
-returns-clause-handled g c = λ tells none.
+returns-clause-handled g c = λ is_known none.
     stream_left _ _ _ _ _ _ c.depart.ensures.untaken
-    (c.read_all-end.ensures.handled tells none
+    (c.read_all-end.ensures.handled is_known none
     (rw c.new-listed.ensures.items (begins c.with_version-decoder.result c.args.seat c.with_version-decoder.ensures.version c.with_version-decoder.ensures.begins)))
 
-pub returns-clause-told : goal.returns-clause-told
-returns-clause-told g c = c.depart.ensures.told c.read_all-end.ensures.told
+pub returns-clause-ended_as : goal.returns-clause-ended_as
+returns-clause-ended_as g c = c.depart.ensures.ended_as c.read_all-end.ensures.ended_as
 
 pub returns-clause-departed : goal.returns-clause-departed
 returns-clause-departed g c = c.depart.ensures.departed

@@ -11,7 +11,7 @@ loop-next-preserved g c =
     let few : c.in_ok-count.count ≤ length bytes - next = omega (arith, c.in_ok-count.ensures.fits, length-take (length bytes - next) (drop next bytes), length-drop next bytes) in
     record {
       within = omega (arith, few, c.loop-next.invariant.within);
-      tells = λ told. c.write.ensures.tells (c.loop-next.invariant.tells told);
-      got = λ told.
-          wrote_further bytes (got c.args.half.now) (got c.loop-next.half) (got c.write.new.self) next c.in_ok-count.count few (c.loop-next.invariant.got told) (c.in_ok-count.ensures.got (c.loop-next.invariant.tells told));
+      is_known = λ known. c.write.ensures.is_known (c.loop-next.invariant.is_known known);
+      got = λ known.
+          wrote_further bytes (got c.args.half.now) (got c.loop-next.half) (got c.write.new.self) next c.in_ok-count.count few (c.loop-next.invariant.got known) (c.in_ok-count.ensures.got (c.loop-next.invariant.is_known known));
     }

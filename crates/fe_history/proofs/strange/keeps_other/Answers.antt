@@ -7,11 +7,11 @@ use Rattle.fe_state.specs.Sessions.{kept_in}
 use Rattle.fe_state.specs.Shown.{shown_session}
 use Rattle.fe_state.proofs.Listed.{entry_there}
 use Rattle.fe_report.proofs.Listed.{get-at}
-use Rattle.fe_history.proofs.Kept.{AllAsTold, of_none, of_one_more, kept_as_told}
+use Rattle.fe_history.proofs.Kept.{AllAsIssued, of_none, of_one_more, kept_as_issued}
 use Rattle.fe_history.proofs.strange.keeps_other.Goals as goal
 
 pub loop-k-init : goal.loop-k-init
-loop-k-init c = of_none c.args.state.now.sessions (AllAsTold c.args.receipt.now)
+loop-k-init c = of_none c.args.state.now.sessions (AllAsIssued c.args.receipt.now)
 
 pub unwrap-session-requires : goal.unwrap-session-requires
 unwrap-session-requires c = entry_there shown_session c.args.state.now.sessions c.loop-k.k c.session_entry.result c.session_entry.ensures (subst (λ n. c.loop-k.k < n) c.session_count-k-end.ensures c.loop-k-test.true)
@@ -29,7 +29,7 @@ pub loop-k-preserved : goal.loop-k-preserved
 loop-k-preserved c =
     let e = shown_session c.unwrap-session.result in
     let entry = sym c.session_entry.ensures ∙ ap (option_map shown_session) c.unwrap-session.ensures in
-    of_one_more c.args.state.now.sessions (AllAsTold c.args.receipt.now) c.loop-k.k e entry (OnFalse_at c.if-holds_other.false c.holds_other.ensures.none) c.loop-k.invariant
+    of_one_more c.args.state.now.sessions (AllAsIssued c.args.receipt.now) c.loop-k.k e entry (OnFalse_at c.if-holds_other.false c.holds_other.ensures.none) c.loop-k.invariant
 
 pub returns-clause-none : goal.returns-clause-none
-returns-clause-none c = kept_as_told c.args.state.now c.args.receipt.now c.loop-k.k (omega (arith, c.session_count-k-end.ensures, c.loop-k-test.false)) c.loop-k.invariant
+returns-clause-none c = kept_as_issued c.args.state.now c.args.receipt.now c.loop-k.k (omega (arith, c.session_count-k-end.ensures, c.loop-k-test.false)) c.loop-k.invariant

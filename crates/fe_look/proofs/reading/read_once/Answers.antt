@@ -1,7 +1,7 @@
 use Rattle.std.proofs.Common.{◌≡◌, ℕ, List, ◌++◌, length, take, drop, slice_index, Option, ◌∙◌, sym, subst}
-use Rattle.fe_look.specs.Header.{Counts}
+use Rattle.fe_look.specs.HeaderBytes.{Counts}
 use Rattle.fe_look.specs.Slot.{IsSlotCopy}
-use Rattle.fe_look.specs.declared.header.Header.{Header}
+use Rattle.fe_look.specs.declared.header.HeaderBytes.{HeaderBytes}
 use Rattle.fe_look.specs.Copy.{IsCopyOf}
 use Rattle.fe_look.proofs.Copies.{copy_is}
 use Rattle.fe_look.proofs.Slots.{lent_whole}
@@ -11,7 +11,7 @@ pub returns-then-branch-clause-tells : goal.returns-then-branch-clause-tells
 returns-then-branch-clause-tells g c = λ honest.
     let seen = g.D.Disk.seen c.args.disk.now in
     let whole : length seen ≡ g.D.Disk.size c.args.disk.now = (g.met.D.Disk.seen_is_image c.args.disk.now honest).whole in
-    let found = subst (λ (o : Option (ℕ × Header)). Counts seen o) c.in-Some.is (c.in_ok-slot.ensures.counts honest) in
+    let found = subst (λ (o : Option (ℕ × HeaderBytes)). Counts seen o) c.in-Some.is (c.in_ok-slot.ensures.counts honest) in
     let same = (c.in_ok-slot.ensures.reads honest).same in
     let copied = c.in_ok-read_slot.ensures.copied (c.in_ok-slot.ensures.device.honesty.1 honest) in
     let start = c.as_mut_slice.result.now in

@@ -3,7 +3,7 @@ use Rattle.std.specs.FinMap.{get}
 use Rattle.fe_state.specs.Sessions.{Session}
 use Rattle.fe_state.proofs.Listed.{entry_of_key, key_there}
 use Rattle.fe_table.proofs.TableCopyLemmas.{made_all}
-use Rattle.fe_seats.specs.Seating.{count_of}
+use Rattle.fe_attachments.specs.AttachmentsState.{count_of}
 use Rattle.fe_front.specs.Front.{is_attached}
 use Rattle.fe_report.proofs.AllWait.{or_either, or_left, or_right, and_first, and_second, and_both, same_zero, zero_same, attached_there, all_wait}
 use Rattle.fe_report.proofs.Seen.{none_seen, one_more_seen}
@@ -28,7 +28,7 @@ loop-k-preserved c =
     let entry = got.1 in
     let here = c.attached-here.result in
     let none = c.count_of-none.result == 0 in
-    let count : c.count_of-none.result ≡ count_of f.service.waiting e.0 = c.count_of-none.ensures ∙ ap (λ waiting. count_of waiting e.0) (c.seats.ensures.waiting ∙ ap (λ service. service.waiting) c.service.ensures) in
+    let count : c.count_of-none.result ≡ count_of f.service.waiting e.0 = c.count_of-none.ensures ∙ ap (λ waiting. count_of waiting e.0) (c.attachments.ensures.waiting ∙ ap (λ service. service.waiting) c.service.ensures) in
     let seen = one_more_seen c.state-state.result.now.sessions c.loop-k.k e entry in
     record {
       attached_is = λ h. elim (or_either c.loop-k.attached here h) as (λ _. (s : ℕ) × (is_attached f s ≡ true)) [

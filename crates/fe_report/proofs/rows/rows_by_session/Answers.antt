@@ -5,12 +5,12 @@ use Rattle.std.specs.FinMap.{get, find, nat_cmp-IsAntisymmetric}
 use Rattle.fe_state.specs.Sessions.{Session}
 use Rattle.fe_state.proofs.Listed.{entry_of_key, key_there}
 use Rattle.fe_table.proofs.TableCopyLemmas.{made_all}
-use Rattle.fe_seats.specs.Seating.{count_of}
+use Rattle.fe_attachments.specs.AttachmentsState.{count_of}
 use Rattle.fe_report.specs.Report.{by_session}
 use Rattle.fe_report.specs.within.Rows.{ArePart}
 use Rattle.fe_report.proofs.Parts.{no_part, more, still_there, now_there, whole, one_more_at_most}
 use Rattle.fe_report.proofs.Seen.{none_seen, one_more_seen, counted_session_there}
-use Rattle.fe_report.proofs.Waiters.{get-by_session, count-counted}
+use Rattle.fe_report.proofs.WaitingAccesses.{get-by_session, count-counted}
 use Rattle.fe_report.proofs.rows.rows_by_session.Goals as goal
 use Rattle.fe_report.proofs.rows.rows_by_session.Goals.{then-count-gt0+in_ok-insert, else-count-gt0}
 
@@ -35,7 +35,7 @@ loop-k-preserved c =
     let old = c.loop-k.rows.entries in
     let new = c.if-count-gt0.rows.entries in
     let count = c.count_of-count.result in
-    let counted : count ≡ count_of waiting e.0 = c.count_of-count.ensures ∙ ap (λ w. count_of w e.0) (c.seats.ensures.waiting ∙ ap (λ service. service.waiting) c.service.ensures) in
+    let counted : count ≡ count_of waiting e.0 = c.count_of-count.ensures ∙ ap (λ w. count_of w e.0) (c.attachments.ensures.waiting ∙ ap (λ service. service.waiting) c.service.ensures) in
     elim c.if-count-gt0.branch [
       | then-count-gt0+in_ok-insert w ↦
           let made_now = ap (λ rows. rows.entries) w.rows-is ∙ w.in_ok-insert.ensures.entries in

@@ -10,7 +10,7 @@ use Rattle.fe_report.proofs.Parts.{whole}
 use Rattle.fe_report.proofs.Rising.{sorted_part, sorted_there}
 use Rattle.fe_report.proofs.Seen.{word_session_there}
 use Rattle.fe_report.proofs.Spots.{spot_cmp_total, spot_cmp-IsAntisymmetric}
-use Rattle.fe_report.proofs.Waiters.{len-by_word, row_there}
+use Rattle.fe_report.proofs.WaitingAccesses.{len-by_word, row_there}
 use Rattle.fe_report.proofs.rows.rows_by_word.Goals as goal
 
 pub loop-k-init : goal.loop-k-init

@@ -2,7 +2,7 @@ use Rattle.std.proofs.Common.{refl, ◌∙◌, subst}
 use Rattle.fe_disk.specs.Memory.{MemoryState, LeavesNow}
 use Rattle.fe_state.specs.State.{ServerState}
 use Rattle.fe_desk.specs.Crash.{IsFrom, disk_of}
-use Rattle.fe_desk.specs.Standing.{IsFirstStanding}
+use Rattle.fe_desk.specs.DeskRunState.{IsFirstRunState}
 use Rattle.fe_desk.proofs.Openings.{device_alone, first_from}
 use Rattle.fe_schedules.proofs.Readiness.{ready_first, kept_over, store_fault, open_tells}
 use Rattle.fe_schedules.proofs.serving.stopped.Goals as goal
@@ -22,7 +22,7 @@ pub returns-in-Ok-open-clause-first : goal.returns-in-Ok-open-clause-first
 returns-in-Ok-open-clause-first c =
     let may : LeavesNow (disk_of c.args.desk) c.in-Ok.left.image = subst (λ (m : MemoryState). LeavesNow m c.in-Ok.left.image) c.into_disk-disk.ensures.disk c.in-Ok.ensures.allowed in
     let kept = kept_over c.args.desk c.in-Ok-open.again c.in-Ok.left.image c.requires c.images_stand_for_one.ensures may (c.in-Ok-open.ensures.opened c.in-Ok.ensures.honest) in
-    subst (λ (s : ServerState). IsFirstStanding s c.in-Ok-open.again.standing) kept c.in-Ok-open.ensures.first.0
+    subst (λ (s : ServerState). IsFirstRunState s c.in-Ok-open.again.run_state) kept c.in-Ok-open.ensures.first.0
 
 pub returns-in-Ok-open-clause-from : goal.returns-in-Ok-open-clause-from
 returns-in-Ok-open-clause-from c =

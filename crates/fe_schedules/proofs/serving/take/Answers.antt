@@ -17,7 +17,7 @@ pub returns-in-Ok-clause-moved : goal.returns-in-Ok-clause-moved
 returns-in-Ok-clause-moved c =
     let whole : Ends memory_model c.args.desk.now c.args.step.now (Ok tt) c.step.new.self =
     ends_of memory_model c.args.desk.now c.args.step.now c.step.new.self (Ok tt) c.requires.works c.in-Ok.ensures.is_step in
-    record { runs = (c.step.new.self.standing, whole.took, refl); from = c.in-Ok.ensures.advances.from; checks = (c.step.new.self, whole.checked, refl) }
+    record { runs = (c.step.new.self.run_state, whole.took, refl); from = c.in-Ok.ensures.advances.from; checks = (c.step.new.self, whole.checked, refl) }
 
 pub returns-in-Err-clause-fault : goal.returns-in-Err-clause-fault
 returns-in-Err-clause-fault c =

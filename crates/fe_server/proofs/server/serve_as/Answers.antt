@@ -36,7 +36,7 @@ returns-clause-acknowledged g c =
       r.1.end,
       e.answer,
       subst (λ (k : KeeperState g.row.D.Denot). IsAcknowledged g.D.Disk c.args.keeper k r.1.end account) (sym e.keeper)
-          (ended_acknowledged g.D.Disk c.args.keeper r.0 r.1.end r.2 account e.leaves.0.items e.leaves.0.history c.run-keeper.ensures e.leaves.1 e.told),
+          (ended_acknowledged g.D.Disk c.args.keeper r.0 r.1.end r.2 account e.leaves.0.items e.leaves.0.history c.run-keeper.ensures e.leaves.1 e.issued),
     )
 
 pub returns-clause-whole : goal.returns-clause-whole

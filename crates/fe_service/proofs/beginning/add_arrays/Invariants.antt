@@ -6,8 +6,8 @@ use Rattle.fe_service.proofs.beginning.add_arrays.Given as goal
 
 abbrev pub invariant-loop-k : goal.invariant-loop-k
 invariant-loop-k l = record {
-  tied : (id : ℕ) → get l.seats.arrays id ≡ words_in (get (made l.state.arrays l.k) id);
-  few : len l.seats.arrays ≤ l.k;
-  waiting : l.seats.waiting ≡ l.fn.seats.waiting;
-  seats : l.seats.seats ≡ l.fn.seats.seats;
+  tied : (id : ℕ) → get l.attachments.arrays id ≡ words_in (get (made l.state.arrays l.k) id);
+  few : len l.attachments.arrays ≤ l.k;
+  waiting : l.attachments.waiting ≡ l.fn.attachments.waiting;
+  attachments : l.attachments.attachments ≡ l.fn.attachments.attachments;
 }

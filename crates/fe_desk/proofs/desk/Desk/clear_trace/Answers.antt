@@ -6,7 +6,7 @@ use Rattle.fe_desk.proofs.desk.Desk.clear_trace.Goals as goal
 
 pub invariant_of-self : goal.invariant_of-self
 invariant_of-self g c =
-    let p = c.self.inside.parts in
+    let p = c.self.inside.inner in
     let t = c.clear.new.self in
     let e = c.clear.ensures in
     let stands = subst (λ (d : DeskState g.row.D.Denot). g.D.Disk.honest (disk_of d) → EachStandsFor g.D.Disk (disk_of d) d.keeper.state) (sym c.self.view_is) c.requires in

@@ -1,8 +1,8 @@
 use Rattle.std.proofs.Common.{◌≡◌}
 use Rattle.fe_journal.specs.Layout.{device_bytes}
-use Rattle.fe_desk.proofs.Openings.{size_told}
+use Rattle.fe_desk.proofs.Openings.{size_faulty}
 use Rattle.fe_desk.proofs.desk.Desk.format.Goals as goal
 
 pub returns-in-Ok-clause-unformatted : goal.returns-in-Ok-clause-unformatted
 returns-in-Ok-clause-unformatted g c =
-    size_told c.desk_over.result c.in-Ok.keeper (g.D.Disk.size c.args.disk ≡ device_bytes) c.in-Ok.ensures.sized c.desk_over.ensures.fault
+    size_faulty c.desk_over.result c.in-Ok.keeper (g.D.Disk.size c.args.disk ≡ device_bytes) c.in-Ok.ensures.sized c.desk_over.ensures.fault

@@ -4,7 +4,7 @@ use Rattle.fe_journal.specs.Steps.{OnlyReads}
 use Rattle.fe_keeper.specs.Keeper.{KeeperState}
 use Rattle.fe_keeper.specs.Stands.{StandsFor, EachStandsFor}
 use Rattle.fe_desk.specs.Crash.{disk_of}
-use Rattle.fe_desk.specs.Messages.{told_as}
+use Rattle.fe_desk.specs.Messages.{desk_fault_of}
 use Rattle.fe_keeper.specs.declared.fault.Fault.TheVariants as keeper
 use Rattle.fe_desk.specs.declared.fault.DeskFault.{DeskFault}
 use Rattle.fe_desk.specs.declared.fault.DeskFault.TheVariants.{Store, NoMemory}
@@ -36,7 +36,7 @@ returns-in-Ok-clause-device g c =
     asks_over c.desk_over.result c.in-Ok.keeper c.desk_over.ensures.keeper c.desk_over.ensures.fault c.desk_over.ensures.disk c.in-Ok.ensures.device
 
 pub returns-in-Err-clause-device : goal.returns-in-Err-clause-device
-returns-in-Err-clause-device g c = asks_refused c.in-Err.fault c.told.result c.told.ensures c.in-Err.ensures.device
+returns-in-Err-clause-device g c = asks_refused c.in-Err.fault c.desk_fault.result c.desk_fault.ensures c.in-Err.ensures.device
 
 pub returns-in-Ok-clause-refused : goal.returns-in-Ok-clause-refused
 returns-in-Ok-clause-refused g c = λ honest s stands.
@@ -44,22 +44,22 @@ returns-in-Ok-clause-refused g c = λ honest s stands.
 
 pub returns-in-Err-clause-refused : goal.returns-in-Err-clause-refused
 returns-in-Err-clause-refused g c = λ honest s stands.
-    ⊎_elim (λ e. inl (c.told.ensures ∙ ap (λ f. told_as f false) e)) (λ e. inr (c.told.ensures ∙ ap (λ f. told_as f false) e)) ((c.in-Err.ensures.refused honest).valid s stands)
+    ⊎_elim (λ e. inl (c.desk_fault.ensures ∙ ap (λ f. desk_fault_of f false) e)) (λ e. inr (c.desk_fault.ensures ∙ ap (λ f. desk_fault_of f false) e)) ((c.in-Err.ensures.refused honest).valid s stands)
 
-pub returns-in-Ok-clause-told : goal.returns-in-Ok-clause-told
-returns-in-Ok-clause-told g c = λ honest.
+pub returns-in-Ok-clause-says : goal.returns-in-Ok-clause-says
+returns-in-Ok-clause-says g c = λ honest.
     short_opening g.D.Disk (g.D.Disk.calls c.args.disk) c.desk_over.result (g.D.Disk.seen c.args.disk) c.in-Ok.keeper.state (c.in-Ok.ensures.opened honest).state c.desk_over.ensures.fault
 
 pub returns-in-Ok-clause-unformatted : goal.returns-in-Ok-clause-unformatted
 returns-in-Ok-clause-unformatted g c = λ honest odd. absurd (c.in-Ok.ensures.unformatted honest odd)
 
-pub returns-in-Err-clause-told : goal.returns-in-Err-clause-told
-returns-in-Err-clause-told g c = λ honest.
+pub returns-in-Err-clause-says : goal.returns-in-Err-clause-says
+returns-in-Err-clause-says g c = λ honest.
     let seen = g.D.Disk.seen c.args.disk in
     let before = g.D.Disk.calls c.args.disk in
     let now = g.D.Disk.calls c.in-Err.disk in
-    subst (λ (f : DeskFault). TellsOpening f seen before now) (sym c.told.ensures) (tells_opening seen before now c.in-Err.fault (c.in-Err.ensures.refused honest).tells)
+    subst (λ (f : DeskFault). TellsOpening f seen before now) (sym c.desk_fault.ensures) (tells_opening seen before now c.in-Err.fault (c.in-Err.ensures.refused honest).tells)
 
 pub returns-in-Err-clause-unformatted : goal.returns-in-Err-clause-unformatted
 returns-in-Err-clause-unformatted g c = λ honest odd.
-    ⊎_elim (λ e. inl (c.told.ensures ∙ ap (λ f. told_as f false) e)) (λ e. inr (c.told.ensures ∙ ap (λ f. told_as f false) e)) (c.in-Err.ensures.unformatted honest odd)
+    ⊎_elim (λ e. inl (c.desk_fault.ensures ∙ ap (λ f. desk_fault_of f false) e)) (λ e. inr (c.desk_fault.ensures ∙ ap (λ f. desk_fault_of f false) e)) (c.in-Err.ensures.unformatted honest odd)

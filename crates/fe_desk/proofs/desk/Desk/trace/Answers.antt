@@ -6,4 +6,4 @@ use Rattle.fe_desk.proofs.desk.Desk.trace.Goals as goal
 
 pub returns : goal.returns
 returns g c =
-    subst (λ (d : DeskState g.row.D.Denot). IsTraceOf c.self.inside.parts.trace d.standing d.synced) c.self.view_is (is_trace c.self.inside.parts)
+    subst (λ (d : DeskState g.row.D.Denot). IsTraceOf c.self.inside.inner.trace d.run_state d.synced) c.self.view_is (is_trace c.self.inside.inner)

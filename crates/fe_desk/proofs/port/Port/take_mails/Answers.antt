@@ -1,7 +1,7 @@
 use Rattle.std.proofs.Common.{sym, ◌∙◌, ap, subst}
-use Rattle.fe_desk.specs.Standing.{Client}
+use Rattle.fe_desk.specs.DeskRunState.{Client}
 use Rattle.fe_desk.specs.within.Desk.{client_of}
-use Rattle.fe_desk.specs.within.Keeping.{IsToldLater}
+use Rattle.fe_desk.specs.within.Keeping.{IsWrittenOutLater}
 use Rattle.fe_desk.proofs.Emptying.{itself, empty_itself, later_itself, waiting_written, next_written, next_waits, next_keeps, next_empty, fewer_after, on_any_err}
 use Rattle.fe_desk.proofs.Writing.{none_yet, one_more, stops_here, stops_waiting}
 use Rattle.fe_desk.proofs.port.Port.take_mails.Goals as goal
@@ -19,7 +19,7 @@ pub returns-in_err-write_waiting-clause-later : goal.returns-in_err-write_waitin
 returns-in_err-write_waiting-clause-later c =
     let f = c.args.front.now in
     let d = client_of c.args.self.now in
-    on_any_err c.from_residual.result (subst (λ (x : Client). IsToldLater f d f x) (sym c.in_err-write_waiting.ensures.err) (later_itself f d))
+    on_any_err c.from_residual.result (subst (λ (x : Client). IsWrittenOutLater f d f x) (sym c.in_err-write_waiting.ensures.err) (later_itself f d))
 
 pub loop-mail-smaller : goal.loop-mail-smaller
 loop-mail-smaller c =

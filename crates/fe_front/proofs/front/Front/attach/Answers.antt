@@ -1,9 +1,9 @@
 use Rattle.std.proofs.Common.{sym, ap, subst, ◌∙◌}
 use Rattle.fe_mail.specs.Connections.{session_on}
-use Rattle.fe_seats.specs.Seating.{holder_of}
-use Rattle.fe_service.specs.Events.{MaySit}
+use Rattle.fe_attachments.specs.AttachmentsState.{holder_of}
+use Rattle.fe_service.specs.Events.{IsAttachable}
 use Rattle.fe_front.specs.Front.{is_connected}
-use Rattle.fe_front.proofs.Sitting.{released-free, released-connected, released-sit, freed-free, freed-connected, freed-holder, freed-sit, attaches}
+use Rattle.fe_front.proofs.Attaching.{released-free, released-connected, released-attachable, freed-free, freed-connected, freed-holder, freed-attachable, attaches}
 use Rattle.fe_front.proofs.front.Front.attach.Goals as goal
 
 pub join-requires-clause-free_connection : goal.join-requires-clause-free_connection
@@ -22,11 +22,11 @@ join-requires-clause-connected c =
     ∙ found.connected
 
 pub join-requires-clause-free_session : goal.join-requires-clause-free_session
-join-requires-clause-free_session c = ap (λ f. holder_of f.service.seats c.args.session) c.free.ensures.freed ∙ freed-holder c.release.new.self c.args.session
+join-requires-clause-free_session c = ap (λ f. holder_of f.service.attachments c.args.session) c.free.ensures.freed ∙ freed-holder c.release.new.self c.args.session
 
-pub join-requires-clause-sit : goal.join-requires-clause-sit
-join-requires-clause-sit c =
+pub join-requires-clause-attachable : goal.join-requires-clause-attachable
+join-requires-clause-attachable c =
     let old = c.args.self.now in
     let found = attaches old c.args.conn c.args.session _ (sym c.attaching.ensures ∙ c.in_ok-attaching.was) in
-    let mid = subst (λ f. MaySit f.service c.args.session) (sym c.release.ensures.released) (released-sit old c.args.conn c.args.session c.limits.ensures.front.tied.agree found.sit) in
-    subst (λ f. MaySit f.service c.args.session) (sym c.free.ensures.freed) (freed-sit c.release.new.self c.args.session c.args.session mid)
+    let mid = subst (λ f. IsAttachable f.service c.args.session) (sym c.release.ensures.released) (released-attachable old c.args.conn c.args.session c.limits.ensures.front.tied.agree found.attachable) in
+    subst (λ f. IsAttachable f.service c.args.session) (sym c.free.ensures.freed) (freed-attachable c.release.new.self c.args.session c.args.session mid)

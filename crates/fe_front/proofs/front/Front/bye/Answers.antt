@@ -2,7 +2,7 @@ use Rattle.std.specs.Prelude.{is_some}
 use Rattle.fe_front.specs.Front.{FrontState}
 use Rattle.std.proofs.Common.{◌+◌, length, length-append, sym, ap, subst, ◌∙◌}
 use Rattle.std.specs.FinMap.{get, len}
-use Rattle.fe_seats.specs.Seating.{without_session}
+use Rattle.fe_attachments.specs.AttachmentsState.{without_session}
 use Rattle.fe_mail.specs.Books.{Balances}
 use Rattle.fe_mail.specs.Connections.{mails_in}
 use Rattle.fe_front.proofs.Admitted.{leaves, own_there}
@@ -27,5 +27,5 @@ invariant_of-self c =
     made_sound old c.close-count.new.self old.connections c.waiters_withdrawn.new.self 1 c.self.invariant
     (ap (λ s. s.state.place) is)
     (ap (λ s. length s.pending) is ∙ length-append old.service.pending _)
-    (subst (λ s. Agree s.seats old.connections) (sym is) (agree-closing old.service.seats old.connections c.self.invariant.tied.agree session))
+    (subst (λ s. Agree s.attachments old.connections) (sym is) (agree-closing old.service.attachments old.connections c.self.invariant.tied.agree session))
     (subst (λ s. Balances c.waiters_withdrawn.new.self (len s.waiting) (mails_in old.connections)) (sym is) books)

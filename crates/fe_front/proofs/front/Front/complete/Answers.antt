@@ -28,7 +28,7 @@ invariant_of-self c =
     made_sound old new old.connections c.count_served.new.books (1 + length served) c.self.invariant
     (omega (arith, place))
     (omega (arith, pending))
-    (subst (λ s. Agree s old.connections) (sym completes.seats) c.self.invariant.tied.agree)
+    (subst (λ s. Agree s old.connections) (sym completes.attachments) c.self.invariant.tied.agree)
     books
 
 pub returns-in-Ok-clause-completed : goal.returns-in-Ok-clause-completed

@@ -18,7 +18,7 @@ invariant_of-self c = elim c.match-connect.branch [
       let absent = ap (λ (f : FrontState). get f.connections c.args.conn) c.self.view_is ∙ c.requires.unconnected in
       let mails = ap mails_in is ∙ mails_in-connect old.connections c.args.conn absent in
       quiet_sound old old.service c.connect.new.self old.books c.self.invariant refl refl
-      (subst (λ m. Agree old.service.seats m) (sym is) (agree-connected old.service.seats old.connections c.self.invariant.tied.agree c.args.conn absent))
+      (subst (λ m. Agree old.service.attachments m) (sym is) (agree-connected old.service.attachments old.connections c.self.invariant.tied.agree c.args.conn absent))
       (subst (λ n. Balances old.books (len old.service.waiting) n) (sym mails) c.self.invariant.tied.balance)
   | in-Err w ↦
       let old = c.self.inside in

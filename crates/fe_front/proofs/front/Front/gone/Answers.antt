@@ -1,6 +1,6 @@
 use Rattle.std.proofs.Common.{ap, ◌∙◌}
 use Rattle.fe_mail.specs.Connections.{session_on}
-use Rattle.fe_front.proofs.Sitting.{departed-free}
+use Rattle.fe_front.proofs.Attaching.{departed-free}
 use Rattle.fe_front.proofs.front.Front.gone.Goals as goal
 
 pub unbox-requires : goal.unbox-requires

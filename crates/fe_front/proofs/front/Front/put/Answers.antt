@@ -16,5 +16,5 @@ invariant_of-self c =
     let mails = ap mails_in is ∙ mails_in-put old.connections c.args.conn c.args.mail there in
     let books = c.mail_boxed.ensures.balance (len old.service.waiting) (mails_in old.connections) c.self.invariant.tied.balance in
     quiet_sound old old.service c.put.new.self c.mail_boxed.new.self c.self.invariant refl refl
-    (subst (λ m. Agree old.service.seats m) (sym is) (agree-boxed old.service.seats old.connections c.self.invariant.tied.agree c.args.conn (mails_on old.connections c.args.conn ++ c.args.mail ∷ [])))
+    (subst (λ m. Agree old.service.attachments m) (sym is) (agree-boxed old.service.attachments old.connections c.self.invariant.tied.agree c.args.conn (mails_on old.connections c.args.conn ++ c.args.mail ∷ [])))
     (subst (λ n. Balances c.mail_boxed.new.self (len old.service.waiting) n) (sym mails) books)

@@ -17,5 +17,5 @@ invariant_of-self c =
     let all = sym (mails_in-take old.connections c.args.conn some) in
     let books = c.mail_taken.ensures.balance (len old.service.waiting) (mails_in rest) (subst (λ n. Balances old.books (len old.service.waiting) n) all c.self.invariant.tied.balance) in
     quiet_sound old old.service c.take-mail.new.self c.mail_taken.new.self c.self.invariant refl refl
-    (subst (λ m. Agree old.service.seats m) (sym is) (agree-boxed old.service.seats old.connections c.self.invariant.tied.agree c.args.conn (drop 1 (mails_on old.connections c.args.conn))))
+    (subst (λ m. Agree old.service.attachments m) (sym is) (agree-boxed old.service.attachments old.connections c.self.invariant.tied.agree c.args.conn (drop 1 (mails_on old.connections c.args.conn))))
     (subst (λ m. Balances c.mail_taken.new.self (len old.service.waiting) (mails_in m)) (sym is) books)

@@ -18,5 +18,5 @@ invariant_of-self c =
     quiet_sound old c.cancel.new.self old.connections c.waiters_withdrawn.new.self c.self.invariant
     (ap (λ s. s.state.place) is)
     (ap (λ s. length s.pending) is)
-    (subst (λ s. Agree s.seats old.connections) (sym is) c.self.invariant.tied.agree)
+    (subst (λ s. Agree s.attachments old.connections) (sym is) c.self.invariant.tied.agree)
     (subst (λ s. Balances c.waiters_withdrawn.new.self (len s.waiting) (mails_in old.connections)) (sym is) books)

@@ -15,5 +15,5 @@ invariant_of-self c =
     let all = sym (ap (λ n. mails_in (remove old.connections c.args.conn) + n) c.remove-mails.ensures.mails ∙ mails_in-remove old.connections c.args.conn) in
     let books = c.box_dropped.ensures.balance (len old.service.waiting) (mails_in (remove old.connections c.args.conn)) (subst (λ n. Balances old.books (len old.service.waiting) n) all c.self.invariant.tied.balance) in
     quiet_sound old old.service c.remove-mails.new.self c.box_dropped.new.self c.self.invariant refl refl
-    (subst (λ m. Agree old.service.seats m) (sym is) (agree-removed old.service.seats old.connections c.self.invariant.tied.agree c.args.conn (ap (λ (f : FrontState). session_on f.connections c.args.conn) c.self.view_is ∙ c.requires.free)))
+    (subst (λ m. Agree old.service.attachments m) (sym is) (agree-removed old.service.attachments old.connections c.self.invariant.tied.agree c.args.conn (ap (λ (f : FrontState). session_on f.connections c.args.conn) c.self.view_is ∙ c.requires.free)))
     (subst (λ m. Balances c.box_dropped.new.self (len old.service.waiting) (mails_in m)) (sym is) books)

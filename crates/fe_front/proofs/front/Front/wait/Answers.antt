@@ -17,5 +17,5 @@ invariant_of-self c =
     quiet_sound old c.wait.new.self old.connections c.call_waits.new.self c.self.invariant
     (ap (λ s. s.state.place) is)
     (ap (λ s. length s.pending) is)
-    (subst (λ s. Agree s.seats old.connections) (sym is) c.self.invariant.tied.agree)
+    (subst (λ s. Agree s.attachments old.connections) (sym is) c.self.invariant.tied.agree)
     (subst (λ n. Balances c.call_waits.new.self n (mails_in old.connections)) (sym more) books)

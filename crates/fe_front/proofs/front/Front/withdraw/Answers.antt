@@ -1,6 +1,6 @@
 use Rattle.std.proofs.Common.{◌+◌, length, sym, ap, subst, ◌∙◌}
 use Rattle.std.specs.FinMap.{len}
-use Rattle.fe_seats.specs.Seating.{without_session}
+use Rattle.fe_attachments.specs.AttachmentsState.{without_session}
 use Rattle.fe_mail.specs.Books.{Balances}
 use Rattle.fe_mail.specs.Connections.{mails_in}
 use Rattle.fe_front.proofs.Agreement.{Agree}
@@ -17,5 +17,5 @@ invariant_of-self c =
     quiet_sound old c.withdraw-count.new.self old.connections c.waiters_withdrawn.new.self c.self.invariant
     (ap (λ s. s.state.place) is)
     (ap (λ s. length s.pending) is)
-    (subst (λ s. Agree s.seats old.connections) (sym is) c.self.invariant.tied.agree)
+    (subst (λ s. Agree s.attachments old.connections) (sym is) c.self.invariant.tied.agree)
     (subst (λ s. Balances c.waiters_withdrawn.new.self (len s.waiting) (mails_in old.connections)) (sym is) books)

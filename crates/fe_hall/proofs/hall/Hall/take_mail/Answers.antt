@@ -1,13 +1,13 @@
 use Rattle.std.proofs.Common.{◌≡◌, ℕ, sym, ap, subst, ◌∙◌}
 use mathlib.Core.List.{IsPrefix}
-use Rattle.fe_shared.specs.Marks.{MayBeTold, SharedState}
-use Rattle.fe_shared.specs.Seats.{WriteSeat}
+use Rattle.fe_shared.specs.Marks.{MayBeIssued, SharedState}
+use Rattle.fe_shared.specs.Seats.{MailSeatState}
 use Rattle.fe_shared.proofs.Marks.{may_later}
 use Rattle.fe_hall.proofs.hall.Hall.take_mail.Goals as goal
 
-pub tell-requires : goal.tell-requires
-tell-requires g c =
-    let conn : c.loop.seat.conn ≡ c.conn-conn.result = ap (λ (s : WriteSeat). s.conn) c.loop.invariant.1 ∙ sym c.conn-conn.ensures in
+pub issue-requires : goal.issue-requires
+issue-requires g c =
+    let conn : c.loop.seat.conn ≡ c.conn-conn.result = ap (λ (s : MailSeatState). s.conn) c.loop.invariant.1 ∙ sym c.conn-conn.ensures in
     let that = subst (λ (s : SharedState). IsPrefix s.history c.teach.new.history) c.deref-in-Some-take_mail.ensures c.teach.ensures.that in
-    subst (λ (n : ℕ). MayBeTold n c.in-Some-take_mail.taking c.teach.new.history) conn
+    subst (λ (n : ℕ). MayBeIssued n c.in-Some-take_mail.taking c.teach.new.history) conn
     (may_later c.loop.seat.conn c.in-Some-take_mail.taking _ c.teach.new.history that c.in-Some-take_mail.ensures.stored)

@@ -16,8 +16,8 @@ copied items copy rest next count sized is =
     take_further next count items
     ∙ ap (λ t. take next items ++ t) (sym (take-append-le count copy rest (omega (arith, sized)) ∙ take_all count copy (omega (arith, sized)) ∙ is ∙ ap (λ k. take k (drop next items)) same))
 
-pub returns-clause-told : goal.returns-clause-told
-returns-clause-told c _ =
+pub returns-clause-known : goal.returns-clause-known
+returns-clause-known c _ =
     let s = c.args.self.now in
     let count = c.min-count.result in
     let few : count ≤ length c.args.buffer.now = omega (arith, c.min-count.ensures, c.min.ensures) in

@@ -6,23 +6,23 @@ use Rattle.fe_hall.proofs.Turns.{left_all, left_few, left_none}
 use Rattle.fe_hall.proofs.reading.Reading.read_all.Goals as goal
 
 pub returns-in-Err-clause-handled : goal.returns-in-Err-clause-handled
-returns-in-Err-clause-handled g c = λ tells none at.
-    ends_first c.args.self.now.seat c.args.self.now.seat c.args.self.now.listed.items (g.H.ReadHalf.told c.args.half.now) c.args.self.now.decoder none at c.in-Err.short
+returns-in-Err-clause-handled g c = λ is_known none at.
+    ends_first c.args.self.now.seat c.args.self.now.seat c.args.self.now.listed.items (g.H.ReadHalf.known c.args.half.now) c.args.self.now.decoder none at c.in-Err.short
 
 pub returns-then-not-take_turn-clause-handled : goal.returns-then-not-take_turn-clause-handled
-returns-then-not-take_turn-clause-handled g c = λ tells none at.
-    ends_behind c.args.self.now.seat c.loop.self.seat c.loop.self.listed.items (g.H.ReadHalf.told c.loop.half) (g.H.ReadHalf.told c.loop.half) c.loop.self.decoder Turns refl (c.loop.invariant.at tells none at)
+returns-then-not-take_turn-clause-handled g c = λ is_known none at.
+    ends_behind c.args.self.now.seat c.loop.self.seat c.loop.self.listed.items (g.H.ReadHalf.known c.loop.half) (g.H.ReadHalf.known c.loop.half) c.loop.self.decoder Turns refl (c.loop.invariant.at is_known none at)
     (λ messages rest waits. (refl, waits))
 
 pub returns-in-Some-read-clause-handled : goal.returns-in-Some-read-clause-handled
-returns-in-Some-read-clause-handled g c = λ tells none at.
-    c.in-Some-read.ensures.handled c.args.self.now.seat (c.loop.invariant.tells tells) (c.loop.invariant.at tells none at)
+returns-in-Some-read-clause-handled g c = λ is_known none at.
+    c.in-Some-read.ensures.handled c.args.self.now.seat (c.loop.invariant.is_known is_known) (c.loop.invariant.at is_known none at)
 
 pub loop-preserved : goal.loop-preserved
 loop-preserved g c = record {
   next = (tt, tt);
-  tells = λ tells. c.read.ensures.tells (c.loop.invariant.tells tells);
-  at = λ tells none at. c.in_default.ensures.handled c.args.self.now.seat (c.loop.invariant.tells tells) (c.loop.invariant.at tells none at);
+  is_known = λ is_known. c.read.ensures.is_known (c.loop.invariant.is_known is_known);
+  at = λ is_known none at. c.in_default.ensures.handled c.args.self.now.seat (c.loop.invariant.is_known is_known) (c.loop.invariant.at is_known none at);
   own = c.read.ensures.own ∙ c.loop.invariant.own;
   left =
       let made : g.H.ReadHalf.reads c.read.new.half - g.H.ReadHalf.reads c.args.half.now ≡ g.H.ReadHalf.reads c.loop.half - g.H.ReadHalf.reads c.args.half.now + 1 =

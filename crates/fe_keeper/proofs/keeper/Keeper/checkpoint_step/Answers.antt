@@ -3,7 +3,7 @@ use Rattle.std.specs.Prelude.{false, true}
 use Rattle.fe_keeper.specs.Ends.{ForDevice}
 use Rattle.fe_keeper.specs.Keeper.{KeeperState, has_slices}
 use Rattle.fe_keeper.specs.within.Kept.{kept_of}
-use Rattle.fe_keeper.specs.declared.store.Store.{Store}
+use Rattle.fe_keeper.specs.declared.keeper_store.KeeperStore.{KeeperStore}
 use Rattle.fe_keeper.proofs.Ends.{device_told, must_be}
 use Rattle.fe_keeper.proofs.Taking.{carries_durable, carries_rest}
 use Rattle.fe_keeper.proofs.keeper.Keeper.checkpoint_step.Goals as goal
@@ -16,7 +16,7 @@ returns-in_err-more-clause-ends g c =
     let works : inside.store.journal.has_failed ≡ false = sym c.has_failed.ensures ∙ c.if-has_failed.false in
     let must : IsTrue (has_slices (kept_of inside).store.checkpoint) =
     must_be (has_slices (kept_of inside).store.checkpoint)
-    (λ none. let same : c.step.new.self.journal.has_failed ≡ inside.store.journal.has_failed = ap (λ (s : Store g.row.D.Denot). s.journal.has_failed) (c.step.ensures.rests none) in let odd : true ≡ false = sym failed.1.failed ∙ same ∙ works in absurd (cc odd)) in
+    (λ none. let same : c.step.new.self.journal.has_failed ≡ inside.store.journal.has_failed = ap (λ (s : KeeperStore g.row.D.Denot). s.journal.has_failed) (c.step.ensures.rests none) in let odd : true ≡ false = sym failed.1.failed ∙ same ∙ works in absurd (cc odd)) in
     let cause : IsTrue (has_slices old.store.checkpoint) = subst (λ (k : KeeperState g.row.D.Denot). IsTrue (has_slices k.store.checkpoint)) c.self.view_is must in
     device_told g.D.Disk (ForDevice (IsTrue (has_slices old.store.checkpoint))) c.from_residual.result c.in_err-more.field-0.0 inside c.step.new.self old c.self.view_is c.from_residual.ensures.1 works failed cause
 

@@ -1,9 +1,9 @@
 use Rattle.std.proofs.Common.{List, ◌++◌, string_bytes, refl, sym, ap, ◌∙◌, subst}
 use Rattle.std.specs.List.{flat_map}
 use Rattle.fe_schedules.specs.Ready.{IsReady}
-use Rattle.fe_schedules.specs.Told.{told_text}
-use Rattle.fe_schedules.specs.declared.told.Told.{Told}
-use Rattle.fe_schedules.proofs.Outputs.{trace_told}
+use Rattle.fe_schedules.specs.PrintedReply.{printed_text}
+use Rattle.fe_schedules.specs.declared.printed_reply.PrintedReply.{PrintedReply}
+use Rattle.fe_schedules.proofs.Outputs.{trace_replies}
 use Rattle.fe_schedules.proofs.Readiness.{ready_anew}
 use Rattle.fe_schedules.proofs.machine.Machine.print.Goals as goal
 
@@ -17,10 +17,10 @@ returns-clause-machine c =
 pub returns-clause-text : goal.returns-clause-text
 returns-clause-text c =
     let d = c.args.self.now.desk in
-    let order = c.sort.new.told.items in
-    let told = trace_told c.as_slice.result.now c.trace.result.now d.standing d.synced c.read_all.new.told.items c.as_slice.ensures.value c.trace.ensures c.in_ok-read_all.ensures in
+    let order = c.sort.new.printed_replies.items in
+    let printed_replies = trace_replies c.as_slice.result.now c.trace.result.now d.run_state d.synced c.read_all.new.printed_replies.items c.as_slice.ensures.value c.trace.ensures c.in_ok-read_all.ensures in
     record {
-      more = flat_map told_text order;
-      prints = record { told = c.read_all.new.told.items; order = order; tells = told; sorts = c.in_ok-sort.ensures; is = refl };
-      is = c.in_ok-print_told.ensures ∙ ap (λ (ts : List Told). string_bytes c.args.text.now ++ flat_map told_text ts) c.as_slice-2.ensures.value;
+      more = flat_map printed_text order;
+      prints = record { printed_replies = c.read_all.new.printed_replies.items; order = order; are = printed_replies; sorts = c.in_ok-sort.ensures; is = refl };
+      is = c.in_ok-print_replies.ensures ∙ ap (λ (ts : List PrintedReply). string_bytes c.args.text.now ++ flat_map printed_text ts) c.as_slice-2.ensures.value;
     }

@@ -1,6 +1,6 @@
 use Rattle.std.proofs.Common.{[], refl, sym, subst, rules}
 use Rattle.fe_desk.specs.Crash.{IsFrom}
-use Rattle.fe_desk.specs.Standing.{IsFirstStanding}
+use Rattle.fe_desk.specs.DeskRunState.{IsFirstRunState}
 use Rattle.fe_schedules.specs.Ready.{IsReady}
 use Rattle.fe_schedules.specs.declared.fault.MachineFault.TheVariants as machine
 use Rattle.fe_text.proofs.Results.{failed}
@@ -16,11 +16,11 @@ returns-clause-acts c =
     let d = c.args.self.now.desk in
     let e = c.replace.new.dest in
     let is = sym c.replace.ensures.after in
-    let first : IsFirstStanding d.keeper.state c.in-Ok-stopped.desk.standing = search rules in
+    let first : IsFirstRunState d.keeper.state c.in-Ok-stopped.desk.run_state = search rules in
     let from : IsFrom d.keeper.state c.in-Ok-stopped.desk = search rules in
     record {
       mid = e;
-      begins = (subst (λ d2. IsFirstStanding d.keeper.state d2.standing) is first, subst (IsFrom d.keeper.state) is from);
+      begins = (subst (λ d2. IsFirstRunState d.keeper.state d2.run_state) is first, subst (IsFrom d.keeper.state) is from);
       steps = [];
       are = refl;
       moves = moves_none e;

@@ -1,21 +1,21 @@
 use Rattle.std.proofs.Common.{◌≡◌, true, false, ◌∙◌, rules}
 use Rattle.fe_history.specs.Acts.{Account}
 use Rattle.fe_server.specs.FinishedConnections.{lacks}
-use Rattle.fe_server.proofs.Accounts.{account_told}
+use Rattle.fe_server.proofs.Accounts.{account_issued}
 use Rattle.fe_server.proofs.Ends.{kept_whole}
 use Rattle.fe_server.proofs.finished_connections.FinishedConnections.close.Goals as goal
 
-pub returns-in-Ok-clause-told : goal.returns-in-Ok-clause-told
-returns-in-Ok-clause-told g c =
+pub returns-in-Ok-clause-issued : goal.returns-in-Ok-clause-issued
+returns-in-Ok-clause-issued g c =
     let p = c.into_parts-receipts in
     let audit = c.in-Ok.audit in
     let account : Account = record { receipts = audit.receipts; history = audit.history; own = true } in
-    account_told c.args.seat p.result.0.items p.result.1 account c.in-Ok.ensures.leaves p.ensures.told
+    account_issued c.args.seat p.result.0.items p.result.1 account c.in-Ok.ensures.leaves p.ensures.issued
 
-pub returns-in-Err-clause-told : goal.returns-in-Err-clause-told
-returns-in-Err-clause-told g c =
+pub returns-in-Err-clause-issued : goal.returns-in-Err-clause-issued
+returns-in-Err-clause-issued g c =
     let p = c.into_parts-receipts in
-    account_told c.args.seat p.result.0.items p.result.1 c.in-Err.account c.in-Err.ensures.leaves p.ensures.told
+    account_issued c.args.seat p.result.0.items p.result.1 c.in-Err.account c.in-Err.ensures.leaves p.ensures.issued
 
 pub returns-in-Ok-clause-audit : goal.returns-in-Ok-clause-audit
 returns-in-Ok-clause-audit g c =

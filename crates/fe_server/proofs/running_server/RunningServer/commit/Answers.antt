@@ -1,8 +1,8 @@
 use Rattle.std.proofs.Common.{Some, List, subst, sym, ◌∙◌}
-use Rattle.fe_hall.specs.Commits.{AreNoted}
+use Rattle.fe_hall.specs.Commits.{AppendsAreNoted}
 use Rattle.fe_history.specs.declared.act.Act.{Act}
 use Rattle.fe_hall.specs.declared.commit_end.CommitEnd.{CommitEnd}
-use Rattle.fe_server.specs.Serving.{HasNoted}
+use Rattle.fe_server.specs.Serving.{HasCommittedAndNoted}
 use Rattle.fe_server.proofs.running_server.RunningServer.commit.Goals as goal
 
 pub returns : goal.returns
@@ -11,8 +11,8 @@ returns g c =
     let keeper = c.commit_side.new.keeper in
     let seat = c.commit_side.new.seat in
     subst
-    (λ (end : CommitEnd). HasNoted g.D.Disk c.args.keeper keeper end seat)
+    (λ (end : CommitEnd). HasCommittedAndNoted g.D.Disk c.args.keeper keeper end seat)
     (sym (c.end-over.ensures ∙ c.end-end.ensures)) (
-      record { commits = e.commits.0; stands = e.stands; tells = e.tells; honesty = e.honesty },
-      subst (λ (h : List Act). AreNoted g.D.Disk e.commits.0.appends (Some c.commit_side.result) h seat) c.requires e.commits.1,
+      record { commits = e.commits.0; stands = e.stands; ended_as = e.ended_as; honesty = e.honesty },
+      subst (λ (h : List Act). AppendsAreNoted g.D.Disk e.commits.0.appends (Some c.commit_side.result) h seat) c.requires e.commits.1,
     )

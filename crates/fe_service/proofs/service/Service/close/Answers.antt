@@ -1,6 +1,6 @@
 use Rattle.std.proofs.Common.{sym, ap, subst, ◌∙◌}
 use Rattle.std.specs.FinMap.{get}
-use Rattle.fe_seats.specs.Seating.{with_closing}
+use Rattle.fe_attachments.specs.AttachmentsState.{with_closing}
 use Rattle.fe_state.specs.Directory.{words_in}
 use Rattle.fe_service.specs.ServiceState.{IsService, service_of}
 use Rattle.fe_service.proofs.Staying.{closed_service}
@@ -8,17 +8,17 @@ use Rattle.fe_service.proofs.service.Service.close.Goals as goal
 
 pub invariant_of-self : goal.invariant_of-self
 invariant_of-self c =
-    let old = c.self.inside.parts in
-    let seats = ap (λ s. s.seats) c.enter.ensures.seats ∙ ap (λ s. s.seats) c.set_closing.ensures ∙ ap (λ m. with_closing m c.args.session) c.drop_session-count.ensures.seats in
-    let waiting = ap (λ s. s.waiting) c.enter.ensures.seats ∙ ap (λ s. s.waiting) c.set_closing.ensures ∙ c.drop_session-count.ensures.removed in
+    let old = c.self.inside.inner in
+    let attachments = ap (λ s. s.attachments) c.enter.ensures.attachments ∙ ap (λ s. s.attachments) c.set_closing.ensures ∙ ap (λ m. with_closing m c.args.session) c.drop_session-count.ensures.attachments in
+    let waiting = ap (λ s. s.waiting) c.enter.ensures.attachments ∙ ap (λ s. s.waiting) c.set_closing.ensures ∙ c.drop_session-count.ensures.removed in
     record {
       service =
           subst
           IsService
-          (λ i. record { state = sym c.enter.ensures.state i; seats = sym seats i; waiting = sym waiting i; pending = sym c.enter.ensures.pending i })
+          (λ i. record { state = sym c.enter.ensures.state i; attachments = sym attachments i; waiting = sym waiting i; pending = sym c.enter.ensures.pending i })
           (closed_service (service_of old) c.args.session c.self.invariant.service);
       arrays = λ id.
-          ap (λ s. get s.arrays id) c.enter.ensures.seats
+          ap (λ s. get s.arrays id) c.enter.ensures.attachments
           ∙ ap (λ s. get s.arrays id) c.set_closing.ensures
           ∙ ap (λ m. get m id) c.drop_session-count.ensures.arrays
           ∙ c.self.invariant.arrays id

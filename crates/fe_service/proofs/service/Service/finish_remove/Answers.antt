@@ -20,67 +20,67 @@ use Rattle.fe_service.proofs.service.Service.finish_remove.Goals as goal
 
 pub unwrap-length-requires : goal.unwrap-length-requires
 unwrap-length-requires c =
-    let here = get c.self.inside.parts.state.arrays c.args.array in
+    let here = get c.self.inside.inner.state.arrays c.args.array in
     let changes = ap (λ (s : ServiceState). effect_of (directory_of s.state) (Remove c.args.array)) c.self.view_is ∙ c.requires.changes in
     ap is_some c.length.ensures ∙ removes c.args.array here changes
 
 pub serve_array-served-requires-clause-usable : goal.serve_array-served-requires-clause-usable
 serve_array-served-requires-clause-usable c =
-    let entered : IsEntered c.self.inside.parts c.enter.new.self _ = entered_by c.self.inside.parts c.enter.new.self _ c.enter.ensures.state c.enter.ensures.seats c.enter.ensures.pending in
-    entered_usable c.self.inside.parts c.enter.new.self c.args.session c.args.number (Remove c.args.array) c.args.answer c.self.invariant.service.usable (free_in c.self.view_is c.requires.free) entered
+    let entered : IsEntered c.self.inside.inner c.enter.new.self _ = entered_by c.self.inside.inner c.enter.new.self _ c.enter.ensures.state c.enter.ensures.attachments c.enter.ensures.pending in
+    entered_usable c.self.inside.inner c.enter.new.self c.args.session c.args.number (Remove c.args.array) c.args.answer c.self.invariant.service.usable (free_in c.self.view_is c.requires.free) entered
 
 -- nobody that waits may be served any more
-all_quiet : (c : After-serve_array-served) → IsQuiet c.serve_array-served.new.self.state c.serve_array-served.new.self.seats.waiting
+all_quiet : (c : After-serve_array-served) → IsQuiet c.serve_array-served.new.self.state c.serve_array-served.new.self.attachments.waiting
 all_quiet c =
-    let old = c.self.inside.parts in
+    let old = c.self.inside.inner in
     let mid = c.enter.new.self in
     let new = c.serve_array-served.new.self in
-    let entered : IsEntered old mid _ = entered_by old mid _ c.enter.ensures.state c.enter.ensures.seats c.enter.ensures.pending in
+    let entered : IsEntered old mid _ = entered_by old mid _ c.enter.ensures.state c.enter.ensures.attachments c.enter.ensures.pending in
     let (es, t, counted) = c.serve_array-served.ensures.served in
     removed_quiet old mid new c.args.session c.args.number c.args.array c.unwrap-length.result c.args.answer es c.self.invariant.service.quiet entered t (sym c.length.ensures ∙ c.unwrap-length.ensures) c.serve_array-served.ensures.here c.serve_array-served.ensures.beside
 
 pub drop_array-requires : goal.drop_array-requires
 drop_array-requires c =
-    let old = c.self.inside.parts in
+    let old = c.self.inside.inner in
     let mid = c.enter.new.self in
     let new = c.serve_array-served.new.self in
-    let entered : IsEntered old mid _ = entered_by old mid _ c.enter.ensures.state c.enter.ensures.seats c.enter.ensures.pending in
+    let entered : IsEntered old mid _ = entered_by old mid _ c.enter.ensures.state c.enter.ensures.attachments c.enter.ensures.pending in
     let (es, t, counted) = c.serve_array-served.ensures.served in
     let quiet = all_quiet (goal.at.drop_array-requires c).After-serve_array-served in
-    record { unused = none_on_absent new.state new.seats.waiting c.args.array quiet (taken_lengths mid new es t c.args.array ∙ removed_absent old mid c.args.session c.args.number c.args.array c.args.answer entered) }
+    record { unused = none_on_absent new.state new.attachments.waiting c.args.array quiet (taken_lengths mid new es t c.args.array ∙ removed_absent old mid c.args.session c.args.number c.args.array c.args.answer entered) }
 
 pub overflow_add-result : goal.overflow_add-result
 overflow_add-result c =
     let (es, t, counted) = c.serve_array-served.ensures.served in
     let fewer = taken_len c.enter.new.self c.serve_array-served.new.self es t in
-    let same = ap (λ s. len s.waiting) c.enter.ensures.seats in
-    omega (arith, counted, fewer, same, c.limits.ensures.seats.all)
+    let same = ap (λ s. len s.waiting) c.enter.ensures.attachments in
+    omega (arith, counted, fewer, same, c.limits.ensures.attachments.all)
 
 pub invariant_of-self : goal.invariant_of-self
 invariant_of-self c =
-    let old = c.self.inside.parts in
+    let old = c.self.inside.inner in
     let mid = c.enter.new.self in
     let new = c.serve_array-served.new.self in
-    let entered : IsEntered old mid _ = entered_by old mid _ c.enter.ensures.state c.enter.ensures.seats c.enter.ensures.pending in
+    let entered : IsEntered old mid _ = entered_by old mid _ c.enter.ensures.state c.enter.ensures.attachments c.enter.ensures.pending in
     let (es, t, counted) = c.serve_array-served.ensures.served in
     let quiet = all_quiet (goal.at.invariant_of-self c).After-serve_array-served in
     let service = entered_service old mid new c.args.session c.args.number (Remove c.args.array) c.args.answer es c.self.invariant.service (free_in c.self.view_is c.requires.free) entered t quiet in
     record {
-      service = subst IsService (λ i. record { state = new.state; seats = sym c.drop_array.ensures.seats i; waiting = sym c.drop_array.ensures.waiting i; pending = new.pending }) service;
+      service = subst IsService (λ i. record { state = new.state; attachments = sym c.drop_array.ensures.attachments i; waiting = sym c.drop_array.ensures.waiting i; pending = new.pending }) service;
       arrays = λ id.
           elim (same_or_other id c.args.array) as (λ _. get c.drop_array.new.self.arrays id ≡ words_in (get new.state.arrays id)) [
             | inl same ↦
                 ap (λ m. get m id) c.drop_array.ensures.arrays
-                ∙ ap (get (remove new.seats.arrays c.args.array)) same
-                ∙ get_removed new.seats.arrays c.args.array
+                ∙ ap (get (remove new.attachments.arrays c.args.array)) same
+                ∙ get_removed new.attachments.arrays c.args.array
                 ∙ sym (removed_absent old mid c.args.session c.args.number c.args.array c.args.answer entered)
                 ∙ sym (taken_lengths mid new es t c.args.array)
                 ∙ ap (λ id. words_in (get new.state.arrays id)) (sym same)
             | inr other ↦
                 ap (λ m. get m id) c.drop_array.ensures.arrays
-                ∙ get_left new.seats.arrays c.args.array id other
+                ∙ get_left new.attachments.arrays c.args.array id other
                 ∙ ap (λ m. get m id) t.arrays
-                ∙ ap (λ s. get s.arrays id) c.enter.ensures.seats
+                ∙ ap (λ s. get s.arrays id) c.enter.ensures.attachments
                 ∙ c.self.invariant.arrays id
                 ∙ sym (removed_lengths old mid c.args.session c.args.number c.args.array c.args.answer entered id other)
                 ∙ sym (taken_lengths mid new es t id)
@@ -89,17 +89,17 @@ invariant_of-self c =
 
 pub returns : goal.returns
 returns c =
-    let old = c.self.inside.parts in
+    let old = c.self.inside.inner in
     let mid = c.enter.new.self in
     let new = c.serve_array-served.new.self in
-    let entered : IsEntered old mid _ = entered_by old mid _ c.enter.ensures.state c.enter.ensures.seats c.enter.ensures.pending in
+    let entered : IsEntered old mid _ = entered_by old mid _ c.enter.ensures.state c.enter.ensures.attachments c.enter.ensures.pending in
     let (es, t, counted) = c.serve_array-served.ensures.served in
     let quiet = all_quiet (goal.at.returns c).After-serve_array-served in
     let completes = completes_in c.self.view_is (entered_completes old mid new _ es entered t quiet) in
     record {
       completes = (
         es,
-        subst (λ s. Completes c.args.self.now s (Finished c.args.session c.args.number (Remove c.args.array) c.args.answer) es) (λ i. record { state = new.state; seats = sym c.drop_array.ensures.seats i; waiting = sym c.drop_array.ensures.waiting i; pending = new.pending }) completes,
+        subst (λ s. Completes c.args.self.now s (Finished c.args.session c.args.number (Remove c.args.array) c.args.answer) es) (λ i. record { state = new.state; attachments = sym c.drop_array.ensures.attachments i; waiting = sym c.drop_array.ensures.waiting i; pending = new.pending }) completes,
         omega (arith, counted),
       );
     }

@@ -1,4 +1,4 @@
-use Rattle.fe_seats.specs.Seating.{is_closing}
+use Rattle.fe_attachments.specs.AttachmentsState.{is_closing}
 use Rattle.std.proofs.Common.{◌≡◌, true, subst, sym, refl, ap, ◌∙◌}
 use Rattle.std.specs.FinMap.{get}
 use Rattle.fe_service.specs.ServiceState.{ServiceState, service_of}
@@ -7,10 +7,10 @@ use Rattle.fe_service.proofs.service.Service.leave.Goals as goal
 
 pub invariant_of-self : goal.invariant_of-self
 invariant_of-self c =
-    let old = c.self.inside.parts in
+    let old = c.self.inside.inner in
     record {
       service =
-          same_service _ _ refl c.leave.ensures.seats c.leave.ensures.waiting refl
-          (left_service (service_of old) c.args.session (subst (λ (s : ServiceState). is_closing s.seats c.args.session ≡ true) (sym c.self.view_is) c.requires) c.self.invariant.service);
+          same_service _ _ refl c.leave.ensures.attachments c.leave.ensures.waiting refl
+          (left_service (service_of old) c.args.session (subst (λ (s : ServiceState). is_closing s.attachments c.args.session ≡ true) (sym c.self.view_is) c.requires) c.self.invariant.service);
       arrays = λ id. ap (λ m. get m id) c.leave.ensures.arrays ∙ c.self.invariant.arrays id;
     }

@@ -1,5 +1,5 @@
 use Rattle.std.proofs.Common.{ℕ, sym, subst, ◌∙◌, arith}
-use Rattle.fe_shared.specs.Marks.{MayBeTold}
+use Rattle.fe_shared.specs.Marks.{MayBeIssued}
 use Rattle.fe_shared.specs.declared.taking.Taking.TheVariants as taking
 use Rattle.fe_shared.proofs.Marks.{first_may, taken_marked}
 use Rattle.fe_shared.proofs.Risings.{taken_goes}
@@ -20,5 +20,5 @@ invariant_of-self g c =
 pub returns-in-Some-clause-stored : goal.returns-in-Some-clause-stored
 returns-in-Some-clause-stored g c =
     let s = c.self.inside in
-    subst (λ (n : ℕ). MayBeTold n (taking.Mail c.in-Some.mail c.has_mail-more.result) s.history) c.conn-conn.ensures
+    subst (λ (n : ℕ). MayBeIssued n (taking.Mail c.in-Some.mail c.has_mail-more.result) s.history) c.conn-conn.ensures
     (first_may s.front c.conn-conn.result c.in-Some.mail c.has_mail-more.result s.posted s.history (sym c.in-Some.is ∙ c.take_mail.ensures.mail) c.self.invariant)

@@ -1,0 +1,2 @@
+pub mod AttachmentsState
+pub mod within

@@ -1,0 +1,37 @@
+ghost use Rattle.std.specs.Prelude.{◌≡◌};
+
+use fe_waits::Row;
+use fe_words::Op;
+
+/// A request that waits for its turn on a word.
+#[derive(Clone, Copy, PartialEq, Eq)]
+pub struct WaitingRequest {
+    pub session: u64,
+    /// Its number in the session.
+    pub number: u64,
+    /// The array and the index of its word.
+    pub array: u64,
+    pub index: u32,
+    pub op: Op,
+}
+
+impl WaitingRequest {
+    // The request of a row, which waits in a slot of the session.
+    pub(crate) fn of(session: u64, row: Row) -> WaitingRequest
+        ensures { result ≡ record {
+          session = session;
+          number = row.number;
+          array = row.array;
+          index = row.index;
+          op = row.op;
+        } }
+    {
+        WaitingRequest {
+            session,
+            number: row.number,
+            array: row.array,
+            index: row.index,
+            op: row.op,
+        }
+    }
+}

@@ -1,0 +1,73 @@
+-- Where a run of the desk stands, apart from the store: the front, what each connection number was written, the batch on
+-- its way to the store, and the groups that were handed to it.
+use Rattle.std.specs.Prelude.{◌≡◌, ℕ, Bool, false, List, [], ◌∷◌, ◌++◌, Option, None, if◌then◌else◌}
+use Rattle.std.specs.Option.{option_map_or}
+use Rattle.fe_state.specs.State.{ServerState}
+use Rattle.fe_state.specs.declared.entry.Entry.{Entry}
+use Rattle.fe_mail.specs.Connections.{mails_on}
+use Rattle.fe_wire.specs.Spelling.{reply_spelling}
+use Rattle.fe_wire.specs.Stream.{Decoding}
+use Rattle.fe_wire.specs.declared.client_message.ClientMessage.{ClientMessage}
+use Rattle.fe_wire.specs.declared.server_message.ServerMessage.{ServerMessage}
+use Rattle.fe_front.specs.Front.{FrontState, IsFirst}
+use Rattle.fe_desk.specs.declared.handed.Handed.{Handed}
+use Rattle.fe_desk.specs.declared.handed.Handed.TheVariants.{Nothing}
+use Rattle.fe_messages.specs.Mails.{spelled}
+use Rattle.fe_desk.specs.Mails.{emptied_box}
+
+-- A connection number as the desk knows it: what it has read of the stream, the messages that came whole and were not
+-- taken, because memory is short, the reply of a mail that was taken out of its box and is not written, and what was written to it.
+pub record Client : Type 0 where
+  pub conn : ℕ
+  pub decoder : Decoding
+  pub left : List ClientMessage
+  pub reply : Option ServerMessage
+  pub written : List ℕ
+
+-- The front; the clients in the order in which they came first; the batch that is out of the front; the connection for
+-- whose message room is being made; the groups handed to the store, in their order; and whether mails of an earlier step
+-- are still to be written.
+pub record DeskRunState : Type 0 where
+  pub front : FrontState
+  pub clients : List Client
+  pub handed : Handed
+  pub making : Option ℕ
+  pub groups : List (List Entry)
+  pub owes : Bool
+
+-- a desk over a state that was opened: no connection, nothing written, no group
+pub record IsFirstRunState (begun : ServerState) (s : DeskRunState) : Type 0 where
+  pub front : IsFirst begun s.front
+  pub clients : s.clients ≡ []
+  pub handed : s.handed ≡ Nothing
+  pub making : s.making ≡ None
+  pub groups : s.groups ≡ []
+  pub owes : s.owes ≡ false
+
+-- ---- mails are written
+
+-- the bytes that are still to be written to a client: the reply that waits, then its mails in their order
+abbrev pub unwritten : FrontState → Client → List ℕ
+unwritten f c = option_map_or reply_spelling c.reply [] ++ spelled (mails_on f.connections c.conn)
+
+-- a client is written all its mails, in their order, after what was written to it
+abbrev pub written_out : FrontState → Client → Client
+written_out f c = record c { reply = None; written = c.written ++ unwritten f c }
+
+-- each client in turn is
+abbrev pub all_written_out : FrontState → List Client → List Client
+all_written_out f [] = []
+all_written_out f (c ∷ cs) = written_out f c ∷ all_written_out (emptied_box f c.conn) cs
+
+-- and its box is empty then
+abbrev pub all_emptied : FrontState → List Client → FrontState
+all_emptied f [] = f
+all_emptied f (c ∷ cs) = all_emptied (emptied_box f c.conn) cs
+
+-- every box is taken empty, and its mails are spelled to its connection's output
+abbrev pub emptied : DeskRunState → DeskRunState
+emptied s = record s { front = all_emptied s.front s.clients; clients = all_written_out s.front s.clients; owes = false }
+
+-- mails that an earlier step left are written first
+abbrev pub discharged : DeskRunState → DeskRunState
+discharged s = if s.owes then emptied s else s

@@ -1,0 +1,51 @@
+//! The replies to connections, and the order in which they are printed.
+
+ghost use Rattle.std.specs.Prelude.{◌≡◌, ◌++◌, string_bytes, OnOk};
+ghost use Rattle.std.specs.List.{flat_map};
+ghost use Rattle.fe_schedules.specs.PrintedReply.{key_of, printed_text, IsSorting};
+
+use fe_text::print_reply;
+use fe_wire::ServerMessage;
+use std::alloc::AllocError;
+
+/// A reply, and the number of the connection that it goes to.
+#[derive(Drop)]
+pub(crate) struct PrintedReply {
+    pub conn: u64,
+    pub reply: ServerMessage,
+}
+
+impl PrintedReply {
+    /// What is printed is sorted by: the connection, and then the number of the reply.
+    fn key(&self) -> (u64, u64)
+        ensures { result ≡ key_of self.now }
+    {
+        let number = match &self.reply {
+            ServerMessage::Answer { number, .. } => *number,
+            ServerMessage::Withdrawn { number } => *number,
+            ServerMessage::Refused { number, .. } => *number,
+            _ => 0,
+        };
+        (self.conn, number)
+    }
+}
+
+/// Sorts replies by connection and then by number. Replies under one number keep their order.
+pub(crate) fn sort(printed_replies: &mut Vec<PrintedReply>) -> Result<(), AllocError>
+    ensures { OnOk result (IsSorting printed_replies.old.items printed_replies.new.items) }
+{
+    printed_replies.sort_by_key(|one| one.key())
+}
+
+/// Prints the replies in order.
+pub(crate) fn print_replies(
+    text: &mut String,
+    printed_replies: &[PrintedReply],
+) -> Result<(), AllocError>
+    ensures { OnOk result (string_bytes text.new ≡ string_bytes text.old ++ flat_map printed_text printed_replies.now) }
+{
+    for one in printed_replies {
+        print_reply(text, Some(one.conn), &one.reply)?;
+    }
+    Ok(())
+}

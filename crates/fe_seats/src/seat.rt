@@ -1,8 +1,0 @@
-/// What is known of a session that has a seat.
-#[derive(Clone, Copy, PartialEq, Eq)]
-pub struct Seat {
-    /// The connection that has the session, if one has it.
-    pub holder: Option<u64>,
-    /// Its close is made and not yet posted.
-    pub closing: bool,
-}

@@ -1,0 +1,62 @@
+-- An attachment that is taken, and that a session that begins is legal.
+use Rattle.std.proofs.Common.{◌≡◌, ◌≢◌, ◌⊎◌, ℕ, ◌≤◌, ◌<◌, inl, inr, Option, Some, None, true, false, not, refl, sym, ap, ◌∙◌, arith}
+use Rattle.std.specs.Prelude.{is_some, MatchOption}
+use Rattle.std.specs.Option.{option_map_or}
+use Rattle.std.specs.Ordering.{nat_cmp}
+use Rattle.std.specs.Cmp.{nat_cmp_total}
+use Rattle.std.specs.FinMap.{FinMap, get, insert, len, same_map, nat_cmp-IsAntisymmetric}
+use Rattle.fe_attachments.specs.AttachmentsState.{free_attachment, with_holder, is_closing}
+use Rattle.fe_attachments.specs.declared.attachment.Attachment.{Attachment}
+use Rattle.fe_state.proofs.Maps.{get_inserted, get_beside, same_or_other}
+use Rattle.fe_state.specs.Sessions.{Session}
+use Rattle.fe_state.specs.State.{IsLegal}
+use Rattle.fe_state.specs.declared.entry.Entry.TheVariants.{Attached}
+use Rattle.fe_service.specs.Events.{HasRoom, IsAttachable, floor_of}
+use Rattle.fe_service.specs.ServiceState.{ServiceState, IsService, is_open}
+use Rattle.fe_service.proofs.Sizes.{len_within}
+
+insert_twice : {X : Type 0} (m : FinMap nat_cmp X) (k : ℕ) (a b : X) → insert (insert m k a) k b ≡ insert m k b
+insert_twice {X} m k a b = same_map nat_cmp_total nat_cmp-IsAntisymmetric _ _ (λ q. by_key q (same_or_other q k))
+  where
+    by_key : (q : ℕ) → (q ≡ k) ⊎ (q ≢ k) → get (insert (insert m k a) k b) q ≡ get (insert m k b) q
+    by_key q (inl same) = ap (get (insert (insert m k a) k b)) same ∙ get_inserted (insert m k a) k b ∙ sym (get_inserted m k b) ∙ ap (get (insert m k b)) (sym same)
+    by_key q (inr other) = get_beside (insert m k a) k b q other ∙ get_beside m k a q other ∙ sym (get_beside m k b q other)
+
+-- an attachment that nobody had, and one that was there
+pub new_attachment : (attachments : FinMap nat_cmp Attachment) (session conn : ℕ) → with_holder (insert attachments session free_attachment) session (Some conn) ≡ insert attachments session (record { holder = Some conn; closing = false })
+new_attachment attachments session conn =
+    let shut : is_closing (insert attachments session free_attachment) session ≡ false = ap (λ (o : Option Attachment). option_map_or (λ attachment. attachment.closing) o false) (get_inserted attachments session free_attachment) in
+    ap (λ closing. insert (insert attachments session free_attachment) session (record { holder = Some conn; closing = closing })) shut ∙ insert_twice attachments session free_attachment (record { holder = Some conn; closing = false })
+
+pub old_attachment : (attachments : FinMap nat_cmp Attachment) (session conn : ℕ) → is_closing attachments session ≡ false → with_holder attachments session (Some conn) ≡ insert attachments session (record { holder = Some conn; closing = false })
+old_attachment attachments session conn shut = ap (λ closing. insert attachments session (record { holder = Some conn; closing = closing })) shut
+
+-- there are no more sessions in the state than attachments
+open_there : (attachments : FinMap nat_cmp Attachment) (session : ℕ) → is_open attachments session ≡ true → is_some (get attachments session) ≡ true
+open_there attachments session is = by_attachment (get attachments session) refl is
+  where
+    by_attachment : (here : Option Attachment) → get attachments session ≡ here → option_map_or (λ attachment. not attachment.closing) here false ≡ true → is_some (get attachments session) ≡ true
+    by_attachment None is e = cc
+    by_attachment (Some attachment) is e = ap is_some is
+
+pub few_sessions : (s : ServiceState) → IsService s → len s.state.sessions ≤ len s.attachments
+few_sessions s h = len_within (len s.state.sessions) s.state.sessions s.attachments refl (λ k there. open_there s.attachments k (sym (h.has_attachment k) ∙ there))
+
+-- a session that has an attachment and is not closing is in the state
+without_attachment : (attachments : FinMap nat_cmp Attachment) (session : ℕ) → is_closing attachments session ≡ false → is_open attachments session ≡ false → get attachments session ≡ None
+without_attachment attachments session shut not_open = by_attachment (get attachments session) refl shut not_open
+  where
+    by_attachment : (here : Option Attachment) → get attachments session ≡ here → option_map_or (λ attachment. attachment.closing) here false ≡ false → option_map_or (λ attachment. not attachment.closing) here false ≡ false → get attachments session ≡ None
+    by_attachment None is shut not_open = is
+    by_attachment (Some attachment) is shut not_open = let twice : not attachment.closing ≡ true = ap not shut in cc
+
+pub attach_legal : (s : ServiceState) (session : ℕ) → IsService s → IsAttachable s session → HasRoom s → IsLegal s.state (Attached session (floor_of s session))
+attach_legal s session h attachable room = record { has_place = omega (arith, room.places); allowed = by_session (get s.state.sessions session) refl; answered = tt }
+  where
+    by_session : (here : Option Session) → get s.state.sessions session ≡ here → MatchOption here ((floor_of s session ≡ 1) × (len s.state.sessions < 64)) (λ x. floor_of s session ≡ x.floor)
+    by_session None is =
+        let shut : is_open s.attachments session ≡ false = sym (h.has_attachment session) ∙ ap is_some is in
+        let room = attachable.attachment (without_attachment s.attachments session attachable.not_closing shut) in
+        let few = few_sessions s h in
+        (ap (λ (o : Option Session). option_map_or (λ x. x.floor) o 1) is, omega (arith, room, few))
+    by_session (Some x) is = ap (λ (o : Option Session). option_map_or (λ x. x.floor) o 1) is

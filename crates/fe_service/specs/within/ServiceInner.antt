@@ -1,0 +1,49 @@
+-- How the parts of a service go on while it serves. No public clause cites this module.
+use Rattle.std.specs.Prelude.{◌≡◌, ℕ, ◌⊎◌, List, [], ◌∷◌, ◌++◌, Some, None}
+use Rattle.std.specs.FinMap.{get}
+use Rattle.fe_words.specs.Table.{row}
+use Rattle.fe_words.specs.declared.word.Tag.{Tag}
+use Rattle.fe_waits.specs.Waiting.{WaitingAccess, IsOn, NoneOnWord}
+use Rattle.fe_state.specs.State.{ServerState, reply, after, after_all}
+use Rattle.fe_state.specs.declared.entry.Entry.{Entry}
+use Rattle.fe_service.specs.Service.{WaitingAccesses, request_of, IsTurn, AreTurns, without_turn, without_turns}
+use Rattle.fe_service.specs.declared.service_inner.ServiceInner.{ServiceInner}
+
+-- no one that waits on the word may be served
+abbrev pub IsQuietAt : ServerState → WaitingAccesses → ℕ → ℕ → Type 0
+IsQuietAt s waiting array index = (key : ℕ × ℕ) (w : WaitingAccess) → get waiting key ≡ Some w → IsOn w array index → reply s (request_of w) ≡ None
+
+-- all that wait on the word do so where it has the tag
+abbrev pub WaitAtTag : WaitingAccesses → ℕ → ℕ → Tag → Type 0
+WaitAtTag waiting array index tag = (key : ℕ × ℕ) (w : WaitingAccess) → get waiting key ≡ Some w → IsOn w array index → row w.op tag 0 ≡ None
+
+-- one that waits on the word may not be served
+pub record HasIdle (s : ServerState) (waiting : WaitingAccesses) (array index : ℕ) : Type 0 where
+  pub key : ℕ × ℕ
+  pub waiter : WaitingAccess
+  pub waits : get waiting key ≡ Some waiter
+  pub on_word : IsOn waiter array index
+  pub idle : reply s (request_of waiter) ≡ None
+
+-- nobody waits on the word, or one does that may not be served
+abbrev pub IsAtRest : ServerState → WaitingAccesses → ℕ → ℕ → Type 0
+IsAtRest s waiting array index = NoneOnWord waiting array index ⊎ HasIdle s waiting array index
+
+-- an entry more, of the request of one that waited on the word
+pub record TakesTurn (old new : ServiceInner) (array index : ℕ) (e : Entry) : Type 0 where
+  pub turn : IsTurn old.state old.attachments.waiting e
+  pub on_word : IsOn turn.waiter array index
+  pub state : new.state ≡ after old.state e
+  pub waiting : new.attachments.waiting ≡ without_turn old.attachments.waiting e
+  pub attachments : new.attachments.attachments ≡ old.attachments.attachments
+  pub arrays : new.attachments.arrays ≡ old.attachments.arrays
+  pub pending : new.pending ≡ old.pending ++ e ∷ []
+
+-- entries more, of requests that waited
+pub record TakesTurns (old new : ServiceInner) (es : List Entry) : Type 0 where
+  pub turns : AreTurns old.state old.attachments.waiting es
+  pub state : new.state ≡ after_all old.state es
+  pub waiting : new.attachments.waiting ≡ without_turns old.attachments.waiting es
+  pub attachments : new.attachments.attachments ≡ old.attachments.attachments
+  pub arrays : new.attachments.arrays ≡ old.attachments.arrays
+  pub pending : new.pending ≡ old.pending ++ es

@@ -1,0 +1,148 @@
+ghost use Rattle.std.specs.Prelude.{◌≡◌, ◌≢◌, ◌+◌, ◌<◌, ◌≤◌, ℕ, true, false, List, [], ◌∷◌, ◌++◌, length as length_of, Some};
+ghost use Rattle.std.specs.FinMap.{get, insert, len};
+ghost use Rattle.fe_words.specs.declared.word.Tag.{Tag};
+ghost use Rattle.fe_waits.specs.Waiting.{IsWord};
+ghost use Rattle.fe_state.specs.State as state_limits;
+ghost use Rattle.fe_state.specs.State.{IsLegal, MakesArray, after, directory_of, effect_in};
+ghost use Rattle.fe_state.specs.declared.entry.Entry.{Entry};
+ghost use Rattle.fe_attachments.specs.AttachmentsState.{waiting_access_of, IsWithinLimits};
+ghost use Rattle.fe_service.specs.Events.{IsAttachable};
+ghost use Rattle.fe_service.specs.Service.{AreUsable, request_of};
+ghost use Rattle.fe_service.specs.ServiceState.{service_of};
+ghost use Rattle.fe_service.specs.within.ServiceInner.{IsQuietAt, WaitAtTag, IsAtRest, TakesTurn, TakesTurns};
+ghost use Rattle.fe_state.specs.Limits.{most_batch_entries, greatest_place};
+
+use fe_attachments::{Attachments, WaitingRequest};
+use fe_state::{Effect, Entries, Entry, Request, State};
+
+/// The state, the attachments with what waits, and the entries made since the last cut.
+#[derive(Drop)]
+pub(crate) struct ServiceInner {
+    pub(crate) state: State,
+    pub(crate) attachments: Attachments,
+    pub(crate) pending: Entries,
+}
+
+/// The request of a waiting turn.
+pub(crate) fn request_of(waiting_request: &WaitingRequest) -> Request
+    ensures { result ≡ request_of (waiting_access_of waiting_request.now) }
+{
+    Request::Access {
+        array: waiting_request.array,
+        index: waiting_request.index,
+        op: waiting_request.op,
+        no_wait: false,
+    }
+}
+
+impl ServiceInner {
+    /// The invariants of the state, and of the attachments and waiting lists.
+    pub(crate) fn limits(&self)
+        ensures state { state_limits.IsWithinLimits self.now.state }
+        ensures attachments { IsWithinLimits self.now.attachments }
+    {
+        let _ = self.state.place();
+        let _ = self.attachments.len();
+    }
+
+    /// A connection holds a session, which gets an attachment if it has none.
+    pub(crate) fn take_attachment(&mut self, session: u64, conn: u64)
+        requires { IsAttachable (service_of self.old) session }
+        ensures attachments { self.new.attachments.attachments
+            ≡ insert self.old.attachments.attachments session (record { holder = Some conn; closing = false }) }
+        ensures waiting { self.new.attachments.waiting ≡ self.old.attachments.waiting }
+        ensures arrays { self.new.attachments.arrays ≡ self.old.attachments.arrays }
+        ensures state { self.new.state ≡ self.old.state }
+        ensures pending { self.new.pending ≡ self.old.pending }
+    {
+        if self.attachments.attachment(session).is_none() {
+            self.attachments.begin_session(session);
+        }
+        self.attachments.set_holder(session, Some(conn));
+    }
+
+    /// Makes a legal entry that needs no memory, with its effect.
+    pub(crate) fn enter(&mut self, entry: Entry, effect: Effect)
+        requires legal { IsLegal self.old.state entry }
+        requires effect { effect ≡ effect_in (directory_of self.old.state) entry }
+        requires memory { MakesArray entry → ⊥ }
+        requires room { length_of self.old.pending < most_batch_entries }
+        ensures state { self.new.state ≡ after self.old.state entry }
+        ensures attachments { self.new.attachments ≡ self.old.attachments }
+        ensures pending { self.new.pending ≡ self.old.pending ++ entry ∷ [] }
+    {
+        let made = entry;
+        if self.state.advance(made, effect).is_err() {
+            unreachable!();
+        }
+        self.pending.push(entry);
+    }
+
+    /// Serves the first request that waits on the word, if it may be served. Returns whether it was.
+    pub(crate) fn serve_first(&mut self, array: u64, index: u32) -> bool
+        requires word { IsWord self.old.attachments.arrays array index }
+        requires usable { AreUsable self.old.state self.old.attachments.waiting }
+        requires places { self.old.state.place + len self.old.attachments.waiting ≤ greatest_place }
+        requires room { length_of self.old.pending + len self.old.attachments.waiting ≤ most_batch_entries }
+        ensures served { result ≡ true → (e : Entry) × TakesTurn self.old self.new array index e }
+        ensures still { result ≡ false → self.new ≡ self.old }
+        ensures rest { result ≡ false → IsAtRest self.old.state self.old.attachments.waiting array index }
+    {
+        let Some(node) = self.attachments.first_on(array, index) else {
+            return false;
+        };
+        let waiting_request = self.attachments.waiting_request(node);
+        let request = request_of(&waiting_request);
+        let Some((answer, effect)) = self.state.look(&request) else {
+            return false;
+        };
+        self.attachments.finish(node);
+        let entry = Entry::Finished {
+            session: waiting_request.session,
+            number: waiting_request.number,
+            request,
+            answer,
+        };
+        self.enter(entry, effect);
+        true
+    }
+
+    /// Serves the requests that wait on the word, until none may be served. Returns their number.
+    pub(crate) fn serve_word(&mut self, array: u64, index: u32) -> u32
+        requires word { IsWord self.old.attachments.arrays array index }
+        requires usable { AreUsable self.old.state self.old.attachments.waiting }
+        requires places { self.old.state.place + len self.old.attachments.waiting ≤ greatest_place }
+        requires room { length_of self.old.pending + len self.old.attachments.waiting ≤ most_batch_entries }
+        ensures served { (es : List Entry) × TakesTurns self.old self.new es × (result ≡ length_of es) }
+        ensures here { (tag : Tag) → WaitAtTag self.old.attachments.waiting array index tag
+            → IsQuietAt self.new.state self.new.attachments.waiting array index }
+        ensures beside { (b j : ℕ) → ¬ ((b ≡ array) × (j ≡ index))
+            → IsQuietAt self.old.state self.old.attachments.waiting b j
+            → IsQuietAt self.new.state self.new.attachments.waiting b j }
+    {
+        let mut count = 0;
+        while self.serve_first(array, index) {
+            count += 1;
+        }
+        count
+    }
+
+    /// Serves the requests that wait on any of this many words of an array that is gone. Returns their number.
+    pub(crate) fn serve_array(&mut self, array: u64, length: u32) -> u32
+        requires there { get self.old.attachments.arrays array ≡ Some length }
+        requires usable { AreUsable self.old.state self.old.attachments.waiting }
+        requires places { self.old.state.place + len self.old.attachments.waiting ≤ greatest_place }
+        requires room { length_of self.old.pending + len self.old.attachments.waiting ≤ most_batch_entries }
+        ensures served { (es : List Entry) × TakesTurns self.old self.new es × (result ≡ length_of es) }
+        ensures here { (tag : ℕ → Tag) (j : ℕ) → j < length → WaitAtTag self.old.attachments.waiting array j (tag j)
+            → IsQuietAt self.new.state self.new.attachments.waiting array j }
+        ensures beside { (b j : ℕ) → b ≢ array → IsQuietAt self.old.state self.old.attachments.waiting b j
+            → IsQuietAt self.new.state self.new.attachments.waiting b j }
+    {
+        let mut count = 0;
+        for index in 0..length {
+            count += self.serve_word(array, index);
+        }
+        count
+    }
+}

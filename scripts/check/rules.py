@@ -1,0 +1,55 @@
+"""Rules of the sources: one record for the disk model, one meaning for a type's name in a file."""
+
+import os
+import re
+
+from .sources import source_of
+from .texts import TOP, text_of, told
+
+PRODUCT = sorted(it for it in os.listdir(os.path.join(TOP, "crates")) if it.startswith("fe"))
+# Members of the trait `Disk`, of any type parameter, that follow one another as arguments.
+MEMBER = r"\b[A-Z]\w*\.(?:size|failures|calls|honest|seen|may_leave|moment|left_since)\b"
+HANDED = re.compile(rf"{MEMBER}\s+{MEMBER}")
+TYPE = re.compile(r"^\s*(?:pub(?:\([a-z]+\))? )?(?:struct|enum|trait) (\w+)", re.M)
+USED = re.compile(r"^\s*(?:pub )?use (fe_\w+)::(?:\{([^}]*)\}|(\w+));", re.M)
+
+
+def files_of(crate):
+    """The paths of a crate's sources."""
+    for folder, _, files in sorted(os.walk(os.path.join(TOP, "crates", crate, "src"))):
+        for file in sorted(files):
+            if file.endswith(".rt"):
+                yield os.path.relpath(os.path.join(folder, file), TOP)
+
+
+def device(_place):
+    """no clause hands on two members of the disk model one by one: the record `D.Disk` has them all"""
+    count, wrong = 0, []
+    for crate in PRODUCT:
+        for path in files_of(crate):
+            text = text_of(path)
+            count += len(re.findall(r"\bD\.Disk\b", text))
+            wrong += [f"{path}:{text[: it.start()].count(chr(10)) + 1}: {it[0]}" for it in HANDED.finditer(text)]
+    return told(wrong, count, 100, "uses of the record")
+
+
+def types(_place):
+    """no file of a product crate uses two types of one name that two product crates declare"""
+    declared = {crate: set(TYPE.findall(source_of(crate, "src"))) for crate in PRODUCT}
+    count, wrong = 0, []
+    for crate in PRODUCT:
+        for path in files_of(crate):
+            text = text_of(path)
+            here = {name: crate for name in TYPE.findall(text)}
+            for found in USED.finditer(text):
+                for item in re.split(r",\s*", (found[2] or found[3]).strip().rstrip(",")):
+                    name = item.split(" as ")[0].strip()
+                    if name not in declared.get(found[1], ()):
+                        continue
+                    count += 1
+                    if here.setdefault(name, found[1]) != found[1]:
+                        wrong.append(f"{path}: {name} of {here[name]} and of {found[1]}")
+    return told(wrong, count, 500, "types taken from other crates")
+
+
+CHECKS = (device, types)
