@@ -1,6 +1,6 @@
 ghost use Rattle.std.specs.Prelude.{◌≡◌, ◌≢◌, ◌⊎◌, ◌↔◌, ℕ, Bool, false, None, IfOk, IfErr, IsErrAnd};
 ghost use Rattle.fe_disk.specs.Disk.{Rises};
-ghost use Rattle.fe_disk.specs.Runs.{written_out as outcome};
+ghost use Rattle.fe_disk.specs.Runs.{without_disk as outcome};
 ghost use Rattle.fe_state.specs.State.{ServerState, first_state};
 ghost use Rattle.fe_journal.specs.Damage.{IsUnformatted};
 ghost use Rattle.fe_journal.specs.Found.{AsksToOpen};

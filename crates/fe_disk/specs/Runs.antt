@@ -38,6 +38,6 @@ pub record Runs {D T E : Type 0} (model : Ghosts D) (reads writes syncs : ℕ) (
   pub same_size : model.size new ≡ model.size old
 
 -- a result without the disk that is given back beside the fault
-abbrev pub told : {D T E : Type 0} → Result T (E × D) → Result T E
-told (Ok x) = Ok x
-told (Err refused) = Err refused.0
+abbrev pub without_disk : {D T E : Type 0} → Result T (E × D) → Result T E
+without_disk (Ok x) = Ok x
+without_disk (Err refused) = Err refused.0

@@ -14,28 +14,28 @@ use Rattle.fe_disk.specs.declared.disk.Disk.{Ghosts}
 module _ {D : Type 0} (model : Ghosts D) where
   -- nothing was stored
   pub none_noted : (appends : List (Append D)) (end : Option CommitEnd) (acts : List Act) → appends ≡ [] → AppendsAreNoted model appends end acts acts
-  none_noted appends end acts none = (prefix_self acts, [], sym (append-nil (stores_in acts)), inl (ap (λ (s : List (Append D)). map (noted model) s) (sym none)))
+  none_noted appends end acts none = (prefix_self acts, [], sym (append-nil (stores_in acts)), inl (ap (λ (s : List (Append D)). map (note_of model) s) (sym none)))
 
   -- a group was stored and noted
-  pub one_noted : (append : Append D) (end : Option CommitEnd) (a b : List Act) → IsPrefix a b → stores_in b ≡ stores_in a ++ noted model append ∷ [] → AppendsAreNoted model (append ∷ []) end a b
-  one_noted append end a b p is = (p, noted model append ∷ [], is, inl refl)
+  pub one_noted : (append : Append D) (end : Option CommitEnd) (a b : List Act) → IsPrefix a b → stores_in b ≡ stores_in a ++ note_of model append ∷ [] → AppendsAreNoted model (append ∷ []) end a b
+  one_noted append end a b p is = (p, note_of model append ∷ [], is, inl refl)
 
   -- a group was stored and not noted, which is strange
   pub one_unnoted : (append : Append D) (a b : List Act) → b ≡ a → AppendsAreNoted model (append ∷ []) (Some Strange) a b
   one_unnoted append a b same =
-      (subst (λ (h : List Act). IsPrefix a h) (sym same) (prefix_self a), [], ap stores_in same ∙ sym (append-nil (stores_in a)), inr (refl, noted model append, refl))
+      (subst (λ (h : List Act). IsPrefix a h) (sym same) (prefix_self a), [], ap stores_in same ∙ sym (append-nil (stores_in a)), inr (refl, note_of model append, refl))
 
   -- notes after notes
   both_notes : (first second : List (Append D)) (end : Option CommitEnd) (n m : List (Batch × ℕ)) → AreNotesOf model first None n → AreNotesOf model second end m → AreNotesOf model (first ++ second) end (n ++ m)
   both_notes first second end n m (inr strange) two = absurd (cc (strange.0))
   both_notes first second end n m (inl one) (inl two) =
-      inl (ap (λ (s : List (Batch × ℕ)). s ++ m) one ∙ ap (λ (s : List (Batch × ℕ)). map (noted model) first ++ s) two ∙ sym (map-append (noted model) first second))
+      inl (ap (λ (s : List (Batch × ℕ)). s ++ m) one ∙ ap (λ (s : List (Batch × ℕ)). map (note_of model) first ++ s) two ∙ sym (map-append (note_of model) first second))
   both_notes first second end n m (inl one) (inr (strange, last, two)) =
       inr (
         strange,
         last,
-        append_assoc n m (last ∷ []) ∙ ap (λ (s : List (Batch × ℕ)). s ++ (m ++ last ∷ [])) one ∙ ap (λ (s : List (Batch × ℕ)). map (noted model) first ++ s) two
-            ∙ sym (map-append (noted model) first second),
+        append_assoc n m (last ∷ []) ∙ ap (λ (s : List (Batch × ℕ)). s ++ (m ++ last ∷ [])) one ∙ ap (λ (s : List (Batch × ℕ)). map (note_of model) first ++ s) two
+            ∙ sym (map-append (note_of model) first second),
       )
 
   -- one after the other

@@ -59,11 +59,11 @@ pub record Commits {D : Type 0} (model : Ghosts D) (old new : KeeperState D) (en
 
 -- what the history notes of an append: the batch, and the moment of its end
 abbrev pub note_of : {D : Type 0} → Ghosts D → Append D → Batch × ℕ
-noted model append = (append.batch, model.moment append.after.store.disk)
+note_of model append = (append.batch, model.moment append.after.store.disk)
 
 -- What was noted of these appends, in their order: all of them, except the last where something is strange.
 abbrev pub AreNotesOf : {D : Type 0} → Ghosts D → List (Append D) → Option CommitEnd → List (Batch × ℕ) → Type 0
-AreNotesOf model appends end notes = (notes ≡ map (noted model) appends) ⊎ ((end ≡ Some Strange) × (last : Batch × ℕ) × (notes ++ last ∷ [] ≡ map (noted model) appends))
+AreNotesOf model appends end notes = (notes ≡ map (note_of model) appends) ⊎ ((end ≡ Some Strange) × (last : Batch × ℕ) × (notes ++ last ∷ [] ≡ map (note_of model) appends))
 
 -- The history notes these appends in their order, and none besides.
 abbrev pub AppendsAreNoted : {D : Type 0} → Ghosts D → List (Append D) → Option CommitEnd → List Act → List Act → Type 0

@@ -1,6 +1,6 @@
 ghost use Rattle.std.specs.Prelude.{◌≡◌, None, IfOk, OnOk, vec_len};
 ghost use Rattle.fe_disk.specs.Disk.{LeavesJust};
-ghost use Rattle.fe_disk.specs.Runs.{Asks, told};
+ghost use Rattle.fe_disk.specs.Runs.{Asks, without_disk};
 ghost use Rattle.fe_journal.specs.Layout.{device_bytes, area_bytes};
 ghost use Rattle.fe_journal.specs.Journal.{KeepsContents, new_journal};
 ghost use Rattle.fe_journal.specs.Contents.{Holds, first_contents};

@@ -1,6 +1,6 @@
 ghost use Rattle.std.specs.Prelude.{◌≡◌, ◌⊎◌, IfOk, IfErr, IsErrAnd};
 ghost use Rattle.fe_disk.specs.Disk.{LeavesJust};
-ghost use Rattle.fe_disk.specs.Runs.{told};
+ghost use Rattle.fe_disk.specs.Runs.{without_disk};
 ghost use Rattle.fe_journal.specs.Damage.{IsUnformatted};
 ghost use Rattle.fe_journal.specs.Layout.{device_bytes};
 ghost use Rattle.fe_journal.specs.Journal.{IsIdle};

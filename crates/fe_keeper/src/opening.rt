@@ -1,5 +1,5 @@
 ghost use Rattle.std.specs.Prelude.{◌≡◌, ◌⊎◌, IfOk, IfErr, IsErrAnd};
-ghost use Rattle.fe_disk.specs.Runs.{told};
+ghost use Rattle.fe_disk.specs.Runs.{without_disk};
 ghost use Rattle.fe_state.specs.State.{first_state};
 ghost use Rattle.fe_journal.specs.Damage.{IsUnformatted};
 ghost use Rattle.fe_journal.specs.Found.{AsksToOpen};

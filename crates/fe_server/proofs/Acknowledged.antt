@@ -74,13 +74,13 @@ group_of s (group ∷ groups) (append ∷ appends) (suc n) place are low high =
 
 -- the entries of the first appends that were noted are those of the first groups
 noted_entries : {D : Type 0} (model : Ghosts D) (s : ServerState) (groups : List (List Entry)) (appends : List (Append D)) (n : ℕ) → AreAppends s groups appends
-    → entries_in (batches_of (take n (map (noted model) appends))) ≡ flat (take n groups)
+    → entries_in (batches_of (take n (map (note_of model) appends))) ≡ flat (take n groups)
 noted_entries model s groups appends zero are = refl
 noted_entries model s [] [] (suc n) are = refl
 noted_entries model s [] (append ∷ appends) (suc n) are = absurd are
 noted_entries model s (group ∷ groups) [] (suc n) are = absurd are
 noted_entries model s (group ∷ groups) (append ∷ appends) (suc n) are =
-    ap (λ (es : List Entry). es ++ entries_in (batches_of (take n (map (noted model) appends)))) are.2
+    ap (λ (es : List Entry). es ++ entries_in (batches_of (take n (map (note_of model) appends)))) are.2
     ∙ ap (λ (es : List Entry). group ++ es) (noted_entries model (after_all s group) groups appends n are.3)
 
 -- a beginning is the first of a list
@@ -92,7 +92,7 @@ front_is xs ys p = sym (ap (λ t. take (length xs) t) (sym p.1) ∙ first xs p.0
     first (x ∷ xs) rest = ap (λ t. x ∷ t) (first xs rest)
 
 -- what was noted is of the first appends
-notes_front : {D : Type 0} (model : Ghosts D) (appends : List (Append D)) (end : Option CommitEnd) (notes : List (Batch × ℕ)) → AreNotesOf model appends end notes → IsPrefix notes (map (noted model) appends)
+notes_front : {D : Type 0} (model : Ghosts D) (appends : List (Append D)) (end : Option CommitEnd) (notes : List (Batch × ℕ)) → AreNotesOf model appends end notes → IsPrefix notes (map (note_of model) appends)
 notes_front model appends end notes (inl all) = ([], append-nil notes ∙ all)
 notes_front model appends end notes (inr (strange, last, all)) = (last ∷ [], all)
 
@@ -122,24 +122,24 @@ module _ {D : Type 0} (model : Ghosts D) (old new : KeeperState D) (end : Commit
   abbrev stored_groups : List (List Entry)
   stored_groups = take commits.stored commits.groups
 
-  module _ (acts : List Act) (front : IsPrefix (stores_in acts) (map (noted model) commits.appends)) (goes : FollowEachOther old.state [] acts) (earlier later : List Act) (r : Receipt) (is : acts ≡ earlier ++ Issued r ∷ later) where
+  module _ (acts : List Act) (front : IsPrefix (stores_in acts) (map (note_of model) commits.appends)) (goes : FollowEachOther old.state [] acts) (earlier later : List Act) (r : Receipt) (is : acts ≡ earlier ++ Issued r ∷ later) where
     count : ℕ
     count = length (stores_in earlier)
 
     -- what was stored before the answer was told
-    before_it : stores_in earlier ≡ take (length (stores_in earlier)) (map (noted model) commits.appends)
-    before_it = front_is (stores_in earlier) (map (noted model) commits.appends)
-        (prefix_trans (stores_in earlier) (stores_in acts) (map (noted model) commits.appends) (stores_rise earlier acts (Issued r ∷ later, sym is)) front)
+    before_it : stores_in earlier ≡ take (length (stores_in earlier)) (map (note_of model) commits.appends)
+    before_it = front_is (stores_in earlier) (map (note_of model) commits.appends)
+        (prefix_trans (stores_in earlier) (stores_in acts) (map (note_of model) commits.appends) (stores_rise earlier acts (Issued r ∷ later, sym is)) front)
 
     entries_are : entries_in (batches_of (stores_in earlier)) ≡ flat (take (length (stores_in earlier)) stored_groups)
     entries_are = ap (λ (s : List (Batch × ℕ)). entries_in (batches_of s)) before_it ∙ noted_entries model old.state stored_groups commits.appends (length (stores_in earlier)) commits.are_appends
 
     few : length (stores_in earlier) ≤ commits.stored
     few =
-        let p = prefix_trans (stores_in earlier) (stores_in acts) (map (noted model) commits.appends) (stores_rise earlier acts (Issued r ∷ later, sym is)) front in
+        let p = prefix_trans (stores_in earlier) (stores_in acts) (map (note_of model) commits.appends) (stores_rise earlier acts (Issued r ∷ later, sym is)) front in
         let all = ap length p.1 in
         let some = length-append (stores_in earlier) p.0 in
-        let each = length-map commits.appends (noted model) in
+        let each = length-map commits.appends (note_of model) in
         let one = appends_length old.state stored_groups commits.appends commits.are_appends in
         let most = length-take-le commits.stored commits.groups in
         omega (arith, all, some, each, one, most)
@@ -175,7 +175,7 @@ module _ {D : Type 0} (model : Ghosts D) (old new : KeeperState D) (end : Commit
                   (append_holds model old.state commits.groups new.store.disk 0 old.store.disk commits.appends g.at g.append g.is_there (commits.any_moment h fine));
             })
 
-  module _ (acts : List Act) (front : IsPrefix (stores_in acts) (map (noted model) commits.appends)) (goes : FollowEachOther old.state [] acts) where
+  module _ (acts : List Act) (front : IsPrefix (stores_in acts) (map (note_of model) commits.appends)) (goes : FollowEachOther old.state [] acts) where
     all_right : (earlier later : List Act) (r : Receipt) → Began old.state ∷ acts ≡ earlier ++ Issued r ∷ later
         → IsAnswerIn old.state (flat (take (length (stores_in earlier)) commits.groups)) r.session r.number r.answer r.place
     all_right [] later r is = absurd (cc is)
@@ -209,10 +209,10 @@ module _ {D : Type 0} (model : Ghosts D) (old new : KeeperState D) (end : Commit
       let goes : FollowEachOther old.state [] whole.0 = (subst IsLegal (sym begins) legal).1 in
       let stored : MatchBool account.own (stores_in account.history ≡ notes) (HasMore notes (stores_in account.history)) =
       subst (λ (s : List (Batch × ℕ)). MatchBool account.own (stores_in account.history ≡ s) (HasMore s (stores_in account.history))) is own in
-      let front : account.own ≡ true → IsPrefix (stores_in whole.0) (map (noted model) commits.appends) =
+      let front : account.own ≡ true → IsPrefix (stores_in whole.0) (map (note_of model) commits.appends) =
       λ alone.
       let same : stores_in account.history ≡ notes = subst (λ (b : Bool). MatchBool b (stores_in account.history ≡ notes) (HasMore notes (stores_in account.history))) alone stored in
-      subst (λ (s : List (Batch × ℕ)). IsPrefix s (map (noted model) commits.appends)) (sym (ap stores_in begins ∙ same)) (notes_front model commits.appends (Some end) notes are_notes) in
+      subst (λ (s : List (Batch × ℕ)). IsPrefix s (map (note_of model) commits.appends)) (sym (ap stores_in begins ∙ same)) (notes_front model commits.appends (Some end) notes are_notes) in
       record {
         commits = commits;
         notes = notes;

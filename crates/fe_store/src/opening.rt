@@ -1,7 +1,7 @@
 //! The store on a disk is opened, or made.
 
 ghost use Rattle.std.specs.Prelude.{◌≡◌, ◌≢◌, ◌⊎◌, ◌↔◌, ℕ, false, IfOk, IfErr};
-ghost use Rattle.fe_disk.specs.Runs.{told};
+ghost use Rattle.fe_disk.specs.Runs.{without_disk};
 ghost use Rattle.fe_state.specs.State.{first_state};
 ghost use Rattle.fe_journal.specs.Found.{AsksToOpen};
 ghost use Rattle.fe_journal.specs.Layout.{device_bytes};
