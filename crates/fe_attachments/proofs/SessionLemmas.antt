@@ -11,15 +11,3 @@ use Rattle.fe_attachments.specs.AttachmentsState.{NoneOfSession, of_session, wit
 -- where the numbers of a session and one more lie in a window of 32, it has room for that one
 pub room-of_session : (waiting : FinMap pair_cmp WaitingAccess) (session floor number : ℕ) → ((n : ℕ) (waiter : WaitingAccess) → get waiting (session, n) ≡ Some waiter → (floor ≤ n) × (n < floor + 32)) → get waiting (session, number) ≡ None → floor ≤ number → number < floor + 32 → count_of waiting session < 32
 room-of_session waiting session floor number within new least most = room-in-window waiting session floor number within new least most
-
--- nothing of a session waits once its requests are dropped
-pub none-without : (waiting : FinMap pair_cmp WaitingAccess) (session : ℕ) → NoneOfSession (without_session waiting session) session
-none-without waiting session number =
-    get-without_slot waiting session (session, number) ∙ ap (λ b. cond (not b) (get waiting (session, number)) None) (eq-eqb session session refl)
-
--- and nothing does where none are counted
-pub none-counted : (waiting : FinMap pair_cmp WaitingAccess) (session : ℕ) → count_of waiting session ≡ 0 → NoneOfSession waiting session
-none-counted waiting session none number =
-    sym (get-of_slot waiting session (session, number) ∙ ap (λ b. cond b (get waiting (session, number)) None) (eq-eqb session session refl))
-    ∙ ap (λ m. get m (session, number)) (empty_of_len (of_session waiting session) none)
-    ∙ get-empty pair_cmp (session, number)

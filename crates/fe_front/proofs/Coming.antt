@@ -87,13 +87,6 @@ mailed-stays f conn m = by (is_connected f conn) (nat_lt (length (mails_on f.con
     by true true = record { pending = refl; none_comes = λ q is. sym (is_some-with_mails f.connections conn (mails_on f.connections conn ++ m ∷ []) q) ∙ is }
     by true false = both f refused (overflowed f conn) (record { pending = refl; none_comes = λ q is. is }) (dropped-stays refused conn)
 
-pub taken-stays : (f : FrontState) (conn : ℕ) → Stays f (taken f conn)
-taken-stays f conn = by (nat_lt 0 (length (mails_on f.connections conn)))
-  where
-    by : (b : Bool) → Stays f (if b then record f { connections = with_mails f.connections conn (drop 1 (mails_on f.connections conn)); books = mail_taken f.books } else f)
-    by true = record { pending = refl; none_comes = λ q is. sym (is_some-with_mails f.connections conn (drop 1 (mails_on f.connections conn)) q) ∙ is }
-    by false = itself f
-
 -- ---- posting
 
 delivered-stays : (f : FrontState) (e : Entry) (place : ℕ) → Stays f (delivered f e place)
@@ -145,19 +138,10 @@ attached-comes f conn session q is =
     let before = both f (released f conn) mid (released-stays f conn) (freed-stays (released f conn) session) in
     before.none_comes q (sym (is_some-with_session mid.connections conn (Some session) q) ∙ is)
 
-pub settled-comes : (f : FrontState) (session floor : ℕ) → NoneComes f (settled_to f session floor)
-settled-comes f session floor conn is = is
-
-pub closed-comes : (f : FrontState) (session : ℕ) → NoneComes f (closed_by f session)
-closed-comes f session conn is = is
-
 pub cancelled-stays : (f : FrontState) (conn session number : ℕ) → Stays f (cancelled_by f conn session number)
 cancelled-stays f conn session number =
     let out = cancelled_from f session number in
     both f out (cancelled_by f conn session number) (record { pending = refl; none_comes = λ q is. is }) (mailed-stays out conn (mail.Withdrawn number))
-
-pub call_refused-stays : (f : FrontState) → Stays f (call_refused_by f)
-call_refused-stays f = record { pending = refl; none_comes = λ q is. is }
 
 pub repeated-stays : (f : FrontState) (conn session number : ℕ) → Stays f (repeated f conn session number)
 repeated-stays f conn session number = by (kept_at g session number)
@@ -186,11 +170,5 @@ pending-posted f g batch is = ap (λ (h : FrontState). h.service.pending) is ∙
 pub comes-at : (f g h : FrontState) → g ≡ h → NoneComes f h → NoneComes f g
 comes-at f g h is none conn there = none conn (ap (λ (x : FrontState). is_connected x conn) (sym is) ∙ there)
 
-pub none-dropped : (f g : FrontState) (conn : ℕ) → g ≡ dropped f conn → NoneComes f g
-none-dropped f g conn is = comes-at f g (dropped f conn) is (dropped-stays f conn).none_comes
-
 pub none-posted : (f g : FrontState) (batch : Batch) → g ≡ posted f batch → NoneComes f g
 none-posted f g batch is = comes-at f g (posted f batch) is (posted-stays f batch).none_comes
-
-pub none-cut : (f g : FrontState) → g ≡ cut f → NoneComes f g
-none-cut f g is = comes-at f g (cut f) is (cut-comes f)

@@ -303,12 +303,5 @@ few_calls (Post batch) = omega arith
 few_calls (TakeMail conn m) = omega arith
 few_calls (GiveMail conn m) = omega arith
 
--- books that have room for whatever event comes
-pub any_rises : (f f' : FrontState) (event : Event) (es : List Entry) → IsFront f → HaveRoom f.books 1 4097 → FrontStep f event es f' → Rise f.books (calls_of event) (taken_of event) (most_mails_of event) f'.books
-any_rises f f' event es front room step =
-    let call = few_calls event in
-    let mails = few_mails f f' event es front step in
-    events_rise f f' event es front (record { unspent = room.unspent; few_calls = omega (arith, call, room.few_calls); few_mails = omega (arith, mails, room.few_mails) }) step
-
 pub books_rise : BooksRise
 books_rise = record { rises = events_rise; few_mails = few_mails; refused = λ f room. refused_rises f 0 room; refused_to = refused_to_rises }

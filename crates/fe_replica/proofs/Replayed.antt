@@ -26,9 +26,6 @@ pub record IsReplaying (format : Format) (payload rest : List ℕ) (old new : Se
   pub legal : AreLegal old front
   pub state_is : new ≡ after_all old front
 
-pub replay_begins : (format : Format) (payload : List ℕ) (s : ServerState) → IsReplaying format payload payload s s
-replay_begins format payload s = record { front = []; fits = tt; spelled = refl; legal = tt; state_is = refl }
-
 -- one record more
 pub replay_goes_on : (format : Format) (payload rest behind : List ℕ) (old mid new : ServerState) → IsReplaying format payload rest old mid → Steps format rest mid behind new → IsReplaying format payload behind old new
 replay_goes_on format payload rest behind old mid new h step =
@@ -42,49 +39,6 @@ replay_goes_on format payload rest behind old mid new h step =
       legal = legal_then old h.front e h.legal (subst (λ (t : ServerState). IsLegal t e) h.state_is step.begins.legal);
       state_is = step.state_is ∙ ap (λ (t : ServerState). after t e) h.state_is ∙ sym (after_then old h.front e);
     }
-
--- a record is not nothing, so that less is left
-pub less_left : (format : Format) (rest behind : List ℕ) (old new : ServerState) → Steps format rest old behind new → length behind < length rest
-less_left format rest behind old new step =
-    omega (arith, ap length step.begins.spelled, length-append (entry_spelling format step.entry) behind, length-entry_spelling format step.entry step.begins.fits, some_bytes format)
-  where
-    some_bytes : (format : Format) → 1 ≤ record_bytes format
-    some_bytes One = omega arith
-    some_bytes Two = omega arith
-
--- nothing is left
-pub replay_ends : (format : Format) (payload rest : List ℕ) (old new : ServerState) → IsReplaying format payload rest old new → rest ≡ [] → Replays format payload old new
-replay_ends format payload rest old new h none = record {
-  entries = h.front;
-  fits = h.fits;
-  spelled = h.spelled ∙ ap (λ (t : List ℕ). group_spelling format h.front ++ t) none ∙ append-nil (group_spelling format h.front);
-  legal = h.legal;
-  state_is = h.state_is;
-}
-
--- what is left begins with no record that may come next
-pub replay_stops : (format : Format) (payload rest : List ℕ) (old new : ServerState) (offset : ℕ) → IsReplaying format payload rest old new → 1 ≤ length rest → NoneFollows format rest new → offset + length rest ≡ length payload → IsFirstBad format payload old offset
-replay_stops format payload rest old new offset h some none is = record {
-  front = h.front;
-  rest = rest;
-  fits = h.fits;
-  spelled = h.spelled;
-  some = some;
-  legal = h.legal;
-  offset_is = omega (arith, is, ap length h.spelled, length-append (group_spelling format h.front) rest);
-  bad = subst (NoneFollows format rest) h.state_is none;
-}
-
--- or with the record of an entry whose array finds no memory
-pub replay_wants : (format : Format) (payload rest : List ℕ) (old new : ServerState) → IsReplaying format payload rest old new → MakesNext format rest new → MakesArrayIn format payload old
-replay_wants format payload rest old new h next = record {
-  front = h.front;
-  rest = rest;
-  fits = h.fits;
-  spelled = h.spelled;
-  legal = h.legal;
-  makes = subst (MakesNext format rest) h.state_is next;
-}
 
 -- ---- what a payload does
 

@@ -36,26 +36,9 @@ name (IntFetchAdd operand) = omega arith
 pub length-count_line : (n : ℕ) → n < 2 ^ 32 → length (count_line n) ≤ 19
 length-count_line n h = joined (codes "waiting ") (decimal n ++ codes "\n") 8 11 (omega arith) (joined (decimal n) (codes "\n") 10 1 (short n h) (omega arith))
 
-pub length-word_line : (a i s n : ℕ) (op : Op) → a < 2 ^ 64 → i < 2 ^ 32 → s < 2 ^ 64 → n < 2 ^ 64 → length (word_line (((a, i), (s, n)), op)) ≤ 108
-length-word_line a i s n op ha hi hs hn =
-    joined (codes "word ") _ 5 103 (omega arith)
-    (joined (decimal a) _ 20 83 (long a ha)
-    (joined (codes " ") _ 1 82 (omega arith)
-    (joined (decimal i) _ 10 72 (short i hi)
-    (joined (codes " session ") _ 9 63 (omega arith)
-    (joined (decimal s) _ 20 43 (long s hs)
-    (joined (codes " number ") _ 8 35 (omega arith)
-    (joined (decimal n) _ 20 15 (long n hn)
-    (joined (codes " ") _ 1 14 (omega arith)
-    (joined (name_of op) (codes "\n") 13 1 (name op) (omega arith))))))))))
-
 pub length-session_line : (s n : ℕ) → s < 2 ^ 64 → n < 2 ^ 32 → length (session_line (s, n)) ≤ 46
 length-session_line s n hs hn =
     joined (codes "session ") _ 8 38 (omega arith)
     (joined (decimal s) _ 20 18 (long s hs)
     (joined (codes " waits ") _ 7 11 (omega arith)
     (joined (decimal n) (codes "\n") 10 1 (short n hn) (omega arith))))
-
-pub length-all_wait_line : (all : Bool) → length (all_wait_line all) ≤ 13
-length-all_wait_line true = omega arith
-length-all_wait_line false = omega arith

@@ -47,10 +47,6 @@ pub turns_present : (s : ServerState) (waiting : WaitingAccesses) (es : List Ent
 turns_present s waiting [] turns other = refl
 turns_present s waiting (e ∷ es) turns other = turns_present (after s e) (without_turn waiting e) es turns.1 other ∙ turn_present s waiting e turns.0 other
 
--- the entry of its own is legal
-pub own_legal : (s : ServiceState) (session number : ℕ) (request : Request) (answer : Answer) → IsFree s session number → reply s.state request ≡ Some answer → HasRoom s → IsLegal s.state (Finished session number request answer)
-own_legal s session number request answer free answered room = record { has_place = omega (arith, room.places); allowed = free.usable; answered = answered }
-
 -- a number is free in equal services
 pub free_in : {s t : ServiceState} {session number : ℕ} → s ≡ t → IsFree t session number → IsFree s session number
 free_in {session = session} {number = number} same free = subst (λ (s : ServiceState). IsFree s session number) (sym same) free

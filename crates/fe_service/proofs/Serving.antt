@@ -63,9 +63,6 @@ turn_within s waiting e t key w waits =
       | inr other ↦ sym (get-remove_other waiting (t.session, t.number) key other) ∙ left
     ]
 
-pub turn_place : (s : ServerState) (waiting : WaitingAccesses) (e : Entry) → IsTurn s waiting e → (after s e).place ≡ s.place + 1
-turn_place s waiting e t = refl
-
 -- a turn on one word leaves the others quiet
 pub turn_beside : (s : ServerState) (waiting : WaitingAccesses) (e : Entry) (t : IsTurn s waiting e) (array index b j : ℕ) → IsOn t.waiter array index → ¬ ((b ≡ array) × (j ≡ index))
     → IsQuietAt s waiting b j → IsQuietAt (after s e) (without_turn waiting e) b j
@@ -80,18 +77,6 @@ turn_beside s waiting e t array index b j on differs quiet key w waits on_w =
 -- fewer that wait at a tag wait at it
 pub fewer_at_tag : (many few : WaitingAccesses) (array index : ℕ) (tag : Tag) → ((key : ℕ × ℕ) (w : WaitingAccess) → get few key ≡ Some w → get many key ≡ Some w) → WaitAtTag many array index tag → WaitAtTag few array index tag
 fewer_at_tag many few array index tag within at key w waits on = at key w (within key w waits) on
-
--- where those on a word wait at one tag, and it is at rest, it is quiet
-pub rest_quiet : (s : ServerState) (waiting : WaitingAccesses) (array index : ℕ) (tag : Tag) → WaitAtTag waiting array index tag → IsAtRest s waiting array index → IsQuietAt s waiting array index
-rest_quiet s waiting array index tag at (inl none) key w waits on = absurd (none key w waits on)
-rest_quiet s waiting array index tag at (inr idle) key w waits on =
-    let word = waits_there (directory_of s) idle.waiter.array idle.waiter.index idle.waiter.op idle.idle in
-    let same : tag ≡ word.word.tag = one_tag idle.waiter.op tag word.word.tag 0 word.word.value (at idle.key idle.waiter idle.waits idle.on_word) word.undefined in
-    let undefined : row w.op word.word.tag word.word.value ≡ None = waits_by_tag w.op word.word.tag 0 word.word.value (subst (λ tag. row w.op tag 0 ≡ None) same (at key w waits on)) in
-    let there : word_in (get s.arrays w.array) w.index ≡ Some word.word =
-    ap (λ a. word_in (get s.arrays a) w.index) (on.0 ∙ sym idle.on_word.0) ∙ ap (λ i. word_in (get s.arrays idle.waiter.array) i) (on.1 ∙ sym idle.on_word.1) ∙ word.there
-    in
-    there_waits (directory_of s) w.array w.index w.op (record { word = word.word; there = there; undefined = undefined })
 
 -- turns after turns
 pub taken_join : (old mid new : ServiceInner) (es fs : List Entry) → TakesTurns old mid es → TakesTurns mid new fs → TakesTurns old new (es ++ fs)

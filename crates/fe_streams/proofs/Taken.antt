@@ -12,11 +12,6 @@ before_left first front left is =
     let count : length first - length left ≡ length front = omega (arith, size) in
     ap (λ n. take n first) count ∙ ap (take (length front)) is ∙ take-append-le (length front) front left (omega arith) ∙ take_all (length front) front (omega arith)
 
--- nothing is read at first
-pub read_none : (first : Option (List ℕ)) → HasRead first first
-read_none None = refl
-read_none (Some first) = ap (λ t. Some (t ++ first)) (before_left first [] first refl)
-
 -- bytes that are consumed are added to what was read
 pub read_more : (first old new : Option (List ℕ)) (bytes : List ℕ) → HasRead first old → Consumes old new bytes → HasRead first new × Appends (bytes_read first old) (bytes_read first new) bytes
 read_more None old new bytes has more = (refl, tt)
