@@ -23,15 +23,15 @@ use Rattle.fe_schedules.specs.declared.machine.Machine.{Machine}
 use Rattle.fe_schedules.specs.declared.run.Run.{Run}
 use Rattle.fe_schedules.specs.declared.printed_reply.PrintedReply.{PrintedReply}
 
--- ---- what is printed of what is written
+-- ---- how replies are printed
 
--- what was written to a connection number, as replies
+-- `after` is `before` and the printed replies that the bytes written to the connection spell
 pub record HasMoreReplies (conn : ℕ) (written : List ℕ) (before after : List PrintedReply) : Type 0 where
   pub replies : List ServerMessage
   pub are : AreRepliesIn written replies
   pub is : after ≡ before ++ map (printed_to conn) replies
 
--- the text grows by the desk's replies
+-- `after` is `before` and the desk's replies, printed
 pub record PrintsMore (s : DeskRunState) (before after : List ℕ) : Type 0 where
   pub more : List ℕ
   pub prints : IsPrinted (outputs s) more
@@ -47,12 +47,12 @@ last_of (Some lost) disk = lost
 abbrev pub last_disk : Machine → MemoryState
 last_disk m = last_of m.lost (disk_of m.desk)
 
--- the desk is between two steps
+-- the desk is between two steps, and no store failed to open
 pub record IsMachine (m : Machine) : Type 0 where
   pub ready : IsReady m.desk
   pub lost : m.lost ≡ None
 
--- where the steps of a line begin
+-- The steps of a line begin at the desk `e`: at `d`, or after `Stop` at a fresh desk over what was stored.
 abbrev pub BeginsAt : Line → DeskState MemoryState → DeskState MemoryState → Type 0
 BeginsAt line.Stop d e = IsFirstRunState d.keeper.state e.run_state × IsFrom d.keeper.state e
 BeginsAt other d e = e ≡ d
@@ -67,7 +67,7 @@ pub record ActsOn (m : Machine) (l : Line) (n : Machine) : Type 0 where
 
 -- ---- a run
 
--- The trace is empty. The line that has begun may still be one of the syntax, and there is room for all of it.
+-- The trace has no groups. The unfinished line is no longer than any line may be, and its buffer has room for all of that.
 pub record IsRun (r : Run) : Type 0 where
   pub machine : IsMachine r.machine
   pub none : r.machine.desk.run_state.groups ≡ []
@@ -88,7 +88,7 @@ pub record RanLine (r : Run) (l : Line) (s : Run) : Type 0 where
   pub holding : s.is_holding ≡ holds_after l r.is_holding
   pub prints : PrintsMore last.run_state (string_bytes r.text) (string_bytes s.text)
 
--- the run is there
+-- the run stands where `s` says
 pub record IsAt (r : Run) (s : Stage) : Type 0 where
   pub stored : s.stored ≡ r.machine.desk.keeper.state
   pub run_state : s.run_state ≡ r.machine.desk.run_state
@@ -104,21 +104,21 @@ pub record RanBytes (r : Run) (bytes : List ℕ) (s : Run) : Type 0 where
   pub begun : s.begun.items ≡ []
   pub lines : s.lines ≡ r.lines + 1
 
--- the bytes say this line, or none where they are empty
+-- the bytes parse as this line; `None`: there are no bytes
 abbrev pub SaysLine : List ℕ → Option Line → Type 0
 SaysLine bytes None = bytes ≡ []
 SaysLine bytes (Some said) = (bytes ≢ []) × (parsed bytes ≡ Some said)
 
--- the line of these bytes is outside the syntax, and its number is given
+-- the line of these bytes does not parse, and the fault has its number
 abbrev pub IsStray : ℕ → List ℕ → ScheduleFault → Type 0
 IsStray number bytes end = (end ≡ fault.Line number) × (bytes ≢ []) × (parsed bytes ≡ None)
 
--- the same of a line that is longer than any of the syntax
+-- the line is longer than any line may be, and the fault has its number
 abbrev pub IsTooLong : ℕ → List ℕ → ScheduleFault → Type 0
 IsTooLong number bytes end = (end ≡ fault.Line number) × (longest_line < length bytes)
 
--- What a fault says of the line of these bytes with this number: it is outside the syntax; or it says something, which found no
--- memory or a disk that failed; or no line after it can be counted.
+-- What a fault says of the line of these bytes with this number. `Line`: it does not parse. `Memory`, `Device`: it does, but memory
+-- ran out or the disk failed. `Input`: no line after it can be counted.
 abbrev pub IsFaultOf : ℕ → List ℕ → ScheduleFault → Type 0
 IsFaultOf number bytes (fault.Line found) = (found ≡ number) × (bytes ≢ []) × (parsed bytes ≡ None)
 IsFaultOf number bytes fault.Memory = (bytes ≢ []) × (l : Line) × (parsed bytes ≡ Some l)
@@ -127,7 +127,7 @@ IsFaultOf number bytes fault.Input = number ≡ 2 ^ 64 - 1
 
 -- ---- pieces
 
--- Of these bytes whole lines ran and the front of one is kept; what the lines print is written, except what is kept of it.
+-- The complete lines among these bytes ran, and the run has the unfinished one. What they print was written, except the run's text.
 pub record SoFar (read : List ℕ) (before now : Option (List ℕ)) (r : Run) : Type 0 where
   pub lines : List (List ℕ)
   pub splits : (others : List ℕ) → lines_of (read ++ others) ≡ lines ++ lines_of (r.begun.items ++ others)
@@ -141,8 +141,7 @@ pub record SoFar (read : List ℕ) (before now : Option (List ℕ)) (r : Run) : 
   pub runs : RunsLines start lines here (text ++ string_bytes r.text)
   pub written : Appends before now text
 
--- All of these bytes ran as lines; this text of what they print is not written. A stop leaves all that they
--- stored on the disk.
+-- All of these bytes ran as lines. What they print was written, except the text `kept`. A stop leaves on the disk all that they stored.
 pub record Whole (input : List ℕ) (before now : Option (List ℕ)) (kept : List ℕ) (disk : MemoryState) : Type 0 where
   pub lines : List (List ℕ)
   pub all : lines_of input ≡ lines
@@ -151,7 +150,7 @@ pub record Whole (input : List ℕ) (before now : Option (List ℕ)) (kept : Lis
   pub written : Appends before now text
   pub leaves : LeavesStored disk prints.end
 
--- A run over these bytes ended at a fault. Of what its lines print this text is kept, and where the writer failed, more is lost.
+-- A run over these bytes ended at a fault. What its lines print was written, except the text `kept`, and `more` where the writer failed.
 pub record Ended (writer : StreamFault → Type 0) (end : ScheduleFault) (input : List ℕ) (before now : Option (List ℕ)) (kept : List ℕ) : Type 0 where
   pub lines : List (List ℕ)
   pub left : List (List ℕ)

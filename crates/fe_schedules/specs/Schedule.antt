@@ -48,8 +48,8 @@ abbrev IsFrame : ℕ → ClientMessage → Step → Type 0
 IsFrame conn message (step.Bytes c piece) = (c ≡ conn) × (piece.items ≡ spelling message)
 IsFrame conn message other = ⊥
 
--- The steps of a line: of a message its frame comes, of a connection that goes its going, and a checkpoint is begun and
--- finished. The connection is made where it is not there.
+-- The steps of a line. A message: its connection is made, unless it is there, and its frame comes. `Gone`: the connection goes.
+-- `Check`: a checkpoint begins and is finished. The other lines take no step.
 abbrev pub AreStepsOf : Line → List Step → Type 0
 AreStepsOf (line.Message conn message) steps = (frame : Step) × IsFrame conn message frame × (steps ≡ step.Connect conn ∷ frame ∷ [])
 AreStepsOf (line.Gone conn) steps = steps ≡ step.Gone conn ∷ []
@@ -58,12 +58,12 @@ AreStepsOf line.Flush steps = steps ≡ []
 AreStepsOf line.Stop steps = steps ≡ []
 AreStepsOf line.Check steps = steps ≡ step.CheckBegin ∷ step.CheckFinish ∷ []
 
--- where its steps begin: at a stop with a desk over all that was stored, else where the schedule stands
+-- Its steps begin at `t`: after `Stop` with a fresh desk over all that was stored, else at `s`.
 abbrev pub Begins : Line → Stage → Stage → Type 0
 Begins line.Stop s t = (t.stored ≡ s.stored) × IsFirstRunState t.stored t.run_state
 Begins other s t = (t.stored ≡ s.stored) × (t.run_state ≡ s.run_state)
 
--- whether it is on hold after a line
+-- whether the schedule is on hold after a line
 abbrev pub holds_after : Line → Bool → Bool
 holds_after line.Hold was = true
 holds_after line.Flush was = false
@@ -90,7 +90,7 @@ pub record RunsLine (s : Stage) (l : Line) (t : Stage) (text : List ℕ) : Type 
 
 -- ---- lines of bytes
 
--- an empty line does nothing, and another what it says
+-- an empty line does nothing; any other does what it says
 abbrev pub RunsBytes : Stage → List ℕ → Stage → List ℕ → Type 0
 RunsBytes s [] t text = (t ≡ s) × (text ≡ [])
 RunsBytes s (byte ∷ bytes) t text = (l : Line) × (parsed (byte ∷ bytes) ≡ Some l) × RunsLine s l t text
@@ -110,33 +110,33 @@ pub record Prints (lines : List (List ℕ)) (text : List ℕ) : Type 0 where
 
 -- ---- where a run ends before the end of its input
 
--- a line that is outside the syntax is the first of these
-abbrev pub StartsStray : List (List ℕ) → Type 0
-StartsStray [] = ⊥
-StartsStray (bytes ∷ others) = (bytes ≢ []) × (parsed bytes ≡ None)
+-- the first of these lines does not parse
+abbrev pub FirstIsInvalid : List (List ℕ) → Type 0
+FirstIsInvalid [] = ⊥
+FirstIsInvalid (bytes ∷ others) = (bytes ≢ []) × (parsed bytes ≡ None)
 
--- a line that says something is the first of these
-abbrev pub StartsSaid : List (List ℕ) → Type 0
-StartsSaid [] = ⊥
-StartsSaid (bytes ∷ others) = (bytes ≢ []) × (l : Line) × (parsed bytes ≡ Some l)
+-- the first of these lines parses
+abbrev pub FirstIsValid : List (List ℕ) → Type 0
+FirstIsValid [] = ⊥
+FirstIsValid (bytes ∷ others) = (bytes ≢ []) × (l : Line) × (parsed bytes ≡ Some l)
 
--- What is reported of the line that comes next. Its number, counted from 1, where it is outside the syntax. Of a line that says
--- something, that there was no memory for it or that the disk failed. And `Input` once the lines can't be counted.
+-- What a fault says of the line that comes next. `Line`: it does not parse, and this is its number, counted from 1. `Memory`,
+-- `Device`: it parses, but memory ran out or the disk failed. `Input`: no more lines can be counted.
 abbrev pub EndsAtLine : ScheduleFault → List (List ℕ) → List (List ℕ) → Type 0
-EndsAtLine (fault.Line number) lines left = (number ≡ length lines + 1) × StartsStray left
-EndsAtLine fault.Memory lines left = StartsSaid left
-EndsAtLine fault.Device lines left = StartsSaid left
+EndsAtLine (fault.Line number) lines left = (number ≡ length lines + 1) × FirstIsInvalid left
+EndsAtLine fault.Memory lines left = FirstIsValid left
+EndsAtLine fault.Device lines left = FirstIsValid left
 EndsAtLine fault.Input lines left = length lines ≡ 2 ^ 64 - 2
 
--- what is reported of memory or of the disk
+-- the fault is of memory or of the disk
 abbrev pub IsOfStore : ScheduleFault → Type 0
 IsOfStore end = (end ≡ fault.Memory) ⊎ (end ≡ fault.Device)
 
--- Over what was read a run ends at the next line, with all written that is printed; or the writer failed.
+-- A run ended within what was read: the next line is at fault, and all that was printed is written; or the writer failed.
 abbrev pub EndsWithin : (StreamFault → Type 0) → ScheduleFault → List (List ℕ) → List (List ℕ) → List ℕ → Type 0
 EndsWithin writer end lines left more = ((more ≡ []) × EndsAtLine end lines left) ⊎ IsOfStream writer end
 
--- Else the reader failed; or there was no memory to begin, or no disk, and nothing was read.
+-- A run ended within what was read, or the reader failed, or nothing was read: memory or the disk failed as it began.
 abbrev pub EndsAt : (StreamFault → Type 0) → (StreamFault → Type 0) → Type 0 → ScheduleFault → List (List ℕ) → List (List ℕ) → List ℕ → Type 0
 EndsAt reader writer unread end lines left more =
     EndsWithin writer end lines left more ⊎ ((more ≡ []) × (IsOfStream reader end ⊎ ((lines ≡ []) × IsOfStore end × unread)))
@@ -145,7 +145,7 @@ EndsAt reader writer unread end lines left more =
 abbrev pub IsReadMore : {R : Type 0} → (R → ℕ → Type 0) → R → R → ℕ → Type 0
 IsReadMore was_read old new more = (count : ℕ) → was_read old count → was_read new (count + more)
 
--- a read failed so, or there were 2^40 of them
+-- a read failed so, or 2^40 reads were made
 abbrev pub ReaderFails : {R : Type 0} → (R → StreamFault → Type 0) → (R → ℕ → Type 0) → R → R → StreamFault → Type 0
 ReaderFails has_failed was_read old new f = has_failed new f ⊎ ((f ≡ stream.Input) × IsReadMore was_read old new (2 ^ 40))
 
@@ -161,7 +161,7 @@ pub record RunsAll (input before after : Option (List ℕ)) (disk : MemoryState)
   pub written : Appends before after text
   pub leaves : LeavesStored disk prints.end
 
--- Lines at the front of the input ran, and what they print is written, but for what a writer that failed did not take.
+-- The first lines of the input ran. What they print is written, except what a failed writer did not take.
 pub record RunsUntil (reader writer : StreamFault → Type 0) (unread : Type 0) (end : ScheduleFault) (input before after : Option (List ℕ)) : Type 0 where
   pub lines : List (List ℕ)
   pub left : List (List ℕ)
