@@ -53,8 +53,7 @@ pub fn serve<R: Files<File = File> + Net + Clock + Threads + Wait + Sync, G: Gat
 ) -> Result<Result<Served<FileDisk>, Failed<FileDisk>>, Unopened>
     // The store that was opened was served: its keeper comes back with what was stored since, and its account says what
     // was issued.
-    ensures served { IfOk result (let disk = ⟦<FileDisk as Disk>⟧ in
-        WasServed disk.honest disk.moment disk.left_since disk.may_leave disk.failures) }
+    ensures served { IfOk result (WasServed ⟦<FileDisk as Disk>⟧) }
     ensures add_up { IfOk result (λ answer. IfOk answer (λ served. AddUp served.audit.books)) }
     ensures unspent { IfOk result (λ answer. IfOk answer (λ served. served.audit.books.spent ≡ false)) }
     ensures borne_out { IfOk result (λ answer. IfOk answer
