@@ -1,5 +1,5 @@
 -- What a contract sees of the attachments: the sessions that have one, and the requests that wait, by session and
--- number.
+-- number. An attachment says which connection has the session, and whether the session is closing.
 use Rattle.std.specs.Prelude.{◌≡◌, ◌==◌, ℕ, ◌≤◌, List, Bool, true, false, not, Option, Some, None, IsSome, refl, slice_index_or}
 use Rattle.std.specs.Option.{option_map, option_map_or, option_and_then}
 use Rattle.std.specs.Ordering.{nat_cmp}
@@ -49,7 +49,7 @@ holder_of attachments session = option_and_then (λ attachment. attachment.holde
 abbrev pub is_closing : FinMap nat_cmp Attachment → ℕ → Bool
 is_closing attachments session = option_map_or (λ attachment. attachment.closing) (get attachments session) false
 
--- the attachments where a session has this holder, and one where it is closing: what else is known of it stays
+-- the attachments with another holder for a session, or with the session marked as closing; nothing else changes
 abbrev pub with_holder : FinMap nat_cmp Attachment → ℕ → Option ℕ → FinMap nat_cmp Attachment
 with_holder attachments session holder = insert attachments session (record { holder = holder; closing = is_closing attachments session })
 

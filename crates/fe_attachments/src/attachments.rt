@@ -21,7 +21,7 @@ const GUESSES: usize = 256;
 
 /// The attachments of the sessions, and the requests that wait, each on a word and in its session.
 ///
-/// Only `new` and `add_array` take memory. A node is good until the next change.
+/// Only `new`, `add_array` and `waiting_requests` take memory. A node, one waiting request, is good until the next change.
 pub struct Attachments {
     waits: Waits,
     occupants: Occupants,
@@ -65,7 +65,7 @@ impl Model for Attachments {
 }
 
 impl Attachments {
-    /// No arrays, no attachments, and nothing waits. It makes all its room here. Fails only if memory runs out.
+    /// No arrays, no attachments, and nothing waits. Allocates all memory but that of arrays; fails only if memory runs out.
     pub fn new(alloc: Global) -> Result<Attachments, AllocError>
         ensures arrays { IfOk result (λ attachments. attachments.arrays ≡ map.empty) }
         ensures attachments { IfOk result (λ attachments. attachments.attachments ≡ map.empty) }

@@ -16,7 +16,7 @@ pub struct WaitingRequest {
 }
 
 impl WaitingRequest {
-    // The request of a row, which waits in a slot of the session.
+    // The request of a row of the waiting lists, given the session that has the row's slot.
     pub(crate) fn of(session: u64, row: Row) -> WaitingRequest
         ensures { result ≡ record {
           session = session;

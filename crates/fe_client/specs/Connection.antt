@@ -1,8 +1,8 @@
--- When a connection over a stream is over.
+-- When a connection to a server, over a stream, is over.
 use Rattle.std.specs.Prelude.{◌≡◌, ◌⊎◌, ℕ, List, [], Option, None, Some, IsSome, ⊤}
 use Rattle.fe_streams.specs.declared.StreamFailed.{StreamFailed}
 
--- A call of a stream failed, or all that it had is read. Where its bytes are not known, either may be so at any time.
+-- A call of a stream failed, or all that it had is read. If its bytes are not known, either may be so at any time.
 abbrev pub IsOver : Option StreamFailed → Option (List ℕ) → Type 0
 IsOver failure None = ⊤
 IsOver failure (Some left) = IsSome failure ⊎ (left ≡ [])

@@ -1,4 +1,4 @@
--- A conversation: the lines of an input, an exchange with a server for each.
+-- A conversation with a server: the lines of an input, and for each an exchange of a message and its reply.
 use Rattle.std.specs.Prelude.{◌≡◌, ◌≢◌, ℕ, ◌+◌, List, [], ◌∷◌, ◌++◌, Some}
 use Rattle.fe_wire.specs.Spelling.{ReplyFits}
 use Rattle.fe_wire.specs.declared.client_message.ClientMessage.{ClientMessage}
@@ -7,14 +7,14 @@ use Rattle.fe_text.specs.Lines.{HasNoFeed}
 use Rattle.fe_client.specs.Asking.{asked}
 use Rattle.fe_client.specs.Events.{Event, exchange}
 
--- what a line asks happens: nothing where it is empty, else the exchange of its message
+-- what a line asks happens: nothing if it is empty, else the exchange of its message
 abbrev pub Does : List ℕ → List Event → Type 0
 Does [] done = done ≡ []
 Does (byte ∷ bytes) done = (message : ClientMessage) × (reply : ServerMessage) × (asked (byte ∷ bytes) ≡ Some message) × ReplyFits reply × (done ≡ exchange message reply)
 
--- A conversation so far: how many lines were taken, what happened, and which bytes were read and are not taken. It begins
--- where some bytes were read and no line was taken. The input is read only where no line is left of what was read before,
--- so each line that was read has had its exchange. The lines have theirs in their order, each one as a whole.
+-- A conversation so far: how many lines were taken, what happened, and which bytes were read and are not taken. It begins with
+-- bytes that were read, and no line taken. The input is read only while no line is left of what was read before, so each line
+-- that was read has had its exchange. The lines have their exchanges in order, each one as a whole.
 pub data Conversation (start : List ℕ) : ℕ → List Event → List ℕ → Type 0 where
   Begins : Conversation start 0 [] start
   Reads : (lines : ℕ) (so : List Event) (left piece : List ℕ) → Conversation start lines so left → HasNoFeed left → piece ≢ []
@@ -22,7 +22,7 @@ pub data Conversation (start : List ℕ) : ℕ → List Event → List ℕ → T
   Takes : (lines : ℕ) (so done : List Event) (line left : List ℕ) → Conversation start lines so (line ++ 10 ∷ left) → HasNoFeed line → Does line done
       → Conversation start (lines + 1) (so ++ done) left
 
--- From the one state to the other a conversation is held to its end: the input ends after the last line.
+-- A conversation leads from one state to the other and is held to its end: the input ends after the last line.
 pub record TalksAll {S : Type 0} (leads : S → List Event → S → Type 0) (before after : S) : Type 0 where
   pub lines : ℕ
   pub so : List Event

@@ -1,4 +1,4 @@
--- How a conversation ends before its input does.
+-- How a conversation with a server ends before its input does.
 use Rattle.std.specs.Prelude.{◌≡◌, ◌≢◌, ◌⊎◌, ℕ, ◌+◌, ◌^◌, ◌<◌, ◌≤◌, List, [], ◌∷◌, ◌++◌, length, take, Option, None, Some, ⊤}
 use Rattle.fe_wire.specs.Spelling.{spelling, reply_spelling, ReplyFits}
 use Rattle.fe_wire.specs.declared.client_message.ClientMessage.{ClientMessage}
@@ -12,7 +12,7 @@ use Rattle.fe_client.specs.Events.{Event, sent, received, written, reply_text, r
 use Rattle.fe_client.specs.Conversation.{Conversation}
 use Rattle.fe_client.specs.Streams.{Known, known, Flows}
 
--- as many bytes of the front
+-- the first bytes are some from the front of the second
 abbrev pub IsFrontOf : List ℕ → List ℕ → Type 0
 IsFrontOf front bytes = (count : ℕ) × (front ≡ take count bytes)
 
@@ -20,26 +20,26 @@ IsFrontOf front bytes = (count : ℕ) × (front ≡ take count bytes)
 abbrev pub BeginsNoReply : List ℕ → Type 0
 BeginsNoReply bytes = (reply : ServerMessage) (more : List ℕ) → ReplyFits reply → bytes ++ more ≢ reply_spelling reply
 
--- the first line of these bytes is longer than any of the syntax, however it goes on
+-- the first line of these bytes is longer than any line of the syntax, however it goes on
 abbrev pub BeginsLong : List ℕ → Type 0
 BeginsLong bytes = (front behind : List ℕ) × HasNoFeed front × (bytes ≡ front ++ behind) × (94 < length front)
 
 -- ---- why
 
--- why no line is taken of these bytes: the next one, which has that number, is too long, or the input or memory is at fault
+-- why no line is taken of these bytes: the next line, which has that number, is too long, or the input or memory is at fault
 pub data Unread (end : CallFault) (number : ℕ) (left : List ℕ) : Type 0 where
   Long : end ≡ fault.Line number → BeginsLong left → Unread end number left
   Failed : IsOfStream end → Unread end number left
 
--- the line of that number is longer than any of the syntax, or memory is at fault
+-- the line of that number is longer than any line of the syntax, or memory is at fault
 abbrev pub IsTooLong : CallFault → ℕ → List ℕ → Type 0
 IsTooLong end number line = ((end ≡ fault.Line number) × (94 < length line)) ⊎ (end ≡ fault.Memory)
 
--- why a message is not sent, over a connection that may be over
+-- why a message is not sent; `over` says that the connection is over
 abbrev pub Unsent : CallFault → Type 0 → Type 0
 Unsent end over = ((end ≡ fault.Socket) × over) ⊎ (end ≡ fault.Memory)
 
--- Why no more bytes come than these after the earlier ones: the connection may be over, or it was read 2^40 times.
+-- Why no more bytes come after these and the earlier ones: the connection is over, or it was read 2^40 times.
 abbrev pub Unreceived : CallFault → Type 0 → ℕ → List ℕ → Type 0
 Unreceived end over earlier bytes = ((end ≡ fault.Socket) × over) ⊎ ((end ≡ fault.Input) × (2 ^ 40 ≤ earlier + length bytes))
 
@@ -89,7 +89,7 @@ pub data BreaksOff (end : CallFault) (over : Type 0) (number earlier : ℕ) (lef
 
 -- ---- a whole conversation
 
--- From the one state to the other a conversation is held until the next line breaks off.
+-- A conversation leads from one state to the other, where an exchange or the reading of a line breaks off.
 pub record TalksUntil {S : Type 0} (leads : S → List Event → S → Type 0) (end : CallFault) (over : Type 0) (before after : S) : Type 0 where
   pub lines : ℕ
   pub so : List Event
@@ -99,11 +99,11 @@ pub record TalksUntil {S : Type 0} (leads : S → List Event → S → Type 0) (
   pub breaks : BreaksOff end over (lines + 1) (length (received_in so)) left part
   pub happened : leads before (so ++ part) after
 
--- what is known where the connection is a socket: what is left of the input, and what is written
+-- what is known if the connection is a socket: what is left of the input, and what is written
 abbrev pub over_socket : Option (List ℕ) → Option (List ℕ) → Known
 over_socket left written = known left None None written
 
--- There is no server at the socket, or a conversation with it ends so. A socket may be over at any time.
+-- There is no server at the socket, or a conversation with it breaks off. A socket may be over at any time.
 pub data CallsUntil (end : CallFault) (before after : Known) : Type 0 where
   Unconnected : end ≡ fault.Socket → Flows before [] after → CallsUntil end before after
   BrokeOff : TalksUntil Flows end ⊤ before after → CallsUntil end before after

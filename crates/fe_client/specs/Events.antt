@@ -1,4 +1,4 @@
--- What happens in a conversation, as a list of events in order.
+-- What happens in a conversation with a server, as a list of events in order.
 use Rattle.std.specs.Prelude.{ℕ, List, [], ◌∷◌, ◌++◌, map, take, Option, None, Some}
 use Rattle.std.specs.List.{flat_map}
 use Rattle.fe_wire.specs.Spelling.{spelling, reply_spelling}
@@ -7,15 +7,15 @@ use Rattle.fe_wire.specs.declared.server_message.ServerMessage.{ServerMessage}
 use Rattle.fe_text.specs.Printed.{printed}
 
 pub data Event : Type 0 where
-  -- a read of the input gave these bytes, none where the input has ended
+  -- a read of the input gave these bytes; it gave none if the input has ended
   Read : List ℕ → Event
   -- a byte was sent to the server
   Sent : ℕ → Event
-  -- a byte was received from it
+  -- a byte was received from the server
   Received : ℕ → Event
   -- a byte was written to the output
   Written : ℕ → Event
-  -- what was written can be seen
+  -- what was written was flushed, so that it can be seen
   Flushed : Event
 
 abbrev pub sent : List ℕ → List Event
@@ -32,7 +32,7 @@ abbrev pub read_of : Option ℕ → List ℕ → List Event
 read_of None buffer = []
 read_of (Some count) buffer = Event.Read (take count buffer) ∷ []
 
--- what is printed of a reply: its line, or of a report each of its lines
+-- what is printed for a reply: its line, or each line of a report
 abbrev pub reply_text : ServerMessage → List ℕ
 reply_text reply = printed None reply
 

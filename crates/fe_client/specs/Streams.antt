@@ -1,4 +1,4 @@
--- What events do to an input, a connection and an output whose bytes may be known.
+-- What the events of a conversation do to its input, its connection and its output, whose bytes may be known.
 use Rattle.std.specs.Prelude.{◌≡◌, ◌⊎◌, ℕ, List, [], ◌∷◌, ◌++◌, Option, None, Some, IfSome}
 use Rattle.std.proofs.Common.{sym, subst, inl, inr, ◌∙◌}
 use Rattle.std.specs.Io.KnownBytes.{Appends, Consumes, IsAtEnd}
@@ -6,7 +6,7 @@ use Rattle.std.proofs.KnownBytes.{Appends-trans, Appends-nil, Consumes-trans, Co
 use Rattle.std.proofs.lemmas.List.Concat.{flat_map-append}
 use Rattle.fe_client.specs.Events.{Event, read_bytes, sent_byte, received_byte, written_byte, read_in, sent_in, received_in, written_in}
 
--- what the input has left, and what was sent, received and written, where that is known
+-- what the input has left, and what was sent, received and written, each if it is known
 pub record Known : Type 0 where
   pub left : Option (List ℕ)
   pub sent : Option (List ℕ)
@@ -26,7 +26,7 @@ HasEnded (Event.Received byte ∷ events) = HasEnded events
 HasEnded (Event.Written byte ∷ events) = HasEnded events
 HasEnded (Event.Flushed ∷ events) = HasEnded events
 
--- by these events, in their order, the one becomes the other
+-- these events, in their order, lead from what was known before to what is known after
 pub record Flows (before : Known) (events : List Event) (after : Known) : Type 0 where
   pub read : Consumes before.left after.left (read_in events)
   pub ended : HasEnded events → IfSome before.left (λ bytes. IsAtEnd after.left)

@@ -1,4 +1,4 @@
-//! What a line asks.
+//! What a line asks of a server.
 
 ghost use Rattle.std.specs.Prelude.{◌≡◌, IfSome};
 ghost use Rattle.fe_wire.specs.Spelling.{Fits};

@@ -1,4 +1,4 @@
-//! Calls a server.
+//! Calling a server: a conversation over its socket.
 
 ghost use Rattle.std.specs.Prelude.{IfErr, OnOk};
 ghost use Rattle.fe_client.specs.Streams.{known, Flows};
@@ -33,7 +33,7 @@ pub fn call<N: Net, R: Read, W: Write>(
     ensures ok { OnOk result (TalksAll Flows
         (over_socket (R.remaining reader.old) (W.contents writer.old))
         (over_socket (R.remaining reader.new) (W.contents writer.new))) }
-    // At a fault, the lines before it have had their exchanges.
+    // At a fault, the lines before the one at fault have had their exchanges.
     ensures fault { IfErr result (λ end. CallsUntil end
         (over_socket (R.remaining reader.old) (W.contents writer.old))
         (over_socket (R.remaining reader.new) (W.contents writer.new))) }
@@ -47,8 +47,8 @@ pub fn call<N: Net, R: Read, W: Write>(
     }
 }
 
-/// The same over a connection. The reader, the connection and the writer are three objects, and no clause can say in which
-/// order they were called: these say what the conversation's events do to each. The order is that of `converse`.
+/// As `call`, over a connection. The reader, the connection and the writer are three objects, and no clause can say in which order
+/// they were called: these say what the conversation's events do to each. The order is that of `converse`.
 pub fn call_over<C: Connection, R: Read, W: Write>(
     alloc: Global,
     connection: &mut C,
@@ -74,7 +74,7 @@ pub fn call_over<C: Connection, R: Read, W: Write>(
 pub fn converse<E: Streams>(alloc: Global, streams: &mut E) -> Result<(), CallFault>
     // The input is read only once each line that was read had its exchange, the last reply written and flushed.
     ensures ok { OnOk result (TalksAll E.leads streams.old streams.new) }
-    // At a fault, this holds for the lines before it, and the fault says how far the next one came.
+    // At a fault, this holds for the lines before the one at fault, and the fault says how far that one came.
     ensures fault { IfErr result (λ end. TalksUntil E.leads end (E.is_over streams.new) streams.old streams.new) }
 {
     let mut input = Input::new(alloc)?;

@@ -9,13 +9,13 @@ pub struct Broken;
 
 /// A connection to a server.
 pub trait Connection {
-    /// The bytes that were sent, where they are known. Those of a socket are not.
+    /// The bytes that were sent, if they are known. Those of a socket are not.
     ghost sent: { Self → Option (List ℕ) };
 
-    /// The bytes that were received, where they are known.
+    /// The bytes that were received, if they are known.
     ghost received: { Self → Option (List ℕ) };
 
-    /// A call of it failed, or the other end has closed it.
+    /// A call of the connection failed, or the other end has closed it.
     ghost is_over: { Self → Type 0 };
 
     /// Sends some bytes from the front, at least one, and says how many.

@@ -1,4 +1,4 @@
-//! The lines of an input.
+//! The lines of a conversation's input.
 
 ghost use Rattle.std.specs.Prelude.{◌≤◌, ◌<◌, ◌≡◌, ◌++◌, length, IfErr, OnOk};
 ghost use Rattle.fe_client.specs.Ends.{IsTooLong};
@@ -12,13 +12,13 @@ use std::alloc::Global;
 /// The lines of an input, one after the other.
 #[derive(Drop)]
 pub(crate) struct Input {
-    /// What the last read gave, up to `end`; all before `next` is taken.
+    /// What the last read gave, up to `end`; the bytes before `next` are taken.
     piece: Vec<u8>,
     next: usize,
     end: usize,
-    /// The line at hand, as far as it has come.
+    /// The line that is being taken, as far as it has come.
     line: Vec<u8>,
-    /// Its number, from 1; 0 before the first.
+    /// The number of that line, from 1; 0 before the first.
     number: u64,
     /// How often the input was read.
     reads: u64,
@@ -35,7 +35,7 @@ impl Input {
     ghost use Rattle.fe_client.specs.Input.{kept_of, Fills, TakesFed, TakesLast, NotTaken};
     ghost use Rattle.fe_client.specs.Ends.{IsTooLong};
 
-    /// No line is taken.
+    /// The lines of an input, before the first read.
     pub fn new(alloc: Global) -> Result<Input, CallFault>
         ensures kept { IfOk result (λ input. kept_of input ≡ []) }
         ensures number { IfOk result (λ input. input.number ≡ 0) }
@@ -59,7 +59,7 @@ impl Input {
         self.line.as_slice()
     }
 
-    /// Its number, from 1.
+    /// The number of the line that was taken last, from 1.
     pub fn number(&self) -> u64
         ensures { result ≡ self.now.number }
     {
@@ -67,8 +67,8 @@ impl Input {
     }
 
     /// Takes the next line, and says whether a line feed ends it. What follows the last line feed, which may be
-    /// nothing, is taken at the end of the input. `Line` as soon as it is longer than any of the syntax. The input is read
-    /// only while no line feed is left of what was read before.
+    /// nothing, is taken at the end of the input. The error is `Line` as soon as the line is longer than any of the
+    /// syntax. The input is read only while no line feed is left of what was read before.
     pub fn next_line<E: Streams>(&mut self, streams: &mut E) -> Result<bool, CallFault>
         ensures taken { IfOk result (λ fed. MatchBool fed
             (TakesFed E.leads streams.old streams.new (kept_of self.old) (kept_of self.new) self.new.line.items)
@@ -144,7 +144,7 @@ impl Input {
     }
 }
 
-/// Adds to the front of a line of that number.
+/// Adds bytes to the front of the line with this number.
 fn add(line: &mut Vec<u8>, bytes: &[u8], number: u64) -> Result<(), CallFault>
     requires few { length line.old.items ≤ 94 }
     ensures few { length line.new.items ≤ 94 }

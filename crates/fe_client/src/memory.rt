@@ -9,7 +9,7 @@ use std::alloc::Global;
 #[derive(Drop)]
 pub struct MemoryConnection {
     answers: Vec<u8>,
-    /// How many of them came.
+    /// How many of its bytes came.
     next: usize,
     piece: usize,
     sent: Vec<u8>,
@@ -19,7 +19,7 @@ pub struct MemoryConnection {
 }
 
 impl MemoryConnection {
-    /// The other end gives these bytes, in pieces of at most this many, and then closes it.
+    /// A connection whose other end gives these bytes, in pieces of at most this many, and then closes it.
     pub fn new(alloc: Global, answers: Vec<u8>, piece: usize) -> MemoryConnection
         requires { 0 < piece }
     {
@@ -32,7 +32,7 @@ impl MemoryConnection {
         }
     }
 
-    /// What was sent.
+    /// The bytes that were sent.
     pub fn sent(&self) -> &[u8]
         ensures { result.now ≡ self.now.sent.items }
     {

@@ -1,4 +1,4 @@
-//! Bytes over a connection: all of some are sent, and frames of replies are received.
+//! Sending and receiving bytes over a connection: all of some are sent, and frames of replies are received.
 
 ghost use Rattle.std.specs.Prelude.{◌≡◌, ◌+◌, ◌≤◌, ℕ, List, length, IfOk, IfErr, OnOk};
 ghost use Rattle.fe_wire.specs.Spelling.{reply_spelling, ReplyFits};
@@ -62,7 +62,7 @@ fn receive_all<E: Streams>(
     Ok(())
 }
 
-/// Receives the length of a frame, which a frame from the server may have.
+/// Receives the length of a frame, if a frame from the server may have it.
 fn receive_length<E: Streams>(
     streams: &mut E,
     head: &mut [u8],
@@ -85,8 +85,8 @@ fn receive_length<E: Streams>(
     Ok(count)
 }
 
-/// Receives the next reply, whose frame goes to the front of the room. A frame is bad as soon as its length is there and no
-/// reply has it.
+/// Receives the next reply, whose frame goes to the front of the room. A frame is bad as soon as its length has come
+/// and no reply has that length.
 pub(crate) fn receive_reply<E: Streams>(
     alloc: Global,
     streams: &mut E,

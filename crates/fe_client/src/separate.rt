@@ -1,11 +1,11 @@
-//! Streams that are three objects.
+//! The streams of a conversation as three objects: a reader, a connection and a writer.
 
 use crate::connection::{Broken, Connection};
 use crate::streams::Streams;
 use fe_text::{StreamFault, read_once, stream_fault, write_text};
 use std::io::{Read, Write};
 
-/// A reader, a connection and a writer. Contracts see the bytes of each, where those are known.
+/// A reader, a connection and a writer as the streams of a conversation. Contracts see the bytes of each, if they are known.
 #[derive(Drop)]
 pub(crate) struct Separate<'r, 'c, 'w, R, C, W> {
     pub reader: &'r mut R,

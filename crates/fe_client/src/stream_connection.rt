@@ -15,7 +15,7 @@ pub struct StreamConnection<R: Read, W: Write> {
 }
 
 impl<R: Read, W: Write> StreamConnection<R, W> {
-    /// Nothing is sent or received.
+    /// A connection before the first call.
     pub fn new(reader: R, writer: W) -> StreamConnection<R, W>
         ensures reader { result.incoming.reader ≡ reader }
         ensures began { result.incoming.began.value ≡ reader }

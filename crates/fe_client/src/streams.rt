@@ -8,14 +8,14 @@ use fe_text::StreamFault;
 
 /// An input, a connection to a server and an output as one object, so that what happens to them has one order.
 pub trait Streams {
-    /// From the one state to the other these events happen, in their order.
+    /// These events, in their order, lead from one state to the other.
     ghost leads: { Self → List Event → Self → Type 0 };
 
     /// A call of the connection failed, or its other end has closed it.
     ghost is_over: { Self → Type 0 };
 
-    /// Reads some bytes of the input into the front of the buffer, and says how many; none only where the input has ended.
-    /// `None` where the read was interrupted.
+    /// Reads some bytes of the input into the front of the buffer, and says how many; none only if the input has ended.
+    /// `None` if the read was interrupted.
     fn read(&mut self, buffer: &mut [u8]) -> Result<Option<usize>, StreamFault>
         requires { 0 < length buffer.old }
         ensures fits { IfOk result (λ given. IfSome given (λ count. count ≤ length buffer.old)) }
@@ -40,7 +40,7 @@ pub trait Streams {
         ensures err { OnErr result (leads self.old [] self.new) }
         ensures over { OnErr result (is_over self.new) };
 
-    /// Writes the text to the output, or where that fails, a front of it.
+    /// Writes the text to the output, or if that fails, a front of it.
     fn write(&mut self, text: &[u8]) -> Result<(), StreamFault>
         ensures ok { OnOk result (leads self.old (written text.now) self.new) }
         ensures err { OnErr result ((count : ℕ) × leads self.old (written (take count text.now)) self.new) };
@@ -50,9 +50,9 @@ pub trait Streams {
         ensures ok { OnOk result (leads self.old (Event.Flushed ∷ []) self.new) }
         ensures err { OnErr result (leads self.old [] self.new) };
 
-    /// Nothing happens in between.
+    /// The empty list of events leads from each state to itself.
     ghost stays: { (s : Self) → leads s [] s };
 
-    /// In order: what happens first comes first.
+    /// Events that lead to a state, and then others that lead on from there, lead all the way.
     ghost joins: { (s t u : Self) (a b : List Event) → leads s a t → leads t b u → leads s (a ++ b) u };
 }

@@ -1,6 +1,7 @@
 -- The rule of images: which state an image stands for, or else the offset of its first fault. It goes over the fields
--- in the order of the format. A step gives a value and the bytes after it, or how many bytes there are from the first
--- fault on: the field whose value isn't allowed, given those before it, or none where the bytes run out.
+-- in the order of the format (`docs/formats.md`, "Image"). A step returns a value and the bytes after it; or, at the
+-- first fault, how many bytes are left from there on. A fault is a field whose value isn't allowed, given those before
+-- it, or the end of the bytes.
 use Rattle.std.specs.Prelude.{ℕ, zero, suc, ◌+◌, ◌-◌, ◌^◌, Bool, true, ◌&&◌, List, [], ◌∷◌, length, take, drop, Option, Some, None, is_some, Result, Ok, Err, nat_le, nat_lt, ◌==◌, if◌then◌else◌}
 use Rattle.std.specs.List.{list_all}
 use Rattle.std.specs.Option.{option_map}
@@ -27,7 +28,7 @@ use Rattle.fe_codes.specs.Reading.{tag_of}
 use Rattle.fe_format.specs.declared.format.Format.{Format}
 use Rattle.fe_codec.specs.declared.header.ImageHeader.{ImageHeader}
 
--- a step, and the one that goes on from its value; what follows a fault is not looked at
+-- a step, and the one that goes on from its value; nothing after a fault is looked at
 infixl 10 ◌followed_by◌
 abbrev pub ◌followed_by◌ : {A B : Type 0} → Result A ℕ → (A → Result B ℕ) → Result B ℕ
 (Ok x) followed_by f = f x
@@ -59,7 +60,7 @@ number_in w least limit bytes =
     number w bytes followed_by λ n.
     if nat_le least n.0 && nat_lt n.0 limit then Ok n else Err (length bytes)
 
--- a number above the one before it, if there is one
+-- a number above the previous one, if there is one
 abbrev pub is_after : Option ℕ → ℕ → Bool
 is_after None n = true
 is_after (Some previous) n = nat_lt previous n
@@ -74,13 +75,13 @@ header_at bytes =
     number_in w32 0 (most_sessions + 1) arrays.1 followed_by λ sessions.
     Ok (record { place = place.0; next_id = next.0; arrays = arrays.0; sessions = sessions.0 }, sessions.1)
 
--- a state with nothing in it yet
+-- the state with the header's place and next id, and no arrays and sessions
 abbrev pub starting : ImageHeader → ServerState
 starting header = record { arrays = empty; sessions = empty; next_id = header.next_id; place = header.place }
 
 -- ---- arrays
 
--- an id below the next one, above that of the array before
+-- an id below the next one, and above that of the previous array
 unfoldable pub id_at : Option ℕ → ℕ → List ℕ → Result (ℕ × List ℕ) ℕ
 id_at previous next bytes =
     number_in w64 1 next bytes followed_by λ id.
@@ -102,7 +103,7 @@ name_at format bytes =
     row (name_bytes format) n.1 followed_by λ cells.
     if is_name_row n.0 cells.0 then Ok (take n.0 cells.0, cells.1) else Err (length n.1)
 
--- a name that no array has yet; one that an array has is a fault of its length
+-- a name that no array has yet; if one has it, the fault is at the name's length
 unfoldable pub new_name_at : Format → FinMap nat_cmp Array → List ℕ → Result (List ℕ × List ℕ) ℕ
 new_name_at format arrays bytes =
     name_at format bytes followed_by λ name.
@@ -118,20 +119,20 @@ word_at bytes =
     number w64 tag.1 followed_by λ value.
     Ok (word value.0 tag.0, value.1)
 
--- a state with this word at an index of an array, and one with an array whose words are to come
+-- a state with this word at an index of an array, and a state with a new array, whose words are read afterwards
 abbrev pub with_word_at : ServerState → ℕ → ℕ → Word → ServerState
 with_word_at s array index w = with_arrays s (put_word s.arrays array index w (get s.arrays array))
 
 abbrev pub with_new_array : ServerState → ℕ → List ℕ → ℕ → ServerState
 with_new_array s id name size = with_arrays s (insert s.arrays id (new_array name size Empty))
 
--- the next word of an array, after index, state and bytes so far
+-- the next word of an array, given its index, the state and the bytes so far
 unfoldable pub next_word : ℕ → ℕ × ServerState × List ℕ → Result (ℕ × ServerState × List ℕ) ℕ
 next_word array x =
     word_at x.2 followed_by λ w.
     Ok (x.0 + 1, with_word_at x.1 array x.0 w.0, w.1)
 
--- the next array, after the id of the one before, state and bytes so far
+-- the next array, given the id of the previous one, the state and the bytes so far
 unfoldable pub next_array : Format → Option ℕ × ServerState × List ℕ → Result (Option ℕ × ServerState × List ℕ) ℕ
 next_array format x =
     id_at x.0 x.1.next_id x.2 followed_by λ id.
@@ -142,7 +143,7 @@ next_array format x =
 
 -- ---- sessions
 
--- what an entry keeps at a place: it is of this session, its number in the window and above the one before
+-- a number for which something is kept: it is in the session's window, and above the previous one
 abbrev pub is_next_number : ℕ → Option ℕ → ℕ → Bool
 is_next_number floor previous n = nat_le floor n && nat_lt n (floor + window_length) && is_after previous n
 
@@ -151,7 +152,7 @@ kept_of session floor previous place (Some (Finished owner n request answer)) =
     if owner == session && is_next_number floor previous n then Some (n, record { request = request; answer = answer; place = place }) else None
 kept_of session floor previous place _ = None
 
--- a place below the image's, and the record of what is kept, whose faults are at its first byte
+-- a place below the image's, and the record of what is kept; a fault in the record is at its first byte
 unfoldable pub kept_at : Format → ℕ → ℕ → ℕ → Option ℕ → List ℕ → Result ((ℕ × Kept) × List ℕ) ℕ
 kept_at format limit session floor previous bytes =
     number_in w64 0 limit bytes followed_by λ place.
@@ -159,7 +160,7 @@ kept_at format limit session floor previous bytes =
     or_fault (length place.1) (kept_of session floor previous place.0 (record_entry format cells.0)) followed_by λ kept.
     Ok (kept, cells.1)
 
--- a state that keeps this, and one with a session whose kept answers are to come
+-- a state that keeps this, and a state with a new session, whose kept answers are read afterwards
 abbrev pub with_kept : ServerState → ℕ → ℕ × Kept → ServerState
 with_kept s session k =
     with_sessions s (put_session s.sessions session (option_map (λ x. keeping x k.0 k.1) (get s.sessions session)))
@@ -167,19 +168,19 @@ with_kept s session k =
 abbrev pub with_new_session : ServerState → ℕ → ℕ → ServerState
 with_new_session s session floor = with_sessions s (insert s.sessions session (record { floor = floor; kept = empty }))
 
--- the next kept answer of a session, after the number of the one before, state and bytes so far
+-- the next kept answer of a session, given the number of the previous one, the state and the bytes so far
 unfoldable pub next_kept : Format → ℕ → ℕ → Option ℕ × ServerState × List ℕ → Result (Option ℕ × ServerState × List ℕ) ℕ
 next_kept format session floor x =
     kept_at format x.1.place session floor x.0 x.2 followed_by λ kept.
     Ok (Some kept.0.0, with_kept x.1 session kept.0, kept.1)
 
--- a session above the one before
+-- a session with a number above the previous one
 unfoldable pub session_at : Option ℕ → List ℕ → Result (ℕ × List ℕ) ℕ
 session_at previous bytes =
     number w64 bytes followed_by λ session.
     if is_after previous session.0 then Ok session else Err (length bytes)
 
--- the next session, after the number of the one before, state and bytes so far
+-- the next session, given the number of the previous one, the state and the bytes so far
 unfoldable pub next_session : Format → Option ℕ × ServerState × List ℕ → Result (Option ℕ × ServerState × List ℕ) ℕ
 next_session format x =
     session_at x.0 x.2 followed_by λ session.
@@ -190,12 +191,12 @@ next_session format x =
 
 -- ---- images
 
--- nothing follows
+-- the state, if no bytes follow
 abbrev pub ended : ServerState → List ℕ → Result ServerState ℕ
 ended s [] = Ok s
 ended s (b ∷ bytes) = Err (length (b ∷ bytes))
 
--- the state, or how many bytes there are from the first fault on
+-- the state, or how many bytes are left from the first fault on
 unfoldable pub state_at : Format → List ℕ → Result ServerState ℕ
 state_at format bytes =
     header_at bytes followed_by λ header.
@@ -203,7 +204,7 @@ state_at format bytes =
     repeated (next_session format) header.0.sessions (None, arrays.1, arrays.2) followed_by λ sessions.
     ended sessions.1 sessions.2
 
--- an offset is counted from the first byte
+-- a fault's offset, counted from the first byte of the image, given how many bytes are left from it on
 abbrev pub error_at_offset : {A : Type 0} → ℕ → Result A ℕ → Result A ℕ
 error_at_offset size (Ok x) = Ok x
 error_at_offset size (Err left) = Err (size - left)

@@ -1,4 +1,4 @@
--- The one spelling of each state as an image, and which states have one in a format.
+-- The one spelling of each server state as an image, and which states have one in a format (`docs/formats.md`, "Image").
 use Rattle.std.specs.Prelude.{ℕ, ◌^◌, ◌<◌, List, ◌∷◌, ◌++◌, length, flat_map}
 use Rattle.std.specs.List.{AllByRecursion}
 use Rattle.std.specs.Int.{w32, w64, to_be_bytes}
@@ -15,16 +15,16 @@ use Rattle.fe_codec.specs.Record.{entry_spelling, name_field, IsShort, IsOfForma
 use Rattle.fe_format.specs.declared.format.Format.{Format}
 use Rattle.fe_format.specs.declared.format.Format.TheVariants.{One, Two}
 
--- a word: its tag and its value
+-- the bytes of a word: its tag and its value
 abbrev pub word_spelling : Word → List ℕ
 word_spelling w = tag_code w.tag ∷ to_be_bytes w64 w.value
 
--- an array: id, name, length, and the words
+-- the bytes of an array: its id, name and length, and its words
 abbrev pub array_spelling : Format → ℕ × Array → List ℕ
 array_spelling format e =
     to_be_bytes w64 e.0 ++ name_field format e.1.name ++ to_be_bytes w32 (length e.1.words) ++ flat_map word_spelling e.1.words
 
--- what is kept for a number is the record of its entry after the entry's place
+-- an answer that is kept for a number is spelled as its entry's place and its entry's record
 abbrev pub entry_of_kept : ℕ → ℕ × Kept → Entry
 entry_of_kept session e = Finished session e.0 e.1.request e.1.answer
 
@@ -35,12 +35,12 @@ kept_spelling format session e = to_be_bytes w64 e.1.place ++ entry_spelling for
 abbrev pub KeptOfFormat : Format → ℕ → ℕ × Kept → Type 0
 KeptOfFormat format session e = IsOfFormat format (entry_of_kept session e)
 
--- a session: its number, its floor, how many answers are kept, and these
+-- the bytes of a session: its number, its floor, how many answers are kept, and these
 abbrev pub session_spelling : Format → ℕ × Session → List ℕ
 session_spelling format e =
     to_be_bytes w64 e.0 ++ to_be_bytes w64 e.1.floor ++ to_be_bytes w32 (len e.1.kept) ++ flat_map (kept_spelling format e.0) (entries e.1.kept)
 
--- an image: place, next id, how many arrays and sessions, and these
+-- an image: place, next array id, how many arrays and how many sessions there are, and these
 abbrev pub image_spelling : Format → ServerState → List ℕ
 image_spelling format s =
     to_be_bytes w64 s.place ++ to_be_bytes w64 s.next_id ++ to_be_bytes w32 (len s.arrays) ++ to_be_bytes w32 (len s.sessions)
@@ -63,7 +63,7 @@ abbrev pub StateOfFormat : Format → ServerState → Type 0
 StateOfFormat One s = HasRoomForState One s
 StateOfFormat Two s = Unit {0}
 
--- the words of an array, and the fields of a session and of what it keeps, fit the bytes that they have
+-- the words of an array, the fields of a session and those of what it keeps fit into the bytes that an image has for them
 abbrev pub ArrayFits : ℕ × Array → Type 0
 ArrayFits e = AllByRecursion (λ w. w.value < 2 ^ 64) e.1.words
 

@@ -1,4 +1,4 @@
--- What stays as it was while parts of an image are loaded.
+-- What loading a part of an image, the bytes of a server state, leaves as it was.
 use Rattle.std.specs.Prelude.{◌≡◌, ℕ, Option, None, IsSome, true}
 use Rattle.std.specs.Ordering.{nat_cmp}
 use Rattle.std.specs.FinMap.{FinMap, get, len}
@@ -6,16 +6,16 @@ use Rattle.fe_state.specs.Directory.{word_in}
 use Rattle.fe_state.specs.declared.array.Array.{Array}
 use Rattle.fe_codec.specs.FirstFault.{is_after}
 
--- no key above the one before is in the map yet
+-- the map has no key above the previous one yet
 abbrev pub HasNoneAfter : {X : Type 0} → Option ℕ → FinMap nat_cmp X → Type 0
 HasNoneAfter previous m = (q : ℕ) → is_after previous q ≡ true → get m q ≡ None
 
--- no key comes
+-- no key is added
 pub record KeepsKeys {X : Type 0} (old new : FinMap nat_cmp X) : Type 0 where
   pub free : (q : ℕ) → get old q ≡ None → get new q ≡ None
   pub count : len new ≡ len old
 
--- no array comes, and no word goes
+-- no array is added, and no word is removed
 pub record KeepsIds (old new : FinMap nat_cmp Array) : Type 0 where
   pub keys : KeepsKeys old new
   pub words : (id i : ℕ) → IsSome (word_in (get old id) i) → IsSome (word_in (get new id) i)

@@ -1,4 +1,4 @@
--- The one spelling of each entry as a record, and which entries have one.
+-- The one spelling of each entry, a step of the history, as a record; which entries have one (`docs/formats.md`, "Entry record").
 use Rattle.std.specs.Prelude.{◌≡◌, ℕ, ◌-◌, ◌*◌, ◌%◌, ◌<◌, ◌≤◌, ◌^◌, Bool, true, false, List, [], ◌∷◌, ◌++◌, length, replicate, flat_map}
 use Rattle.std.specs.List.{AllByRecursion}
 use Rattle.std.specs.Int.{w32, w64, to_be_bytes}
@@ -79,19 +79,19 @@ abbrev pub IsOfFormat : Format → Entry → Type 0
 IsOfFormat One entry = entry_fits_format_1 entry ≡ true
 IsOfFormat Two entry = Unit {0}
 
--- a name that the format's row has room for, where 32 bytes are the most
+-- a name that the field of names in the format has room for, if it has at most 32 bytes
 abbrev pub IsShort : Format → List ℕ → Type 0
 IsShort One name = length name ≤ 16
 IsShort Two name = Unit {0}
 
--- the same of the name in a request, if it has one
+-- the format has room for the name in a request, if it has one
 abbrev pub HasRow : Format → Request → Type 0
 HasRow format (Create name size tag) = IsShort format name
 HasRow format (Find name) = IsShort format name
 HasRow format (Remove array) = Unit {0}
 HasRow format (Access array index op no_wait) = Unit {0}
 
--- the same of an entry's request, if it has one
+-- the format has room for the name in an entry's request, if it has one
 abbrev pub HasRoomForEntry : Format → Entry → Type 0
 HasRoomForEntry format (Attached session floor) = Unit {0}
 HasRoomForEntry format (Closed session) = Unit {0}
@@ -110,14 +110,14 @@ pub record CanPut (format : Format) (entry : Entry) : Type 0 where
   pub of_format : IsOfFormat format entry
   pub numbered : IsNumbered entry
 
--- each field of a request fits the bytes that it has
+-- each field of a request fits into the bytes that a record has for it
 abbrev pub RequestFits : Request → Type 0
 RequestFits (Create name size tag) = (length name ≤ longest_name) × (size < 2 ^ 32)
 RequestFits (Find name) = length name ≤ longest_name
 RequestFits (Remove array) = array < 2 ^ 64
 RequestFits (Access array index op no_wait) = (array < 2 ^ 64) × (index < 2 ^ 32) × (operand_of op < 2 ^ 64)
 
--- each field of an entry fits the bytes that it has
+-- each field of an entry fits into the bytes that a record has for it
 abbrev pub FieldsFit : Entry → Type 0
 FieldsFit (Attached session floor) = session < 2 ^ 64
 FieldsFit (Closed session) = session < 2 ^ 64
@@ -139,7 +139,7 @@ group_spelling format entries = flat_map (entry_spelling format) entries
 abbrev pub FitsGroup : Format → List Entry → Type 0
 FitsGroup format entries = AllByRecursion (FitsRecord format) entries
 
--- how many bytes a group may have: those of whole records, of one at least
+-- the lengths that a group may have, in bytes: those of whole records, and of one at least
 pub record IsGroupSize (format : Format) (size : ℕ) : Type 0 where
   pub whole : size % record_bytes format ≡ 0
   pub least : record_bytes format ≤ size

@@ -1,4 +1,4 @@
-//! Fields appended to bytes.
+//! Appending fields to a vector of bytes, for which there is room.
 
 ghost use Rattle.std.specs.Prelude.{◌≡◌, ◌∷◌, ◌<◌, ◌^◌, [], flat_map, is_ok, OnOk, vec_capacity};
 ghost use Rattle.std.specs.List.{AllByRecursion};

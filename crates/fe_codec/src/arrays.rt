@@ -1,4 +1,4 @@
-//! Arrays of images, read.
+//! Reading the arrays of an image, the bytes of a server state (`docs/formats.md`, "Image").
 
 ghost use Rattle.std.specs.Prelude.{◌≡◌, ℕ, ◌+◌, ◌-◌, ◌≤◌, ◌<◌, ◌&&◌, not, false, ◌==◌, take, if◌then◌else◌, nat_le, nat_lt, true, length, is_some, IfOk, OnOk, IsSome, None};
 ghost use Rattle.std.specs.List.{list_all};
@@ -204,7 +204,7 @@ fn load_words<'a>(
     Ok(rest)
 }
 
-/// Loads the next array, whose id is above the one before it.
+/// Loads the next array, whose id is above that of the previous one.
 #[tactic(auto, unfolding(crate::specs::FirstFault::next_array))]
 fn next_array<'a>(
     format: Format,

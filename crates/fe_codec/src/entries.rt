@@ -1,4 +1,4 @@
-//! Entries and groups of them as records.
+//! Entries, the steps of the history, as records (`docs/formats.md`, "Entry record").
 
 ghost use Rattle.std.specs.Prelude.{◌≡◌, ◌+◌, ◌<◌, ◌≤◌, ◌↔◌, ◌++◌, length, Some, IfSome, IsSome, OnOk, OnErr, IsOk, IsTrue, vec_len, vec_capacity};
 ghost use Rattle.fe_format.specs.Layout.{record_bytes};
@@ -15,8 +15,8 @@ use std::alloc::AllocError;
 /// Numbers and floors are below this.
 const NUMBER_LIMIT: u64 = 1 << 63;
 
-/// Appends the record of an entry, whose number or floor is below 2^63. `AllocError` if the spare room
-/// doesn't hold it and memory runs out. Then nothing is appended.
+/// Appends the record of an entry, whose number or floor is below 2^63. Returns `AllocError`, with nothing appended, if
+/// the vector's spare room doesn't hold the record and memory runs out.
 pub fn put_entry(format: Format, entry: &Entry, out: &mut Vec<u8>) -> Result<(), AllocError>
     requires { CanPut format entry.now }
     ensures ok { OnOk result (out.new.items ≡ out.old.items ++ entry_spelling format entry.now) }

@@ -1,4 +1,4 @@
-//! Entries from their records. Unused bytes are not read here.
+//! Reading an entry, a step of the history, from its record, without a look at the record's unused bytes.
 
 ghost use Rattle.std.specs.Prelude.{◌≡◌, length};
 ghost use Rattle.fe_format.specs.Layout.{record_bytes};
@@ -81,7 +81,7 @@ fn finished_of(format: Format, bytes: &[u8]) -> Option<Entry>
     })
 }
 
-/// The only entry that the record may spell. It does so if the entry's spelling is the record.
+/// The only entry that the bytes may be the record of. They are, if they equal the entry's spelling.
 #[tactic(auto, unfolding(crate::specs::Reading::entry_of))]
 pub fn entry_of(format: Format, bytes: &[u8]) -> Option<Entry>
     requires { length bytes.now ≡ record_bytes format }

@@ -1,4 +1,4 @@
-//! The fields of a record, by their offsets.
+//! Reading the fields of a record, the bytes of an entry, each at its offset (`docs/formats.md`, "Entry record").
 
 ghost use Rattle.std.specs.Prelude.{◌≡◌, length};
 ghost use Rattle.fe_format.specs.Layout.{record_bytes};

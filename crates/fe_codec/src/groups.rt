@@ -1,4 +1,4 @@
-//! Groups of entries as the payloads of the journal.
+//! Groups of entries, which are stored at once, as the payloads of the journal: the records of the entries, one after another.
 
 ghost use Rattle.std.specs.Prelude.{◌≡◌, ℕ, ◌+◌, ◌*◌, ◌<◌, ◌≤◌, ◌↔◌, ◌++◌, List, length, Some, IfSome, IsSome, IfOk, OnOk, OnErr, IsOk, IsTrue, vec_len, vec_capacity};
 ghost use Rattle.std.specs.List.{AllByRecursion};
@@ -37,8 +37,8 @@ fn append_entries(format: Format, entries: &[Entry], out: &mut Vec<u8>)
     }
 }
 
-/// Appends the records of entries, one after another. `AllocError` if the spare room doesn't hold them and
-/// memory runs out. Then nothing is appended.
+/// Appends the records of entries, one after another. Returns `AllocError`, with nothing appended, if the vector's
+/// spare room doesn't hold them and memory runs out.
 pub fn put_group(format: Format, entries: &[Entry], out: &mut Vec<u8>) -> Result<(), AllocError>
     requires each { AllByRecursion (CanPut format) entries.now }
     requires most { length entries.now ≤ group_records format }
@@ -101,8 +101,8 @@ fn read_entries(
     Ok(Some(entries))
 }
 
-/// The entries of a group: 1 to `group_records` records of the format, one after another. `None` if the bytes
-/// are no group, and `AllocError` if memory runs out.
+/// The entries of a group: 1 to `group_records` records of the format, one after another. `None` if the bytes are no
+/// group. `AllocError` if memory runs out.
 pub fn read_group(
     alloc: Global,
     format: Format,

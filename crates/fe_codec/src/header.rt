@@ -1,4 +1,4 @@
-//! Numbers at the front of bytes, and the header of an image.
+//! Reading numbers at the front of bytes, and the header of an image (`docs/formats.md`, "Image").
 
 ghost use Rattle.std.specs.Prelude.{◌≡◌, ◌+◌, ◌^◌, ◌≤◌, ◌<◌, ◌≢◌, IfOk, IfErr, length};
 ghost use Rattle.std.specs.Int.{w32, w64};
@@ -85,7 +85,7 @@ pub fn u64_in(least: u64, limit: u64, bytes: &[u8]) -> Result<(u64, &[u8]), Faul
     }
 }
 
-/// Whether a number is above the one before it, if there is one.
+/// Whether a number is above the previous one, if there is one.
 pub fn is_after(previous: Option<u64>, number: u64) -> bool
     ensures { result ≡ is_after previous number }
 {

@@ -1,4 +1,4 @@
-//! Laws of the grammar, which hold of entries, groups and states apart from any code; and the limits that the code has.
+//! Laws of the grammar, which hold of entries, groups and states apart from any code.
 
 ghost use Rattle.std.specs.Prelude.{◌≡◌, ◌+◌, ◌^◌};
 ghost use Rattle.fe_codec.specs.Laws.{EntryHasOneSpelling, GroupHasOneSpelling, ImageIsSpelled, SpellingIsRead, ImageHasOneSpelling};
@@ -35,7 +35,7 @@ pub fn one_image_spelling()
     ensures { ImageHasOneSpelling }
 {}
 
-/// The code's constants are the limits of an image's fields, each 1 above the greatest value, and the longest record.
+/// The constants are the definitions' limits: those of an image's fields, each 1 above the greatest value, and the longest record.
 pub fn limits_are()
     ensures place { PLACE_LIMIT ≡ greatest_place + 1 }
     ensures arrays { ARRAY_LIMIT ≡ most_arrays + 1 }

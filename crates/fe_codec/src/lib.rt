@@ -1,4 +1,4 @@
-//! Entries, groups of them and images of the state as bytes, in both store formats.
+//! Entries, groups of entries, and images of the state as bytes, in both store formats (`docs/formats.md`).
 #![tactic(auto)]
 
 mod appending;

@@ -1,4 +1,4 @@
-//! Images of states, read.
+//! Reading a server state from its image (`docs/formats.md`, "Image").
 
 ghost use Rattle.std.specs.Prelude.{◌≡◌, ℕ, ◌≤◌, length, Err, IsOk, IfOk};
 ghost use Rattle.fe_codec.specs.FirstFault.{header_at, ended, state_at, image_at};
@@ -24,7 +24,7 @@ fn state_at(alloc: Global, format: Format, bytes: &[u8]) -> Result<State, Fault>
     let mut state = State::starting(alloc, header.place, header.next_id)?;
     let (_, rest) = read_arrays(format, header.arrays, &mut state, rest)?;
     let (_, rest) = read_sessions(format, header.sessions, &mut state, rest)?;
-    // It names the state's limits.
+    // The call of `place` says that the state is within its limits.
     let _ = state.place();
     if rest.is_empty() {
         Ok(state)
@@ -60,7 +60,7 @@ pub fn read_image(alloc: Global, format: Format, bytes: &[u8]) -> Result<State, 
     // Every image of a state is read, unless memory runs out.
     ensures only { (state : ServerState) → FitsImage format state → bytes.now ≡ image_spelling format state
         → ImageGives result (Ok state) }
-    // Which state it is, and which fault.
+    // The state is the one of the rule of images, and so is the fault.
     ensures exact { ImageGives result (image_at format bytes.now) }
     // The offset of a fault lies within the image, or at its end.
     ensures within { (offset : ℕ) → result ≡ Err (ImageFault.Damaged offset) → offset ≤ length bytes.now }

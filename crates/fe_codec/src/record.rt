@@ -29,7 +29,7 @@ fn put_name(fields: &mut Record, format: Format, name: &Name)
     fields.put(&[0; NAME_BYTES][bytes.len()..format.name_bytes()]);
 }
 
-/// A name as images have it: its length and its row.
+/// A name as images have it: its length, and its bytes with zeros after them.
 pub fn name_record(format: Format, name: &Name) -> Record
     requires { IsShort format name.now }
     ensures { result ≡ name_field format name.now }
@@ -50,7 +50,7 @@ fn put_array(fields: &mut Record, format: Format, array: u64, operand: u64)
     fields.put(&[0; NAME_BYTES][16..format.name_bytes()]);
 }
 
-/// What a request names, and its length or index.
+/// Appends what a request names, and its length or index.
 fn put_request(fields: &mut Record, format: Format, request: &Request)
     requires room { length fields.old + 36 ≤ record_bytes Two }
     requires row { HasRow format request.now }
@@ -122,7 +122,7 @@ fn finished_record(
     record
 }
 
-/// The record of an entry. If it has a name, that is no longer than a row of the format.
+/// The record of an entry. If it has a name, the format's field of names has room for it.
 pub fn record_of(format: Format, entry: &Entry) -> Record
     requires { HasRoomForEntry format entry.now }
     ensures bytes { result ≡ entry_spelling format entry.now }

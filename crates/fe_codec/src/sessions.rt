@@ -1,4 +1,4 @@
-//! Sessions of images, read.
+//! Reading the sessions of an image, the bytes of a server state (`docs/formats.md`, "Image").
 
 ghost use Rattle.std.specs.Prelude.{◌≡◌, ℕ, ◌+◌, ◌-◌, ◌^◌, ◌≤◌, ◌<◌, true, IfOk, IfSome, OnOk, Some, None};
 ghost use Rattle.std.specs.Option.{option_map};
@@ -21,7 +21,7 @@ const FLOOR_LIMIT: u64 = GREATEST_FLOOR + 1;
 /// Fewer answers than this are kept.
 const KEPT_LIMIT: u32 = WINDOW as u32 + 1;
 
-/// Whether a number is in the window, and above the one before it.
+/// Whether a number is in the window, and above the previous one.
 fn is_next_number(floor: u64, previous: Option<u64>, number: u64) -> bool
     requires { floor < 2 ^ 63 }
     ensures { result ≡ is_next_number floor previous number }
@@ -155,7 +155,7 @@ fn session_at(previous: Option<u64>, bytes: &[u8]) -> Result<(u64, &[u8]), Fault
     }
 }
 
-/// Loads the next session, whose number is above the one before it.
+/// Loads the next session, whose number is above that of the previous one.
 #[tactic(auto, unfolding(crate::specs::FirstFault::next_session))]
 fn next_session<'a>(
     format: Format,

@@ -1,4 +1,4 @@
-//! Images of states, written.
+//! Writing the image of a server state (`docs/formats.md`, "Image").
 
 ghost use Rattle.std.specs.Prelude.{◌≡◌, ◌+◌, ◌^◌, ◌<◌, ◌≤◌, ◌++◌, length, flat_map, is_ok, OnOk, OnErr, IsOk, Some, slice_get, vec_len, vec_capacity};
 ghost use Rattle.std.specs.FinMap.{entries};
@@ -71,7 +71,7 @@ fn put_kept(
     put_bytes(out, record_of(format, &entry).bytes())
 }
 
-/// What is kept for the numbers of a session.
+/// Appends what is kept for the numbers of a session.
 fn put_answers(
     format: Format,
     session: u64,
@@ -135,8 +135,8 @@ fn put_state(format: Format, state: &State, out: &mut Vec<u8>) -> Result<(), All
     put_sessions(format, state, out)
 }
 
-/// Appends the image of a state. `AllocError` if the spare room doesn't hold it and memory runs out. Then
-/// nothing is appended.
+/// Appends the image of a state. Returns `AllocError`, with nothing appended, if the vector's spare room doesn't hold
+/// it and memory runs out.
 pub fn put_image(format: Format, state: &State, out: &mut Vec<u8>) -> Result<(), AllocError>
     requires { StateOfFormat format state.now }
     ensures ok { OnOk result (out.new.items ≡ out.old.items ++ image_spelling format state.now) }

@@ -1,4 +1,4 @@
--- The codes of tags, operations and answers, and the numbers that go with them.
+-- The codes of tags, operations and answers in records and frames, and the numbers with them (`docs/formats.md`, "Codes").
 use Rattle.std.specs.Prelude.{ℕ}
 use Rattle.fe_words.specs.declared.word.Tag.{Tag}
 use Rattle.fe_words.specs.declared.word.Tag.TheVariants.{Full, Empty}

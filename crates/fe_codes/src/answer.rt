@@ -1,4 +1,4 @@
-//! The codes of answers, and the numbers that they carry.
+//! The codes of answers to requests, and the numbers that they carry (`docs/formats.md`, "Codes").
 
 ghost use Rattle.std.specs.Prelude.{◌≡◌};
 ghost use Rattle.fe_codes.specs.Codes.{answer_code, answer_number, answer_length};

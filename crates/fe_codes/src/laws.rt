@@ -1,4 +1,4 @@
-//! Each code is read as exactly what it encodes.
+//! Laws of the codes: each is read as exactly what it encodes.
 
 ghost use Rattle.fe_codes.specs.Laws.{TagsAreTheirCodes, OpsAreTheirCodes, AnswersAreTheirCodes};
 

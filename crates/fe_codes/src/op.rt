@@ -1,4 +1,4 @@
-//! The codes of operations, and their operands.
+//! The codes of operations on words, and their operands (`docs/formats.md`, "Codes").
 
 ghost use Rattle.std.specs.Prelude.{◌≡◌};
 ghost use Rattle.fe_codes.specs.Codes.{op_code, operand_of};

@@ -1,4 +1,4 @@
-//! The codes of tags.
+//! The codes of tags, which say whether a word is full or empty (`docs/formats.md`, "Codes").
 
 ghost use Rattle.std.specs.Prelude.{◌≡◌};
 ghost use Rattle.fe_codes.specs.Codes.{tag_code};

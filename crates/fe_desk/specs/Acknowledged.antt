@@ -1,4 +1,4 @@
--- What the answers that go out are on, whatever the steps of a desk answer.
+-- What the answers stand on that a desk writes, whatever its steps answer: the groups of entries that are stored.
 use Rattle.std.specs.Prelude.{◌≡◌, ℕ, ◌+◌, Bool, true, false, List, [], ◌∷◌, ◌++◌, length, take, is_some, Some, IfSome, Contains, Result}
 use Rattle.std.specs.List.{flat_map, AllByRecursion}
 use Rattle.fe_state.specs.State.{ServerState, IsWithinLimits, after_all}
@@ -31,9 +31,9 @@ use Rattle.fe_disk.specs.declared.disk.Disk.{Ghosts}
 abbrev pub entries_of : List (List Entry) → List Entry
 entries_of groups = flat_map (λ group. group) groups
 
--- What a mail to a connection says of the history is in the groups that were stored, and of a session that the connection may
--- ask for: the entry of the session, or an answer with its place, where that was not kept already. A refusal, a withdrawal and
--- a report say nothing of it.
+-- What a mail to a connection says of the history is in the groups that were stored, and of a session that the connection may ask
+-- for: it is the entry of the session, or an answer with its place, unless that was kept already. A refusal, a withdrawal and a
+-- report say nothing of the history.
 abbrev pub StandsOn : ServerState → List (List Entry) → (ℕ → Bool) → Mail → Type 0
 StandsOn begun groups asked (mail.Welcome session floor) = (asked session ≡ true) × Contains (entries_of groups) (Attached session floor)
 StandsOn begun groups asked (mail.Answer session number answer place) =
@@ -44,7 +44,7 @@ StandsOn begun groups asked (mail.Settled floor) = (session : ℕ) × (asked ses
 StandsOn begun groups asked (mail.Goodbye session) = (asked session ≡ true) × Contains (entries_of groups) (Closed session)
 StandsOn begun groups asked (mail.Report text) = Unit {0}
 
--- What was written to a client is the spelling of mails, and a reply that waits is that of one; each of them is on the groups.
+-- What was written to a client is the spelling of mails, and so is a reply that waits; each of these mails stands on the groups.
 pub record IsWritten (begun : ServerState) (groups : List (List Entry)) (asked : ℕ → ℕ → Bool) (c : Client) : Type 0 where
   pub mails : List Mail
   pub stand : AllByRecursion (StandsOn begun groups (asked c.conn)) mails
@@ -55,29 +55,29 @@ pub record IsWritten (begun : ServerState) (groups : List (List Entry)) (asked :
 abbrev pub stored_groups : {D : Type 0} → DeskState D → List (List Entry)
 stored_groups d = take d.synced d.run_state.groups
 
--- All that was written in a run is on these groups.
+-- All that was written in a run stands on these groups.
 abbrev pub AnswersStand : ServerState → List (List Entry) → (ℕ → ℕ → Bool) → DeskRunState → Type 0
 AnswersStand begun groups asked s = AllByRecursion (IsWritten begun groups asked) s.clients
 
 -- ---- what is asked for
 
--- a message asks for a session only where its connection may ask for it
+-- the message asks for a session only if its connection may ask for it
 abbrev pub AsksFor : (ℕ → Bool) → ClientMessage → Type 0
 AsksFor asked m = AsksOnly (λ session. asked session ≡ true) m
 
--- so does each message that a step's bytes complete
+-- each message that a step's bytes complete asks for a session only if its connection may ask for it
 abbrev pub StepAsksFor : {D : Type 0} → (ℕ → ℕ → Bool) → DeskState D → Step → Type 0
 StepAsksFor asked d (step.Bytes conn piece) = (before after : Decoding) (more : List ClientMessage) → read_by d.run_state conn ≡ Some before
     → Reads before after piece.items more → AllByRecursion (AsksFor (asked conn)) more
 StepAsksFor asked d other = Unit {0}
 
--- Where every connection may ask for every session, no step asks for another.
+-- If every connection may ask for every session, no step asks for another.
 abbrev pub AnySessionMayBeAsked : Type 0 → Type 0
 AnySessionMayBeAsked D = (d : DeskState D) (x : Step) → StepAsksFor (λ conn session. true) d x
 
 -- ---- what each step keeps
 
--- the entries that are made and not stored: those of a batch that is cut, then those that are pending
+-- the entries of the batch that is cut and not stored
 abbrev pub cut_entries : Handed → List Entry
 cut_entries Nothing = []
 cut_entries (Cut batch) = batch.entries
@@ -87,23 +87,23 @@ cut_entries (Stored batch) = []
 abbrev pub made_entries : List (List Entry) → Handed → FrontState → List Entry
 made_entries groups handed f = entries_of groups ++ (cut_entries handed ++ f.service.pending)
 
--- the batch is the last of the groups, and begins at the mark
+-- the batch is the last of the groups, and begins at the mark, the number of entries that are posted
 pub record IsLast (begun : ServerState) (groups : List (List Entry)) (durable : ℕ) (batch : Batch) : Type 0 where
   pub before : List (List Entry)
   pub groups_are : groups ≡ before ++ batch.entries ∷ []
   pub first : batch.first ≡ durable
   pub mark : durable ≡ begun.place + length (entries_of before)
 
--- the mark comes after the groups that were posted; a batch is out where one is on its way
+-- The mark comes after the groups that were posted. A batch is out if it is on its way: cut and not posted.
 abbrev pub IsOnItsWay : ServerState → List (List Entry) → FrontState → Handed → Type 0
 IsOnItsWay begun groups f Nothing = f.durable ≡ begun.place + length (entries_of groups)
 IsOnItsWay begun groups f (Cut batch) = (f.durable ≡ begun.place + length (entries_of groups)) × (is_some f.out ≡ true) × (batch.first ≡ f.durable)
 IsOnItsWay begun groups f (Stored batch) = IsLast begun groups f.durable batch × (is_some f.out ≡ true)
 
--- A desk over a state that was opened, whatever its steps answered: each answer that was written is on the groups that are
--- stored. The other fields are what a step needs to keep it so. Each mail in a box is on these groups; a connection has only
--- sessions that it may ask for; the front is ahead of the groups by what was made since, each entry of it answered as the
--- table says; and only what is stored is posted.
+-- A desk over a state that was opened, whatever its steps answered: each answer that was written stands on the groups that are
+-- stored. The other fields are what a step needs to keep it so. Each mail in a box stands on these groups; a connection has only
+-- sessions that it may ask for; the front is ahead of the groups by what was made since, with each of these entries answered as
+-- the operation table says; and only what is stored is posted.
 pub record IsAcknowledged {D : Type 0} (begun : ServerState) (asked : ℕ → ℕ → Bool) (d : DeskState D) : Type 0 where
   pub answers : AnswersStand begun (stored_groups d) asked d.run_state
   pub boxed : (conn : ℕ) → AllByRecursion (StandsOn begun (stored_groups d) (asked conn)) (mails_on d.run_state.front.connections conn)
@@ -115,13 +115,13 @@ pub record IsAcknowledged {D : Type 0} (begun : ServerState) (asked : ℕ → �
   pub way : IsOnItsWay begun (stored_groups d) d.run_state.front d.run_state.handed
   pub all : d.keeper.store.has_failed ≡ false → d.synced ≡ length d.run_state.groups
 
--- steps one after another, each with its answer, which ask for such sessions alone
+-- steps one after another, each with its answer, that ask only for sessions that their connections may ask for
 abbrev pub AreStepsFor : {D : Type 0} → Ghosts D → (ℕ → ℕ → Bool) → DeskState D → List (Step × Result (Unit {0}) DeskFault) → DeskState D → Type 0
 AreStepsFor model asked old [] new = new ≡ old
 AreStepsFor {D} model asked old (given ∷ more) new =
     (mid : DeskState D) × StepAsksFor asked old given.0 × IsStep model old given.0 given.1 mid × AreStepsFor model asked mid more new
 
--- so is a desk that was opened, and what any steps make of it
+-- after any steps of a desk that was opened, its answers stand on stored groups, as `IsAcknowledged` says
 abbrev pub AcknowledgedStand : {D : Type 0} → Ghosts D → Type 0
 AcknowledgedStand {D} model = (begun : ServerState) (asked : ℕ → ℕ → Bool) (first last : DeskState D) (steps : List (Step × Result (Unit {0}) DeskFault)) → IsWithinLimits begun
     → IsFirstRunState begun first.run_state → first.synced ≡ 0 → AreStepsFor model asked first steps last → IsAcknowledged begun asked last

@@ -1,13 +1,13 @@
--- A desk whose trace begins anew.
+-- A desk whose trace, the record of what was stored and written, begins anew.
 use Rattle.std.specs.Prelude.{[], map}
 use Rattle.fe_desk.specs.Crash.{DeskState}
 use Rattle.fe_desk.specs.DeskRunState.{Client, DeskRunState}
 
--- a client to which nothing is written
+-- the client, with nothing written to it
 abbrev pub unwritten_to : Client → Client
 unwritten_to c = record c { written = [] }
 
--- no group is there, and nothing is written to a client
+-- the run, with no group and nothing written to a client
 abbrev pub anew : DeskRunState → DeskRunState
 anew s = record s { groups = []; clients = map unwritten_to s.clients }
 

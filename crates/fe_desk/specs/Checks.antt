@@ -1,4 +1,4 @@
--- What the steps do to the store.
+-- What the steps of a desk do to its store.
 use Rattle.std.specs.Prelude.{◌≡◌, List, [], ◌∷◌, ◌++◌, length, MatchBool}
 use Rattle.fe_codec.specs.Image.{image_spelling}
 use Rattle.fe_format.specs.declared.format.Format.TheVariants.{Two}
@@ -15,7 +15,7 @@ IsStoreNow is now = now ≡ record is { disk = now.disk }
 
 -- ---- groups
 
--- a group is appended, with room made for it where there is none, and the replica goes on by it
+-- a group is appended, after room is made for it if there is none, and the replica has its entries
 pub record IsAppended {D : Type 0} (old : KeeperState D) (group : List Entry) (new : KeeperState D) : Type 0 where
   pub state : new.state ≡ after_all old.state group
   pub store : IsStoreNow (appended (made_room old.store group) group) new.store
@@ -33,7 +33,7 @@ pub record StoresMore {D : Type 0} (old new : DeskState D) : Type 0 where
 
 -- ---- steps
 
--- A checkpoint is begun where one can be, with the image of the replica; a slice of it is written; it is finished. Bytes and
+-- A checkpoint is begun if one can be, with the image of the replica; a slice of it is written; it is finished. Bytes and
 -- `Append` append the groups that they add, and nothing else. The other steps leave the keeper as it is.
 abbrev pub Checks : {D : Type 0} → Step → DeskState D → DeskState D → Type 0
 Checks step.CheckBegin old new =

@@ -1,4 +1,4 @@
--- What a stop leaves of a desk's store.
+-- What a stop leaves of a desk's store. A desk is the front, its connections' streams and the keeper of a store, in one thread.
 use Rattle.std.specs.Prelude.{◌≡◌, ◌↔◌, ℕ, ◌≤◌, true, false, List, ◌++◌, take}
 use Rattle.fe_disk.specs.Runs.{LeavesOnly}
 use Rattle.fe_state.specs.State.{ServerState}
@@ -34,8 +34,8 @@ pub record IsFrom {D : Type 0} (begun : ServerState) (d : DeskState D) : Type 0 
   pub history : IsHistory begun d.run_state.groups
   pub replica : d.keeper.state ≡ after_groups begun (take d.synced d.run_state.groups)
 
--- Calls go on with the store: the groups get more after them, no fewer are stored, and at every moment each image that a
--- stop leaves stands for a prefix of the history, which holds all groups that were stored before.
+-- Calls of the store are made: the groups get more after them, no fewer are stored, and at every moment each image that a stop
+-- leaves stands for a prefix of the history with all groups that were stored before.
 pub record Advances {D : Type 0} (model : Ghosts D) (old new : DeskState D) : Type 0 where
   pub more : List (List Entry)
   pub groups : new.run_state.groups ≡ old.run_state.groups ++ more
@@ -47,7 +47,7 @@ pub record Advances {D : Type 0} (model : Ghosts D) (old new : DeskState D) : Ty
 
 -- ---- what calls answer of the store
 
--- what the keeper's fault says, where it had not failed
+-- what the keeper's fault says, if the keeper had not failed before
 abbrev pub TellsCall : {D : Type 0} → Ghosts D → DeskState D → DeskState D → Fault → Type 0
 TellsCall model old new keeper.Device = Breaks model old.keeper new.keeper
 TellsCall model old new keeper.Failed = ⊥
@@ -56,7 +56,7 @@ TellsCall model old new (keeper.Mismatch place) = ⊥
 TellsCall model old new (keeper.Damaged offset) = ⊥
 TellsCall model old new keeper.Unformatted = ⊥
 
--- what a step's fault says, where the keeper had not failed
+-- what a step's fault says, if the keeper had not failed before
 abbrev pub TellsStep : {D : Type 0} → Ghosts D → DeskState D → DeskState D → DeskFault → Type 0
 TellsStep model old new (desk.Store cause) = (cause ≡ keeper.Device) × Breaks model old.keeper new.keeper
 TellsStep model old new (desk.NoMemory fed) = Works model old.keeper new.keeper

@@ -54,20 +54,20 @@ unwritten f c = option_map_or reply_spelling c.reply [] ++ spelled (mails_on f.c
 abbrev pub written_out : FrontState → Client → Client
 written_out f c = record c { reply = None; written = c.written ++ unwritten f c }
 
--- each client in turn is
+-- the clients, once all mails of each, one client after another, are written
 abbrev pub all_written_out : FrontState → List Client → List Client
 all_written_out f [] = []
 all_written_out f (c ∷ cs) = written_out f c ∷ all_written_out (emptied_box f c.conn) cs
 
--- and its box is empty then
+-- the front, once the box of each client, one after another, is empty
 abbrev pub all_emptied : FrontState → List Client → FrontState
 all_emptied f [] = f
 all_emptied f (c ∷ cs) = all_emptied (emptied_box f c.conn) cs
 
--- every box is taken empty, and its mails are spelled to its connection's output
+-- every box is emptied, and its mails are written to their client
 abbrev pub emptied : DeskRunState → DeskRunState
 emptied s = record s { front = all_emptied s.front s.clients; clients = all_written_out s.front s.clients; owes = false }
 
--- mails that an earlier step left are written first
+-- the mails that an earlier step left are written first
 abbrev pub discharged : DeskRunState → DeskRunState
 discharged s = if s.owes then emptied s else s

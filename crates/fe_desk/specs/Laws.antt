@@ -1,4 +1,4 @@
--- Laws of histories over any number of stops, which public functions name.
+-- Laws of histories over any number of stops, cited by public functions.
 use Rattle.std.specs.Prelude.{◌≡◌, ℕ, ◌≤◌, List, [], ◌∷◌, ◌++◌, length, take}
 use Rattle.fe_state.specs.State.{ServerState}
 use Rattle.fe_state.specs.History.{IsHistory, after_groups}
@@ -10,8 +10,8 @@ pub record Life : Type 0 where
   pub synced : ℕ
   pub kept : ℕ
 
--- Lives one after the other, from a state on to the state that the last stop left: each is a history from where the one
--- before was stopped, and each stop keeps at least what was stored.
+-- Lives one after the other, from a state on to the state that the last stop left: each is a history from the state that the stop
+-- before it left, and each stop keeps at least what was stored.
 abbrev pub AreLives : ServerState → List Life → ServerState → Type 0
 AreLives begun [] s = s ≡ begun
 AreLives begun (life ∷ lives) s =

@@ -1,4 +1,4 @@
--- A store over any number of stops: what each life did, and what stands after all of them. And steps that are given again.
+-- A store over any number of stops: what each life did, and what stands after all of them. And steps that are taken again.
 use Rattle.std.specs.Prelude.{◌≡◌, ◌⊎◌, ℕ, ◌≤◌, Bool, false, List, [], ◌∷◌, ◌++◌, length, map, Contains}
 use Rattle.std.specs.List.{flat_map, AllByRecursion}
 use Rattle.fe_state.specs.State.{ServerState, IsWithinLimits}
@@ -19,8 +19,8 @@ use Rattle.fe_desk.specs.Steps.{DeskStep, DeskRun, IsAgain}
 -- ---- stops
 
 -- A life that a stop ended: the desk after the steps that answered, whatever they answered; the sessions that each connection's
--- number asked for in it; the groups that the step under way
--- handed to the store; how many of all groups were stored for sure; and the image that the stop left.
+-- number asked for in it; the groups that the step under way handed to the store; how many of all groups were stored for sure;
+-- and the image that the stop left.
 pub record Stop (D : Type 0) : Type 0 where
   pub last : DeskState D
   pub asked : ℕ → ℕ → Bool
@@ -32,15 +32,15 @@ pub record Stop (D : Type 0) : Type 0 where
 abbrev pub all_groups : {D : Type 0} → Stop D → List (List Entry)
 all_groups x = x.last.run_state.groups ++ x.under_way
 
--- what a life handed to the store, and how much of it was stored
+-- what a life handed to the store, and how many groups of that were stored
 abbrev pub handed_by : Life → List (List Entry) × ℕ
 handed_by life = (life.groups, life.synced)
 
 abbrev pub stored_by : {D : Type 0} → Stop D → List (List Entry) × ℕ
 stored_by x = (all_groups x, x.synced)
 
--- The life is one of a desk over the state that was opened. Its groups are a history, and the stop left a prefix of it that has
--- all stored groups, those of the step under way among them.
+-- The life is one of a desk over the state that was opened. Its groups, with those of the step under way, are a history, and the
+-- stop left a prefix of it that has all stored groups.
 pub record IsStopOf {D : Type 0} (begun : ServerState) (x : Stop D) : Type 0 where
   pub lived : IsAcknowledged begun x.asked x.last
   pub history : IsHistory begun (all_groups x)
@@ -48,21 +48,21 @@ pub record IsStopOf {D : Type 0} (begun : ServerState) (x : Stop D) : Type 0 whe
   pub stored : x.last.synced ≤ x.synced
   pub leaves : LeavesPrefix begun (all_groups x) x.synced x.image
 
--- stops one after the other, each life over the state that the image before stands for; the last image stands for this state
+-- stops one after the other, each in a life over the state that the image before stands for; the last image stands for this state
 abbrev pub AreStops : {D : Type 0} → ServerState → List (Stop D) → ServerState → Type 0
 AreStops begun [] s = s ≡ begun
 AreStops begun (x ∷ xs) s = IsStopOf begun x × ((opened : ServerState) × StandsFor x.image opened × AreStops opened xs s)
 
 -- ---- what stands after them
 
--- where a number of a session is finished twice in the groups, the session was closed in between
+-- if a number of a session finishes twice in the groups, the session was closed in between
 abbrev pub FinishOnceIn : List (List Entry) → Type 0
 FinishOnceIn groups = (before between behind : List Entry) (session number : ℕ) (first second : Request) (one other : Answer)
     → flat_map (λ group. group) groups ≡ before ++ Finished session number first one ∷ between ++ Finished session number second other ∷ behind
     → Contains between (Closed session)
 
--- The groups that the stops kept are one history, with any that goes on from the last image; in it a number takes effect once
--- while its session is kept; and each answer that was written in any life, or is in one that goes on, is on it.
+-- The groups that the stops kept are one history, with any groups that go on from the last image. In it a number takes effect
+-- once while its session is kept, and each answer that was written in any life, or is written in one that goes on, stands on it.
 pub record AreOneStore {D : Type 0} (begun : ServerState) (stops : List (Stop D)) (s : ServerState) : Type 0 where
   pub lives : List Life
   pub same : map handed_by lives ≡ map stored_by stops
@@ -77,11 +77,11 @@ StopsAreLives D = (begun s : ServerState) (stops : List (Stop D)) → IsWithinLi
 
 -- ---- steps that are given again
 
--- What the step comes to where it is given again, it comes to.
+-- Whatever the step comes to from `t`, where it is given again, it comes to from `s` as one step.
 abbrev pub LeavesForAgain : DeskRunState → Step → Bool → DeskRunState → Type 0
 LeavesForAgain s step fed t = (next : Step) (u : DeskRunState) → IsAgain fed step next → DeskStep t next u → DeskStep s step u
 
--- A step is given until it is taken, each time that it found no memory again. Its mails may be owed then.
+-- A step is given until it is taken, again each time that it found no memory. Its mails may be owed then.
 abbrev pub IsTakenAtLast : DeskRunState → Step → List Bool → DeskRunState → Type 0
 IsTakenAtLast s step [] t = DeskStep s step t ⊎ DeskStep s step (discharged t)
 IsTakenAtLast s step (fed ∷ more) t = (u : DeskRunState) × (next : Step) × LeavesForAgain s step fed u × IsAgain fed step next × IsTakenAtLast u next more t
@@ -91,6 +91,6 @@ abbrev pub RunsOn : DeskRunState → List (Step × List Bool) → DeskRunState �
 RunsOn s [] t = t ≡ s
 RunsOn s (given ∷ more) t = (u : DeskRunState) × IsTakenAtLast s given.0 given.1 u × RunsOn u more t
 
--- Such steps are a run, once what is owed is written.
+-- Steps that are given until they are taken are a run, once what is owed is written.
 abbrev pub GivenAgain : Type 0
 GivenAgain = (s t : DeskRunState) (given : List (Step × List Bool)) → s.owes ≡ false → RunsOn s given t → DeskRun s (map (λ g. g.0) given) (discharged t)

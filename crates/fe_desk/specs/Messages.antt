@@ -1,4 +1,4 @@
--- What of a client a step may leave, what it never touches before its end, and what it says.
+-- The messages of a client that a step may leave, what it writes to no client before its end, and what it says of its bytes.
 use Rattle.std.specs.Prelude.{◌≡◌, ◌≢◌, ℕ, ◌<◌, Bool, true, false, List, [], ◌∷◌, ◌++◌, length, map, Option, Some}
 use Rattle.std.specs.Option.{option_map, option_map_or}
 use Rattle.fe_state.specs.declared.entry.Entry.{Entry}
@@ -19,7 +19,7 @@ use Rattle.fe_messages.specs.Taking.{Takes}
 abbrev pub left_of : DeskRunState → ℕ → List ClientMessage
 left_of s conn = option_map_or (λ c. c.left) (find conn s.clients) []
 
--- The first message that is left of a connection goes to the front.
+-- The first message that is left of a connection is handed to the front.
 pub record TakesNext (s : DeskRunState) (conn : ℕ) (t : DeskRunState) : Type 0 where
   pub message : ClientMessage
   pub left : List ClientMessage
@@ -33,7 +33,7 @@ pub record TakesNext (s : DeskRunState) (conn : ℕ) (t : DeskRunState) : Type 0
 abbrev pub outputs : DeskRunState → List (ℕ × List ℕ)
 outputs s = map (λ c. (c.conn, c.written)) s.clients
 
--- the fault of a step where the keeper gave this one
+-- the fault of a step for this fault of the keeper
 abbrev pub desk_fault_of : Fault → Bool → DeskFault
 desk_fault_of keeper.NoMemory fed = desk.NoMemory fed
 desk_fault_of fault fed = desk.Store fault
@@ -42,15 +42,15 @@ desk_fault_of fault fed = desk.Store fault
 abbrev pub read_by : DeskRunState → ℕ → Option Decoding
 read_by s conn = option_map (λ c. c.decoder) (find conn s.clients)
 
--- these messages are the last of those
+-- these messages are the last of all messages
 abbrev pub EndsWith : List ClientMessage → List ClientMessage → Type 0
 EndsWith all last = (first : List ClientMessage) × (all ≡ first ++ last)
 
--- no connection has read anything since
+-- no connection has read anything between the two states
 abbrev pub ReadsNone : DeskRunState → DeskRunState → Type 0
 ReadsNone s t = (conn : ℕ) → read_by t conn ≡ read_by s conn
 
--- The piece of a connection was read after what was read before, and nothing of another one. Of the messages that it
+-- The piece of a connection was read after what was read before, and nothing of another connection. Of the messages that it
 -- completes the first were taken, and the others, one at least, are left.
 pub record ReadsPiece (s : DeskRunState) (conn : ℕ) (piece : List ℕ) (t : DeskRunState) : Type 0 where
   pub before : Decoding
@@ -62,7 +62,7 @@ pub record ReadsPiece (s : DeskRunState) (conn : ℕ) (piece : List ℕ) (t : De
   pub some : 0 < length (left_of t conn)
   pub others : (other : ℕ) → other ≢ conn → read_by t other ≡ read_by s other
 
--- what a step that found no memory did with its bytes: their piece was read, or else nothing was
+-- what a step that found no memory did with its bytes: their piece was read (`fed`), or nothing was
 abbrev pub TellsFed : Bool → DeskRunState → Step → DeskRunState → Type 0
 TellsFed false s step t = ReadsNone s t
 TellsFed true s (step.Bytes conn piece) t = ReadsPiece s conn piece.items t

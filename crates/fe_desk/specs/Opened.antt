@@ -1,4 +1,4 @@
--- What opening a desk gives.
+-- What opening a desk returns.
 use Rattle.std.specs.Prelude.{◌≡◌, ◌⊎◌, ℕ, false, List, Result, Ok, Err}
 use Rattle.fe_disk.specs.declared.calls.Calls.{Calls}
 use Rattle.fe_keeper.specs.declared.fault.Fault.TheVariants as keeper
@@ -7,12 +7,12 @@ use Rattle.fe_keeper.specs.Damage as store
 use Rattle.fe_desk.specs.declared.fault.DeskFault.TheVariants.{Store, NoMemory, Unwritten}
 use Rattle.fe_desk.specs.Crash.{DeskState, disk_of}
 
--- the disk, after a desk was opened on it or not
+-- the disk that is left, opened or not
 abbrev pub disk_after : {D : Type 0} → Result (DeskState D) (DeskFault × D) → D
 disk_after (Ok desk) = disk_of desk
 disk_after (Err refused) = refused.1
 
--- what may come of opening
+-- the faults of opening
 abbrev pub IsOpenFault : DeskFault → Type 0
 IsOpenFault fault =
     (fault ≡ Store keeper.Device) ⊎ ((fault ≡ NoMemory false) ⊎ ((fault ≡ Store keeper.Unformatted) ⊎ ((offset : ℕ) × (fault ≡ Store (keeper.Damaged offset)))))

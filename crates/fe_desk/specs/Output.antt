@@ -1,4 +1,4 @@
--- What is written to connections goes on.
+-- How what is written to connections grows.
 use Rattle.std.specs.Prelude.{◌≡◌, ℕ, List, [], ◌∷◌, ◌++◌}
 use Rattle.fe_desk.specs.DeskRunState.{Client}
 
@@ -6,7 +6,7 @@ use Rattle.fe_desk.specs.DeskRunState.{Client}
 abbrev pub output_of : Client → ℕ × List ℕ
 output_of c = (c.conn, c.written)
 
--- What was written to each connection number goes on with more or nothing, and numbers that came since come after.
+-- What was written to each connection number comes first in what is written to it now, and numbers that came since come after.
 abbrev pub Extends : List (ℕ × List ℕ) → List (ℕ × List ℕ) → Type 0
 Extends [] new = Unit {0}
 Extends (x ∷ xs) [] = ⊥

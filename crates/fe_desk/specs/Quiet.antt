@@ -1,11 +1,11 @@
--- A desk of which nothing is to be written.
+-- A desk with nothing to write to its clients.
 use Rattle.std.specs.Prelude.{◌≡◌, ⊤, ℕ, Bool, true, false, List, [], ◌∷◌, None}
 use Rattle.fe_mail.specs.Connections.{mails_on}
 use Rattle.fe_desk.specs.declared.step.Step.{Step}
 use Rattle.fe_desk.specs.declared.step.Step.TheVariants as step
 use Rattle.fe_desk.specs.DeskRunState.{Client, DeskRunState}
 
--- no reply of these waits
+-- no reply of these clients waits
 abbrev pub AreWritten : List Client → Type 0
 AreWritten [] = ⊤
 AreWritten (c ∷ cs) = (c.reply ≡ None) × AreWritten cs
@@ -16,7 +16,7 @@ pub record HasNoMail (s : DeskRunState) : Type 0 where
   pub replies : AreWritten s.clients
   pub owes : s.owes ≡ false
 
--- the steps that make no mail
+-- whether the step makes no mail
 abbrev pub mails_nothing : Step → Bool
 mails_nothing (step.Connect conn) = true
 mails_nothing (step.Bytes conn piece) = false

@@ -1,4 +1,4 @@
--- What a whole run of a desk gives.
+-- What a whole run of a desk returns: the desk is opened over a store, and takes steps.
 use Rattle.std.specs.Prelude.{◌≡◌, ◌≢◌, ◌⊎◌, ◌↔◌, ⊤, ℕ, zero, suc, false, List, [], ◌∷◌, ◌++◌, map, take, slice_get, Option, Some, None, Result, Ok, Err}
 use Rattle.fe_disk.specs.Disk.{Rises, MakesAtMost}
 use Rattle.fe_disk.specs.declared.calls.Calls.{Calls}
@@ -19,24 +19,25 @@ use Rattle.fe_desk.specs.Taken.{AreSteps}
 use Rattle.fe_desk.specs.Traces.{IsTraceOf, groups_of, written_of}
 use Rattle.fe_disk.specs.declared.disk.Disk.{Ghosts}
 
--- each of these steps was taken
+-- these steps, each with the answer that it was taken
 abbrev pub whole : List Step → List (Step × Result (Unit {0}) DeskFault)
 whole steps = map (λ step. (step, Ok tt)) steps
 
--- All steps were taken; or those before the one at fault, which are counted from 1, and then that one ended the run.
+-- All steps were taken; or those before the one with this number, counted from 1, and then that one was at fault and ended the
+-- run.
 abbrev pub GoesTo : {D : Type 0} → Ghosts D → DeskState D → List Step → Option (ℕ × DeskFault) → DeskState D → Type 0
 GoesTo model first steps None last = AreSteps model first (whole steps) last
 GoesTo model first steps (Some (zero, fault)) last = ⊥
 GoesTo model first steps (Some (suc n, fault)) last =
     (step : Step) × (slice_get steps n ≡ Some step) × AreSteps model first (whole (take n steps) ++ (step, Err fault) ∷ []) last
 
--- the fault is not the opening's
+-- the fault is not that of the opening
 abbrev pub IsPastOpening : Option (ℕ × DeskFault) → Type 0
 IsPastOpening None = ⊤
 IsPastOpening (Some (zero, fault)) = ⊥
 IsPastOpening (Some (suc n, fault)) = ⊤
 
--- The opening was at fault, and what it says of the disk is so. Nothing else was done: the disk was synced and read, and
+-- The opening was at fault, and what its fault says of the disk is true. Nothing else was done: the disk was synced and read, and
 -- never written.
 pub record IsNotOpened {D : Type 0} (model : Ghosts D) (disk : D) (ran : Ran D) (fault : DeskFault) : Type 0 where
   pub is_fault : IsOpenFault fault

@@ -1,4 +1,4 @@
--- A run of the desk: what each step does.
+-- What each step of a desk (a front, its connections' streams and a store's keeper, in one thread) does.
 use Rattle.std.specs.Prelude.{◌≡◌, ℕ, Bool, true, false, nat_eq, List, [], ◌∷◌, ◌++◌, Option, Some, None, if◌then◌else◌, is_some, MatchBool}
 use Rattle.fe_wire.specs.Stream.{Decoding, HasRead, HasReadFrom}
 use Rattle.fe_wire.specs.declared.client_message.ClientMessage.{ClientMessage}
@@ -17,7 +17,7 @@ abbrev pub find : ℕ → List Client → Option Client
 find conn [] = None
 find conn (c ∷ cs) = if nat_eq c.conn conn then Some c else find conn cs
 
--- the clients, with the one of a number changed
+-- the clients, with the client of this number changed
 abbrev pub on_client : ℕ → (Client → Client) → List Client → List Client
 on_client conn change [] = []
 on_client conn change (c ∷ cs) = if nat_eq c.conn conn then change c ∷ cs else c ∷ on_client conn change cs
@@ -35,16 +35,16 @@ pub record BeginsStream (d : Decoding) : Type 0 where
   pub version : d.version ≡ Two
   pub read : HasRead d [] []
 
--- a client that comes for the first time
+-- the client of a connection number that comes for the first time
 abbrev pub new_client : ℕ → Decoding → Client
 new_client conn d = record { conn = conn; decoder = d; left = []; reply = None; written = [] }
 
--- the clients after a connection came: what is written goes on after what was written to its number before
+-- the clients after a connection came: what is written to it goes after what was written to its number before
 abbrev pub clients_with : List Client → ℕ → Decoding → List Client
 clients_with cs conn d =
     if is_some (find conn cs) then on_client conn (λ c. record c { decoder = d; left = [] }) cs else cs ++ new_client conn d ∷ []
 
--- no room is being made for a connection any more
+-- room is not being made for this connection any more
 abbrev pub unmade : DeskRunState → ℕ → DeskRunState
 unmade s conn = if is_making s conn then record s { making = None } else s
 
@@ -54,7 +54,7 @@ pub record Connects (s : DeskRunState) (conn : ℕ) (t : DeskRunState) : Type 0 
   pub begins : BeginsStream decoder
   pub after : t ≡ record (unmade s conn) { front = front.connected s.front conn; clients = clients_with s.clients conn decoder }
 
--- a connection is gone, with the messages that were left
+-- a connection goes, with the messages that were left
 abbrev pub gone : DeskRunState → ℕ → DeskRunState
 gone s conn = record (with_left (unmade s conn) conn []) { front = front.dropped s.front conn }
 
@@ -66,7 +66,7 @@ pub record Reads (old new : Decoding) (piece : List ℕ) (more : List ClientMess
   pub reads : (start : ℕ) (before : List ℕ) (earlier : List ClientMessage) → HasReadFrom start old before earlier
       → HasReadFrom start new (before ++ piece) (earlier ++ more)
 
--- a bad frame makes the connection gone
+-- a connection with a bad frame goes
 abbrev pub after_frame : Bool → DeskRunState → ℕ → DeskRunState
 after_frame bad s conn = if bad then gone s conn else s
 
@@ -114,7 +114,7 @@ abbrev pub DeskRun : DeskRunState → List Step → DeskRunState → Type 0
 DeskRun s [] t = t ≡ s
 DeskRun s (step ∷ steps) t = (u : DeskRunState) × DeskStep s step u × DeskRun u steps t
 
--- how a step is given again that found no memory: as it was, or with an empty piece where its bytes were taken
+-- how a step that found no memory is given again: unchanged, or with an empty piece if its bytes were read
 abbrev pub IsAgain : Bool → Step → Step → Type 0
 IsAgain false before next = next ≡ before
 IsAgain true (step.Bytes conn piece) (step.Bytes c p) = (c ≡ conn) × (p.items ≡ [])

@@ -1,4 +1,4 @@
--- How far a piece of a connection's stream comes where a batch found no memory, or the device failed it.
+-- How far a piece of a connection's stream comes if memory is short for a batch, or the device fails to store it.
 use Rattle.std.specs.Prelude.{◌≡◌, ◌⊎◌, ℕ, Bool, true, false, List, [], ◌∷◌, ◌++◌, Some}
 use Rattle.fe_state.specs.declared.batch.Batch.{Batch}
 use Rattle.fe_front.specs.Front.{is_connected, has_room}
@@ -16,20 +16,20 @@ pub record HasCut (s : DeskRunState) : Type 0 where
   pub batch : Batch
   pub handed : s.handed ≡ handed.Cut batch
 
--- room is begun for a message of a connection, or not: what is out is stored and posted, and what is pending is cut
+-- making room for a message of a connection is begun: what is out is stored and posted, and what is pending is cut; or not
 abbrev pub room_begun : DeskRunState → ℕ → DeskRunState
 room_begun s conn = record (cut (cleared s)) { making = Some conn }
 
 abbrev pub MayBegin : DeskRunState → ℕ → DeskRunState → Type 0
 MayBegin s conn t = (t ≡ s) ⊎ (t ≡ room_begun s conn)
 
--- Room for a message of a connection is not made yet: it was begun for this one before, and nothing more is done; or there is
--- none, and what was begun is made, and room is begun or not.
+-- Room for a message of a connection is not made yet. Either it was begun for this connection before, and nothing more is done;
+-- or there is no room, what was begun is made, and room is begun or not.
 abbrev pub StopsMaking : DeskRunState → ℕ → DeskRunState → Type 0
 StopsMaking s conn t = ((is_making s conn ≡ true) × (t ≡ s)) ⊎ ((has_room s.front ≡ false) × MayBegin (begun_room s conn) conn t)
 
--- The first of a connection's messages are taken. The next has no room, since the batch at hand is not stored: it did nothing, and it
--- and those after it are left.
+-- The first of a connection's messages are taken. The next has no room, since the batch at hand is not stored: it did nothing,
+-- and it and those after it are left.
 pub record TakesFirst (s : DeskRunState) (conn : ℕ) (messages : List ClientMessage) (t : DeskRunState) : Type 0 where
   pub taken : List ClientMessage
   pub next : ClientMessage
@@ -42,11 +42,11 @@ pub record TakesFirst (s : DeskRunState) (conn : ℕ) (messages : List ClientMes
   pub at_hand : HasCut last
   pub after : t ≡ with_left last conn (next ∷ behind)
 
--- of the messages that were left of a connection the first are taken
+-- some of the messages that were left of a connection, from the first on, are taken
 abbrev pub StopsBefore : DeskRunState → ℕ → DeskRunState → Type 0
 StopsBefore s conn t = TakesFirst (with_left s conn []) conn (left_of s conn) t
 
--- they are all taken, and the connection is there: its piece is next
+-- all of them are taken, and the connection is connected: its piece is next
 pub record StopsUnread (s : DeskRunState) (conn : ℕ) (t : DeskRunState) : Type 0 where
   pub leftovers : TakesAll (with_left s conn []) conn (left_of s conn) t
   pub there : is_connected t.front conn ≡ true
@@ -58,7 +58,7 @@ pub record StopsUnfed (s : DeskRunState) (conn : ℕ) (piece : List ℕ) (t : De
   pub was : read_by s conn ≡ Some before
   pub completes : CompletesMessage before piece
 
--- the piece is read then, and of the messages that it completes the first are taken
+-- the piece was read, and some of the messages that it completes, from the first on, are taken
 pub record StopsBehind (s : DeskRunState) (conn : ℕ) (piece : List ℕ) (t : DeskRunState) : Type 0 where
   pub mid : DeskRunState
   pub before : Decoding
@@ -69,7 +69,7 @@ pub record StopsBehind (s : DeskRunState) (conn : ℕ) (piece : List ℕ) (t : D
   pub reads : Reads before decoder piece more
   pub first : TakesFirst (with_decoder mid conn decoder) conn more t
 
--- where bytes stop when memory is short: after their piece was read (`fed`), or before
+-- where a step with bytes stops if memory is short: after their piece was read (`fed`), or before
 abbrev pub StopsShort : Bool → DeskRunState → ℕ → List ℕ → DeskRunState → Type 0
 StopsShort true s conn piece t = StopsBehind s conn piece t
 StopsShort false s conn piece t = StopsBefore s conn t ⊎ StopsUnfed s conn piece t

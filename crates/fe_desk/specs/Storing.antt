@@ -1,4 +1,4 @@
--- The way of a batch: it is cut, stored as a group, and posted.
+-- The way of a batch, entries that follow one another, through a desk: it is cut, stored as a group, and posted.
 use Rattle.std.specs.Prelude.{ℕ, Bool, false, nat_eq, [], ◌∷◌, ◌++◌, Option, None, if◌then◌else◌}
 use Rattle.std.specs.Option.{option_map_or}
 use Rattle.fe_state.specs.declared.batch.Batch.{Batch}
@@ -9,14 +9,14 @@ use Rattle.fe_desk.specs.declared.handed.Handed.{Handed}
 use Rattle.fe_desk.specs.declared.handed.Handed.TheVariants.{Nothing, Cut, Stored}
 use Rattle.fe_desk.specs.DeskRunState.{DeskRunState}
 
--- what is pending becomes the batch that is out, where there is something and no batch is out
+-- the batch on its way after a cut: the one that was cut, if there is one, or the one before
 abbrev pub handed_after : Handed → Option Batch → Handed
 handed_after before batch = option_map_or Cut batch before
 
 abbrev pub cut : DeskRunState → DeskRunState
 cut s = record s { front = front.cut s.front; handed = handed_after s.handed (front.next_batch s.front) }
 
--- a standing with this batch on its way to the store
+-- the run, with this batch on its way to the store
 abbrev pub handing : DeskRunState → Handed → DeskRunState
 handing s handed = record s { handed = handed }
 
@@ -38,7 +38,7 @@ posted_from (Stored batch) s = record s { front = posting.posted s.front batch; 
 abbrev pub posted : DeskRunState → DeskRunState
 posted s = posted_from s.handed s
 
--- the batch that is out is stored, where it is not yet, and posted
+-- the batch that is out is stored, if it is not yet, and posted
 abbrev pub cleared : DeskRunState → DeskRunState
 cleared s = posted (stored s)
 
@@ -46,18 +46,18 @@ cleared s = posted (stored s)
 abbrev pub committed : DeskRunState → DeskRunState
 committed s = cleared (cut s)
 
--- room is being made for a message of this connection
+-- whether room is being made for a message of this connection
 abbrev pub is_making : DeskRunState → ℕ → Bool
 is_making s conn = option_map_or (nat_eq conn) s.making false
 
 abbrev pub made : DeskRunState → DeskRunState
 made s = record s { making = None }
 
--- Room for a message: where too much is pending, what is out is stored and posted, and then what is pending.
+-- Room is made for a message: if too much is pending, what is out is stored and posted, and then what is pending.
 abbrev pub with_room : DeskRunState → DeskRunState
 with_room s = if has_room s.front then s else made (committed (cleared s))
 
--- Room for a message of a connection. Where it was begun for this one already, that is gone on with.
+-- Room is made for a message of a connection. If it was begun for this connection before, that is finished.
 abbrev pub begun_room : DeskRunState → ℕ → DeskRunState
 begun_room s conn = if is_making s conn then made (cleared s) else s
 

@@ -1,4 +1,4 @@
--- What a step answers and what it did; and steps, one after another.
+-- What a step of a desk answers, and what it did; and steps, one after another.
 use Rattle.std.specs.Prelude.{◌≡◌, ℕ, Bool, false, List, [], ◌∷◌, length, Result, Ok, Err, MatchBool}
 use Rattle.fe_mail.specs.Connections.{mails_on}
 use Rattle.fe_keeper.specs.declared.fault.Fault.TheVariants as keeper
@@ -38,8 +38,8 @@ pub record EndsOwing {D : Type 0} (model : Ghosts D) (old : DeskState D) (step :
   pub checked : Checks step old new
   pub sound : IsSound model old new
 
--- Memory was short for the step: it says what it did and what it read, nothing of it is written, and given again it comes to
--- the same as one step.
+-- Memory was short for the step. The answer says what the step did and read; nothing of it is written; and given again it comes
+-- to the same as one step.
 pub record EndsByMemory {D : Type 0} (model : Ghosts D) (fed : Bool) (old : DeskState D) (step : Step) (new : DeskState D) : Type 0 where
   pub finds : FindsNoMemory fed step old new
   pub read : TellsFed fed old.run_state step new.run_state
@@ -59,7 +59,7 @@ Ends model old step (Err (Store cause)) new = (cause ≡ keeper.Device) × EndsB
 Ends model old step (Err (NoMemory fed)) new = EndsByMemory model fed old step new
 Ends model old step (Err Unwritten) new = EndsOwing model old step new
 
--- A step. After a failure of the device each one is refused, and does nothing.
+-- A step. After a failure of the device each step is refused, and does nothing.
 abbrev pub IsStep : {D : Type 0} → Ghosts D → DeskState D → Step → Result (Unit {0}) DeskFault → DeskState D → Type 0
 IsStep model old step result new =
     MatchBool old.keeper.store.has_failed ((result ≡ Err (Store keeper.Failed)) × (new ≡ old)) (Ends model old step result new)

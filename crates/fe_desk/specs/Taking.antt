@@ -1,4 +1,4 @@
--- Messages of a connection are taken, with room made for each where there is none.
+-- Taking the messages of a connection, with room made for each if there is none.
 use Rattle.std.specs.Prelude.{◌≡◌, ℕ, List, [], ◌∷◌}
 use Rattle.fe_state.specs.declared.entry.Entry.{Entry}
 use Rattle.fe_wire.specs.declared.client_message.ClientMessage.{ClientMessage}
@@ -7,7 +7,7 @@ use Rattle.fe_messages.specs.Taking.{Takes}
 use Rattle.fe_desk.specs.DeskRunState.{DeskRunState}
 use Rattle.fe_desk.specs.Storing.{roomy}
 
--- a message of a connection is taken, with room made for it first where there is none
+-- a message of a connection is taken, after room was made for it if there was none
 pub record TakesOne (s : DeskRunState) (conn : ℕ) (m : ClientMessage) (t : DeskRunState) : Type 0 where
   pub entries : List Entry
   pub front : FrontState

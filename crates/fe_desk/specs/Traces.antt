@@ -1,4 +1,4 @@
--- What the trace of a desk shows.
+-- What the trace of a desk, the record of what it stored and wrote, shows.
 use Rattle.std.specs.Prelude.{◌≡◌, ℕ, List, map}
 use Rattle.fe_state.specs.declared.entry.Entry.{Entry}
 use Rattle.fe_desk.specs.Messages.{outputs}
@@ -12,7 +12,7 @@ groups_of t = map (λ g. g.items) t.groups.items
 abbrev pub written_of : Trace → List (ℕ × List ℕ)
 written_of t = map (λ p. (p.conn, p.written)) t.ports.items
 
--- the trace is that of a run which stands here
+-- the trace is that of a run with this state
 pub record IsTraceOf (t : Trace) (s : DeskRunState) (synced : ℕ) : Type 0 where
   pub groups : groups_of t ≡ s.groups
   pub written : written_of t ≡ outputs s

@@ -1,4 +1,4 @@
--- Mails are written as far as memory goes.
+-- Writing the mails of a desk's clients as far as memory goes.
 use Rattle.std.specs.Prelude.{◌≡◌, ◌≢◌, ◌⊎◌, ◌+◌, true, List, [], ◌∷◌, ◌++◌, length, Some, None}
 use Rattle.std.specs.Option.{option_map_or}
 use Rattle.fe_mail.specs.Connections.{mails_on}
@@ -9,7 +9,7 @@ use Rattle.fe_messages.specs.Mails.{reply_of, spelled}
 use Rattle.fe_desk.specs.Mails.{taken_times}
 use Rattle.fe_desk.specs.DeskRunState.{Client, DeskRunState, all_written_out, all_emptied}
 
--- The first mails of a client are written. For the next one memory is short: it has left its box, and its reply waits.
+-- The first mails of a client are written. Memory is short for the next one: it has left its box, and its reply waits.
 pub record StopsAtMail (f : FrontState) (c : Client) (g : FrontState) (d : Client) : Type 0 where
   pub first : List Mail
   pub next : Mail
@@ -32,7 +32,7 @@ pub record WritesFirst (f : FrontState) (cs : List Client) (g : FrontState) (ds 
   pub stops : StopsWriting (all_emptied f before) client g last
   pub now : ds ≡ all_written_out f before ++ last ∷ behind
 
--- The boxes are not all emptied. Mails are owed, and of one the reply waits.
+-- The boxes are not all emptied: mails are owed, and the reply of one of them waits.
 pub record WritesSome (s t : DeskRunState) : Type 0 where
   pub front : FrontState
   pub clients : List Client

@@ -1,4 +1,4 @@
-//! The steps.
+//! The steps of a desk: what each does, and how it ends.
 
 ghost use Rattle.std.specs.Prelude.{◌≡◌, ◌⊎◌, ℕ, true, false, IsTrue, OnOk, MatchResult};
 ghost use Rattle.fe_desk.specs.Output.{Extends};
@@ -132,7 +132,7 @@ impl<D: Disk> DeskInner<D> {
     }
 }
 
-/// The result of a step that reads no bytes, where the keeper answered this.
+/// The result of a step that reads no bytes, after this answer of the keeper.
 fn desk_outcome<T: Drop>(outcome: Result<T, Fault>) -> Result<(), DeskFault>
     ensures { MatchResult outcome (λ _. result ≡ Ok tt) (λ fault. result ≡ Err (desk_fault_of fault false)) }
 {

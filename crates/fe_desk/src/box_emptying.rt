@@ -1,4 +1,4 @@
-//! Mails go out of their boxes.
+//! Writing the mails in the boxes to their connections.
 
 ghost use Rattle.std.specs.Prelude.{◌≡◌, true, map, OnOk, OnErr};
 ghost use Rattle.fe_desk.specs.DeskRunState.{all_written_out, all_emptied};
@@ -11,8 +11,8 @@ use crate::port::{Port, has_no_mail};
 use fe_front::{ConnectionSet, Front};
 use std::alloc::AllocError;
 
-/// Writes the mails of each connection in the set: no other has a mail. Where memory is short, those that are not written
-/// stay.
+/// Writes the mails of each connection in the set; no other connection has a mail. If memory is short, the mails that are not
+/// written stay.
 pub(crate) fn empty_boxes(
     front: &mut Front,
     ports: &mut Vec<Port>,

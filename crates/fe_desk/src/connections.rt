@@ -1,4 +1,4 @@
-//! Connections come and go.
+//! The connections of a desk come and go.
 
 ghost use Rattle.std.specs.Prelude.{◌≡◌, false, nat_eq, [], map, position, IfSome, IfNone, None, OnOk, OnErr, MatchBool};
 ghost use Rattle.fe_front.specs.Front.{is_connected};

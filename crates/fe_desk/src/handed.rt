@@ -1,12 +1,12 @@
 use fe_state::Batch;
 
-/// The batch that is out of the front.
+/// The batch that is out of the front, on its way to the store.
 #[derive(Drop)]
 pub(crate) enum Handed {
-    /// There is none.
+    /// No batch is out.
     Nothing,
-    /// It is cut and not stored.
+    /// The batch is cut and not stored.
     Cut(Batch),
-    /// It is stored and not posted.
+    /// The batch is stored and not posted.
     Stored(Batch),
 }

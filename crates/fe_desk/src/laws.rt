@@ -13,14 +13,14 @@ pub fn lives_join()
     ensures { LivesJoin }
 {}
 
-/// Each answer that was written, or lies in a box to be written, is that of an entry of the groups that were stored before,
-/// at the entry's place, and the operation table's in the state there; or it was kept when the store was opened. And each
-/// welcome, goodbye and settled floor is that of an entry of those groups. So it is after any steps, whatever they answered.
+/// Each answer that was written, or lies in a box to be written, is that of an entry of the groups that were stored before, at
+/// the entry's place, and the operation table's in the state there; or it was kept when the store was opened. Each welcome,
+/// goodbye and settled floor is that of an entry of those groups. This holds after any steps, whatever they answered.
 pub fn acknowledged_answers_stand<D: Disk>()
     ensures { AcknowledgedStand D.Disk }
 {}
 
-/// With every session asked for by every connection, `Desk::step: acknowledged` asks nothing of a step.
+/// If every connection may ask for every session, `Desk::step: acknowledged` requires nothing of a step.
 pub fn any_session_may_be_asked<D: Disk>()
     ensures { AnySessionMayBeAsked D }
 {}

@@ -1,4 +1,4 @@
-//! Bytes of a connection, and the messages in them.
+//! The bytes that a desk reads from a connection, and the messages in them.
 
 ghost use Rattle.std.specs.Prelude.{◌≡◌, ◌<◌, false, ◌∷◌, length, IsTrue};
 ghost use Rattle.fe_front.specs.Front.{has_room};
@@ -18,8 +18,8 @@ use fe_messages::take_message;
 use fe_wire::ClientMessage;
 
 impl<D: Disk> DeskInner<D> {
-    /// Takes the bytes of a connection: first the messages of it that are left, then those that the piece completes, if it
-    /// is there.
+    /// Takes the bytes of a connection: first the messages of it that are left, then those that the piece completes, if the
+    /// connection is still connected.
     pub(crate) fn bytes(&mut self, conn: u64, piece: &[u8]) -> Result<(), DeskFault>
         requires desk { IsDesk D.Disk (desk_of self.old) }
         requires works { self.old.keeper.store.has_failed ≡ false }
@@ -35,7 +35,7 @@ impl<D: Disk> DeskInner<D> {
         if let Err(fault) = self.take_left(at, conn) {
             return Err(desk_fault(fault, false));
         }
-        // The messages that were left may have made the connection gone, as one that meets a full box does.
+        // The messages that were left may have removed the connection: a mail to it may have met a full box.
         if !self.front.connected(conn) {
             return Ok(());
         }
@@ -99,7 +99,7 @@ fn first_left(port: &mut Port) -> ClientMessage
     message
 }
 
-/// The fault of a step where the keeper gave this one.
+/// The fault of a step for this fault of the keeper.
 pub(crate) fn desk_fault(fault: Fault, fed: bool) -> DeskFault
     ensures { result ≡ desk_fault_of fault fed }
 {

@@ -24,8 +24,8 @@ use fe_keeper::Keeper;
 use std::alloc::Global;
 
 impl<D: Disk> Desk<D> {
-    /// Opens a store: a sync, and then only reads. The desk begins with the state that the disk stands for: nothing waits, and
-    /// no connection is there.
+    /// Opens a store: a sync, and then only reads. The desk begins with the state that the disk stands for: nothing waits, and no
+    /// connection is connected.
     pub fn open(alloc: Global, disk: D) -> Result<Desk<D>, (DeskFault, D)>
         ensures opened { D.honest disk → IfOk result (λ desk. StandsFor (D.seen disk) desk.keeper.state) }
         ensures stands { D.honest disk

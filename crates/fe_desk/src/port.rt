@@ -1,4 +1,4 @@
-//! The server's end of the connections of one number.
+//! The server's end of the connections of one number: what is read from them, and what is written to them.
 
 ghost use Rattle.std.specs.Prelude.{◌≡◌, ◌≢◌, ℕ, [], nat_lt, length, ◌++◌, None, Some, true, false, IsTrue, OnOk, OnErr, IfOk, slice_get};
 ghost use Rattle.std.specs.Option.{option_map_or};
@@ -38,7 +38,7 @@ pub struct Port {
 }
 
 impl Port {
-    /// A number that comes for the first time.
+    /// The port of a number that comes for the first time.
     pub(crate) fn new(alloc: Global, conn: u64) -> Port
         ensures client { client_of result ≡ new_client conn result.decoder }
         ensures begins { BeginsStream result.decoder }
@@ -53,7 +53,7 @@ impl Port {
         }
     }
 
-    /// The connection comes anew.
+    /// Begins the stream anew, for another connection of the number.
     pub(crate) fn restart(&mut self)
         ensures client { client_of self.new ≡ record (client_of self.old) { decoder = self.new.decoder; left = [] } }
         ensures begins { BeginsStream self.new.decoder }
@@ -77,7 +77,7 @@ impl Port {
         self.next < self.left.len()
     }
 
-    /// Reads the next piece of the stream, where no message is left. Whether the stream is at a bad frame then.
+    /// Reads the next piece of the stream, if no message is left. Returns whether the stream is at a bad frame then.
     pub(crate) fn feed(&mut self, alloc: Global, piece: &[u8]) -> Result<bool, AllocError>
         requires { (client_of self.old).left ≡ [] }
         ensures reads { OnOk result (Reads self.old.decoder self.new.decoder piece.now (client_of self.new).left) }
@@ -102,7 +102,7 @@ impl Port {
         self.reply.is_some() || mailed.may_have(self.conn)
     }
 
-    /// Writes all mails of the connection. Where memory is short, those that are not written stay.
+    /// Writes all mails of the connection. If memory is short, those that are not written stay.
     pub(crate) fn take_mails(
         &mut self,
         front: &mut Front,
@@ -111,7 +111,7 @@ impl Port {
         requires { HasAllWithMail front.old mailed.now }
         ensures written_out { OnOk result (client_of self.new ≡ written_out front.old (client_of self.old)) }
         ensures emptied { OnOk result (front.new ≡ emptied_box front.old self.old.conn) }
-        // What is not written is written later, to the same effect.
+        // What is not written now is written later, to the same effect.
         ensures later { OnErr result (IsWrittenOutLater front.old (client_of self.old) front.new (client_of self.new)) }
         ensures stops { OnErr result (StopsWriting front.old (client_of self.old) front.new (client_of self.new)) }
         ensures front { KeepsFront front.old front.new }
@@ -146,7 +146,7 @@ impl Port {
         }
     }
 
-    /// Writes a reply, or keeps it where there is no memory.
+    /// Writes a reply, or keeps it if there is no memory.
     fn write(&mut self, reply: Reply) -> Result<(), AllocError>
         ensures written { OnOk result (client_of self.new
             ≡ record (client_of self.old) { written = self.old.written ++ reply_spelling reply }) }
@@ -160,7 +160,7 @@ impl Port {
     }
 }
 
-/// The next mail of a connection, if there is one. Where the books show that no box has a mail, none is looked for.
+/// The next mail of a connection, if there is one. If the books show that no box has a mail, none is looked for.
 fn next_mail(front: &mut Front, conn: u64) -> Option<Mail>
     ensures mail { result ≡ slice_get (mails_on front.old.connections conn) 0 }
     ensures taken { front.new ≡ taken front.old conn }

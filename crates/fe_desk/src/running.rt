@@ -16,7 +16,7 @@ use fe_disk::Disk;
 use fe_keeper::images_stand_for_one;
 use std::alloc::Global;
 
-/// What came of a run: its trace, the disk, and the fault that ended it with the number of its step, counted from 1; 0 is the
+/// What a run leaves: its trace, the disk, and the fault that ended it with the number of its step, counted from 1; 0 is the
 /// opening.
 #[derive(Drop)]
 pub struct Ran<D: Disk> {
@@ -33,14 +33,14 @@ pub fn run<D: Disk>(alloc: Global, disk: D, steps: &[Step]) -> Ran<D>
     // The groups are a history from the state that was there.
     ensures history { D.honest disk → (s : ServerState) → StandsFor (D.seen disk) s
         → IsHistory s (groups_of result.trace) }
-    // Where every image at the start stands for that state, a stop at any moment leaves a prefix of the history.
+    // If every image at the start stands for that state, a stop at any moment leaves a prefix of the history.
     ensures any_moment { D.honest disk → (s : ServerState) → EachStandsFor D.Disk disk s
         → LeavesOnly D.Disk disk result.disk (LeavesPrefix s (groups_of result.trace) 0) }
-    // Wherever the store was opened, a stop at the end leaves a prefix that holds all groups that were stored.
+    // If the store was opened, a stop at the end leaves a prefix that has all groups that were stored.
     ensures stands { D.honest disk → (s : ServerState) → StandsFor (D.seen disk) s → IsPastOpening result.fault
         → (image : List ℕ) → D.may_leave result.disk image
         → LeavesPrefix s (groups_of result.trace) result.trace.synced image }
-    // The disk is one to open again.
+    // The disk can be opened again.
     ensures honesty { D.honest result.disk ↔ D.honest disk }
     ensures size { D.size result.disk ≡ D.size disk }
 {

@@ -10,7 +10,7 @@ pub enum Step {
     Bytes { conn: u64, piece: Vec<u8> },
     /// A connection goes.
     Gone { conn: u64 },
-    /// The pending entries become a batch, where none is out.
+    /// The pending entries become a batch, if none is out.
     Cut,
     /// The batch that is cut is stored.
     Append,

@@ -1,4 +1,4 @@
-//! The way of a batch: it is cut, stored as a group, and posted.
+//! The way of a batch, entries that follow one another, through a desk: it is cut, stored as a group, and posted.
 
 ghost use Rattle.std.specs.Prelude.{◌≡◌, ◌⊎◌, ℕ, false, IsTrue, IfOk, OnOk};
 ghost use Rattle.fe_front.specs.Front.{has_room};
@@ -22,7 +22,7 @@ use std::alloc::{AllocError, Global};
 use std::mem;
 
 impl<D: Disk> DeskInner<D> {
-    /// What is pending becomes the batch that is out, where there is something and no batch is out.
+    /// Cuts what is pending into the batch that is out, if there is something and no batch is out.
     pub(crate) fn cut(&mut self)
         requires desk { IsDesk D.Disk (desk_of self.old) }
         ensures desk { IsDesk D.Disk (desk_of self.new) }
@@ -57,7 +57,7 @@ impl<D: Disk> DeskInner<D> {
         }
     }
 
-    /// Hands a batch to the store, as a group of the trace. Where there is no memory it leaves the trace again.
+    /// Hands a batch to the store, as a group of the trace. If there is no memory, the group leaves the trace again.
     fn store_batch(&mut self, batch: Batch) -> (Handed, Result<(), Fault>)
         requires desk { IsDesk D.Disk (with_handed (desk_of self.old) (Cut batch)) }
         requires works { self.old.keeper.store.has_failed ≡ false }
@@ -111,7 +111,7 @@ impl<D: Disk> DeskInner<D> {
         }
     }
 
-    /// Stores the batch that is out, where it is not yet, and posts it.
+    /// Stores the batch that is out, if it is not stored yet, and posts it.
     pub(crate) fn clear(&mut self) -> Result<(), Fault>
         requires desk { IsDesk D.Disk (desk_of self.old) }
         requires works { self.old.keeper.store.has_failed ≡ false }
@@ -125,7 +125,7 @@ impl<D: Disk> DeskInner<D> {
         Ok(())
     }
 
-    /// Makes room for a message of a connection. Where memory is short, what is left of it is done for its next message.
+    /// Makes room for a message of a connection. If memory is short, the rest of it is done for the connection's next message.
     pub(crate) fn make_room(&mut self, conn: u64) -> Result<(), Fault>
         requires desk { IsDesk D.Disk (desk_of self.old) }
         requires works { self.old.keeper.store.has_failed ≡ false }

@@ -29,7 +29,7 @@ impl Drop for Trace {
 }
 
 impl Trace {
-    /// That of no step.
+    /// The trace of a desk that took no step.
     pub(crate) fn new(alloc: Global) -> Trace
         ensures groups { result.groups.items ≡ [] }
         ensures ports { result.ports.items ≡ [] }

@@ -24,7 +24,7 @@ impl Model for Written {
 }
 
 impl Written {
-    /// Nothing is written.
+    /// An output to which nothing is written.
     pub(crate) fn new(alloc: Global) -> Written
         ensures { result ≡ [] }
     {
@@ -33,7 +33,7 @@ impl Written {
         }
     }
 
-    /// Writes the frame of a reply. Where there is no memory for it, nothing is written.
+    /// Writes the frame of a reply. If there is no memory for it, nothing is written.
     pub(crate) fn put(&mut self, reply: &Reply) -> Result<(), AllocError>
         ensures ok { OnOk result (self.new ≡ self.old ++ reply_spelling reply.now) }
         ensures err { OnErr result (self.new ≡ self.old) }
@@ -48,7 +48,7 @@ impl Written {
         self.bytes.clear();
     }
 
-    /// The bytes.
+    /// The bytes that were written.
     pub fn as_slice(&self) -> &[u8]
         ensures bytes { result.now ≡ self.now }
         ensures frames { AreReplies result.now }

@@ -1,6 +1,6 @@
--- Counts of calls.
+-- How many reads, writes and syncs a device was asked for.
 use Rattle.fe_disk.specs.declared.calls.Calls.{Calls}
 
--- none was made
+-- no calls
 abbrev pub none : Calls
 none = record { reads = 0; writes = 0; syncs = 0 }

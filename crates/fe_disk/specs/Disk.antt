@@ -1,4 +1,4 @@
--- What the calls of a disk do to its bytes, and what a stop leaves of them.
+-- What the calls of a disk do to its bytes, and what a stop leaves of them. An image is the list of all bytes of a disk.
 use Rattle.std.specs.Prelude.{◌≡◌, ◌⊎◌, ℕ, ◌+◌, ◌-◌, ◌^◌, ◌<◌, ◌≤◌, List, ◌++◌, length, take, drop, slice_index}
 use Rattle.fe_disk.specs.declared.calls.Calls.{Calls}
 
@@ -53,7 +53,7 @@ abbrev pub MakesAtMost : ℕ → ℕ → ℕ → Calls → Calls → Type 0
 MakesAtMost reads writes syncs before now =
     RisesAtMost reads before.reads now.reads × RisesAtMost writes before.writes now.writes × RisesAtMost syncs before.syncs now.syncs
 
--- Exactly this many were made.
+-- Exactly this many reads, writes and syncs were made between two counts.
 abbrev pub MakesJust : ℕ → ℕ → ℕ → Calls → Calls → Type 0
 MakesJust reads writes syncs before now =
     (now.reads ≡ before.reads + reads) × (now.writes ≡ before.writes + writes) × (now.syncs ≡ before.syncs + syncs)

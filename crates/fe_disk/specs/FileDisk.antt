@@ -1,4 +1,4 @@
--- What a `FileDisk` shows. Nothing is said of the bytes of its file.
+-- What contracts see of a `FileDisk`: its size and its counts, and nothing of the bytes of its file.
 use Rattle.std.specs.Prelude.{ℕ}
 use Rattle.fe_disk.specs.declared.calls.Calls.{Calls}
 use Rattle.fe_disk.specs.declared.file_disk.FileDisk.{FileDisk}
@@ -9,6 +9,6 @@ file_size disk = disk.size
 abbrev pub fault_count : FileDisk → ℕ
 fault_count disk = disk.failures
 
--- the calls that were made of it
+-- how many calls of each kind were made
 abbrev pub calls_of : FileDisk → Calls
 calls_of disk = disk.calls

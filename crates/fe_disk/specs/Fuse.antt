@@ -1,4 +1,4 @@
--- What a `Fuse` shows.
+-- What contracts see of a `Fuse`, the policy that fails every call of a disk from some call on.
 use Rattle.std.specs.Prelude.{ℕ, ◌-◌}
 use Rattle.fe_disk.specs.declared.fuse.Fuse.{Fuse}
 
@@ -6,6 +6,6 @@ use Rattle.fe_disk.specs.declared.fuse.Fuse.{Fuse}
 abbrev pub calls_left : Fuse → ℕ
 calls_left fuse = fuse.calls_left
 
--- a call spends one of those that are left
+-- the policy after a call, which spends one of those left
 abbrev pub burnt : Fuse → Fuse
 burnt fuse = record fuse { calls_left = fuse.calls_left - 1 }

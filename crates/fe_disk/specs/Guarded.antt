@@ -1,4 +1,4 @@
--- What a `Guarded` disk shows, and what its policy does to a call.
+-- What contracts see of a `Guarded` disk, whose policy lets some calls through to another disk and fails the others.
 use Rattle.std.specs.Prelude.{◌≡◌, ◌↔◌, ℕ, ◌-◌, ◌^◌, ◌<◌, Result, IsErr}
 use Rattle.fe_disk.specs.Disk.{Rises}
 use Rattle.fe_disk.specs.declared.guarded.Guarded.{Guarded}
@@ -8,14 +8,14 @@ use Rattle.fe_disk.specs.declared.disk.Disk.{Ghosts}
 abbrev pub disk_of : {D P : Type 0} → Guarded D P → D
 disk_of disk = disk.inner
 
--- what the disk shows
+-- what the inner disk shows, as a number or as a statement
 abbrev pub inner : {D P T : Type 0} → (D → T) → Guarded D P → T
 inner f disk = f (disk_of disk)
 
 abbrev pub inner_holds : {D P : Type 0} → (D → Type 0) → Guarded D P → Type 0
 inner_holds P disk = P (disk_of disk)
 
--- which calls it passes on
+-- the policy, which says which calls are passed on
 abbrev pub policy_of : {D P : Type 0} → Guarded D P → P
 policy_of disk = disk.policy
 
@@ -23,8 +23,8 @@ policy_of disk = disk.policy
 abbrev pub fault_count : {D P : Type 0} → Guarded D P → ℕ
 fault_count disk = disk.failures
 
--- The policy counts each call. A call that it doesn't pass on fails and leaves the disk as it is; any other call
--- fails exactly where the disk's fails.
+-- The policy counts each call. A call that it doesn't pass on fails and leaves the disk as it is; any other call fails exactly if
+-- the disk's fails.
 pub record Guards {D P T E : Type 0} (passes : P → Type 0) (next : P → P) (model : Ghosts D) (result : Result T E) (old new : Guarded D P) : Type 0 where
   pub counted : policy_of new ≡ next (policy_of old)
   pub refused : (passes (policy_of old) → ⊥) → IsErr result × (disk_of new ≡ disk_of old)

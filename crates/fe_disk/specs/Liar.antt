@@ -1,4 +1,4 @@
--- What a `Liar` shows.
+-- What contracts see of a `Liar`, the disk that always reads the same bytes.
 use Rattle.std.specs.Prelude.{ℕ, List, length}
 use Rattle.fe_disk.specs.declared.calls.Calls.{Calls}
 use Rattle.fe_disk.specs.declared.liar.Liar.{Liar}
@@ -10,7 +10,7 @@ liar_bytes disk = disk.bytes.items
 abbrev pub byte_count : Liar → ℕ
 byte_count disk = length (liar_bytes disk)
 
--- the calls that were made of it
+-- how many calls of each kind were made
 abbrev pub calls_of : Liar → Calls
 calls_of disk = disk.calls
 

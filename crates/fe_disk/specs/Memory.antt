@@ -1,4 +1,5 @@
--- What a `MemoryDisk` is, and which images its record of calls says that a stop may leave.
+-- What a `MemoryDisk` is, and which images its record of writes and syncs says that a stop may leave. An image is the
+-- list of all bytes of a disk.
 use Rattle.std.specs.Prelude.{◌≡◌, ◌⊎◌, ℕ, ◌+◌, ◌-◌, ◌^◌, ◌<◌, ◌≤◌, min, List, [], ◌∷◌, length, slice_index}
 use Rattle.fe_disk.specs.Disk.{IsImage, bytes_at, after_write}
 use Rattle.fe_disk.specs.Calls.{none}
@@ -6,20 +7,20 @@ use Rattle.fe_disk.specs.declared.calls.Calls.{Calls}
 use Rattle.fe_disk.specs.declared.memory_disk.Torn.{Torn}
 use Rattle.fe_disk.specs.declared.memory_disk.Torn.TheVariants.{Kept, Lost, Byte}
 
--- a call that succeeded: a write, by its offset and the bytes that were there before it, or a sync
+-- an event of the record: a write that succeeded, by its offset and the bytes that it replaced, or a sync that succeeded
 pub data DiskEvent : Type 0 where
   Write : (at : ℕ) → (before : List ℕ) → DiskEvent
   Sync : DiskEvent
 
--- what a disk in memory is: its bytes, the writes and syncs since it was made with the last of them first, how many
--- calls of each kind succeeded, and its count of faults
+-- what a disk in memory is: its bytes, the events since it was made with the latest first, how many calls of each kind
+-- (read, write, sync) succeeded, and its count of faults
 pub record MemoryState : Type 0 where
   pub image : List ℕ
   pub events : List DiskEvent
   pub calls : Calls
   pub failures : ℕ
 
--- what the trait `Disk` asks of it, with `IsHonest`, `LeavesNow` and `LeavesSince` below
+-- the members of the trait `Disk`, with `IsHonest`, `LeavesNow` and `LeavesSince` below
 abbrev pub size_of : MemoryState → ℕ
 size_of disk = length disk.image
 
@@ -32,33 +33,33 @@ calls_of disk = disk.calls
 abbrev pub seen_of : MemoryState → List ℕ
 seen_of disk = disk.image
 
--- the moment is the number of writes and syncs
+-- the moment is the number of events
 abbrev pub moment_of : MemoryState → ℕ
 moment_of disk = length disk.events
 
--- the image before a call, from the one after it
+-- the image before an event, given the one after it
 abbrev pub image_before : DiskEvent → List ℕ → List ℕ
 image_before (Write at before) image = after_write image at before
 image_before Sync image = image
 
--- the offset is in the range of no write since the last sync
+-- no write since the last sync has the offset in its range
 abbrev pub IsSettledAt : List DiskEvent → ℕ → Type 0
 IsSettledAt [] i = Unit {0}
 IsSettledAt (Sync ∷ earlier) i = Unit {0}
 IsSettledAt (Write at before ∷ earlier) i = ((i < at) ⊎ (at + length before ≤ i)) × IsSettledAt earlier i
 
--- A stop leaves any bytes in the ranges written since the last sync, and those that a read gives elsewhere.
+-- A stop leaves any bytes in the ranges written since the last sync, and elsewhere those that a read gives.
 pub record MayLeave (size : ℕ) (image : List ℕ) (events : List DiskEvent) (left : List ℕ) : Type 0 where
   pub bytes : IsImage size left
   pub elsewhere : (i : ℕ) → IsSettledAt events i → slice_index left i ≡ slice_index image i
 
--- A stop left it when t of the calls, or more, had been made.
+-- A stop may have left this image when t events, or more, were on record.
 abbrev pub LeftSince : ℕ → List ℕ → List DiskEvent → ℕ → List ℕ → Type 0
 LeftSince size image [] t left = (t ≤ 0) × MayLeave size image [] left
 LeftSince size image (event ∷ earlier) t left =
     ((t ≤ length (event ∷ earlier)) × MayLeave size image (event ∷ earlier) left) ⊎ LeftSince size (image_before event image) earlier t left
 
--- the bytes of the disk are bytes, which is all that its honesty takes
+-- an honest disk is one whose image has bytes alone: nothing else is assumed
 abbrev pub IsHonest : MemoryState → Type 0
 IsHonest disk = IsImage (length disk.image) disk.image
 
@@ -66,7 +67,7 @@ IsHonest disk = IsImage (length disk.image) disk.image
 abbrev pub LeavesNow : MemoryState → List ℕ → Type 0
 LeavesNow disk = MayLeave (length disk.image) disk.image disk.events
 
--- a stop after t of the calls, or later, may have left this image
+-- a stop may have left this image when t events of the disk, or more, were on record
 abbrev pub LeavesSince : MemoryState → ℕ → List ℕ → Type 0
 LeavesSince disk = LeftSince (length disk.image) disk.image disk.events
 
@@ -82,13 +83,13 @@ pub record IsFilled (byte : ℕ) (image : List ℕ) (events : List DiskEvent) (l
   pub elsewhere : (i : ℕ) → IsSettledAt events i → slice_index left i ≡ slice_index image i
   pub filled : (i : ℕ) → i < length image → (IsSettledAt events i → ⊥) → slice_index left i ≡ byte
 
--- which image a stop leaves that does this to the ranges written since the last sync
+-- what a stop leaves that does this to the ranges written since the last sync
 abbrev pub IsLeftBy : Torn → List ℕ → List DiskEvent → List ℕ → Type 0
 IsLeftBy Kept image events left = left ≡ image
 IsLeftBy Lost image events left = left ≡ synced_image image events
 IsLeftBy (Byte byte) image events left = IsFilled byte image events left
 
--- no call was made of it, and none has failed
+-- no event is on record, no call was made and none has failed
 pub record IsFresh (disk : MemoryState) : Type 0 where
   pub events : disk.events ≡ []
   pub calls : disk.calls ≡ none

@@ -1,11 +1,10 @@
--- How a call of a disk ends.
+-- How a call of a disk ends: what it counts, and when it fails.
 use Rattle.std.specs.Prelude.{◌≡◌, ◌↔◌, ℕ, ◌+◌, ◌≤◌, Result, IsErr, OnOk}
 use Rattle.fe_disk.specs.Disk.{Rises, MakesAtMost, MakesJust}
 use Rattle.fe_disk.specs.declared.calls.Calls.{Calls}
 
--- Exactly this many calls were made where it succeeds, and at most this many where it fails. It fails exactly where
--- the count of faults rose. It takes members of the trait `Disk`, since the trait's own clauses can't name the record
--- that has them all.
+-- Exactly this many calls were made if it succeeds, and at most this many if it fails. It fails exactly if the count of faults
+-- rose. It takes members of the trait `Disk`, since the trait's own clauses can't name the record that has them all.
 pub record EndsCall {D T E : Type 0} (size failures : D → ℕ) (calls : D → Calls) (honest : D → Type 0) (reads writes syncs : ℕ) (result : Result T E) (old new : D) : Type 0 where
   pub fault : IsErr result ↔ Rises (failures old) (failures new)
   pub still : OnOk result (failures new ≡ failures old)

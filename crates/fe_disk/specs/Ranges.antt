@@ -17,7 +17,7 @@ image_with_tear Kept image at before = image
 image_with_tear Lost image at before = after_write image at before
 image_with_tear (Byte byte) image at before = after_write image at (replicate (length before) byte)
 
--- and to those of all writes since the last sync, the last of them first
+-- what a stop does to the ranges of all writes since the last sync, the latest first
 abbrev pub image_with_tears : Torn → List ℕ → List DiskEvent → List ℕ
 image_with_tears torn image [] = image
 image_with_tears torn image (Sync ∷ earlier) = image

@@ -13,14 +13,14 @@ HasElapsed model old new = Elapses model.moment model.left_since model.may_leave
 pub record LeavesOnly {D : Type 0} (model : Ghosts D) (old new : D) (P : List ℕ → Type 0) : Type 0 where
   pub later : model.moment old ≤ model.moment new
   pub each : (image : List ℕ) → model.left_since new (model.moment old) image → P image
-  -- for a run that began earlier
+  -- a stop since an earlier moment left what it might have left before the run, or an image that has P
   pub before : (t : ℕ) (image : List ℕ) → t ≤ model.moment old → model.left_since new t image → model.left_since old t image ⊎ P image
 
 -- A run of this many calls ends as one call does.
 abbrev pub Asks : {D T E : Type 0} → Ghosts D → ℕ → ℕ → ℕ → Result T E → D → D → Type 0
 Asks model reads writes syncs result old new = EndsCall model.size model.failures model.calls model.honest reads writes syncs result old new
 
--- The same, where how many are made depends on what is read.
+-- A run of at most this many calls ends as one call does.
 pub record AsksAtMost {D T E : Type 0} (model : Ghosts D) (reads writes syncs : ℕ) (result : Result T E) (old new : D) : Type 0 where
   pub fault : IsErr result ↔ Rises (model.failures old) (model.failures new)
   pub still : OnOk result (model.failures new ≡ model.failures old)
@@ -29,7 +29,7 @@ pub record AsksAtMost {D T E : Type 0} (model : Ghosts D) (reads writes syncs : 
   pub honesty : model.honest new ↔ model.honest old
   pub same_size : model.size new ≡ model.size old
 
--- The same, for a function with other faults beside `device`. Those leave the count of faults as it is.
+-- A run of at most this many calls, of a function with other faults beside `device`: those leave the count of faults.
 pub record Runs {D T E : Type 0} (model : Ghosts D) (reads writes syncs : ℕ) (device : E) (result : Result T E) (old new : D) : Type 0 where
   pub fault : IsErrOf result device → Rises (model.failures old) (model.failures new)
   pub still : (IsErrOf result device → ⊥) → model.failures new ≡ model.failures old

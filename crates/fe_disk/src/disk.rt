@@ -1,4 +1,4 @@
-// A disk as its users see it. `docs/model.md` has the model in plain words.
+// A disk as its users see it. An image is the list of all its bytes. `docs/model.md` has the model in plain words.
 ghost use Rattle.std.specs.Prelude.{◌≡◌, ◌+◌, ◌≤◌, ℕ, List, length, OnOk};
 ghost use Rattle.fe_disk.specs.Disk.{IsImage, bytes_at, after_write, IsTorn, Follows, AddsNone, LeavesJust, Elapses};
 ghost use Rattle.fe_disk.specs.Outcome.{EndsCall};

@@ -31,10 +31,10 @@ const MODE: u32 = 0o600;
 /// that are not on the device, and would give their bytes to every reader until it needs the memory.
 ///
 /// A disk that writes holds an advisory lock on its file for as long as it lives, so no other disk writes the file
-/// meanwhile. A sync behind a short write, such as a gate, succeeds only if the file afterwards still has its size and the
-/// path by which it was opened: what is written into a file that was cut, renamed, replaced or removed is lost. The file must
-/// also still have what was synced before, as far as `Samples` knows it: a program that overwrote the file in place has
-/// overwritten that too.
+/// meanwhile. A sync behind a short write, such as a gate (the byte that makes a group of the store count), succeeds
+/// only if the file afterwards still has its size and the path by which it was opened: what is written into a file that
+/// was cut, renamed, replaced or removed is lost. The file must also still have what was synced before, as far as
+/// `Samples` knows it: a program that overwrote the file in place has overwritten that too.
 ///
 /// Nothing is claimed about what a file gives or keeps, so it is not honest.
 #[derive(Drop)]
@@ -96,7 +96,7 @@ impl FileDisk {
         ensures failures { IfOk result (λ disk. fault_count disk ≡ 0) }
         ensures wrong { (found : ℕ) → IsErrOf result (WrongSize found) → found ≢ size }
     {
-        // (to open a pipe to read it alone would wait for who writes it)
+        // Opening a pipe for reading alone would wait for a writer.
         match fs::metadata(rt, path) {
             Ok(metadata) if metadata.is_file() => {}
             Ok(_) => return Err(FileFault::Device),
@@ -134,7 +134,7 @@ impl FileDisk {
             return Err(FileFault::WrongSize { found });
         }
         let watch = is_watched.then(|| Watch::of(&file));
-        // (a file that was replaced or removed meanwhile would keep the path that the system has for it)
+        // The system would still have the path of a file that was replaced or removed meanwhile.
         if is_watched && !is_at(rt, path, &file) {
             return Err(FileFault::Device);
         }
@@ -188,7 +188,7 @@ impl FileDisk {
         Ok(())
     }
 
-    // The file has its size, a name and its path; or it is not watched.
+    // Whether the file has its size, a name and its path, which is asked only of a file that is watched.
     fn is_there(&self) -> bool {
         let Some(watch) = &self.watch else {
             return true;
@@ -253,15 +253,15 @@ fn fill(mut file: &File, size: u64) -> io::Result<()> {
     file.write_all(&zeros[..(size % PIECE as u64) as usize])
 }
 
-// The file with its lock, which no other disk has meanwhile.
+// Locks the file, so that no other disk has it meanwhile.
 fn locked(file: File) -> io::Result<File> {
     let file = above_streams(file)?;
     file.try_lock()?;
     Ok(file)
 }
 
-// The file above the standard streams: where one of those is closed, what is meant for it must not
-// be written into the file.
+// The file with a descriptor above those of the standard streams. If one of those is closed, what is meant for it must
+// not be written into the file.
 fn above_streams(file: File) -> io::Result<File> {
     if file.as_raw_fd() < STREAMS {
         file.try_clone()

@@ -195,7 +195,7 @@ impl Disk for MemoryDisk {
         ensures time { IsHonest self.old → Elapses moment_of LeavesSince LeavesNow self.old self.new }
         ensures device { EndsCall size_of failures_of calls_of IsHonest 1 0 0 result self.old self.new }
 
-        // A read takes no memory, so it fails only once the count of faults, or that of reads, is at its top.
+        // A read takes no memory, so it fails only if the count of faults, or that of reads, is at its top.
         ensures only_at_top { IsErr result ↔ ((self.old.failures ≡ 2 ^ 64 - 1) ⊎ (self.old.calls.reads ≡ 2 ^ 64 - 1)) }
         ensures ok { OnOk result (self.new ≡ disk_after_read self.old) }
         ensures err { OnErr result (self.new ≡ disk_after_fault self.old) }

@@ -1,4 +1,4 @@
-//! Which calls a disk passes on.
+//! Policies: which calls a disk passes on.
 ghost use Rattle.std.specs.Prelude.{◌≡◌, ◌↔◌, IsTrue};
 
 /// A kind of device call.
@@ -17,7 +17,7 @@ pub trait Policy {
     /// The policy after a call.
     ghost next: { Self → Self };
 
-    /// Counts a call. Whether to pass it on.
+    /// Counts a call, and says whether to pass it on.
     fn admit(&mut self, asked: Asked) -> bool
         ensures passes { IsTrue result ↔ passes self.old }
         ensures next { self.new ≡ next self.old };

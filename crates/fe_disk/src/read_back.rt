@@ -1,4 +1,4 @@
-//! A file whose bytes can be read again.
+//! A file whose bytes can be read again, whoever wrote them.
 ghost use Rattle.std.specs.Prelude.{◌≡◌, ℕ, List, length, OnOk};
 ghost use Rattle.fe_disk.specs.Disk.{bytes_at};
 
@@ -8,10 +8,10 @@ use std::os::unix::fs::FileExt;
 
 /// Gives the bytes of a file, whoever wrote them.
 pub(crate) trait ReadBack {
-    /// It gives what it contains. Every fact about its bytes assumes it.
+    /// The file gives what it contains. Every fact about its bytes assumes it.
     ghost honest: { Self → Type 0 };
 
-    /// All its bytes, in order.
+    /// All bytes of the file, in order.
     ghost contents: { Self → List ℕ };
 
     /// Reads the bytes from `at` on. After an error the buffer may hold anything.

@@ -1,19 +1,20 @@
-//! Some bytes that were written into a file, to see whether another process overwrote them.
+//! Samples: some bytes that were written into a file, to see whether another process overwrote them. A group is what
+//! one append writes to the store; its gate is the byte in front that makes it count (`docs/store.md`).
 ghost use Rattle.std.specs.Prelude.{◌≡◌, ◌↔◌, ◌+◌, ◌<◌, ◌≤◌, ℕ, [], ◌∷◌, length, IsTrue, IfOk};
 
 use crate::read_back::ReadBack;
 use std::io;
 
-/// The room for the bytes of a sample.
+/// The most bytes of a sample.
 const ROOM: usize = 32;
 
-/// How many bytes of a write are taken. Then there is room for one in front, the gate of a group.
+/// How many bytes of a write are taken: there is room for one in front, the gate of a group.
 const FIRST: usize = ROOM - 1;
 
-/// A shorter write is no group.
+/// The fewest bytes of a long write. A shorter one is no group.
 pub(crate) const LONG: usize = 16;
 
-/// Bytes of a file, and the offset of the first of them. Maybe there are none.
+/// Bytes of a file, and the offset of the first of them. There may be none.
 #[derive(Clone, Copy)]
 pub(crate) struct Sample {
     at: usize,
@@ -32,8 +33,8 @@ impl Sample {
         length: 0,
     };
 
-    /// The sample after a write: its first bytes if it is long, and a single byte if that comes in front of the sample. Of a
-    /// sample that another write overwrote, nothing is left.
+    /// The sample after a write: the write's first bytes if it is long, or one byte more if the write is that byte in
+    /// front of the sample. A sample that another write overwrote becomes empty.
     pub(crate) fn after(&self, at: usize, written: &[u8]) -> Sample
         ensures right { StaysRight at written.now self.now result }
         ensures long { 16 ≤ length written.now → IsOf at written.now result }

@@ -1,31 +1,32 @@
-//! What a disk that writes a file knows of the bytes in it.
+//! What a disk that writes a file knows of the bytes in it. A group is what one append writes to the store; its gate is
+//! the byte in front that makes it count (`docs/store.md`).
 ghost use Rattle.std.specs.Prelude.{◌≡◌, ◌↔◌, ◌+◌, ◌<◌, ◌≤◌, ℕ, [], ◌∷◌, length, IsTrue, IsFalse};
 ghost use Rattle.fe_disk.specs.within.Samples.{Holds, StaysRight, IsOf, Precedes};
 
 use crate::read_back::ReadBack;
 use crate::sample::{LONG, Sample};
 
-/// Bytes that were written into a file: the first ones of the last long write, a group's, and the byte in front of them,
-/// its gate. Those that were synced have to be there still behind the next sync of a gate.
+/// Two samples of what was written into a file, each the first bytes of a long write, as of a group, and the byte in front of
+/// them, the group's gate. When the next gate is synced, the file must still have the one that was synced before.
 #[derive(Clone, Copy)]
 pub(crate) struct Samples {
-    /// Of the last long write.
+    /// The sample of the last long write. It is empty if a later write overwrote it.
     written: Sample,
-    /// The same at the last sync behind a short write. Nothing was written there since.
+    /// What `written` was at the last sync behind a short write. It is empty if a later write overwrote it.
     synced: Sample,
-    /// The last write was short. So a group is compared once, behind its gate.
+    /// Whether the last write was short. So a group is compared once, after its gate.
     pub(crate) is_short: bool,
 }
 
 impl Samples {
-    /// Nothing is known of the file.
+    /// No samples: nothing is known of the file.
     pub(crate) const NONE: Samples = Samples {
         written: Sample::NONE,
         synced: Sample::NONE,
         is_short: false,
     };
 
-    /// Takes a sample of a write, and forgets what it overwrote.
+    /// Takes a sample of a write, and forgets the samples that the write overwrote.
     pub(crate) fn note(&mut self, at: usize, bytes: &[u8])
         ensures written { StaysRight at bytes.now self.old.written self.new.written }
         ensures synced { StaysRight at bytes.now self.old.synced self.new.synced }
@@ -39,10 +40,10 @@ impl Samples {
         self.is_short = bytes.len() < LONG;
     }
 
-    /// After a sync, compares the file with what was synced before, if the last write was short. If the file has it still,
-    /// what was written since counts as synced.
+    /// After a sync behind a short write, compares the file with what was synced before, and says whether it still has
+    /// that. If it has, what was written since counts as synced. After any other sync it says yes.
     pub(crate) fn confirm<F: ReadBack>(&mut self, file: &F) -> bool
-        // Each byte that was synced before is in the file.
+        // The file has each byte that was synced before.
         ensures kept { F.honest file.now → IsTrue result → IsTrue self.old.is_short
             → Holds (F.contents file.now) self.old.synced }
         ensures synced { IsTrue result → IsTrue self.old.is_short → self.new.synced ≡ self.old.written }

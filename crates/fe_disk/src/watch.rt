@@ -1,4 +1,4 @@
-//! The name by which the system knows an open file.
+//! The path that the system knows for an open file.
 
 ghost use Rattle.std.specs.Prelude.{◌≤◌, length};
 
@@ -46,7 +46,7 @@ impl Watch {
     }
 }
 
-// Reads a link into the front of the buffer. How many bytes it has, 0 if it can't be read.
+// Reads a link into the front of the buffer. Returns how many bytes it has, 0 if it can't be read.
 fn read_link(link: &CPath, buffer: &mut CPath) -> usize
     ensures { result ≤ 4096 }
 {

@@ -1,14 +1,15 @@
--- What the two formats of a store have of different size, and what they allow.
+-- The two formats of a store: the sizes in which they differ, and the lengths that they allow. A slot, half of a store,
+-- has an image of the server's state, and groups: records of entries, stored at once. A group's payload is its records.
 use Rattle.std.specs.Prelude.{◌≡◌, ℕ, ◌%◌, ◌≤◌}
 use Rattle.fe_format.specs.declared.format.Format.{Format}
 use Rattle.fe_format.specs.declared.format.Format.TheVariants.{One, Two}
 
--- the text FEMEMST1 or FEMEMST2, as a number
+-- the magic of a slot's header: the text FEMEMST1 or FEMEMST2, as a number
 abbrev pub magic_of : Format → ℕ
 magic_of One = 0x46454d454d535431
 magic_of Two = 0x46454d454d535432
 
--- how many bytes the row of a name has
+-- how many bytes the field of a name has
 abbrev pub name_bytes : Format → ℕ
 name_bytes One = 16
 name_bytes Two = 32

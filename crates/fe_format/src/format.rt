@@ -1,8 +1,8 @@
 ghost use Rattle.std.specs.Prelude.{◌≡◌, ◌+◌, ◌≤◌, ◌↔◌, IsTrue};
 ghost use Rattle.fe_format.specs.Layout.{magic_of, name_bytes, record_bytes, group_records, longest_payload, longest_image, IsPayloadLength, IsImageLength};
 
-/// The format of a store. It says how entries and images are spelled, and how long groups and images may be
-/// (`docs/formats.md`). Each slot has its own. New stores have format 2.
+/// The format of a store. It says how entries and images of the state are spelled as bytes, and how long groups of
+/// entries and images may be (`docs/formats.md`). Each of a store's two slots has its own. New stores have format 2.
 #[derive(Clone, Copy, PartialEq, Eq)]
 pub enum Format {
     /// Names of up to 16 bytes, and every request may wait.
@@ -22,7 +22,7 @@ impl Format {
         }
     }
 
-    /// How many bytes the row of a name has: 16 or 32 (`docs/formats.md`, "Entry record").
+    /// How many bytes the field of a name has: 16 or 32 (`docs/formats.md`, "Entry record").
     pub fn name_bytes(self) -> usize
         ensures value { result ≡ name_bytes self }
         ensures least { 16 ≤ name_bytes self }
@@ -57,7 +57,7 @@ impl Format {
         }
     }
 
-    /// The length of the longest payload, in bytes (`docs/formats.md`, "Journal area").
+    /// The length of the longest payload of a group, in bytes (`docs/formats.md`, "Journal area").
     pub fn longest_payload(self) -> usize
         ensures { result ≡ longest_payload self }
     {

@@ -1,4 +1,4 @@
-//! The two formats of a store, and their sizes.
+//! The two formats of a store, and the sizes in which they differ.
 #![tactic(auto)]
 
 mod format;

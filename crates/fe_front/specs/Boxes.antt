@@ -1,5 +1,5 @@
--- What is always true of the boxes of a front: each has at most `most_mails_in_box` mails, and an answer is in one only
--- once its entry is durable.
+-- What is always true of the boxes of a front, where mails to connections wait: each has at most `most_mails_in_box`
+-- mails, and an answer is in one only once its entry is durable, that is stored.
 use Rattle.std.specs.Prelude.{ℕ, ◌≤◌, ◌<◌, List, length, All}
 use Rattle.fe_state.specs.State.{ServerState}
 use Rattle.fe_state.specs.declared.entry.Entry.{Entry}
@@ -12,7 +12,7 @@ use Rattle.fe_front.specs.Front.{FrontState, IsFront, IsFirst}
 use Rattle.fe_front.specs.Call.{call_refused_by}
 use Rattle.fe_front.specs.Step.{FrontStep}
 
--- a mail that carries a place carries one below the mark; only an answer has a place, that of its entry
+-- a mail that carries a place, that of an answer's entry, carries one below the mark, the number of durable entries
 abbrev pub IsBelow : ℕ → Mail → Type 0
 IsBelow mark (Answer session number answer place) = place < mark
 IsBelow mark _ = Unit {0}
@@ -25,7 +25,7 @@ HoldsDurable f = (conn : ℕ) → All (IsBelow f.durable) (mails_on f.connection
 abbrev pub HasShortBoxes : FrontState → Type 0
 HasShortBoxes f = (conn : ℕ) → length (mails_on f.connections conn) ≤ most_mails_in_box
 
--- what is true of each front that begins, and stays true through each event and each refused call
+-- P is true of each front that begins, and stays true through each event and each refused call
 pub record IsAlwaysTrue (P : FrontState → Type 0) : Type 0 where
   pub first : (begun : ServerState) (f : FrontState) → IsFirst begun f → P f
   pub step : (f f' : FrontState) (event : Event) (es : List Entry) → IsFront f → FrontStep f event es f' → P f → P f'

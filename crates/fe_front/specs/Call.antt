@@ -1,4 +1,4 @@
--- What a call is, by the request that its number belongs to, and what it leaves of a front.
+-- The outcomes of a call (a request of a client under a number of its session), and what each leaves of a front.
 use Rattle.std.specs.Prelude.{◌≡◌, ◌≢◌, ℕ, ◌+◌, zero, suc, nat_lt, if◌then◌else◌, true, false, List, [], ◌∷◌, length, Option, Some, None, Ok, MatchOption, MatchResult}
 use Rattle.std.specs.Option.{option_map, option_map_or}
 use Rattle.std.specs.FinMap.{get}
@@ -31,8 +31,8 @@ abbrev pub request_at : FrontState → ℕ → ℕ → Option Request
 request_at f session number =
     option_map_or (λ k. Some k.request) (kept_at f session number) (option_map request_of (get f.service.waiting (session, number)))
 
--- a call is refused for this, whatever memory there is: its number is not its session's, belongs to another request, or
--- is new where the history has no place left
+-- A call of a session is refused for this reason, whatever memory there is: its number belongs to another request, or
+-- is new and the history has no place left. The reasons of `addressed` come before these.
 abbrev pub IsNumberRefused : FrontState → ℕ → Request → ℕ → Refusal → Type 0
 IsNumberRefused f number request session refusal =
     MatchOption (request_at f session number) ((is_spent f ≡ true) × (refusal ≡ Spent)) (λ before. (before ≢ request) × (refusal ≡ NumberUsed))
@@ -41,8 +41,7 @@ abbrev pub IsCallRefused : FrontState → ℕ → ℕ → Request → Refusal �
 IsCallRefused f conn number request refusal =
     MatchResult (addressed f conn number) (λ session. IsNumberRefused f number request session refusal) (λ first. refusal ≡ first)
 
--- a call is refused because memory is short: it is the first of its number and there is a place for it, but it makes
--- an array
+-- A call is refused because memory is short: it is the first of its number and there is a place for it, but it makes an array.
 pub record WantsMemory (f : FrontState) (conn number : ℕ) (request : Request) : Type 0 where
   pub session : ℕ
   pub answer : Answer
@@ -61,7 +60,7 @@ abbrev pub repeat_of : FrontState → ℕ → ℕ → Outcome
 repeat_of f session number =
     option_map_or (λ k. if nat_lt k.place f.durable then outcome.SentAgain else outcome.NotYetSynced) (kept_at f session number) outcome.AlreadyWaiting
 
--- an answer that is kept is mailed again, where its entry is durable
+-- the front once an answer that is kept is mailed again, if its entry is durable
 abbrev pub answered_again : FrontState → ℕ → ℕ → ℕ → FrontState
 answered_again f conn session number =
     option_map_or
@@ -78,8 +77,8 @@ abbrev pub waiters_completed : ℕ → Books → Books
 waiters_completed zero b = b
 waiters_completed (suc n) b = waiter_completed (waiters_completed n b)
 
--- a new request completes with this many entries: its own, and those of the requests that may be served then, whoever
--- comes first
+-- a new request completes with this many entries: its own, and those of the waiting requests that may be served then,
+-- in whichever order
 pub record Completed (f : FrontState) (session number : ℕ) (request : Request) (n : ℕ) (es : List Entry) (f' : FrontState) : Type 0 where
   pub answer : Answer
   pub served : List Entry
@@ -91,7 +90,7 @@ pub record Completed (f : FrontState) (session number : ℕ) (request : Request)
   pub count : n ≡ 1 + length served
   pub rest : f' ≡ record f { service = f'.service; books = waiters_completed (length served) (call_completed f.books) }
 
--- a new request waits from now on
+-- a new request begins to wait
 pub record Waits (f : FrontState) (session number : ℕ) (request : Request) (es : List Entry) (f' : FrontState) : Type 0 where
   pub waiter : WaitingAccess
   pub new : request_at f session number ≡ None
@@ -101,7 +100,7 @@ pub record Waits (f : FrontState) (session number : ℕ) (request : Request) (es
   pub entries : es ≡ []
   pub rest : f' ≡ record f { service = waited f.service session number waiter; books = call_waits f.books }
 
--- a call with the request that its number belongs to already is a repeat, whatever memory and places are left
+-- a call with the request that its number belongs to is a repeat, whatever memory and places are left
 pub record Repeats (f : FrontState) (conn session number : ℕ) (request : Request) (o : Outcome) (es : List Entry) (f' : FrontState) : Type 0 where
   pub known : request_at f session number ≡ Some request
   pub is : o ≡ repeat_of f session number

@@ -1,4 +1,4 @@
--- The events of a front that change it, each with what it answered.
+-- The events of a front that change it, each with what it answered. A comment says what an event carries.
 use Rattle.std.specs.Prelude.{ℕ, Option}
 use Rattle.fe_state.specs.declared.batch.Batch.{Batch}
 use Rattle.fe_state.specs.declared.request.Request.{Request}

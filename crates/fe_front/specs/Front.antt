@@ -1,4 +1,5 @@
--- The state of the front, and what is always true of it.
+-- The state of the front, and what is always true of it. The front takes the events of connections, makes entries of
+-- the history, and has them stored in batches. At most one batch is out, cut and not yet posted.
 use Rattle.std.specs.Prelude.{◌≡◌, ◌↔◌, ℕ, ◌+◌, ◌≤◌, refl, Bool, not, ◌&&◌, nat_le, nat_lt, [], length, Option, Some, None, IfSome, is_some}
 use Rattle.std.specs.Ordering.{nat_cmp}
 use Rattle.std.specs.Coded.{Coded, code_by, coded×, coded_ℕ, coded_option}
@@ -16,7 +17,8 @@ use Rattle.fe_front.specs.contracts.out.Out.{the_row as out_row}
 use Rattle.fe_state.specs.Limits.{most_batch_entries, most_event_entries, greatest_place, most_waiting}
 
 -- The state with its attachments, what waits and the entries not yet cut; the connections with their sessions and
--- boxes; how many entries are durable; where the batch that is out begins, and how long it is; and the books.
+-- boxes; how many entries are durable (the mark); where the batch that is out begins, and how long it is; and the
+-- books, which count calls and mails.
 pub record FrontState : Type 0 where
   pub service : ServiceState
   pub connections : FinMap nat_cmp Connection
@@ -39,8 +41,8 @@ abbrev pub out_length : Option Out → ℕ
 out_length None = 0
 out_length (Some o) = o.length
 
--- What ties the parts of a front: a connection has the session that has the connection, each entry is durable, out or
--- not yet cut, a batch that is out begins at the mark, and the books balance with what waits and what is in the boxes.
+-- What ties the parts of a front: a connection has the session that has the connection; each entry is durable, out or
+-- not yet cut; a batch that is out begins at the mark; and the books balance with what waits and what is in the boxes.
 pub record IsTied (f : FrontState) : Type 0 where
   pub agree : (session conn : ℕ) → (holder_of f.service.attachments session ≡ Some conn) ↔ (session_on f.connections conn ≡ Some session)
   pub place : f.service.state.place ≡ f.durable + out_length f.out + length f.service.pending
@@ -48,14 +50,14 @@ pub record IsTied (f : FrontState) : Type 0 where
   pub out_first : IfSome f.out (λ o. o.first ≡ f.durable)
   pub balance : Balances f.books (len f.service.waiting) (mails_in f.connections)
 
--- what is always true of a front: no one that waits may be served, and its parts are tied
+-- what is always true of a front: no waiting request may be served, and its parts are tied
 pub record IsFront (f : FrontState) : Type 0 where
   pub service : IsService f.service
   pub tied : IsTied f
   pub few_waiting : len f.service.waiting ≤ most_waiting
   pub few_pending : length f.service.pending ≤ most_batch_entries
 
--- a front as it begins, over a state: one attachment for each session, which nobody has, and all entries durable
+-- a front that begins, over a state: each session has an attachment with no connection, and all entries are durable
 pub record IsFirst (begun : ServerState) (f : FrontState) : Type 0 where
   pub state : f.service.state ≡ begun
   pub attachments : AreFreeAttachments begun.sessions f.service.attachments
@@ -66,7 +68,7 @@ pub record IsFirst (begun : ServerState) (f : FrontState) : Type 0 where
   pub out : f.out ≡ None
   pub books : f.books ≡ first_books
 
--- whether so few entries are pending that one more event has room
+-- whether at most `most_waiting` entries are pending, so that one more event has room
 abbrev pub has_room : FrontState → Bool
 has_room f = nat_le (length f.service.pending) most_waiting
 
@@ -78,6 +80,6 @@ is_spent f = nat_lt greatest_place (f.service.state.place + most_event_entries)
 abbrev pub is_attached : FrontState → ℕ → Bool
 is_attached f session = is_some (holder_of f.service.attachments session) && not (is_closing f.service.attachments session)
 
--- whether a connection is there
+-- whether the connection is connected
 abbrev pub is_connected : FrontState → ℕ → Bool
 is_connected f conn = is_some (get f.connections conn)

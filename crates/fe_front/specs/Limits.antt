@@ -1,6 +1,6 @@
--- How far a set tells connections apart.
+-- How many connections a set tells apart by their numbers.
 use Rattle.std.specs.Prelude.{ℕ}
 
--- how many remainders there are: a connection has that of its number
+-- how many remainders there are: connections with the same remainder of their numbers are not told apart
 abbrev pub remainder_count : ℕ
 remainder_count = 256

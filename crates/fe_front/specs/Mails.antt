@@ -1,4 +1,4 @@
--- Mails and refusals, for crates above, which need not name the crate below for them.
+-- The names of mails and refusals, for crates above that don't name `fe_mail`.
 pub use Rattle.fe_mail.specs.declared.mail.Mail.{Mail}
 pub use Rattle.fe_mail.specs.declared.mail.Mail.TheVariants.{Welcome, Answer, Withdrawn, Settled, Goodbye, Refused, Report}
 pub use Rattle.fe_mail.specs.declared.refusal.Refusal.{Refusal}

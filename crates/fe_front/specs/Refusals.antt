@@ -1,4 +1,4 @@
--- Why an event is refused: the first reason that applies. An event that is not refused is of a session.
+-- Why an event is refused: the first reason that applies. An event that is not refused belongs to a session.
 use Rattle.std.specs.Prelude.{ℕ, zero, suc, ◌+◌, ◌||◌, ◌&&◌, Bool, false, not, if◌then◌else◌, nat_lt, is_some, is_none, Result, Ok, Err}
 use Rattle.std.specs.Option.{option_map_or}
 use Rattle.std.specs.FinMap.{get, len}
@@ -11,19 +11,19 @@ use Rattle.fe_mail.specs.declared.refusal.Refusal.TheVariants.{NotAttached, Clos
 use Rattle.fe_front.specs.Front.{FrontState, is_connected, is_spent}
 use Rattle.fe_state.specs.Limits.{greatest_floor, most_sessions, window_length}
 
--- a session, unless it is refused already, or for what is tested next
+-- the result of the next check, unless an earlier one refused the event
 abbrev pub and_then : Result ℕ Refusal → (ℕ → Result ℕ Refusal) → Result ℕ Refusal
 and_then (Err refusal) next = Err refusal
 and_then (Ok session) next = next session
 
--- the session of a connection, which is not closing
+-- the session, unless it is closing
 abbrev pub unclosing : FrontState → ℕ → Result ℕ Refusal
 unclosing f session = if is_closing f.service.attachments session then Err Closing else Ok session
 
 abbrev pub own : FrontState → ℕ → Result ℕ Refusal
 own f conn = option_map_or (unclosing f) (session_on f.connections conn) (Err NotAttached)
 
--- a session, while there is a place for what one event may add
+-- the session, if the history has places for what one event may add
 abbrev pub unspent : FrontState → ℕ → Result ℕ Refusal
 unspent f session = if is_spent f then Err Spent else Ok session
 
@@ -38,7 +38,7 @@ attaching f conn session =
     else if has_no_attachment f session then Err SessionLimit
     else unspent f session
 
--- a session whose window has the number
+-- the session, if its window has the number
 abbrev pub in_window : FrontState → ℕ → ℕ → Result ℕ Refusal
 in_window f number session =
     if nat_lt number (floor_of f.service session) then Err BelowFloor
@@ -54,7 +54,7 @@ abbrev pub waits_below : WaitingAccesses → ℕ → ℕ → Bool
 waits_below waiting session zero = false
 waits_below waiting session (suc number) = waits_below waiting session number || is_some (get waiting (session, number))
 
--- a session whose floor may rise to this one
+-- the session, if its floor may rise to this one
 abbrev pub may_settle : FrontState → ℕ → ℕ → Result ℕ Refusal
 may_settle f floor session =
     if nat_lt floor (floor_of f.service session) then Err BelowFloor
@@ -68,7 +68,7 @@ settling f conn floor = and_then (own f conn) (may_settle f floor)
 abbrev pub leaving : FrontState → ℕ → Result ℕ Refusal
 leaving f conn = and_then (own f conn) (unspent f)
 
--- a session with a request that waits under the number
+-- the session, if a request of it waits under the number
 abbrev pub may_cancel : FrontState → ℕ → ℕ → Result ℕ Refusal
 may_cancel f number session = if is_some (get f.service.waiting (session, number)) then Ok session else Err NotWaiting
 

@@ -1,4 +1,4 @@
--- How the books of a front rise: by what each event says of itself, so that counts kept beside them follow.
+-- How the books of a front, its counts of calls and mails, rise with each event, so that counts kept beside them can follow.
 use Rattle.std.specs.Prelude.{◌≡◌, ℕ, ◌+◌, ◌≤◌, false, List, length, Some}
 use Rattle.fe_state.specs.declared.entry.Entry.{Entry}
 use Rattle.fe_mail.specs.Books.{Books}
@@ -37,7 +37,7 @@ abbrev pub taken_of : Event → ℕ
 taken_of (TakeMail conn (Some mail)) = 1
 taken_of _ = 0
 
--- how many mails an event makes at most: one for each entry that is posted, and one where an event is answered at once
+-- how many mails an event makes at most: one for each entry that is posted, and one if the event is answered at once
 abbrev pub most_mails_of : Event → ℕ
 most_mails_of (Post batch) = length batch.entries
 most_mails_of (Call conn number request outcome) = 1

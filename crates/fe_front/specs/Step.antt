@@ -15,17 +15,17 @@ use Rattle.fe_front.specs.Refusals.{attaching, addressed, settling, leaving, can
 use Rattle.fe_front.specs.Steps.{connected, attached_to, settled_to, closed_by, cancelled_by, dropped, departing, next_batch, cut, taken, mailed}
 use Rattle.fe_state.specs.Limits.{most_event_entries}
 
--- an event of the session that the connection has, with one entry
+-- the event makes one entry
 pub record OneEntry (f' : FrontState) (es : List Entry) (e : Entry) (f : FrontState) : Type 0 where
   pub entries : es ≡ e ∷ []
   pub front : f' ≡ f
 
--- an event that makes no entry
+-- the event makes no entry
 pub record NoEntry (f' : FrontState) (es : List Entry) (f : FrontState) : Type 0 where
   pub entries : es ≡ []
   pub front : f' ≡ f
 
--- what an event does, with the entries that it makes; whoever may be served is
+-- what an event does, with the entries that it makes. If several waiting requests may be served, any may be the next
 abbrev pub FrontStep : FrontState → Event → List Entry → FrontState → Type 0
 FrontStep f (Connect conn) es f' = (get f.connections conn ≡ None) × NoEntry f' es (connected f conn)
 FrontStep f (Attach conn session) es f' =

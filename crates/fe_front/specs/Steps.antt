@@ -1,4 +1,4 @@
--- What the events leave of a front.
+-- What the events leave of a front. A comment says what has happened.
 use Rattle.std.specs.Prelude.{ℕ, ◌||◌, Bool, if◌then◌else◌, nat_lt, nat_eq, [], ◌∷◌, ◌++◌, length, drop, Option, Some, None, is_some}
 use Rattle.std.specs.Option.{option_map_or}
 use Rattle.std.specs.FinMap.{insert, remove}
@@ -37,12 +37,12 @@ abbrev pub departed : FrontState → ℕ → FrontState
 departed f conn =
     option_map_or (λ session. parted (withdrawn_from f session) conn session) (session_on f.connections conn) f
 
--- a connection is taken away with its box
+-- a connection is removed with its box
 abbrev pub unboxed : FrontState → ℕ → FrontState
 unboxed f conn =
     record f { connections = remove f.connections conn; books = box_dropped (length (mails_on f.connections conn)) f.books }
 
--- a connection is gone: it leaves its session, and its box is dropped
+-- a connection goes: it leaves its session, and its box is dropped
 abbrev pub dropped : FrontState → ℕ → FrontState
 dropped f conn = if is_connected f conn then unboxed (departed f conn) conn else f
 
@@ -55,11 +55,11 @@ abbrev pub boxed : FrontState → ℕ → Mail → FrontState
 boxed f conn mail =
     record f { connections = with_mails f.connections conn (mails_on f.connections conn ++ mail ∷ []); books = mail_boxed f.books }
 
--- a mail to a full box: its connection is gone
+-- a mail comes to a full box, and its connection goes
 abbrev pub overflowed : FrontState → ℕ → FrontState
 overflowed f conn = dropped (record f { books = mail_refused_by_box f.books }) conn
 
--- a mail to a connection; none is made where it is not connected
+-- a mail comes to a connection; no mail is made if that is not connected
 abbrev pub mailed : FrontState → ℕ → Mail → FrontState
 mailed f conn mail =
     if is_connected f conn then
@@ -68,11 +68,11 @@ mailed f conn mail =
 
 -- ---- events
 
--- a connection comes, with no session and an empty box
+-- a connection connects, with no session and an empty box
 abbrev pub connected : FrontState → ℕ → FrontState
 connected f conn = record f { connections = insert f.connections conn first_connection }
 
--- a connection gets a session, where neither has another, and the session's entry is made
+-- a connection gets a session, and the session's entry is made; neither had another
 abbrev pub joined : FrontState → ℕ → ℕ → FrontState
 joined f conn session =
     record f { service = attached f.service session conn; connections = with_session f.connections conn (Some session) }
@@ -81,7 +81,7 @@ joined f conn session =
 abbrev pub attached_to : FrontState → ℕ → ℕ → FrontState
 attached_to f conn session = joined (freed (released f conn) session) conn session
 
--- a session's floor rises
+-- a session's floor rises, with an entry
 abbrev pub settled_to : FrontState → ℕ → ℕ → FrontState
 settled_to f session floor = record f { service = settled f.service session floor }
 
@@ -90,7 +90,7 @@ abbrev pub closed_by : FrontState → ℕ → FrontState
 closed_by f session =
     record f { service = closed f.service session; books = waiters_withdrawn (count_of f.service.waiting session) f.books }
 
--- a waiting request is taken out
+-- a waiting request is removed
 abbrev pub cancelled_from : FrontState → ℕ → ℕ → FrontState
 cancelled_from f session number =
     record f { service = cancelled f.service session number; books = waiters_withdrawn 1 f.books }
@@ -110,7 +110,7 @@ taken f conn =
 abbrev pub has_no_cut : FrontState → Bool
 has_no_cut f = is_some f.out || nat_eq (length f.service.pending) 0
 
--- the batch that a cut hands out: all pending entries, where there are some and no batch is out
+-- the batch that a cut hands out: all pending entries, if there are some and no batch is out
 abbrev pub next_batch : FrontState → Option Batch
 next_batch f = if has_no_cut f then None else Some (record { first = f.durable; entries = f.service.pending })
 

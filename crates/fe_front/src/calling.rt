@@ -1,3 +1,5 @@
+//! Calls: requests of clients, each under a number of its session.
+
 ghost use Rattle.std.specs.Prelude.{◌≡◌, ◌+◌, ◌≤◌, ◌⊎◌, ◌↔◌, ℕ, List, [], Some, None, Ok, Err, IsTrue, false, IfOk, IfErr, OnErr};
 ghost use Rattle.fe_front.specs.Call.{request_at, IsCallRefused, WantsMemory, Called, Completed, Waits, repeat_of, repeated, waiters_completed};
 ghost use Rattle.fe_front.specs.Front.{has_room, is_spent};

@@ -2,7 +2,7 @@ ghost use Rattle.std.specs.Prelude.{◌≡◌, ◌≢◌, ◌%◌, ℕ, true, fa
 ghost use Rattle.fe_front.specs.ConnectionSet.{may_have};
 ghost use Rattle.fe_front.specs.Limits.{remainder_count};
 
-/// How many remainders tell connections apart: a connection's is that of its number, divided by this.
+/// How many remainders tell connections apart: that of a connection's number, divided by this.
 pub const REMAINDERS: u64 = 256;
 
 /// A set of connections, of a fixed size. It has each one that was added, and with it all that have the same remainder.
@@ -12,7 +12,7 @@ pub struct ConnectionSet {
 }
 
 impl ConnectionSet {
-    /// No connection.
+    /// The empty set.
     pub fn new() -> ConnectionSet
         ensures { (conn : ℕ) → may_have result conn ≡ false }
     {

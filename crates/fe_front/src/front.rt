@@ -26,8 +26,8 @@ use fe_words::Op;
 use std::alloc::{AllocError, Global};
 use std::marker::Model;
 
-/// The state, the sessions' attachments and what waits, the connections with their boxes, the entries on their way to
-/// the store, and the books.
+/// The state, the sessions' attachments and what waits, the connections with their boxes of mails, the entries on their
+/// way to the store, and the books, which count calls and mails.
 ///
 /// After each event none of the requests that wait may be served. Only `new`, `connect` and a request that makes an
 /// array take memory.
@@ -37,7 +37,7 @@ pub struct Front {
     pub(crate) books: Books,
     pub(crate) durable: u64,
     pub(crate) out: Option<Out>,
-    // The room for the entries after a cut. It is away while a batch is out.
+    // The memory for the entries after a cut. It is lent while a batch is out.
     pub(crate) spare: Option<Entries>,
 }
 
@@ -133,8 +133,8 @@ impl Front {
         Ok(())
     }
 
-    /// Answers a request of the session that the connection has, or lets it wait, and serves what may be served then.
-    /// Each call is booked.
+    /// Answers a request of the session that the connection has, or lets it wait, and serves the waiting requests that
+    /// may be served then. Each call is booked.
     pub fn call(&mut self, conn: u64, number: u64, request: Request) -> Result<Outcome, Refusal>
         requires room { IsTrue (has_room self.old) }
         ensures step { IfOk result
@@ -243,8 +243,8 @@ impl Front {
         self.post_noting(batch, &mut ConnectionSet::new())
     }
 
-    /// As `post`, and adds to the set each connection whose box the batch changed: it got a mail, or its box was full
-    /// and the connection was removed. A connection that the set doesn't have has its old box.
+    /// Posts as `post` does, and adds to the set each connection whose box the batch changed: it got a mail, or its box
+    /// was full and the connection was removed. A connection that the set doesn't have has its old box.
     pub fn post_noting(
         &mut self,
         batch: Batch,
@@ -270,7 +270,7 @@ impl Front {
         Ok(())
     }
 
-    /// Takes the first mail out of a connection's box. `None` where there is none, or the connection is not connected.
+    /// Takes the first mail out of a connection's box. `None` if there is none, or the connection is not connected.
     pub fn take_mail(&mut self, conn: u64) -> Option<Mail>
         ensures mail { result ≡ slice_get (mails_on self.old.connections conn) 0 }
         ensures taken { self.new ≡ taken self.old conn }
@@ -304,7 +304,7 @@ impl Front {
         self.mail(conn, Mail::Refused { number, refusal });
     }
 
-    /// Whether a connection is there.
+    /// Whether the connection is connected.
     pub fn connected(&self, conn: u64) -> bool
         ensures { result ≡ is_connected self.now conn }
     {

@@ -1,4 +1,4 @@
-//! Laws of the front, which hold apart from any code; and the limit that the code has.
+//! Laws of the front, which hold apart from any code.
 
 ghost use Rattle.std.specs.Prelude.{◌≡◌};
 ghost use Rattle.fe_front.specs.Boxes.{MailsStayDurable, BoxesStayShort};
@@ -23,18 +23,18 @@ pub fn books_rise()
     ensures { BooksRise }
 {}
 
-/// A mail that carries a place is in a box only once the entry at that place is durable. Steps are those of the
-/// clauses of `Front`: `step` of `call`, and `posted`, `attached` and the like of the other events.
+/// A mail that carries a place is in a box only once the entry at that place is durable. The law is stated of the steps
+/// that the clauses of `Front` name: `step` of `call`, `posted`, `attached` and the like.
 pub fn mails_stay_durable()
     ensures { MailsStayDurable }
 {}
 
-/// No box ever has more than 128 mails. Steps are those of the clauses of `Front`, as above.
+/// No box ever has more than 128 mails. The steps are those of the law before.
 pub fn boxes_stay_short()
     ensures { BoxesStayShort }
 {}
 
-/// The code's constant is the number of remainders.
+/// The constant of the code is the number of remainders in the definitions, with which contracts are stated.
 pub fn limits_are()
     ensures remainders { REMAINDERS ≡ remainder_count }
 {}

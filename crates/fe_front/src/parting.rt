@@ -61,7 +61,7 @@ impl Front {
         }
     }
 
-    /// Takes a connection that has no session away with its box.
+    /// Removes a connection that has no session, with its box.
     pub(crate) fn unbox(&mut self, conn: u64)
         requires free { session_on self.old.connections conn ≡ None }
         ensures unboxed { self.new ≡ unboxed self.old conn }
@@ -70,7 +70,7 @@ impl Front {
         self.books.box_dropped(mails);
     }
 
-    /// Puts a mail into a connection's box. A full one drops its connection; none is made where it is not connected.
+    /// Puts a mail into a connection's box. A full box drops its connection; without a connection no mail is made.
     pub(crate) fn mail(&mut self, conn: u64, mail: Mail)
         ensures mailed { self.new ≡ mailed self.old conn mail }
     {
@@ -79,7 +79,7 @@ impl Front {
         }
     }
 
-    /// As `mail`, where the connection is there.
+    /// Puts a mail into a box as `mail` does. The connection is connected.
     pub(crate) fn put(&mut self, conn: u64, mail: Mail)
         requires connected { is_connected self.old conn ≡ true }
         ensures mailed { self.new ≡ mailed self.old conn mail }

@@ -1,3 +1,5 @@
+//! Posting a batch: each entry's mail goes to its connection.
+
 ghost use Rattle.std.specs.Prelude.{◌≡◌, ◌+◌, ◌^◌, ◌<◌, ◌↔◌, length, IsTrue};
 ghost use Rattle.fe_front.specs.Posting.{IsOut, delivered, ended, posted_entry, posted_all};
 ghost use Rattle.fe_front.specs.Noting.{Notes};
@@ -18,7 +20,7 @@ impl Front {
         }
     }
 
-    /// Mails an entry to the connection that has its session, if one does, and adds the connection.
+    /// Mails an entry to the connection that has its session, if one does, and adds that connection to the set.
     fn deliver(&mut self, entry: &Entry, place: u64, changed: &mut ConnectionSet)
         ensures delivered { self.new ≡ delivered self.old entry.now place }
         ensures notes { Notes self.old self.new changed.old changed.new }
@@ -30,7 +32,7 @@ impl Front {
         }
     }
 
-    /// Takes a session from the connection that has it, if one does, and ends its closing.
+    /// Takes a session from the connection that has it, if one does, and removes its attachment if it is closing.
     fn end(&mut self, session: u64)
         ensures ended { self.new ≡ ended self.old session }
     {

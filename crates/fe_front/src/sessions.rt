@@ -1,3 +1,5 @@
+//! Which session an event of a connection is for, and why the event is refused. A floor is a session's least usable number.
+
 ghost use Rattle.std.specs.Prelude.{◌≡◌, None, IsTrue, IsSome};
 ghost use Rattle.std.specs.FinMap.{get};
 ghost use Rattle.fe_front.specs.Front.{IsFront, is_connected, is_spent};
@@ -13,7 +15,7 @@ use fe_mail::Refusal;
 use fe_state::{EVENT_ENTRIES, GREATEST_FLOOR, GREATEST_PLACE, SESSIONS, WINDOW};
 
 impl Front {
-    /// What is always true of the front and its state.
+    /// The invariants of the front and of its state.
     pub(crate) fn limits(&self)
         ensures front { IsFront self.now }
         ensures state { IsWithinLimits self.now.service.state }
@@ -58,7 +60,7 @@ impl Front {
         }
     }
 
-    /// A session that is not closing.
+    /// The session, unless it is closing.
     pub(crate) fn unclosing(&self, session: u64) -> Result<u64, Refusal>
         ensures { result ≡ unclosing self.now session }
     {
@@ -69,7 +71,7 @@ impl Front {
         }
     }
 
-    /// The least usable number of a session, 1 if the session is not there.
+    /// The least usable number of a session, 1 if the session does not exist.
     pub(crate) fn floor(&self, session: u64) -> u64
         ensures { result ≡ floor_of self.now.service session }
     {
@@ -79,7 +81,7 @@ impl Front {
         }
     }
 
-    /// The session, while the history has room for the entries of one event.
+    /// The session, if the history has places for the entries of one event.
     fn unspent(&self, session: u64) -> Result<u64, Refusal>
         ensures { result ≡ unspent self.now session }
     {
@@ -108,7 +110,7 @@ impl Front {
         }
     }
 
-    /// Gives a session to a connection. Neither has another.
+    /// Gives a session to a connection. Neither has another one.
     pub(crate) fn join(&mut self, conn: u64, session: u64)
         requires free_connection { session_on self.old.connections conn ≡ None }
         requires connected { IsTrue (is_connected self.old conn) }
@@ -184,7 +186,7 @@ impl Front {
         }
     }
 
-    /// Takes out a request that waits.
+    /// Removes a waiting request.
     pub(crate) fn take_out(&mut self, session: u64, number: u64)
         requires waits { IsSome (get self.old.service.waiting (session, number)) }
         ensures cancelled { self.new ≡ cancelled_from self.old session number }

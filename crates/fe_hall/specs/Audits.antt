@@ -1,4 +1,5 @@
--- What is reported of a hall that was closed.
+-- What is reported of a hall that was closed, when no thread has it any more. Each thread of a connection, a side, has
+-- a seat, which counts the calls or mails of that connection.
 use Rattle.std.specs.Prelude.{◌≡◌, Bool, true, false, List, Result, Ok, Err}
 use Rattle.fe_mail.specs.Books.{AddUp, Books}
 use Rattle.fe_wire.specs.declared.client_message.ClientMessage.{ClientMessage}
@@ -9,8 +10,8 @@ use Rattle.fe_hall.specs.declared.closing.Unclosed.{Unclosed}
 use Rattle.fe_hall.specs.declared.closing.Unclosed.TheVariants.{SeatMissing, StrangeReceipt}
 use Rattle.fe_history.specs.declared.receipt.Receipt.{Receipt}
 
--- its books, what its connections sent, the receipts for the answers that they took, whether they are those of each write side, and
--- what happened in it
+-- the books of a hall, what its connections sent, the receipts of the answers that they took, whether these receipts
+-- are those of each write side, and what happened in the hall
 pub record Audited : Type 0 where
   pub books : Books
   pub sent : List (List ClientMessage)
@@ -18,8 +19,8 @@ pub record Audited : Type 0 where
   pub whole : Bool
   pub history : List Act
 
--- The audit of a hall: its books have what the seats of all connections booked, and add up; the lists and the receipts are those that
--- were handed in.
+-- The audit of a hall: its books have what the seats of all connections counted, and add up; the lists and the receipts
+-- are those that were handed in.
 pub record IsAudit (calls mails : Seats) (sent : List (List ClientMessage)) (whole : Bool) (audit : Audited) : Type 0 where
   pub booked_calls : audit.books.calls ≡ calls.amount
   pub booked_mails : audit.books.taken ≡ mails.amount
@@ -28,7 +29,7 @@ pub record IsAudit (calls mails : Seats) (sent : List (List ClientMessage)) (who
   pub lists : audit.sent ≡ sent
   pub all_receipts : audit.whole ≡ whole
 
--- a hall is not closed since a seat is missing
+-- a hall was not closed because a seat is missing
 abbrev pub IsMissing : Unclosed → Type 0
 IsMissing (SeatMissing missing) = Unit {0}
 IsMissing (StrangeReceipt place) = ⊥

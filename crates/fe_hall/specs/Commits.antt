@@ -1,4 +1,4 @@
--- What the committing side of a hall does to the keeper that it is lent.
+-- What the committing side of a hall, the thread that stores, does to the keeper that it is lent.
 use Rattle.std.specs.Prelude.{◌≡◌, ◌⊎◌, ℕ, ◌+◌, ◌≤◌, true, false, List, [], ◌∷◌, ◌++◌, length, map, take, Option, Some, None, Result, Ok, Err}
 use mathlib.Core.List.{IsPrefix}
 use Rattle.fe_disk.specs.Runs.{LeavesOnly}
@@ -19,7 +19,7 @@ use Rattle.fe_hall.specs.declared.commit_end.CommitEnd.{CommitEnd}
 use Rattle.fe_hall.specs.declared.commit_end.CommitEnd.TheVariants.{Stopped, Store, Strange, Spent}
 use Rattle.fe_disk.specs.declared.disk.Disk.{Ghosts}
 
--- an append that succeeded: the batch, the keeper as it began, and the keeper as it ended
+-- an append that succeeded: the batch, the keeper before it, and the keeper after it
 pub record Append (D : Type 0) : Type 0 where
   pub batch : Batch
   pub before : KeeperState D
@@ -33,8 +33,8 @@ AreAppends s (group ∷ groups) [] = ⊥
 AreAppends s (group ∷ groups) (append ∷ appends) =
     (append.before.state ≡ s) × (append.after.state ≡ after_all s group) × (append.batch.entries ≡ group) × AreAppends (after_all s group) groups appends
 
--- From this disk on, and up to the last, each image that a stop leaves stands for a prefix of the history with n groups or more. From the
--- end of the next append on the prefix has one group more, and so on. Each append begins where the one before it has ended, or later.
+-- From this disk on, up to the last, each image that a stop leaves stands for a prefix of the history with at least n groups; from
+-- the end of the next append on, with one more; and so on. Each append begins when the one before it has ended, or later.
 abbrev pub HoldsSince : {D : Type 0} → Ghosts D → ServerState → List (List Entry) → ℕ → D → List (Append D) → D → Type 0
 HoldsSince model begun history n here [] last = LeavesOnly model here last (LeavesPrefix begun history n)
 HoldsSince model begun history n here (append ∷ appends) last =
@@ -43,9 +43,9 @@ HoldsSince model begun history n here (append ∷ appends) last =
     × (model.moment append.before.store.disk ≤ model.moment append.after.store.disk)
     × HoldsSince model begun history (n + 1) append.after.store.disk appends last
 
--- Groups were appended, a history from the keeper's state. All of them are in its state then, but for a last one, where the side
--- ended since the device failed. At every moment each image that a stop leaves stands for a prefix of that history, with all
--- groups whose appends had ended by then. `None`: the side goes on.
+-- The groups that were appended are a history from the keeper's state. The keeper's state has all of them, or all but
+-- the last if the side ended because the device failed. At every moment each image that a stop leaves stands for a
+-- prefix of that history, with all groups whose appends had ended by then. An end of `None` says that the side goes on.
 pub record Commits {D : Type 0} (model : Ghosts D) (old new : KeeperState D) (end : Option CommitEnd) : Type 0 where
   pub groups : List (List Entry)
   pub history : IsHistory old.state groups
@@ -61,7 +61,7 @@ pub record Commits {D : Type 0} (model : Ghosts D) (old new : KeeperState D) (en
 abbrev pub note_of : {D : Type 0} → Ghosts D → Append D → Batch × ℕ
 note_of model append = (append.batch, model.moment append.after.store.disk)
 
--- What was noted of these appends, in their order: all of them, except the last where something is strange.
+-- What was noted of these appends, in their order: all of them, or all but the last if the side ended as `Strange`.
 abbrev pub AreNotesOf : {D : Type 0} → Ghosts D → List (Append D) → Option CommitEnd → List (Batch × ℕ) → Type 0
 AreNotesOf model appends end notes = (notes ≡ map (note_of model) appends) ⊎ ((end ≡ Some Strange) × (last : Batch × ℕ) × (notes ++ last ∷ [] ≡ map (note_of model) appends))
 
@@ -72,7 +72,7 @@ AppendsAreNoted model appends end before after =
 
 -- ---- ends
 
--- what a fault of an append is to the side
+-- the end of the side after a fault of an append
 abbrev pub end_of : Fault → CommitEnd
 end_of Device = Store Device
 end_of Failed = Store Failed
@@ -81,17 +81,17 @@ end_of (Mismatch place) = Strange
 end_of (Damaged offset) = Store (Damaged offset)
 end_of Unformatted = Store Unformatted
 
--- the end that follows from an answer; `None`: the side goes on
+-- the end of the side after an answer; `None` says that the side goes on
 abbrev pub end_in : {A : Type 0} → Result A CommitEnd → Option CommitEnd
 end_in (Ok a) = None
 end_in (Err end) = Some end
 
--- what a batch that was not posted is to the side
+-- the end of the side after a batch was not posted
 abbrev pub end_of_post : Unposted → CommitEnd
 end_of_post (unposted.Full full) = Spent
 end_of_post (unposted.Strange strange) = Strange
 
--- what the end of the side says of the keeper's disk; `None`: the side goes on
+-- what the end of the side says of the keeper's disk; an end of `None` says that the side goes on
 abbrev pub EndsAs : {D : Type 0} → Ghosts D → KeeperState D → KeeperState D → Option CommitEnd → Type 0
 EndsAs model old new None = IsStill model old new
 EndsAs model old new (Some Stopped) = IsStill model old new

@@ -1,4 +1,4 @@
--- What a read side makes of the bytes of its stream.
+-- What the read side of a connection, the thread that reads, makes of the bytes of its client's stream.
 use Rattle.std.specs.Prelude.{◌≡◌, ◌≢◌, ℕ, ◌+◌, ◌<◌, ◌^◌, ◌-◌, ◌⊎◌, Bool, true, false, ◌&&◌, nat_lt, if◌then◌else◌, min, List, [], ◌∷◌, ◌++◌, length, take, filter, sum_by, Option, Some, None}
 use Rattle.std.specs.List.{flat_map}
 use Rattle.fe_wire.specs.Spelling.{spelling}
@@ -26,23 +26,23 @@ is_sent Report = false
 abbrev pub calls_among : List ClientMessage → ℕ
 calls_among messages = sum_by calls_in messages
 
--- how many messages the list of a side has at most
+-- the most messages in the list of a side
 abbrev pub most_listed : ℕ
 most_listed = 1024
 
--- the attaches and calls among these messages, the first 1,024 of them
+-- the list of a side: the attaches and calls among these messages, the first 1,024 of them
 abbrev pub sent_among : List ClientMessage → List ClientMessage
 sent_among messages = take most_listed (filter is_sent messages)
 
--- These messages of a connection were handled, just these and in this order: its seat has them and counts the calls among them, and
--- the list has the first attaches and calls.
+-- Exactly these messages of a connection were handled, in this order: its seat has them and counts the calls among
+-- them, and the list has the first attaches and calls.
 pub record AreHandled (before after : CallSeatState) (list messages : List ClientMessage) : Type 0 where
   pub conn : after.conn ≡ before.conn
   pub calls : after.calls ≡ before.calls + calls_among messages
   pub all : after.messages ≡ before.messages ++ messages
   pub listed : list ≡ sent_among messages
 
--- what an end says, where the stream is these messages and this rest, and this many of the messages were handled
+-- what an end says if the stream is these messages and then this rest, and this many of the messages were handled
 abbrev pub EndsAt : ReadEnd → List ClientMessage → List ℕ → ℕ → Type 0
 EndsAt Closed messages rest count = (count ≡ length messages) × IsUnfinished Two rest
 EndsAt Device messages rest count = (count ≡ length messages) × IsUnfinished Two rest
@@ -54,8 +54,7 @@ EndsAt Stopped messages rest count = count < length messages
 EndsAt Spent messages rest count = count < length messages
 EndsAt (NoMemory short) messages rest count = (count < length messages) ⊎ (messages ≡ [])
 
--- A side that read these bytes, the stream of its client: the first n of the stream's messages were handled, and
--- none after them.
+-- A side read these bytes, the stream of its client: the first n of the stream's messages were handled, and none after them.
 pub record HandlesStream (bytes : List ℕ) (before after : CallSeatState) (list : List ClientMessage) (end : ReadEnd) : Type 0 where
   pub messages : List ClientMessage
   pub rest : List ℕ
@@ -64,7 +63,7 @@ pub record HandlesStream (bytes : List ℕ) (before after : CallSeatState) (list
   pub handled : AreHandled before after list (take count messages)
   pub ends : EndsAt end messages rest count
 
--- an end that comes of no fault: the stream ended, or the reads are used up
+-- an end without a fault: the stream ended, or as many reads were made as may be
 abbrev pub IsQuietEnd : ReadEnd → Type 0
 IsQuietEnd end = (end ≡ Closed) ⊎ (end ≡ Turns)
 
@@ -81,18 +80,18 @@ IsEndAfter (NoMemory short) s = Unit {0}
 
 -- ---- on the way
 
--- the list, with a message that was handled
+-- the list once one more message was handled
 abbrev pub listed_with : List ClientMessage → ClientMessage → List ClientMessage
 listed_with list message = if is_sent message && nat_lt (length list) most_listed then list ++ message ∷ [] else list
 
--- of the reads that a side may make, `None` for any number, this many are left, once so many were made
+-- this many of the reads that a side may make are left after it made some; `None` sets no bound
 abbrev pub AreLeft : Option ℕ → Option ℕ → ℕ → Type 0
 AreLeft None None made = Unit {0}
 AreLeft None (Some left) made = ⊥
 AreLeft (Some turns) None made = ⊥
 AreLeft (Some turns) (Some left) made = made + left ≡ turns
 
--- the side ended before a message
+-- the side ended before a message was handled
 abbrev pub EndsEarly : ReadEnd → Type 0
 EndsEarly Closed = ⊥
 EndsEarly Device = ⊥
@@ -103,11 +102,11 @@ EndsEarly Stopped = Unit {0}
 EndsEarly Spent = Unit {0}
 EndsEarly (NoMemory short) = Unit {0}
 
--- the side ended for what came, or for what the hall said of it, and not for its half or for the number of its reads
+-- the side ended because of what was read or of what the hall answered, and not because of its half or its number of reads
 abbrev pub IsOfMessages : ReadEnd → Type 0
 IsOfMessages end = (end ≢ Closed) × (end ≢ Device) × (end ≢ Turns)
 
--- All messages of the bytes that came so far were handled, and more bytes are waited for.
+-- All messages of the bytes that came so far were handled, and more bytes may come.
 pub record IsAt (bytes : List ℕ) (before : CallSeatState) (decoder : Decoding) (after : CallSeatState) (list : List ClientMessage) : Type 0 where
   pub are_bytes : IsBytes bytes
   pub version : decoder.version ≡ Two
@@ -116,7 +115,7 @@ pub record IsAt (bytes : List ℕ) (before : CallSeatState) (decoder : Decoding)
   pub reads : HasRead decoder bytes messages
   pub handled : AreHandled before after list messages
 
--- The side ended before one of these messages, which came after the earlier ones.
+-- The side ended before one of these messages was handled, which came after the earlier ones.
 pub record EndsAmong (before after : CallSeatState) (list earlier messages : List ClientMessage) (end : ReadEnd) : Type 0 where
   pub breaks : EndsEarly end
   pub count : ℕ

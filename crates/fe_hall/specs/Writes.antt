@@ -1,4 +1,4 @@
--- What the write side of a connection takes out of its box, and what its client gets.
+-- What the write side of a connection, the thread that writes, takes out of the box of its mails, and what its client gets.
 use Rattle.std.specs.Prelude.{◌≡◌, ℕ, ◌+◌, ◌-◌, ◌<◌, ◌≤◌, List, ◌++◌, length, take, Option, Some, None, Result, Ok, Err}
 use Rattle.std.specs.List.{filter_map}
 use Rattle.fe_mail.specs.declared.mail.Mail.{Mail}
@@ -13,27 +13,27 @@ use Rattle.fe_shared.specs.declared.taking.Taking.{Taking}
 use Rattle.fe_shared.specs.declared.taking.Taking.TheVariants as taking
 use Rattle.fe_shared.specs.Seats.{MailSeatState}
 
--- how many receipts a side keeps at most
+-- the most receipts that a side keeps
 abbrev pub most_receipts : ℕ
 most_receipts = 1024
 
--- the receipts of the answers among these mails to a connection, of the first 1,024 of them
+-- the receipts of the answers among these mails to a connection, the first 1,024 of them
 abbrev pub receipts_of : ℕ → List Mail → List Receipt
 receipts_of conn mails = take most_receipts (filter_map (receipt_of conn) mails)
 
--- These mails of a connection were taken, just these and in this order: its seat has them and counts them, and the receipts are those
--- of their first answers.
+-- Exactly these mails of a connection were taken, in this order: its seat has them and counts them, and the receipts
+-- are those of their first answers.
 pub record AreTaken (before after : MailSeatState) (kept : List Receipt) (mails : List Mail) : Type 0 where
   pub conn : after.conn ≡ before.conn
   pub count : after.mails ≡ before.mails + length mails
   pub taken : after.taken ≡ before.taken ++ mails
   pub receipts : kept ≡ receipts_of before.conn mails
 
--- mails that are written at once: all but the last of them are spelled in less than 64 KiB
+-- mails that are written at once: without the last of them they are spelled in less than 64 KiB
 abbrev pub IsBatch : List Mail → Type 0
 IsBatch mails = length (spelled (take (length mails - 1) mails)) < 65536
 
--- A client got the mails, but for the last batch, of which it got this many bytes.
+-- A client got the mails without the last batch, and of that this many bytes.
 pub record BreaksOff (before : List ℕ) (mails : List Mail) (after : List ℕ) : Type 0 where
   pub earlier : List Mail
   pub last : List Mail
@@ -42,7 +42,7 @@ pub record BreaksOff (before : List ℕ) (mails : List Mail) (after : List ℕ) 
   pub count : ℕ
   pub got : after ≡ before ++ (spelled earlier ++ take count (spelled last))
 
--- A client got the mails, but for one at the end if it is missing.
+-- A client got the mails, all of them or all but the last.
 pub record MayLackLast (before : List ℕ) (mails : List Mail) (after : List ℕ) : Type 0 where
   pub earlier : List Mail
   pub last : List Mail
@@ -50,8 +50,8 @@ pub record MayLackLast (before : List ℕ) (mails : List Mail) (after : List ℕ
   pub few : length last ≤ 1
   pub got : after ≡ before ++ spelled earlier
 
--- What a client had got before these mails were taken for it, and what it has got when its write side ends: after it come
--- the frames of the mails in their order, all of them but where the half or memory failed.
+-- What a client had got before these mails were taken for it, and what it has got when its write side ends: the frames
+-- of the mails in their order, all of them unless its half failed or memory was short.
 abbrev pub IsWritten : List ℕ → List Mail → WriteEnd → List ℕ → Type 0
 IsWritten before mails Gone after = after ≡ before ++ spelled mails
 IsWritten before mails Stopped after = after ≡ before ++ spelled mails
@@ -69,14 +69,14 @@ IsEndAfter (NoMemory short) s = Unit {0}
 
 -- ---- on the way
 
--- why a side ends with this outcome of a look into its box
+-- the end of the side after this outcome of a look into its box
 abbrev pub end_for : Taking → Option WriteEnd
 end_for (taking.Mail mail more) = None
 end_for taking.Gone = Some Gone
 end_for taking.Stopped = Some Stopped
 end_for taking.Spent = Some Spent
 
--- the receipts of the side of a connection, with those of mails that it took next
+-- the receipts of a side once it took these mails
 abbrev pub receipts_with : ℕ → List Receipt → List Mail → List Receipt
 receipts_with conn receipts mails = take most_receipts (receipts ++ filter_map (receipt_of conn) mails)
 
@@ -87,7 +87,7 @@ pub record TakesOn (before after : MailSeatState) (kept kept_after : List Receip
   pub taken : after.taken ≡ before.taken ++ mails
   pub receipts : kept_after ≡ receipts_with before.conn kept mails
 
--- why a side ends that has no mail: not for a fault of its half, and not because memory is short
+-- an end that is no fault of the half and no lack of memory
 abbrev pub IsNoFault : WriteEnd → Type 0
 IsNoFault Gone = Unit {0}
 IsNoFault Stopped = Unit {0}
@@ -95,7 +95,7 @@ IsNoFault Spent = Unit {0}
 IsNoFault Device = ⊥
 IsNoFault (NoMemory short) = ⊥
 
--- the frames of mails that were taken, after those of before: all of them, unless memory was short
+-- the frames of the mails that were taken come after earlier frames: all of them, unless memory was short
 abbrev pub AreSpelled : {A : Type 0} → List ℕ → Result A WriteEnd → List Mail → List ℕ → Type 0
 AreSpelled before (Ok a) mails frames = frames ≡ before ++ spelled mails
 AreSpelled before (Err Gone) mails frames = frames ≡ before ++ spelled mails

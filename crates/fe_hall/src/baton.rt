@@ -1,4 +1,4 @@
-//! The baton: at most one side at a time makes several events in a row.
+//! The baton: at most one side (a connection's reading or writing thread) at a time makes several events in a row.
 //!
 //! Each event is a hold of the hall's lock. If many sides made several each, all of them would meet the committing thread at that
 //! lock. So a side that has several to make takes the baton first, and the others wait for that. The baton always comes before the
@@ -6,7 +6,7 @@
 
 use std::sync::{Mutex, MutexGuard, Wait};
 
-/// The baton of a hall, a lock with nothing under it that matters.
+/// The baton of a hall: a lock that guards no data.
 #[derive(Drop)]
 pub(crate) struct Baton {
     lock: Mutex<bool>,
@@ -32,7 +32,7 @@ impl<'a> BatonGuard<'a> {
         BatonGuard { guard: None }
     }
 
-    /// Waits for the baton, unless the side has it. Not for a side that holds the hall's lock.
+    /// Waits for the baton, unless the side has it. A side that holds the hall's lock must not call it.
     pub(crate) fn take<R: Wait>(&mut self, rt: &R, baton: &'a Baton) {
         if self.guard.is_none() {
             self.guard = Some(baton.lock.lock(rt));

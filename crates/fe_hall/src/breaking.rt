@@ -8,7 +8,7 @@ use fe_keeper::Fault;
 use fe_shared::{Uncut, Unposted};
 use std::marker::Model;
 
-/// Why the committing side goes no further: a value that shows it, or a fault. Contracts see the end that comes of it.
+/// Why the committing side goes no further: a fault, or a value that only a failure makes. Contracts see the side's end.
 #[derive(Drop)]
 pub(crate) struct Break {
     end: CommitEnd,

@@ -1,4 +1,5 @@
-//! A hall is closed: its books are compared with the seats, and the receipts with what is stored and what was sent.
+//! Closing a hall: its books are compared with the seats, and the receipts with what is stored and what was sent. A
+//! seat counts the calls or mails of one side of a connection; a receipt is the record of an answer that a client took.
 
 ghost use Rattle.std.specs.Prelude.{◌≡◌, ◌≢◌, ◌↔◌, ℕ, false, map, All, Any, Err, IfOk, IfErr, IsErr};
 ghost use Rattle.fe_mail.specs.Books.{AddUp};
@@ -24,7 +25,7 @@ pub struct Closing<D: Disk> {
     pub keeper: Keeper<D>,
 }
 
-/// Why a hall is not closed as it should be. The hall and the keeper are dropped then.
+/// Why a hall is not closed. The hall and the keeper are dropped then.
 #[derive(Clone, Copy, PartialEq, Eq)]
 pub enum Unclosed {
     /// The seats are not those of all connections that were made, or not that of the side that stored all groups.
@@ -33,8 +34,8 @@ pub enum Unclosed {
     StrangeReceipt { place: u64 },
 }
 
-/// The result of closing a hall: its books, the lists of its read sides, the receipts, each of them compared, and its history. Only
-/// `settle` makes it, so the books are those under the lock.
+/// The result of closing a hall: its books, the lists of its read sides, the receipts, each of them compared, and its
+/// history. Only `settle` makes one, so the books are those under the lock.
 pub struct Audit {
     books: Books,
     sent: Vec<Vec<ClientMessage>>,
@@ -94,7 +95,7 @@ impl Audit {
     }
 }
 
-/// The account of a hall that no thread has any more and that is not closed.
+/// The account of a hall that no thread has any more, and that is not closed.
 pub fn account_of<C: Tally, M: Tally>(
     hall: Hall<C, M>,
     seat: StoreSeat<M>,
@@ -110,12 +111,12 @@ pub fn account_of<C: Tally, M: Tally>(
     account
 }
 
-/// Closes a hall that no thread has any more, with the seats of all its connections: the calls that were booked are those that
-/// the read sides made, and the mails that were taken are those that the write sides took. No receipt is strange.
+/// Closes a hall that no thread has any more, with the seats of all its connections. The calls that were booked are those that
+/// the read sides made, the mails that were taken are those that the write sides took, and no receipt is strange.
 ///
 /// `state` is what is stored. `sent` are the lists of the read sides: of each connection the first 1,024 attaches and calls. It
 /// takes no memory. A receipt is compared with all that the state keeps, at most 2,048 answers; one whose answer is still kept
-/// also with the lists, until one is found that has its call. Where the hall is not closed its account comes back.
+/// also with the lists, until one is found that has its call. If the hall is not closed, its account is returned.
 pub fn settle<C: Tally, M: Tally>(
     hall: Hall<C, M>,
     calls: Seats<C>,
@@ -135,7 +136,7 @@ pub fn settle<C: Tally, M: Tally>(
     ensures borne_out { IfOk result (λ audit. All (IsBorneOut state.now audit.sent) audit.receipts) }
     ensures strange { IfErr result (λ e. (place : ℕ) → e.0 ≡ StrangeReceipt place
         → IsFirstStrange state.now (map (λ v. v.items) sent.items) receipts.items place) }
-    // Where all seats are here, it is refused just where some receipt is strange.
+    // If all seats are here, it is refused exactly if some receipt is strange.
     ensures refused { IfErr result (λ e. ¬ IsMissing e.0)
         → IsErr result ↔ Any (IsStrange state.now (map (λ v. v.items) sent.items)) receipts.items }
 {
@@ -191,7 +192,7 @@ pub fn close<C: Tally, M: Tally, D: Disk + Drop>(
         (λ closing. All (IsBorneOut keeper.state (map (λ v. v.items) sent.items)) receipts.items) }
     ensures strange { (place : ℕ) → result ≡ Err (StrangeReceipt place)
         → IsFirstStrange keeper.state (map (λ v. v.items) sent.items) receipts.items place }
-    // Where all seats are here, it is refused just where some receipt is strange.
+    // If all seats are here, it is refused exactly if some receipt is strange.
     ensures refused { IfErr result (λ why. ¬ IsMissing why)
         → IsErr result ↔ Any (IsStrange keeper.state (map (λ v. v.items) sent.items)) receipts.items }
 {

@@ -5,7 +5,7 @@ use fe_keeper::Fault;
 pub enum CommitEnd {
     /// The hall was stopped, and all that was pending is stored and posted.
     Stopped,
-    /// The store is at fault: `Device`, `NoMemory` for a batch, or `Failed` where it had failed before.
+    /// The store is at fault: `Device`, `NoMemory` for a batch, or `Failed` if it had failed before.
     Store(Fault),
     /// A batch does not continue what is stored, or the front does not take it as the one that is out.
     Strange,

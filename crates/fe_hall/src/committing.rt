@@ -1,4 +1,4 @@
-//! The committing side: it stores the batches of a hall, and posts them.
+//! The committing side of a hall, a thread of its own: it stores the batches, each as a group, and posts them.
 
 ghost use Rattle.std.specs.Prelude.{◌≡◌, ◌≢◌, ◌↔◌, ◌+◌, false, Some, IfOk, IfErr, OnOk, length};
 ghost use Rattle.fe_keeper.specs.Ends.{Rests, IsStill, Breaks};
@@ -17,7 +17,7 @@ use fe_keeper::{Fault, Keeper};
 use fe_shared::{CutBatch, CutOutcome, Posted};
 use std::sync::Wait;
 
-/// A checkpoint is begun once more bytes of the journal are used than these.
+/// A checkpoint is begun once more than this many bytes of the journal are used.
 const MOST_USED: u32 = 524288;
 
 /// Stores what the calls of a hall make, batch by batch, and posts each batch once it is stored. After each batch it goes on with a
@@ -58,7 +58,7 @@ pub fn commit_side<C: Tally, M: Tally, D: Disk, R: Wait>(
     unreachable!()
 }
 
-/// Stores a batch, notes it in the history and posts it. Why the side ends then, if it does.
+/// Stores a batch, notes it in the history and posts it. The error is why the side ends.
 fn commit<C: Tally, M: Tally, D: Disk, R: Wait>(
     rt: &R,
     hall: &Hall<C, M>,
@@ -97,8 +97,8 @@ fn commit<C: Tally, M: Tally, D: Disk, R: Wait>(
     }
 }
 
-/// A turn of the checkpoint, after a batch: a slice of it is written, or it is finished; where none is under way, one is begun when
-/// it is due. `slices` is whether slices were left of it, and so is the answer. The fault is `Device`.
+/// Goes on with the checkpoint, after a batch: writes a slice of it, or finishes it; if none is under way, begins one
+/// when it is due. `slices` says whether slices were left of it, and so does the answer. The fault is `Device`.
 fn tend<D: Disk>(keeper: &mut Keeper<D>, slices: bool) -> Result<bool, Fault>
     requires works { keeper.old.store.has_failed ≡ false }
     ensures rests { Rests D.Disk keeper.old keeper.new }
@@ -120,7 +120,7 @@ fn tend<D: Disk>(keeper: &mut Keeper<D>, slices: bool) -> Result<bool, Fault>
     begin_when_due(keeper)
 }
 
-/// Begins a checkpoint where it is due and none is under way. One that finds no memory is begun later. Whether it was begun.
+/// Begins a checkpoint if it is due and none is under way. One that finds no memory is begun later. Returns whether it was begun.
 fn begin_when_due<D: Disk>(keeper: &mut Keeper<D>) -> Result<bool, Fault>
     requires works { keeper.old.store.has_failed ≡ false }
     ensures rests { Rests D.Disk keeper.old keeper.new }

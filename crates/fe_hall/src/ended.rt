@@ -30,7 +30,7 @@ impl Ended {
         }
     }
 
-    /// The side met this, and stopped the hall.
+    /// The side ended for this reason, and stopped the hall.
     pub(crate) fn broken(why: Break, _stopped: HasStopped) -> Ended
         ensures { result ≡ why }
     {

@@ -7,10 +7,10 @@ pub enum ReadEnd {
     Closed,
     /// A read failed.
     Device,
-    /// A frame outside the grammar (`docs/formats.md`, "Frames"), and the offset of its first byte in the stream, counted from
-    /// 0; 2^64 - 1 for places beyond.
+    /// A frame was outside the grammar (`docs/formats.md`, "Frames"). The offset is that of its first byte in the
+    /// stream, counted from 0, or 2^64 - 1 if it is greater.
     BadFrame { offset: u64 },
-    /// The connection was not there any more.
+    /// The hall had removed the connection.
     Gone,
     /// As many reads were made as the side may make.
     Turns,

@@ -23,28 +23,30 @@ use std::time::{Clock, Duration};
 /// How many milliseconds a read side waits at most for a write side that takes no mail.
 const STILL_MILLIS: u64 = 1000;
 
-/// A front that many threads share. A hold of its lock makes at most one event.
+/// A front that many threads share. A hold of its lock makes at most one event. A side is a connection's reading or writing
+/// thread, or the committing thread, which stores; each has a seat, which shows who it is and counts what it did.
 ///
 /// `C` and `M` name its two ledgers, of the calls and of the mails that were taken.
 #[derive(Drop)]
 pub struct Hall<C: Tally, M: Tally> {
     lock: Lock<C, M>,
     baton: Baton,
-    /// The words of its history, and that history as it began.
+    /// The words that count the history's batches, and the history as it began.
     history_words: HistoryWords<M>,
     begun: History<M>,
-    /// Rung when entries are pending, and when the hall is stopped.
+    /// A condition variable, or bell, that is rung when entries are pending, and when the hall is stopped.
     work: Condvar,
-    /// Rung when there is room for an event again, since the pending entries were cut, and when the hall is stopped.
+    /// This bell is rung when there is room for an event again, since the pending entries were cut, and when the hall is stopped.
     room: Condvar,
-    /// Rung for the sides of a connection, by its number's remainder.
+    /// These bells are rung for the sides of a connection, each for the numbers with one remainder.
     bells: Vec<Condvar>,
     ghost all_bells: { length bells.items ≡ 256 },
 }
 
 impl<C: Tally, M: Tally> Hall<C, M> {
-    /// A hall around a front that is as `Front::new` gave it, the seat of its committing side, and the right to make its connections. The
-    /// history begins with the front's state. The blanks make its ledgers, of 2^62 + 1 parts each. Where there is no memory the front comes back.
+    /// A hall around a front that is as `Front::new` made it, the seat of its committing side, and the right to make
+    /// its connections. The history begins with the front's state. The blanks make its ledgers, of 2^62 + 1 parts each.
+    /// If there is no memory, the front is returned.
     pub fn new(
         alloc: Global,
         front: Front,
@@ -84,7 +86,7 @@ impl<C: Tally, M: Tally> Hall<C, M> {
         }
     }
 
-    /// Makes a connection with this number, and returns its seats. Only who has the right to it can.
+    /// Makes a connection with this number, and returns its seats. Only a caller with the right to make connections can.
     pub fn connect<R: Wait>(
         &self,
         rt: &R,
@@ -96,7 +98,7 @@ impl<C: Tally, M: Tally> Hall<C, M> {
         self.lock.enter(rt).connect(right, conn)
     }
 
-    /// Tells all sides to end. Entries that are pending are still stored.
+    /// Makes all sides end. Entries that are pending are still stored.
     pub fn stop<R: Wait>(&self, rt: &R) -> HasStopped {
         let stopped = self.lock.enter(rt).stop();
         self.work.notify_all();
@@ -135,8 +137,8 @@ impl<C: Tally, M: Tally> Hall<C, M> {
         unreachable!()
     }
 
-    /// Waits until the box is empty and the write side has written all that it took, or the connection is gone, or the hall is stopped.
-    /// It does not wait where there is no memory to note that it does.
+    /// Waits until the box is empty and the write side has written all that it took, or the connection is gone, or the
+    /// hall is stopped. It does not wait if there is no memory to note that it does.
     pub(crate) fn await_rest<R: Wait>(&self, rt: &R, seat: &CallSeat<C>) {
         let conn = seat.conn();
         let mut hold = self.lock.enter(rt);
@@ -156,9 +158,9 @@ impl<C: Tally, M: Tally> Hall<C, M> {
         unreachable!()
     }
 
-    /// Waits until the write side of a connection is close behind its read side, or has taken what came of its messages before `made`,
-    /// except what waits. It waits as long as entries are stored, or the write side takes mails: a client that takes none for a second
-    /// is not waited for. Returns the place after all entries made so far.
+    /// Waits until the write side of a connection is close behind its read side, or has taken what came of its messages
+    /// before `place_then`, except what waits. It waits as long as entries are stored, or the write side takes mails: a
+    /// client that takes none for a second is not waited for. Returns the place after all entries made so far.
     pub(crate) fn await_room<R: Clock + Wait>(
         &self,
         rt: &R,
@@ -191,8 +193,8 @@ impl<C: Tally, M: Tally> Hall<C, M> {
         self.lock.enter(rt).place_then()
     }
 
-    /// Waits until the write side has taken what comes of the connection's messages, except what waits, and makes the connection gone.
-    /// No more messages of it come. If the hall is stopped, its write side goes on, and takes what is in the box.
+    /// Waits until the write side has taken what comes of the connection's messages, except what waits, and removes the
+    /// connection. No more messages of it come. If the hall is stopped, its write side goes on, and takes what is in the box.
     pub(crate) fn drain<R: Wait>(&self, rt: &R, seat: &mut CallSeat<C>)
         ensures untaken { TookNoMessage seat.old seat.new }
         ensures rested { HasRested seat.new }
@@ -212,7 +214,7 @@ impl<C: Tally, M: Tally> Hall<C, M> {
         unreachable!()
     }
 
-    /// The read side makes its connection gone, if that is still there.
+    /// Removes the connection of a read side, if it is still connected.
     pub(crate) fn leave_by_reader<R: Wait>(&self, rt: &R, seat: &mut CallSeat<C>)
         ensures { seat.new ≡ record seat.old { departed = true } }
     {
@@ -220,7 +222,7 @@ impl<C: Tally, M: Tally> Hall<C, M> {
         self.ring(seat.conn());
     }
 
-    /// The write side makes its connection gone, if that is still there.
+    /// Removes the connection of a write side, if it is still connected.
     pub(crate) fn leave_by_writer<R: Wait>(&self, rt: &R, seat: &mut MailSeat<M>)
         ensures { seat.new ≡ record seat.old { departed = true } }
     {
@@ -273,8 +275,8 @@ impl<C: Tally, M: Tally> Hall<C, M> {
         }
     }
 
-    /// Waits for entries and cuts them, or says that the hall is stopped and nothing is left to store. A cut makes room for events. The
-    /// history learns of it.
+    /// Waits for entries and cuts them into a batch, or says that the hall is stopped and nothing is left to store. A
+    /// cut makes room for events, and is added to the history.
     pub(crate) fn next_batch<R: Wait>(&self, rt: &R, cuts: &mut History<M>) -> CutOutcome
         ensures { IsCutIn result cuts.new }
     {
@@ -314,7 +316,7 @@ impl<C: Tally, M: Tally> Hall<C, M> {
         outcome
     }
 
-    /// The words of its history.
+    /// The words that count the history's batches.
     pub(crate) fn history_words(&self) -> &HistoryWords<M> {
         &self.history_words
     }
@@ -332,7 +334,7 @@ impl<C: Tally, M: Tally> Hall<C, M> {
         GatheredReceipts::none(alloc, self.begun.again())
     }
 
-    /// The bell of the sides of a connection, and of those of others.
+    /// The bell of the sides of a connection. Connections with the same remainder share it.
     fn bell(&self, conn: u64) -> &Condvar {
         &self.bells[(conn % REMAINDERS) as usize]
     }
@@ -342,7 +344,7 @@ impl<C: Tally, M: Tally> Hall<C, M> {
         self.bell(conn).notify_all();
     }
 
-    /// What is under the lock, and the word of the history, once no thread uses the hall.
+    /// What is under the lock, and the words of the history, once no thread uses the hall.
     pub(crate) fn into_shared(self) -> (Shared<C, M>, HistoryWords<M>) {
         let Hall {
             lock,
@@ -374,7 +376,7 @@ fn issue<M: Tally>(
     }
 }
 
-/// A condition variable for each remainder by which a set tells connections apart.
+/// A bell for each remainder by which a set tells connections apart.
 fn bells(alloc: Global) -> Result<Vec<Condvar>, AllocError>
     ensures { IfOk result (λ bells. length bells.items ≡ 256) }
 {

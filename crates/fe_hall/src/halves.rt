@@ -1,4 +1,4 @@
-//! The two directions of a connection, and the gate that each message passes first.
+//! The two directions of a connection, its halves, and the gate that each message passes first.
 
 ghost use Rattle.std.specs.Prelude.{◌≡◌, ◌<◌, ◌≤◌, ◌+◌, ◌++◌, [], ℕ, List, length, take, IfOk, OnErr};
 
@@ -12,19 +12,19 @@ pub struct HalfFault;
 
 /// The direction from the client.
 pub trait ReadHalf {
-    /// The bytes that it reads are known. Those of a socket are not.
+    /// Whether the bytes that it reads are known. Those of a socket are not.
     ghost is_known: { Self → Type 0 };
 
     /// The bytes that were read.
     ghost known: { Self → List ℕ };
 
-    /// How many reads were made of it.
+    /// How many reads were made.
     ghost reads: { Self → ℕ };
 
-    /// Its stream has ended.
+    /// Whether its stream has ended.
     ghost ended: { Self → Type 0 };
 
-    /// A read of it failed.
+    /// Whether a read failed.
     ghost failed: { Self → Type 0 };
 
     /// Reads some bytes into the front of the buffer, and returns how many; 0 if the stream has ended.
@@ -41,13 +41,13 @@ pub trait ReadHalf {
 
 /// The direction to the client.
 pub trait WriteHalf {
-    /// The bytes that it got are known. Those of a socket are not.
+    /// Whether the bytes that it got are known. Those of a socket are not.
     ghost is_known: { Self → Type 0 };
 
     /// The bytes that it got.
     ghost got: { Self → List ℕ };
 
-    /// A write of it failed, or took no byte.
+    /// Whether a write failed, or took no byte.
     ghost failed: { Self → Type 0 };
 
     /// Writes some bytes from the front, and returns how many; 0 if it takes no more.
@@ -141,7 +141,7 @@ pub struct MemoryWrite {
 }
 
 impl MemoryWrite {
-    /// Nothing is written.
+    /// A half to which nothing is written yet.
     pub fn new(alloc: Global) -> MemoryWrite
         ensures { ⟦<MemoryWrite as WriteHalf>⟧.got result ≡ [] }
     {

@@ -1,4 +1,4 @@
-//! The lock of a hall, and its holds.
+//! The lock of a hall, and its holds: the times for which a thread has it.
 
 ghost use Rattle.std.specs.Sync.Mutex.{mutex_guard_value as under};
 ghost use Rattle.std.specs.Prelude.{◌≡◌, false};
@@ -39,7 +39,7 @@ impl<C: Tally, M: Tally> Lock<C, M> {
         hold
     }
 
-    /// The standard library's `lock` sleeps at once where another thread sleeps already, so this tries first.
+    /// Takes the mutex. The standard library's `lock` sleeps at once if another thread sleeps already, so this tries first.
     fn guard<R: Wait>(&self, rt: &R) -> Hold<'_, C, M> {
         for _k in 0..LOOKS {
             if let Some(hold) = self.shared.try_lock() {
@@ -65,7 +65,7 @@ impl<C: Tally, M: Tally> Lock<C, M> {
         hold
     }
 
-    /// Releases the lock until a read side that waits need not wait any more, or for this long: whether it was for nothing.
+    /// Releases the lock until a read side need not wait any more, or for this long. Says whether the time was up.
     pub(crate) fn wait_at_most<'a, R: Clock + Wait>(
         &self,
         rt: &R,

@@ -3,7 +3,7 @@ ghost use Rattle.std.specs.Prelude.{◌≡◌, ◌+◌};
 use std::marker::Model;
 use std::snapshot::Snapshot;
 
-/// The reads that were made, one after the other.
+/// The reads that were made, one after another.
 #[derive(Drop)]
 enum Reads {
     None,
@@ -26,14 +26,14 @@ impl Model for ReadCount {
 }
 
 impl ReadCount {
-    /// None was made.
+    /// No read was made.
     pub fn none() -> ReadCount
         ensures { result ≡ 0 }
     {
         ReadCount { reads: Reads::None }
     }
 
-    /// One more was made.
+    /// One more read was made.
     pub fn rise(&mut self)
         ensures { self.new ≡ self.old + 1 }
     {

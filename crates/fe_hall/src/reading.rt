@@ -1,4 +1,4 @@
-//! The read side of a connection: the messages of its stream go to the hall, one after the other.
+//! The read side of a connection, the thread that reads: the messages of its client's stream go to the hall, one after another.
 
 ghost use Rattle.std.specs.Prelude.{◌≡◌, ◌≢◌, ◌↔◌, ◌+◌, ◌<◌, ◌≤◌, ◌++◌, [], ℕ, List, length, Option, IsNone, Some, IsTrue, false, IfNone, IfSome, OnSome, MatchOption};
 ghost use Rattle.fe_wire.specs.declared.client_message.ClientMessage.{ClientMessage as Message};
@@ -16,7 +16,7 @@ use std::alloc::Global;
 use std::sync::Wait;
 use std::time::Clock;
 
-/// How many bytes a read may bring.
+/// How many bytes a read brings at most.
 const PIECE_BYTES: u16 = 8192;
 
 /// How many messages a read side hands on before it looks whether what came of earlier ones was taken. A box of 128 mails has room for
@@ -124,7 +124,7 @@ impl<C: Tally> Reading<C> {
         unreachable!()
     }
 
-    /// Reads once, and takes the messages that came whole. Why the side ends, if it does.
+    /// Reads once, and takes the messages that came whole. Returns why the side ends, if it does.
     fn read<M: Tally, H: ReadHalf, G: Gate, R: Clock + Wait>(
         &mut self,
         rt: &R,
@@ -153,7 +153,7 @@ impl<C: Tally> Reading<C> {
         }
     }
 
-    /// Takes the messages that the next piece of the stream completes. Why the side ends, if it does.
+    /// Takes the messages that the next piece of the stream completes. Returns why the side ends, if it does.
     fn take_piece<M: Tally, G: Gate, R: Clock + Wait>(
         &mut self,
         rt: &R,
@@ -182,7 +182,7 @@ impl<C: Tally> Reading<C> {
         })
     }
 
-    /// Takes messages in their order. Why the side ends, if it does.
+    /// Takes messages in their order. Returns why the side ends, if it does.
     fn take_all<M: Tally, G: Gate, R: Clock + Wait>(
         &mut self,
         rt: &R,
@@ -201,7 +201,7 @@ impl<C: Tally> Reading<C> {
     {
         let mut baton_guard = BatonGuard::none();
         for message in messages {
-            // A message that had to wait gave it up.
+            // A message that had to wait has given the baton up.
             hall.take_baton(rt, &mut baton_guard, messages.len() > 1);
             if let Some(end) = self.take(rt, hall, gate, message, &mut baton_guard) {
                 return Some(end);
@@ -210,7 +210,7 @@ impl<C: Tally> Reading<C> {
         None
     }
 
-    /// Takes a message. Why the side ends before it, if it does.
+    /// Takes a message. Returns why the side ends before it, if it does.
     fn take<M: Tally, G: Gate, R: Clock + Wait>(
         &mut self,
         rt: &R,
@@ -254,8 +254,8 @@ impl<C: Tally> Reading<C> {
         None
     }
 
-    /// A message more. After each run, waits until what came of the run before it was taken, so that a client that reads does not find
-    /// its box full.
+    /// Counts one more message. After each run of them, waits until what came of the run before was taken, so that a
+    /// client that reads does not find its box full.
     fn keep_pace<M: Tally, R: Clock + Wait>(
         &mut self,
         rt: &R,
@@ -279,7 +279,7 @@ impl<C: Tally> Reading<C> {
     }
 }
 
-/// Takes one of the reads that are left, `None` for any number. Whether there was one.
+/// Takes one of the reads that are left, `None` for any number. Returns whether there was one.
 fn take_turn(left: &mut Option<u64>) -> bool
     ensures none { result ≡ false → left.old ≡ Some 0 }
     ensures next { IsTrue result → (turns : Option ℕ) (reads : ℕ) → AreLeft turns left.old reads
@@ -295,7 +295,7 @@ fn take_turn(left: &mut Option<u64>) -> bool
     }
 }
 
-/// A read side that ended so makes its connection gone, at `Closed` and `Turns` once it is drained.
+/// Removes the connection of a read side that ended so; at `Closed` and `Turns` once it is drained.
 fn depart<C: Tally, M: Tally, R: Wait>(
     rt: &R,
     hall: &Hall<C, M>,
@@ -315,7 +315,7 @@ fn depart<C: Tally, M: Tally, R: Wait>(
     }
 }
 
-/// Why a side ends whose message was not taken. `None` where it was.
+/// Why a side ends after this answer to its message. `None` if the message was taken.
 fn end_of(last_answer: LastAnswer) -> Option<ReadEnd>
     ensures served { IsNone result ↔ (last_answer ≡ LastAnswer.Served) }
     ensures ended_as { IfSome result (λ end. IsEndAfter end last_answer) }

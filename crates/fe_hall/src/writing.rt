@@ -1,4 +1,4 @@
-//! The write side of a connection: the mails of its box go to its client as frames, in their order.
+//! The write side of a connection, the thread that writes: the mails of its box go to its client as frames, in their order.
 
 ghost use Rattle.std.specs.Prelude.{◌≡◌, ◌≢◌, ◌⊎◌, true, Some, ◌<◌, ◌≤◌, ◌∷◌, ◌++◌, [], ℕ, List, length, take, vec_len, vec_capacity, OnOk, OnErr, IfOk, IfErr, IfNone, IfSome, MatchOption};
 ghost use Rattle.fe_mail.specs.declared.mail.Mail.{Mail as TakenMail};
@@ -23,7 +23,7 @@ use std::sync::Wait;
 /// The least number of bytes that are spelled before they are written, if there are enough mails.
 const BATCH_BYTES: usize = 65_536;
 
-/// How many receipts a side keeps at most.
+/// The most receipts that a side keeps.
 const RECEIPTS: usize = 1024;
 
 /// Serves the direction to the client of a connection, until it ends. It waits for mail, takes all of it out of the
@@ -38,9 +38,9 @@ pub fn write_side<C: Tally, M: Tally, H: WriteHalf, R: Wait>(
     seat: MailSeat<M>,
     half: &mut H,
 ) -> (MailSeat<M>, Receipts<M>, WriteEnd)
-    // Of the mails that were taken: the seat counts them, the receipts are of the first answers among them, a half
-    // whose bytes are known got their frames, and the history has each answer as issued to this connection, after the
-    // group of its entry.
+    // For the mails that were taken: the seat counts them, the receipts are those of the first answers among them, a
+    // half whose bytes are known got their frames, and the history has each answer as issued to this connection, after
+    // the group of its entry.
     ensures wrote { (mails : List TakenMail) × AreTaken seat result.0 result.1.items mails
         × (H.is_known half.old → IsWritten (H.got half.old) mails result.2 (H.got half.new))
         × AreIssued seat.conn mails result.1.history }
@@ -79,7 +79,7 @@ struct Writing<M: Tally> {
     seat: MailSeat<M>,
     /// The receipts of the first answers that were taken.
     receipts: Vec<Receipt>,
-    /// The frames of the mails that were taken and are not written.
+    /// The frames of the mails that were taken and are not written yet.
     frames: Vec<u8>,
     /// The history in which those answers were issued.
     history: History<M>,
@@ -111,8 +111,7 @@ impl<M: Tally> Writing<M> {
         unreachable!()
     }
 
-    /// Waits for mail, takes what is in the box, or enough of it for a write, and writes it. Why the side ends, if it
-    /// does.
+    /// Waits for mail, takes what is in the box, or enough of it for a write, and writes it. The error is why the side ends.
     fn write_box<C: Tally, H: WriteHalf, R: Wait>(
         &mut self,
         rt: &R,
@@ -139,8 +138,8 @@ impl<M: Tally> Writing<M> {
         taken.err()
     }
 
-    /// Waits for a mail, and takes and spells mails until the box is empty or enough bytes are spelled for a write.
-    /// Where memory is short, at most the last mail that was taken is not spelled.
+    /// Waits for a mail, and takes and spells mails until the box is empty or enough bytes are spelled for a write. If
+    /// memory is short, at most the last mail that was taken is not spelled.
     fn take_mails<C: Tally, R: Wait>(&mut self, rt: &R, hall: &Hall<C, M>) -> Result<(), WriteEnd>
         requires { self.old.frames.items ≡ [] }
         ensures took { (mails : List TakenMail)
@@ -162,7 +161,7 @@ impl<M: Tally> Writing<M> {
         unreachable!()
     }
 
-    /// Waits for a mail, takes it, keeps its receipt, and spells it. Whether more are in the box.
+    /// Waits for a mail, takes it, keeps its receipt, and spells it. Returns whether more are in the box.
     fn take_mail<C: Tally, R: Wait>(
         &mut self,
         rt: &R,
@@ -195,7 +194,7 @@ impl<M: Tally> Writing<M> {
         }
     }
 
-    /// Makes room for the receipt of the next mail, where one may be kept.
+    /// Makes room for the receipt of the next mail, if one may be kept.
     fn make_room(&mut self) -> Result<(), Short>
         ensures room { OnOk result (vec_len self.new.receipts < 1024
             → vec_len self.new.receipts < vec_capacity self.new.receipts) }
@@ -243,7 +242,7 @@ fn mail_in(taking: Taking) -> Result<(Mail, bool), WriteEnd>
     }
 }
 
-/// A write side that ended so makes its connection gone.
+/// Removes the connection of a write side that ended so.
 fn depart<C: Tally, M: Tally, R: Wait>(
     rt: &R,
     hall: &Hall<C, M>,

@@ -1,4 +1,5 @@
--- What happened in a hall, in one order: batches were cut and stored, connections asked for sessions, and answers were issued.
+-- What happened in a hall, a front that many threads share, in one order: batches were cut and stored, connections asked for
+-- sessions, and answers were issued (taken out of their boxes for clients). A receipt is the record of an issued answer.
 use Rattle.std.specs.Prelude.{◌≡◌, ℕ, ◌+◌, ◌<◌, Bool, List, [], ◌∷◌, ◌++◌, length, map, slice_get, Some, IfSome, MatchBool}
 use Rattle.std.specs.List.{flat_map}
 use mathlib.Core.List.{IsPrefix}
@@ -31,7 +32,7 @@ stores_in (Stored batch moment ∷ acts) = (batch, moment) ∷ stores_in acts
 stores_in (Asked conn session ∷ acts) = stores_in acts
 stores_in (Issued r ∷ acts) = stores_in acts
 
--- the act is one of these
+-- the act is one of these acts
 abbrev pub StandsIn : List Act → Act → Type 0
 StandsIn acts act = (at : ℕ) × (slice_get acts at ≡ Some act)
 
@@ -43,13 +44,13 @@ batches_of stores = map (λ s. s.0) stores
 abbrev pub entries_in : List Batch → List Entry
 entries_in batches = flat_map (λ b. b.entries) batches
 
--- the place after these batches
+-- the place after these batches: how many entries the history has then
 abbrev pub place_after : ServerState → List Batch → ℕ
 place_after begun batches = begun.place + length (entries_in batches)
 
--- What may happen in a hall that began with this state, after these acts: a batch is cut once those before it are stored, and goes
--- on where they end; the batch that was cut is stored; a connection asks for a session whenever it likes; and an answer is issued
--- only once its entry is stored, it is that entry's, and it is issued to a connection that has asked for its session.
+-- What may happen in a hall that began with this state, after these acts. A batch is cut once those before it are stored, and
+-- begins where they end; the batch that was cut is stored; a connection asks for a session whenever it likes; and an answer is
+-- issued only once its entry is stored, with that entry's answer, to a connection that has asked for its session.
 abbrev pub MayFollow : ServerState → List Act → Act → Type 0
 MayFollow begun past (Began state) = ⊥
 MayFollow begun past (Cut batch) =
@@ -65,7 +66,7 @@ abbrev pub FollowEachOther : ServerState → List Act → List Act → Type 0
 FollowEachOther begun past [] = Unit {0}
 FollowEachOther begun past (a ∷ acts) = MayFollow begun past a × FollowEachOther begun (past ++ a ∷ []) acts
 
--- a history of a hall begins once, and then goes on so
+-- the history of a hall begins once, and then each act may follow those before it
 abbrev pub IsLegal : List Act → Type 0
 IsLegal [] = ⊥
 IsLegal (Began state ∷ acts) = IsWithinLimits state × FollowEachOther state [] acts
@@ -74,7 +75,7 @@ IsLegal (Stored batch moment ∷ acts) = ⊥
 IsLegal (Asked conn session ∷ acts) = ⊥
 IsLegal (Issued r ∷ acts) = ⊥
 
--- an act may come after a history
+-- the act may come after this history
 abbrev pub MayBeAppended : List Act → Act → Type 0
 MayBeAppended [] a = ⊥
 MayBeAppended (Began state ∷ past) a = MayFollow state past a
@@ -87,7 +88,7 @@ MayBeAppended (Issued r ∷ past) a = ⊥
 abbrev pub WasCut : List Act → ℕ → Batch → Type 0
 WasCut acts count batch = (before : List Batch) × (length before ≡ count) × IsPrefix (before ++ batch ∷ []) (cuts_in acts)
 
--- the batch was the last that a keeper stored: it led to this state
+-- the batch is the last that a keeper stored, and led to this state
 pub record IsStored (batch : Batch) (s : ServerState) : Type 0 where
   pub before : ServerState
   pub continues : Continues before batch.first batch.entries
@@ -102,7 +103,7 @@ abbrev pub EachIssued : List Receipt → List Act → Type 0
 EachIssued [] acts = Unit {0}
 EachIssued (r ∷ receipts) acts = StandsIn acts (Issued r) × EachIssued receipts acts
 
--- the mail is no answer, or it was issued to this connection
+-- if the mail is an answer, it was issued to this connection
 abbrev pub WasIssued : ℕ → Mail → List Act → Type 0
 WasIssued conn mail acts = IfSome (receipt_of conn mail) (λ r. StandsIn acts (Issued r))
 
@@ -122,23 +123,23 @@ pub record ReceiptList : Type 0 where
   pub items : List Receipt
   pub whole : Bool
 
--- such receipts, and a history in which their answers were issued
+-- receipts as in a `ReceiptList`, and a history in which their answers were issued
 pub record GatheredReceipts : Type 0 where
   pub items : List Receipt
   pub whole : Bool
   pub history : List Act
 
--- there are more of these than of those, which come first
+-- the second list begins with the first, and has more
 abbrev pub HasMore : List (Batch × ℕ) → List (Batch × ℕ) → Type 0
 HasMore stores all = (other : Batch × ℕ) × (others : List (Batch × ℕ)) × (all ≡ stores ++ other ∷ others)
 
--- What a hall leaves: receipts, the history, and whether the hall's committing side noted every group in it.
+-- What a hall leaves: receipts, its history, and whether its committing side (which stores) noted every group in the history.
 pub record Account : Type 0 where
   pub receipts : List Receipt
   pub history : List Act
   pub own : Bool
 
--- The account has these receipts, and its history goes on from that of the committing side and from what the write sides saw.
+-- The account has these receipts, and its history begins with that of the committing side and with what the write sides saw.
 pub record IsAccountOf (seat : List Act) (receipts : List Receipt) (seen : List Act) (account : Account) : Type 0 where
   pub same_receipts : account.receipts ≡ receipts
   pub this : IsPrefix seat account.history

@@ -1,4 +1,4 @@
--- Receipts for answers that were taken, and which of them are strange: what is kept and what was sent speak against them.
+-- Receipts of answers that were taken for clients. One is strange if what is kept or what was sent speaks against it.
 use Rattle.std.specs.Prelude.{◌≡◌, ℕ, ◌<◌, ◌≤◌, List, length, take, slice_get, Option, Some, None, All, Any}
 use Rattle.std.specs.FinMap.{get}
 use Rattle.fe_state.specs.Sessions.{kept_in}
@@ -11,7 +11,7 @@ use Rattle.fe_wire.specs.declared.client_message.ClientMessage.{ClientMessage}
 use Rattle.fe_wire.specs.declared.client_message.ClientMessage.TheVariants.{Attach, Call}
 use Rattle.fe_history.specs.declared.receipt.Receipt.{Receipt}
 
--- an answer to a connection has a receipt, and no other mail has one
+-- the receipt of a mail to a connection: only an answer has one
 abbrev pub receipt_of : ℕ → Mail → Option Receipt
 receipt_of conn (mail.Answer session number answer place) =
     Some (record { conn = conn; session = session; number = number; answer = answer; place = place })
@@ -22,17 +22,17 @@ receipt_of conn (mail.Settled floor) = None
 receipt_of conn (mail.Goodbye session) = None
 receipt_of conn (mail.Report text) = None
 
--- this is what the state keeps for a number of a session
+-- the state keeps this for a number of a session
 abbrev pub Keeps : ServerState → ℕ → ℕ → Kept → Type 0
 Keeps s session number k = kept_in (get s.sessions session) number ≡ Some k
 
--- what is kept is what the receipt says: it is of its session's number, and has its answer
+-- what is kept is what the receipt says: it is for its session and number, and has its answer
 pub record IsAsIssued (r : Receipt) (session number : ℕ) (k : Kept) : Type 0 where
   pub same_session : session ≡ r.session
   pub same_number : number ≡ r.number
   pub same_answer : k.answer ≡ r.answer
 
--- messages with a call of this number and request somewhere after an attach of the session
+-- the messages have a call of this number and request somewhere after an attach of the session
 pub record IsCalledBehind (messages : List ClientMessage) (session number : ℕ) (request : Request) : Type 0 where
   pub attach : ℕ
   pub call : ℕ
@@ -40,32 +40,32 @@ pub record IsCalledBehind (messages : List ClientMessage) (session number : ℕ)
   pub is_call : slice_get messages call ≡ Some (Call number request)
   pub is_behind : attach < call
 
--- such messages are one of the lists
+-- one of the lists has such a call
 abbrev pub WasSent : List (List ClientMessage) → ℕ → ℕ → Request → Type 0
 WasSent sent session number request = Any (λ messages. IsCalledBehind messages session number request) sent
 
--- lists that hold all that was sent: none has reached its limit
+-- the lists hold all that was sent: none has reached its limit
 abbrev pub AreWhole : List (List ClientMessage) → Type 0
 AreWhole sent = All (λ messages. length messages < 1024) sent
 
--- A receipt is strange if its place is not stored; if something else than what it says is kept at its place; if an earlier
--- answer is kept for its number (a later one is of a later life of the session); or if what is kept there was never sent,
--- by lists that hold all that was sent.
+-- A receipt is strange if its place is not stored; if something else than it says is kept at its place; if an earlier
+-- answer is kept for its number (a later one is of a later life of the session); or if the lists hold all that was
+-- sent, and not the request that is kept at its place.
 pub data IsStrange (s : ServerState) (sent : List (List ClientMessage)) (r : Receipt) : Type 0 where
   NotStored : s.place ≤ r.place → IsStrange s sent r
   OtherKept : (session number : ℕ) (k : Kept) → Keeps s session number k → k.place ≡ r.place → (IsAsIssued r session number k → ⊥) → IsStrange s sent r
   EarlierKept : (k : Kept) → Keeps s r.session r.number k → k.place < r.place → IsStrange s sent r
   NeverSent : (k : Kept) → Keeps s r.session r.number k → k.place ≡ r.place → AreWhole sent → (WasSent sent r.session r.number k.request → ⊥) → IsStrange s sent r
 
--- A receipt that nothing speaks against: its place is stored; what is kept at its place, if anything, is what it says; its
--- number is kept at no earlier place; and what is kept there was sent, where the lists hold all that was sent.
+-- A receipt that nothing speaks against: its place is stored; what is kept at its place, if anything, is what it says;
+-- nothing is kept for its number at an earlier place; and if the lists hold all that was sent, they have the request.
 pub record IsBorneOut (s : ServerState) (sent : List (List ClientMessage)) (r : Receipt) : Type 0 where
   pub is_stored : r.place < s.place
   pub as_issued : (session number : ℕ) (k : Kept) → Keeps s session number k → k.place ≡ r.place → IsAsIssued r session number k
   pub none_earlier : (k : Kept) → Keeps s r.session r.number k → r.place ≤ k.place
   pub was_sent : AreWhole sent → (k : Kept) → Keeps s r.session r.number k → k.place ≡ r.place → WasSent sent r.session r.number k.request
 
--- the place of the first receipt that is strange
+-- the place is that of the first strange receipt
 pub record IsFirstStrange (s : ServerState) (sent : List (List ClientMessage)) (receipts : List Receipt) (place : ℕ) : Type 0 where
   pub at : ℕ
   pub receipt : Receipt

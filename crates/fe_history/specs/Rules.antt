@@ -1,4 +1,5 @@
--- The rule of a hall's history, and what the steps on it say.
+-- The rule of a hall's history, and what the steps say that add to it. The history exists in proofs alone, except for
+-- two words that count the batches that were stored and cut.
 use Rattle.std.specs.Prelude.{ℕ, ◌≡◌, ◌<◌, ◌==◌, true, List, [], ◌∷◌, ◌++◌, length, MatchBool}
 use mathlib.Core.List.{IsPrefix}
 use Rattle.logbook.specs.Pages.{Cell, Step, View, Book, Named}
@@ -11,19 +12,19 @@ use Rattle.fe_history.specs.declared.act.Act.{Act}
 use Rattle.fe_history.specs.declared.act.Act.TheVariants.{Asked, Began}
 use Rattle.fe_history.specs.Acts.{IsLegal, batches_of, cuts_in, place_after, stores_in}
 
--- the words are how many batches were stored, and how many were cut; and what happened is legal
+-- the two words count the batches that were stored and cut, and what happened is legal
 pub record IsKept (cells : List Cell) (log : List Act) : Type 0 where
   pub words : cells ≡ (length (stores_in log), true) ∷ (length (cuts_in log), true) ∷ []
   pub legal : IsLegal log
 
--- the words of a book
+-- the names of the two words of a history
 abbrev pub stores_of : Book → Named
 stores_of b = record { tracked = true; key = 0; book = b }
 
 abbrev pub cuts_of : Book → Named
 cuts_of b = record { tracked = true; key = 1; book = b }
 
--- a book that has no name yet, and its history
+-- a history that has no name yet
 pub record Unnamed : Type 0 where
   pub book : Book
   pub acts : List Act
@@ -32,7 +33,7 @@ pub record Unnamed : Type 0 where
 abbrev pub pending_batch : FrontState → Batch
 pending_batch f = record { first = f.durable; entries = f.service.pending }
 
--- A batch may be cut after this many others: they were stored in this history, and it goes on where they end.
+-- A batch may be cut after this many others: they were stored in this history, and it begins where they end.
 pub record CutsAfter (acts : List Act) (count : ℕ) (batch : Batch) : Type 0 where
   pub begun : ServerState
   pub past : List Act
@@ -43,13 +44,13 @@ pub record CutsAfter (acts : List Act) (count : ℕ) (batch : Batch) : Type 0 wh
   pub first : batch.first ≡ place_after begun before
   pub some : 0 < length batch.entries
 
--- the act came after all of these, and maybe after more
+-- the act was added after all of these, and maybe after more
 pub record WasAppended (before : List Act) (act : Act) (after : List Act) : Type 0 where
   pub earlier : List Act
   pub seen : IsPrefix before earlier
   pub is : after ≡ earlier ++ act ∷ []
 
--- what a history gains by a message of a connection: that it asks for a session, if it does
+-- what a message of a connection adds to a history: that it asks for a session, if it does
 abbrev pub Hears : List Act → ℕ → ClientMessage → List Act → Type 0
 Hears before conn (Attach session) after = WasAppended before (Asked conn session) after
 Hears before conn (Call number request) after = after ≡ before
@@ -58,18 +59,18 @@ Hears before conn (Settle floor) after = after ≡ before
 Hears before conn Bye after = after ≡ before
 Hears before conn Report after = after ≡ before
 
--- an act was added
+-- the act was added, and the history is legal
 abbrev pub Adds : Step Act → View Act ℕ → ℕ → View Act ℕ → Type 0
 Adds s v found w = WasAppended v.0 s.ask w.0 × IsLegal w.0
 
--- it was added if as many batches had been cut as were expected
+-- the cut was added if as many batches had been cut as were expected
 abbrev pub CutsNext : Step Act → View Act ℕ → ℕ → View Act ℕ → Type 0
 CutsNext s v found w = MatchBool (found == s.old) ((c : WasAppended v.0 s.ask w.0) × (length (cuts_in c.earlier) ≡ s.old)) (Unit {0}) × IsLegal w.0
 
--- it was added if as many had been stored
+-- the store was added if as many batches had been stored as were expected
 abbrev pub AddsNext : Step Act → View Act ℕ → ℕ → View Act ℕ → Type 0
 AddsNext s v found w = MatchBool (found == s.old) ((c : WasAppended v.0 s.ask w.0) × (length (stores_in c.earlier) ≡ s.old)) (Unit {0}) × IsLegal w.0
 
--- how many batches were stored
+-- the answer is how many batches were stored
 abbrev pub Counts : Step Act → View Act ℕ → ℕ → View Act ℕ → Type 0
 Counts s v found w = (length (stores_in w.0) ≡ found) × IsLegal w.0

@@ -9,11 +9,11 @@ use crate::tally::Tally;
 use logbook::Seen;
 use std::marker::Model;
 
-/// What a hall leaves at any end: the receipts of its write sides, and its history.
+/// What a hall leaves, however it ends: the receipts of its write sides, and its history.
 pub struct Account {
     receipts: Vec<Receipt>,
     history: Seen<Act, u64, Law>,
-    /// The hall's committing side noted every group in the history.
+    /// Whether the hall's committing side, the thread that stores, noted every group in the history.
     own: bool,
 }
 
@@ -56,7 +56,7 @@ impl Account {
         }
     }
 
-    /// The account of a hall whose committing side had this seat. `history` is what its write sides saw.
+    /// The account of a hall whose committing side had this seat. `history` is what the write sides saw.
     pub fn of<M: Tally>(
         history_words: &HistoryWords<M>,
         seat: StoreSeat<M>,

@@ -32,7 +32,7 @@ impl<M: Tally> Model for GatheredReceipts<M> {
 }
 
 impl<M: Tally> GatheredReceipts<M> {
-    /// No side has ended.
+    /// The receipts of no side, which are whole.
     pub fn none(alloc: Global, history: History<M>) -> GatheredReceipts<M>
         ensures { result ≡ record { items = []; whole = true; history = history } }
     {
@@ -42,7 +42,7 @@ impl<M: Tally> GatheredReceipts<M> {
         }
     }
 
-    /// Adds the receipts of another side of the same hall. Where there is no memory it is not whole any more.
+    /// Adds the receipts of another side of the same hall. If there is no memory for them, it is not whole any more.
     pub fn add(&mut self, other: Receipts<M>) -> Result<(), AllocError>
         ensures ok { OnOk result
             ((self.new.items ≡ self.old.items ++ other.items) × (self.new.whole ≡ self.old.whole)) }
@@ -58,7 +58,7 @@ impl<M: Tally> GatheredReceipts<M> {
         added
     }
 
-    /// Learns what another side of the same hall saw, and drops its receipts: it is not whole any more.
+    /// Learns what another side of the same hall saw, and drops that side's receipts. It is not whole any more.
     pub fn learn(&mut self, other: Receipts<M>)
         ensures items { self.new.items ≡ self.old.items }
         ensures whole { self.new.whole ≡ false }

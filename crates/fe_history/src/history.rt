@@ -42,7 +42,7 @@ impl Rule<Act, u64> for Law {
     ghost moves = { λ ask before after answer. Unit {0} };
 }
 
-/// What a side that adds an act has of it: nothing.
+/// What a side that adds an act has to show for it: nothing.
 struct Nothing;
 
 impl Gain<Act, u64> for Nothing {
@@ -51,7 +51,7 @@ impl Gain<Act, u64> for Nothing {
     ghost after = { λ names about answer. ftrue };
 }
 
-/// How a history begins.
+/// The step that begins a history.
 struct Begin;
 
 impl Opening<State, Act> for Begin {
@@ -104,7 +104,7 @@ impl Plain<Wish, Act, u64> for Asking {
     ghost state = { λ wish. None };
 }
 
-/// The step that adds a cut: of all that is pending in a front.
+/// The step that adds a cut of all that is pending in a front.
 struct Cutting;
 
 impl Play<Act, u64> for Cutting {
@@ -123,14 +123,14 @@ impl Plain<Front, Act, u64> for Cutting {
     ghost state = { λ front. None };
 }
 
-/// A batch that a keeper has stored.
+/// A batch that a keeper has stored, and the keeper.
 #[derive(Clone, Copy)]
 struct Appended<'a, D: Disk> {
     batch: &'a Batch,
     keeper: &'a Keeper<D>,
 }
 
-/// The step that adds a store: of that batch, at the moment of the keeper's disk.
+/// The step that adds a store of that batch, at the moment of the keeper's disk.
 struct Storing;
 
 impl Play<Act, u64> for Storing {
@@ -148,7 +148,7 @@ impl<'a, D: Disk> Plain<Appended<'a, D>, Act, u64> for Storing {
     ghost state = { λ a. None };
 }
 
-/// The step that counts the stores.
+/// The step that returns how many batches were stored.
 struct Counting;
 
 impl Play<Act, u64> for Counting {
@@ -157,7 +157,7 @@ impl Play<Act, u64> for Counting {
     ghost then = { Counts };
 }
 
-/// A history that has no name yet, and in which nothing happened. Each call of a program names one.
+/// A history in which nothing happened. It has no name yet: each call of a program gives it one.
 pub struct NewHistory {
     stores: Word<Act, u64, Law>,
     cuts: Word<Act, u64, Law>,
@@ -190,11 +190,11 @@ impl Model for NewHistory {
 }
 
 impl NewHistory {
-    /// It begins over a store of this state.
+    /// A history that begins over a store of this state.
     pub fn new(state: &State) -> NewHistory
         ensures { result.acts ≡ act.Began state.now ∷ [] }
     {
-        // It names the state's limits.
+        // The call of `place` says that the state is within its limits.
         let _ = state.place();
         let (seen, mut pens) = Seen::open_row::<State, Begin>(state, Start::alone(), 2);
         let mut first = pens.take();
@@ -214,7 +214,7 @@ impl NewHistory {
         Account::new(Vec::new(alloc), self.seen.again())
     }
 
-    /// Its words, and what was seen of it.
+    /// Its words, and what was seen of it, under a name.
     pub fn named<M: Tally>(self) -> (HistoryWords<M>, History<M>)
         requires { self.book ≡ M.book }
         ensures { result.1 ≡ self.acts }
@@ -285,7 +285,7 @@ impl<M: Tally> Model for History<M> {
 }
 
 impl<M: Tally> History<M> {
-    /// A copy.
+    /// A copy of what was seen.
     pub fn again(&self) -> History<M>
         ensures same { result ≡ self.now }
         ensures legal { IsLegal result }
@@ -296,7 +296,7 @@ impl<M: Tally> History<M> {
         }
     }
 
-    /// The same, which is legal.
+    /// Returns the same history, and shows that it is legal.
     pub fn legal(self) -> History<M>
         ensures same { result ≡ self }
         ensures legal { IsLegal result }
@@ -305,7 +305,7 @@ impl<M: Tally> History<M> {
         History { seen, of }
     }
 
-    /// Afterwards it is what both have seen.
+    /// Learns what another copy of the history has seen.
     pub fn learn(&mut self, other: &History<M>)
         ensures this { IsPrefix self.old self.new }
         ensures that { IsPrefix other.now self.new }
@@ -314,7 +314,7 @@ impl<M: Tally> History<M> {
         self.seen.learn(&other.seen);
     }
 
-    /// Adds an answer, which is that of an entry that was stored before, to a connection that asked for its session before.
+    /// Adds that an answer was issued: its entry was stored before, and its connection asked for its session before.
     pub fn issue(&mut self, history_words: &HistoryWords<M>, receipt: Receipt)
         requires { MayBeAppended self.old (act.Issued receipt) }
         ensures { WasAppended self.old (act.Issued receipt) self.new }
@@ -327,13 +327,13 @@ impl<M: Tally> History<M> {
             .load::<Issuing, Nothing>(&mut self.seen, &mut offer);
     }
 
-    /// Adds that a connection asks for a session, if this message of it does, which was handed to a front. Only what is under the lock
-    /// of the hall has the book.
+    /// Adds that a connection asks for a session, if this message asks for one. It was handed to a front. Only the part
+    /// of the program under the hall's lock has the book.
     pub fn hear(&mut self, history_words: &HistoryWords<M>, _mails: &Book<M>, took: Took)
         ensures heard { Hears self.old took.conn took.message self.new }
         ensures legal { IsLegal self.new }
     {
-        // It names what is always true of a history.
+        // The reference to the field says what is always true of a history.
         let _ = &self.seen;
         let (conn, message) = took.into_parts();
         if let ClientMessage::Attach { session } = message {
@@ -355,7 +355,7 @@ impl<M: Tally> History<M> {
             .load::<Asking, Nothing>(&mut self.seen, &mut offer);
     }
 
-    /// Adds a cut of all that is pending in a front, if the history has this many cuts so far. Whether it did.
+    /// Adds a cut of all that is pending in a front, if the history has this many cuts so far. Returns whether it did.
     pub fn cut(&mut self, history_words: &HistoryWords<M>, count: u64, front: &Front) -> bool
         requires few { count < 2 ^ 63 }
         requires next { CutsAfter self.old count (pending_batch front.now) }
@@ -381,7 +381,7 @@ impl<M: Tally> History<M> {
         found == count
     }
 
-    /// Adds a batch that was cut, and that a keeper has just stored, if the history has this many stores so far. Whether it did.
+    /// Adds the store of a batch that was cut and just stored, if the history has this many stores so far. Returns whether it did.
     pub(crate) fn store<D: Disk>(
         &mut self,
         history_words: &HistoryWords<M>,
@@ -415,7 +415,7 @@ impl<M: Tally> History<M> {
         found == stored
     }
 
-    /// How many batches were stored in all.
+    /// How many batches were stored.
     pub(crate) fn count(&mut self, history_words: &HistoryWords<M>) -> u64
         ensures count { result ≡ length (stores_in self.new) }
         ensures this { IsPrefix self.old self.new }
@@ -436,7 +436,7 @@ impl<M: Tally> History<M> {
             .load::<Counting, Nothing>(&mut self.seen, &mut offer)
     }
 
-    /// What was seen, with no name.
+    /// What was seen, without the history's name.
     pub(crate) fn into_seen(self) -> Seen<Act, u64, Law>
         ensures same { result.log ≡ self }
         ensures legal { IsLegal result.log }

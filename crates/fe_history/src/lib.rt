@@ -1,4 +1,4 @@
-//! What happened in a hall, in the one order that its threads agree on, and what is left of it: the receipts of its answers.
+//! What happened in a hall, a front that many threads share, in the one order that they agree on; and the receipts that are left.
 //!
 //! The history exists in proofs alone. Each thread has a beginning of it, and adds acts that may follow those before them: a batch is
 //! cut, a batch is stored, a connection asks for a session, an answer is handed to a connection. A receipt is compared with what the

@@ -17,7 +17,7 @@ pub struct Receipt {
 }
 
 impl Receipt {
-    /// What is kept of a mail to a connection: an answer has a receipt.
+    /// The receipt of a mail to a connection, if the mail is an answer.
     pub fn of(conn: u64, mail: &Mail) -> Option<Receipt>
         ensures { result ≡ receipt_of conn mail.now }
     {

@@ -4,7 +4,7 @@ use crate::receipt::Receipt;
 use std::alloc::{AllocError, Global};
 use std::marker::Model;
 
-/// Receipts of write sides. It is whole while it has those of each side that was added.
+/// Receipts of write sides. The list is whole if it has those of each side that was added.
 #[derive(Drop)]
 pub struct ReceiptList {
     items: Vec<Receipt>,
@@ -20,7 +20,7 @@ impl Model for ReceiptList {
 }
 
 impl ReceiptList {
-    /// Those of no side, none yet.
+    /// The receipts of no side.
     pub(crate) fn new(alloc: Global) -> ReceiptList
         ensures { result ≡ record { items = []; whole = true } }
     {
@@ -30,7 +30,7 @@ impl ReceiptList {
         }
     }
 
-    /// Receipts that did not come from write sides.
+    /// Receipts that need not be those of write sides. The list is not whole.
     pub fn of(items: Vec<Receipt>) -> ReceiptList
         ensures { result ≡ record { items = items.items; whole = false } }
     {
@@ -40,7 +40,7 @@ impl ReceiptList {
         }
     }
 
-    /// Adds those of one side more.
+    /// Adds the receipts of one more side.
     pub(crate) fn add(&mut self, items: &[Receipt]) -> Result<(), AllocError>
         ensures ok { OnOk result (self.new ≡ record self.old { items = self.old.items ++ items.now }) }
         ensures err { OnErr result (self.new ≡ record self.old { whole = false }) }
@@ -52,7 +52,7 @@ impl ReceiptList {
         added
     }
 
-    /// Those of one side more are not added.
+    /// One more side has receipts that are not added.
     pub(crate) fn miss(&mut self)
         ensures { self.new ≡ record self.old { whole = false } }
     {

@@ -9,17 +9,17 @@ use fe_keeper::Keeper;
 use fe_state::Batch;
 use std::marker::Model;
 
-/// How many batches a side stores at most.
+/// The most batches that a side notes.
 const BATCHES: u64 = 1 << 62;
 
-/// Shows that another side noted a batch in the history, or this one 2^62. Only `StoreSeat::note` makes one.
+/// Shows that a batch was not noted: another side noted one, or this one noted 2^62. Only `StoreSeat::note` makes it.
 #[derive(Clone, Copy)]
 pub struct Unnoted(());
 
-/// The seat of a hall's committing side: contracts see the history, with the batches that it stored.
+/// The seat of a hall's committing side. Contracts see the history, with the batches that it noted.
 #[derive(Drop)]
 pub struct StoreSeat<M: Tally> {
-    /// How many batches it stored.
+    /// How many batches it noted.
     stored: u64,
     history: History<M>,
 }
@@ -49,8 +49,8 @@ impl<M: Tally> StoreSeat<M> {
         StoreSeat { stored: 0, history }
     }
 
-    /// Notes the batch that a keeper has just stored, and that was cut next after those noted so far. If another side noted a batch, or
-    /// this one 2^62, nothing changes.
+    /// Notes the batch that a keeper has just stored, and that was cut next after those noted so far. If another side
+    /// noted a batch, or this one noted 2^62, nothing changes.
     pub fn note<D: Disk>(
         &mut self,
         history_words: &HistoryWords<M>,
@@ -85,7 +85,7 @@ impl<M: Tally> StoreSeat<M> {
         &self.history
     }
 
-    /// All that this side and the other history saw, and whether this side noted every batch in it.
+    /// What this side and the other history saw together, and whether this side noted every batch in it.
     pub(crate) fn whole(
         self,
         history_words: &HistoryWords<M>,

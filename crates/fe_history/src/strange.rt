@@ -1,4 +1,4 @@
-//! Which receipts are strange.
+//! Which receipts are strange: what is kept or what was sent speaks against them.
 
 ghost use Rattle.std.specs.Prelude.{◌≡◌, ◌↔◌, ℕ, IsTrue, Some, All, map, Any, IfSome, IfNone};
 ghost use Rattle.std.specs.Bool.{OnTrue, OnFalse};
@@ -12,7 +12,7 @@ use fe_front::is_same;
 use fe_state::{Kept, KeptAnswers, Request, State};
 use fe_wire::ClientMessage;
 
-/// How many messages the list of a connection has at most.
+/// The most messages in the list of a connection.
 pub const LISTED: usize = 1024;
 
 /// The place of the first strange receipt, if one is.
@@ -52,7 +52,7 @@ fn is_strange(state: &State, sent: &[Vec<ClientMessage>], receipt: &Receipt) -> 
     is_missed(sent, receipt, &kept.request)
 }
 
-/// Whether a state keeps something else than what a receipt says, at the receipt's place.
+/// Whether a state keeps something else than a receipt says, at the receipt's place.
 fn keeps_other(state: &State, receipt: &Receipt) -> bool
     ensures other { OnTrue result ((session : ℕ) × (number : ℕ) × (k : Kept) × Keeps state.now session number k
         × (k.place ≡ receipt.now.place) × (IsAsIssued receipt.now session number k → ⊥)) }
@@ -68,7 +68,7 @@ fn keeps_other(state: &State, receipt: &Receipt) -> bool
     false
 }
 
-/// Whether a session keeps something else than what a receipt says, at the receipt's place.
+/// Whether a session keeps something else than a receipt says, at the receipt's place.
 fn holds_other(session: u64, answers: KeptAnswers<'_>, receipt: &Receipt) -> bool
     ensures other { OnTrue result ((number : ℕ) × (k : Kept) × (get answers.entry number ≡ Some k)
         × (k.place ≡ receipt.now.place) × (IsAsIssued receipt.now session number k → ⊥)) }
@@ -90,7 +90,7 @@ fn is_as_issued(receipt: &Receipt, session: u64, number: u64, kept: &Kept) -> bo
     session == receipt.session && number == receipt.number && kept.answer == receipt.answer
 }
 
-/// Whether lists that hold all that was sent have no such call.
+/// Whether the lists hold all that was sent, and have no call of this request.
 fn is_missed(sent: &[Vec<ClientMessage>], receipt: &Receipt, request: &Request) -> bool
     ensures missed { OnTrue result (AreWhole (map (λ v. v.items) sent.now)
         × (WasSent (map (λ v. v.items) sent.now) receipt.now.session receipt.now.number request.now → ⊥)) }
@@ -102,7 +102,7 @@ fn is_missed(sent: &[Vec<ClientMessage>], receipt: &Receipt, request: &Request) 
         && !was_sent(sent, receipt, request)
 }
 
-/// Whether one of the lists has such a call.
+/// Whether one of the lists has a call of this request.
 fn was_sent(sent: &[Vec<ClientMessage>], receipt: &Receipt, request: &Request) -> bool
     ensures { IsTrue result ↔ WasSent (map (λ v. v.items) sent.now) receipt.now.session receipt.now.number request.now }
 {

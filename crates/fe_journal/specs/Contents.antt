@@ -1,4 +1,4 @@
--- What an image of a device holds: the slot that counts, and what is in it.
+-- What an image, all bytes of a device, holds: the one of two slots that counts, and what is in it (`docs/store.md`, "Two slots").
 use Rattle.std.specs.Prelude.{◌≡◌, ◌⊎◌, ℕ, ◌+◌, ◌<◌, ◌≤◌, List, [], ◌∷◌, ◌++◌, length}
 use Rattle.fe_disk.specs.Disk.{bytes_at}
 use Rattle.fe_journal.specs.Layout.{device_bytes, header_of, gate_of, image_of, area_of, other_than, number_at, IsGateOpen}
@@ -14,7 +14,7 @@ pub record Contents : Type 0 where
   pub image : List ℕ
   pub groups : List (List ℕ)
 
--- A slot is valid where its magic is that of a format and its gate is open.
+-- A slot is valid if its magic is that of a format and its gate, the last byte of its header, is open.
 pub record IsValidAs (image : List ℕ) (slot : ℕ) (format : Format) : Type 0 where
   pub is_open : IsGateOpen image (gate_of slot)
   pub magic : number_at image (header_of slot) 8 ≡ magic_of format
@@ -47,14 +47,14 @@ pub record Holds (c : Contents) (image : List ℕ) : Type 0 where
 abbrev pub with_group : Contents → List ℕ → Contents
 with_group c payload = record { slot = c.slot; format = c.format; generation = c.generation; image = c.image; groups = c.groups ++ payload ∷ [] }
 
--- these contents or those
+-- an image that holds one contents or the other
 abbrev pub HoldsEither : Contents → Contents → List ℕ → Type 0
 HoldsEither before after image = Holds before image ⊎ Holds after image
 
--- an empty state as an image, in both formats: place 0, next array id 1, no arrays, no sessions
+-- the image of an empty state, in both formats: place 0, next array id 1, no arrays, no sessions
 abbrev pub empty_image : List ℕ
 empty_image = 0 ∷ 0 ∷ 0 ∷ 0 ∷ 0 ∷ 0 ∷ 0 ∷ 0 ∷ 0 ∷ 0 ∷ 0 ∷ 0 ∷ 0 ∷ 0 ∷ 0 ∷ 1 ∷ 0 ∷ 0 ∷ 0 ∷ 0 ∷ 0 ∷ 0 ∷ 0 ∷ 0 ∷ []
 
--- the contents of a store just formatted
+-- the contents of a new store
 abbrev pub first_contents : Format → Contents
 first_contents format = record { slot = 0; format = format; generation = 1; image = empty_image; groups = [] }

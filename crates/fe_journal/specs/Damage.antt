@@ -1,4 +1,4 @@
--- When an image holds no contents, and what is reported of it.
+-- When an image, all bytes of a device, holds no contents, and what opening reports then (`docs/store.md`).
 use Rattle.std.specs.Prelude.{◌≡◌, ◌≢◌, ◌⊎◌, ℕ, ◌+◌, ◌<◌, ◌≤◌, List, length}
 use Rattle.fe_journal.specs.Layout.{device_bytes, header_of, area_of, number_at, IsGateOpen}
 use Rattle.fe_format.specs.Layout.{IsImageLength}
@@ -8,11 +8,11 @@ use Rattle.fe_format.specs.declared.format.Format.{Format}
 use Rattle.fe_journal.specs.declared.fault.StoreFault.{StoreFault}
 use Rattle.fe_journal.specs.declared.fault.StoreFault.TheVariants.{Unformatted, Damaged, Device, NoMemory}
 
--- a device of another size, or no valid slot
+-- The device has another size than a store, or no valid slot.
 abbrev pub IsUnformatted : List ℕ → Type 0
 IsUnformatted image = (length image ≢ device_bytes) ⊎ ((slot : ℕ) (format : Format) → slot < 2 → IsValidAs image slot format → ⊥)
 
--- The header of the slot that counts, in an image of a store's size, allows the slot to be read.
+-- In an image of a store's size, the header of the slot that counts allows the slot to be read.
 pub record HasSoundHeader (image : List ℕ) : Type 0 where
   pub slot : ℕ
   pub format : Format
@@ -21,14 +21,14 @@ pub record HasSoundHeader (image : List ℕ) : Type 0 where
   pub numbered : 1 ≤ generation_at image slot
   pub length_fits : IsImageLength format (image_length_at image slot)
 
--- The first thing wrong in the slot that counts, in this order, and its offset on the device.
+-- The first thing wrong in the slot that counts, in this order, and its offset on the device:
 pub data IsDamagedAt (image : List ℕ) (offset : ℕ) : Type 0 where
-  -- generation 0, at its field
+  -- generation 0; the offset is that of its field
   NoGeneration : (slot : ℕ) (format : Format) → SlotCounts image slot format → generation_at image slot ≡ 0 → offset ≡ header_of slot + 8 → IsDamagedAt image offset
-  -- an image length that the format does not allow, at its field
+  -- an image length that the format does not allow; the offset is that of its field
   OddImage : (slot : ℕ) (format : Format) → SlotCounts image slot format → 1 ≤ generation_at image slot → (IsImageLength format (image_length_at image slot) → ⊥)
       → offset ≡ header_of slot + 16 → IsDamagedAt image offset
-  -- after open groups, an open gate with a length that is not allowed or does not fit, at the gate
+  -- after open groups, an open gate with a length that is not allowed or does not fit; the offset is the gate's
   OddGroup : (slot : ℕ) (format : Format) (groups : List (List ℕ)) → SlotCounts image slot format → 1 ≤ generation_at image slot → IsImageLength format (image_length_at image slot)
       → StandFrom format image (area_of slot) 0 groups → IsGateOpen image (area_of slot + end_of_groups groups) → (GroupFits format (end_of_groups groups) (number_at image (area_of slot + end_of_groups groups + 1) 4) → ⊥)
       → offset ≡ area_of slot + end_of_groups groups → IsDamagedAt image offset

@@ -1,4 +1,4 @@
--- How formatting ends.
+-- How formatting, which makes a new store on a disk, ends (`docs/store.md`, "Formatting").
 use Rattle.std.specs.Prelude.{◌≡◌, ◌≢◌, ◌↔◌, ◌⊎◌, ℕ, Result, Ok, Err, IfErr, OnOk}
 use Rattle.fe_disk.specs.Disk.{Rises, MakesAtMost, MakesJust}
 use Rattle.fe_disk.specs.declared.calls.Calls.{Calls}
@@ -7,8 +7,8 @@ use Rattle.fe_journal.specs.Journal.{JournalState}
 use Rattle.fe_journal.specs.declared.fault.StoreFault.{StoreFault}
 use Rattle.fe_disk.specs.declared.disk.Disk.{Ghosts}
 
--- Six writes and three syncs make a store. A disk of another size is refused with `unformatted`. The fault is
--- `device` where a call of the disk failed, and with any other fault nothing was done to the disk.
+-- Six writes and three syncs make a store. A disk of another size is refused with `unformatted`. The fault is `device`
+-- if a call of the disk failed, and with any other fault nothing was done to the disk.
 pub record Formats {D T E : Type 0} (model : Ghosts D) (unformatted device memory : E) (result : Result T E) (old new : D) : Type 0 where
   pub wrong_size : IfErr result (λ fault. (fault ≡ unformatted) ↔ (model.size old ≢ device_bytes))
   pub faults : IfErr result (λ fault. (fault ≡ device) ⊎ ((fault ≡ unformatted) ⊎ (fault ≡ memory)))
@@ -20,7 +20,7 @@ pub record Formats {D T E : Type 0} (model : Ghosts D) (unformatted device memor
   pub honesty : model.honest new ↔ model.honest old
   pub same_size : model.size new ≡ model.size old
 
--- the disk, after it was formatted or not
+-- the disk that is left, formatted or not
 abbrev pub disk_left : {D : Type 0} → Result (JournalState D) (StoreFault × D) → D
 disk_left (Ok journal) = journal.disk
 disk_left (Err refused) = refused.1

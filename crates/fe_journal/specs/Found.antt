@@ -1,4 +1,4 @@
--- What opening and formatting give.
+-- What opening a store returns, and why it fails (`docs/store.md`, "Opening a store").
 use Rattle.std.specs.Prelude.{◌≡◌, ◌⊎◌, ◌↔◌, ◌+◌, ◌≤◌, ℕ, List, None, Result, Ok, Err, IsErrOf}
 use Rattle.fe_disk.specs.Disk.{Rises, MakesAtMost}
 use Rattle.fe_disk.specs.declared.calls.Calls.{Calls}
@@ -13,8 +13,8 @@ use Rattle.fe_journal.specs.declared.fault.StoreFault.{StoreFault}
 use Rattle.fe_journal.specs.declared.fault.StoreFault.TheVariants.{Device, NoMemory}
 use Rattle.fe_disk.specs.declared.disk.Disk.{Ghosts}
 
--- What was found are the contents of the image that the disk reads: a journal that keeps them, the bytes of their
--- image, and a cursor before the first of their groups.
+-- What was found are the contents of the image that the disk reads: a journal that keeps them, the bytes of the state's
+-- image, and a cursor before the first group.
 pub record IsFound {D : Type 0} (model : Ghosts D) (image : List ℕ) (found : Found D) : Type 0 where
   pub contents : Contents
   pub holds : Holds contents image
@@ -24,13 +24,13 @@ pub record IsFound {D : Type 0} (model : Ghosts D) (image : List ℕ) (found : F
   pub start_is : found.groups.start ≡ area_of contents.slot
   pub from_the_first : found.groups.at ≡ 0
 
--- whatever the disk said: the groups that are in the area read, up to the gate where the journal goes on
+-- Over any disk: the groups in the journal area that was read, up to the gate where the journal goes on.
 pub record AreListed {D : Type 0} (found : Found D) : Type 0 where
   pub groups : List (List ℕ)
   pub lists : Lists found.groups groups
   pub used_is : found.journal.used ≡ end_of_groups groups
 
--- Opening reads two headers, then the journal area, and then the image. The last of these four reads was not made.
+-- Opening reads two headers, then the journal area, and then the state's image. It ended before the last of these four reads.
 abbrev pub ReadsInPart : Calls → Calls → Type 0
 ReadsInPart before now = now.reads ≤ before.reads + 3
 
@@ -41,8 +41,8 @@ pub record IsReason (image : List ℕ) (before now : Calls) (fault : StoreFault)
   pub valid : (c : Contents) → Holds c image → (fault ≡ Device) ⊎ (fault ≡ NoMemory)
   pub memory : fault ≡ NoMemory → ReadsInPart before now
 
--- What opening does to a disk besides what it reads: a sync and four reads at most. The fault is `device` exactly
--- where a call of the disk failed.
+-- What opening does to a disk besides what it reads: a sync and four reads at most. The fault is `device` exactly if a
+-- call of the disk failed.
 pub record AsksToOpen {D T E : Type 0} (model : Ghosts D) (device : E) (result : Result T E) (old new : D) : Type 0 where
   pub fault : IsErrOf result device ↔ Rises (model.failures old) (model.failures new)
   pub still : (IsErrOf result device → ⊥) → model.failures new ≡ model.failures old
@@ -50,7 +50,7 @@ pub record AsksToOpen {D T E : Type 0} (model : Ghosts D) (device : E) (result :
   pub honesty : model.honest new ↔ model.honest old
   pub same_size : model.size new ≡ model.size old
 
--- the disk, after it was opened or not
+-- the disk that is left, opened or not
 abbrev pub disk_after : {D : Type 0} → Result (Found D) (StoreFault × D) → D
 disk_after (Ok found) = found.journal.disk
 disk_after (Err refused) = refused.1

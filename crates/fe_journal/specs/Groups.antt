@@ -1,5 +1,5 @@
--- The groups of a journal area, which begins at `area` in a list of bytes. A group is a gate, the length of its payload
--- in four bytes, and the payload. `docs/formats.md`, "Journal area".
+-- The groups of a journal area, which begins at `area` in a list of bytes. A group is a gate, the length of its payload in four
+-- bytes, and the payload. A gate is a byte that is open at 1: the group counts then (`docs/formats.md`, "Journal area").
 use Rattle.std.specs.Prelude.{◌≡◌, ℕ, ◌+◌, ◌-◌, ◌≤◌, List, [], ◌∷◌, ◌++◌, length}
 use Rattle.byteorder.specs.Endian.{big_bytes}
 use Rattle.fe_disk.specs.Disk.{bytes_at}
@@ -29,7 +29,7 @@ abbrev pub end_of_groups : List (List ℕ) → ℕ
 end_of_groups [] = 0
 end_of_groups (payload ∷ payloads) = 5 + length payload + end_of_groups payloads
 
--- The groups from `at` on as long as the gate is open. The first gate that is not open ends them.
+-- The groups from `at` on, up to the first gate that is not open.
 pub record HoldsGroups (format : Format) (bytes : List ℕ) (area at : ℕ) (payloads : List (List ℕ)) : Type 0 where
   pub stand : StandFrom format bytes area at payloads
   pub ended : IsGateShut bytes (area + (at + end_of_groups payloads))
@@ -38,6 +38,6 @@ pub record HoldsGroups (format : Format) (bytes : List ℕ) (area at : ℕ) (pay
 abbrev pub after_gate : List ℕ → List ℕ
 after_gate payload = big_bytes 4 (length payload) ++ (payload ++ 0 ∷ [])
 
--- the longest payload that fits with its gate at `at`, 0 where there is none
+-- the length of the longest payload that fits with its gate at `at`, 0 if none fits
 abbrev pub room_at : ℕ → ℕ
 room_at at = empty_area_room - at

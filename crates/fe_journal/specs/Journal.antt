@@ -1,4 +1,5 @@
--- A journal as its callers see it, and how it stands to the images that its disk may leave.
+-- A journal as its callers see it, and what it says of the images that its disk may leave. A draft is the other slot
+-- while it is made (a checkpoint). A catch-up is the group that goes into it for what was appended meanwhile.
 use Rattle.std.specs.Prelude.{◌≡◌, ◌↔◌, ◌+◌, ◌≤◌, ℕ, Bool, List, [], ◌∷◌, ◌++◌, length, Option, Some, None, IsSome, Result, IsTrue, IsErrOf, OnOk, OnErr, false, true}
 use Rattle.fe_disk.specs.Disk.{bytes_at, LeavesJust, Rises, MakesAtMost}
 use Rattle.fe_disk.specs.declared.calls.Calls.{Calls}
@@ -22,17 +23,17 @@ pub record JournalState (D : Type 0) : Type 0 where
   pub begun : Option Begun
   pub has_failed : Bool
 
--- the journal of a store just formatted
+-- the journal of a new store
 abbrev pub new_journal : {D : Type 0} → Format → D → JournalState D
 new_journal format disk = record { disk = disk; slot = 0; format = format; generation = 1; used = 0; begun = None; has_failed = false }
 
--- no slot is begun, and no call has failed
+-- no slot is begun, and no call of the device has failed
 pub record IsIdle {D : Type 0} (journal : JournalState D) : Type 0 where
   pub none_begun : journal.begun ≡ None
   pub works : journal.has_failed ≡ false
 
--- How a call of a journal ends that makes at most this many device calls: after a fault of the device the journal has
--- failed, and a journal that had failed does nothing.
+-- How a call of a journal ends that makes at most this many device calls: if one of them fails, the journal has failed;
+-- and a journal that had failed does nothing.
 pub record CallEnds {D T : Type 0} (model : Ghosts D) (reads writes syncs : ℕ) (result : Result T JournalFault) (old new : JournalState D) : Type 0 where
   pub device : old.has_failed ≡ false → (IsErrOf result Device ↔ Rises (model.failures old.disk) (model.failures new.disk))
   pub still : OnOk result (model.failures new.disk ≡ model.failures old.disk)
@@ -54,7 +55,7 @@ abbrev pub begun_of : Option Draft → Option Begun
 begun_of None = None
 begun_of (Some draft) = Some (record { format = draft.format; generation = draft.generation; image_length = draft.image_length; written = length draft.bytes })
 
--- the slot's fields and the image so far are read there
+-- the image has the draft's fields in the slot's header, and its bytes so far as the slot's state image
 pub record IsDraft (slot : ℕ) (draft : Draft) (image : List ℕ) : Type 0 where
   pub magic : number_at image (header_of slot) 8 ≡ magic_of draft.format
   pub generation_is : generation_at image slot ≡ draft.generation
@@ -63,13 +64,13 @@ pub record IsDraft (slot : ℕ) (draft : Draft) (image : List ℕ) : Type 0 wher
   pub bytes_are : bytes_at image (image_of slot) (length draft.bytes) ≡ draft.bytes
   pub within : length draft.bytes ≤ draft.image_length
 
--- an image that a stop leaves while the journal is there: it holds the contents, and the gate of a slot begun is closed
+-- An image that a stop leaves holds the contents, and if a draft is begun, its gate is closed.
 pub record IsLeft (c : Contents) (draft : Option Draft) (image : List ℕ) : Type 0 where
   pub holds : Holds c image
   pub shut : IsSome draft → IsGateShut image (gate_of (other_than c.slot))
 
--- The journal knows the slot that counts, and each image that a stop may leave now holds these contents. A slot begun
--- stands as its draft where the disk is read, and without one all that was written is on the disk.
+-- The journal knows the slot that counts, and each image that a stop may leave now holds these contents. If there is a
+-- draft, the disk reads as the draft says in the other slot; if there is none, all that was written is synced.
 pub record KeepsContents {D : Type 0} (model : Ghosts D) (journal : JournalState D) (c : Contents) (draft : Option Draft) : Type 0 where
   pub slot_is : journal.slot ≡ c.slot
   pub format_is : journal.format ≡ c.format
@@ -80,24 +81,24 @@ pub record KeepsContents {D : Type 0} (model : Ghosts D) (journal : JournalState
   pub drafted : (d : Draft) → draft ≡ Some d → IsDraft (other_than c.slot) d (model.seen journal.disk) × (d.generation ≡ c.generation + 1)
   pub settled : draft ≡ None → LeavesJust (model.seen journal.disk) (model.may_leave journal.disk)
 
--- what `slot_close` begins
+-- the draft that `slot_close` begins
 abbrev pub new_draft : Format → ℕ → ℕ → Draft
 new_draft format generation image_length = record { format = format; generation = generation; image_length = image_length; bytes = [] }
 
--- the draft with a slice more
+-- the draft with one slice more
 abbrev pub with_slice : Draft → List ℕ → Draft
 with_slice d slice = record { format = d.format; generation = d.generation; image_length = d.image_length; bytes = d.bytes ++ slice }
 
--- a catch-up of no bytes is no group
+-- the groups that a catch-up makes: none if it has no bytes, else one
 abbrev pub catch_up_groups : List ℕ → List (List ℕ)
 catch_up_groups [] = []
 catch_up_groups (byte ∷ bytes) = (byte ∷ bytes) ∷ []
 
--- a catch-up is empty, or a payload
+-- a catch-up has no bytes, or is a payload
 abbrev pub IsCatchUp : Format → List ℕ → Type 0
 IsCatchUp format [] = Unit {0}
 IsCatchUp format (byte ∷ bytes) = IsPayloadLength format (length (byte ∷ bytes))
 
--- the contents that a finished draft makes, with the catch-up
+-- the contents once the draft is finished, with the catch-up as a group
 abbrev pub with_draft : Contents → Draft → List ℕ → Contents
 with_draft c d catch_up = record { slot = other_than c.slot; format = d.format; generation = d.generation; image = d.bytes; groups = catch_up_groups catch_up }

@@ -1,9 +1,9 @@
--- Laws of what an image holds, which public functions name.
+-- Laws of what an image, all bytes of a device, holds, cited by public functions.
 use Rattle.std.specs.Prelude.{◌≡◌, ℕ, List}
 use Rattle.fe_journal.specs.Contents.{Contents, Holds}
 use Rattle.fe_journal.specs.Damage.{IsUnformatted, IsDamagedAt}
 
--- An image holds at most one contents.
+-- An image holds one contents at most.
 abbrev pub HasOneContents : Type 0
 HasOneContents = (c d : Contents) (image : List ℕ) → Holds c image → Holds d image → c ≡ d
 

@@ -1,25 +1,25 @@
--- Where a store's parts lie on its device. `docs/formats.md`, "Device", has the tables.
+-- Where a store's parts lie on its device, in bytes. `docs/formats.md`, "Device", has the tables.
 use Rattle.std.specs.Prelude.{◌≡◌, ◌≢◌, ℕ, ◌+◌, ◌-◌, ◌*◌, List, slice_index}
 use Rattle.byteorder.specs.Endian.{big_number}
 use Rattle.fe_disk.specs.Disk.{bytes_at}
 
--- a slot's header, whose last byte is its gate
+-- the length of a slot's header, whose last byte is its gate
 abbrev pub header_bytes : ℕ
 header_bytes = 4096
 
--- where a slot's journal area begins, after its header and the room for its image
+-- where a slot's journal area begins in the slot, after its header and the room for its image
 abbrev pub area_begin : ℕ
 area_begin = 1052672
 
--- a slot's journal area
+-- the length of a slot's journal area
 abbrev pub area_bytes : ℕ
 area_bytes = 1048576
 
--- a slot: its header, the room for its image, and its journal area
+-- the length of a slot: its header, the room for its image, and its journal area
 abbrev pub slot_bytes : ℕ
 slot_bytes = 2101248
 
--- a device has two slots, one after the other
+-- the length of a device, which has two slots, one after the other
 abbrev pub device_bytes : ℕ
 device_bytes = 4202496
 
@@ -31,11 +31,11 @@ empty_area_room = 1048570
 abbrev pub slice_bytes : ℕ
 slice_bytes = 65536
 
--- where a slot's header begins, with it the slot
+-- where a slot, and its header, begins
 abbrev pub header_of : ℕ → ℕ
 header_of slot = slot_bytes * slot
 
--- a slot's header gate, the last byte of its header
+-- where a slot's gate is, the last byte of its header
 abbrev pub gate_of : ℕ → ℕ
 gate_of slot = slot_bytes * slot + (header_bytes - 1)
 
@@ -43,7 +43,7 @@ gate_of slot = slot_bytes * slot + (header_bytes - 1)
 abbrev pub image_of : ℕ → ℕ
 image_of slot = slot_bytes * slot + header_bytes
 
--- where a slot's journal area begins, with the gate of its first group
+-- where a slot's journal area, and the gate of its first group, begins
 abbrev pub area_of : ℕ → ℕ
 area_of slot = slot_bytes * slot + area_begin
 
@@ -55,7 +55,7 @@ other_than slot = 1 - slot
 abbrev pub number_at : List ℕ → ℕ → ℕ → ℕ
 number_at bytes at n = big_number n (bytes_at bytes at n)
 
--- A gate is open only where its byte is 1.
+-- A gate is open only if its byte is 1.
 abbrev pub IsGateOpen : List ℕ → ℕ → Type 0
 IsGateOpen bytes gate = slice_index bytes gate ≡ 1
 

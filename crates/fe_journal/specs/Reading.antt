@@ -1,4 +1,4 @@
--- What the parts of opening read of a store.
+-- What the steps of opening read of a store: the headers of its slots, and the groups of a journal area (`docs/store.md`).
 use Rattle.std.specs.Prelude.{◌≡◌, ◌⊎◌, ◌≤◌, ◌<◌, ◌+◌, ◌-◌, ℕ, List, Option, Some, None}
 use Rattle.fe_journal.specs.Layout.{number_at, IsGateOpen, header_bytes, header_of, area_of, area_bytes}
 use Rattle.fe_format.specs.Layout.{magic_of, IsImageLength}
@@ -13,7 +13,7 @@ abbrev pub IsFormatOf : ℕ → Option Format → Type 0
 IsFormatOf magic None = (magic ≡ 0x46454d454d535431 → ⊥) × (magic ≡ 0x46454d454d535432 → ⊥)
 IsFormatOf magic (Some format) = magic ≡ magic_of format
 
--- the header that begins at `at` is valid and says this, or it is not valid
+-- the header that begins at `at` is that of a valid slot and has these fields
 pub record IsHeaderAt (bytes : List ℕ) (at : ℕ) (header : Header) : Type 0 where
   pub is_open : IsGateOpen bytes (at + (header_bytes - 1))
   pub magic : number_at bytes at 8 ≡ magic_of header.format
@@ -24,25 +24,25 @@ abbrev pub IsHeader : List ℕ → ℕ → Option Header → Type 0
 IsHeader bytes at None = (format : Format) → IsGateOpen bytes (at + (header_bytes - 1)) → number_at bytes at 8 ≡ magic_of format → ⊥
 IsHeader bytes at (Some header) = IsHeaderAt bytes at header
 
--- of two headers the one with the greater generation counts, and the first of equal ones
+-- which of two slots' headers counts: the one with the greater generation, and the first of equal ones
 abbrev pub IsCounting : Option Header → Option Header → Option (ℕ × Header) → Type 0
 IsCounting first second None = (first ≡ None) × (second ≡ None)
 IsCounting first second (Some (slot, header)) =
     ((slot ≡ 0) × (first ≡ Some header) × ((other : Header) → second ≡ Some other → other.generation ≤ header.generation))
     ⊎ ((slot ≡ 1) × (second ≡ Some header) × ((other : Header) → first ≡ Some other → other.generation < header.generation))
 
--- the length after the gate, where a group with it fits
+-- the length after the gate, if a group of it fits
 abbrev pub IsFitting : Format → List ℕ → ℕ → Option ℕ → Type 0
 IsFitting format bytes at None = GroupFits format at (number_at bytes (at + 1) 4) → ⊥
 IsFitting format bytes at (Some n) = (n ≡ number_at bytes (at + 1) 4) × GroupFits format at n
 
--- groups stand from the area's beginning to `at`
+-- the groups from the area's beginning on reach to `at`
 pub record Reaches (format : Format) (bytes : List ℕ) (at : ℕ) : Type 0 where
   pub groups : List (List ℕ)
   pub stand : StandFrom format bytes 0 0 groups
   pub at_is : at ≡ end_of_groups groups
 
--- groups stand from the area's beginning to `at`, and after an open gate there is no group
+-- the groups from the area's beginning on reach to `at`, where an open gate has no group that fits
 pub record IsOddAt (format : Format) (bytes : List ℕ) (at : ℕ) : Type 0 where
   pub groups : List (List ℕ)
   pub stand : StandFrom format bytes 0 0 groups
@@ -50,13 +50,13 @@ pub record IsOddAt (format : Format) (bytes : List ℕ) (at : ℕ) : Type 0 wher
   pub is_open : IsGateOpen bytes at
   pub odd : GroupFits format at (number_at bytes (at + 1) 4) → ⊥
 
--- groups stand from the area's beginning to `at`, where a gate is closed
+-- the groups from the area's beginning on end at `at`, where a gate is closed
 pub record GroupsEndAt (format : Format) (bytes : List ℕ) (at : ℕ) : Type 0 where
   pub groups : List (List ℕ)
   pub holds : HoldsGroups format bytes 0 0 groups
   pub at_is : at ≡ end_of_groups groups
 
--- what is wrong with the header: no generation, or an image length that the format does not allow
+-- what is wrong with a header: generation 0, or an image length that the format does not allow
 abbrev pub HeaderFault : ℕ → Header → StoreFault → Type 0
 HeaderFault slot header (Damaged offset) =
     ((header.generation ≡ 0) × (offset ≡ header_of slot + 8))

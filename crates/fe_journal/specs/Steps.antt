@@ -1,4 +1,4 @@
--- What single steps of the journal do to a disk, byte by byte.
+-- What single steps of the journal write on a disk, byte by byte. A commit writes bytes and then opens a gate.
 use Rattle.std.specs.Prelude.{◌≡◌, ◌⊎◌, ℕ, ◌+◌, List, [], ◌∷◌, ◌++◌, length}
 use Rattle.byteorder.specs.Endian.{big_bytes}
 use Rattle.fe_disk.specs.Disk.{IsTorn, AddsNone, MakesJust, bytes_at, after_write}
@@ -11,47 +11,46 @@ use Rattle.fe_journal.specs.Contents.{empty_image}
 use Rattle.fe_format.specs.declared.format.Format.{Format}
 use Rattle.fe_disk.specs.declared.disk.Disk.{Ghosts}
 
--- the spelling of a header's fields
+-- the bytes of a header's fields
 abbrev pub header_fields : Format → ℕ → ℕ → List ℕ
 header_fields format generation image_length = big_bytes 8 (magic_of format) ++ (big_bytes 8 generation ++ big_bytes 4 image_length)
 
--- how a new journal area begins: with the catch-up as an open group, or with a closed gate where there is none
+-- how a new journal area begins: with the catch-up as an open group, or with a closed gate if there is no catch-up
 abbrev pub area_start : List ℕ → List ℕ
 area_start [] = 0 ∷ []
 area_start (byte ∷ bytes) = 1 ∷ after_gate (byte ∷ bytes)
 
--- the disk was only read: nothing is read otherwise, and no stop leaves what could not be left before
+-- The disk was only read: reads give what they gave, and no stop leaves what could not be left before.
 pub record OnlyReads {D : Type 0} (model : Ghosts D) (old new : D) : Type 0 where
   pub same : model.seen new ≡ model.seen old
   pub adds_none : AddsNone (model.may_leave old) (model.may_leave new)
   pub run : LeavesOnly model old new (model.may_leave old)
 
--- the image that a whole commit leaves: the bytes, and the gate open
+-- the image after a whole commit: the bytes, and the gate open
 abbrev pub after_commit : List ℕ → ℕ → List ℕ → ℕ → List ℕ
 after_commit seen at bytes gate = after_write (after_write seen at bytes) gate (1 ∷ [])
 
--- What a stop leaves of a commit: an image from before it with the bytes torn, or all of the bytes with the gate torn.
+-- What a stop leaves of a commit: an image left before it with the bytes torn, or all of the bytes with the gate torn.
 abbrev pub IsLeftInCommit : (List ℕ → Type 0) → List ℕ → ℕ → List ℕ → ℕ → List ℕ → Type 0
 IsLeftInCommit before seen at bytes gate image =
     ((was : List ℕ) × before was × IsTorn at (length bytes) was image) ⊎ IsTorn gate 1 (after_write seen at bytes) image
 
--- what a stop leaves while an open gate is closed: only the gate is other than it was, and it is not open where it
--- was closed
+-- What a stop leaves while a gate is closed: nothing but the gate differs, and a gate that was closed is not open.
 pub record IsLeftInShutting (seen : List ℕ) (gate : ℕ) (image : List ℕ) : Type 0 where
   pub torn : IsTorn gate 1 seen image
   pub opens_none : IsGateOpen image gate → IsGateOpen seen gate
 
--- which calls a gate is closed with, and this many writes after that: a read, and where it was open a write and a sync
+-- the device calls that close a gate, with this many writes after that: a read, and if it was open a write and a sync
 pub record Shuts (seen : List ℕ) (gate writes : ℕ) (before now : Calls) : Type 0 where
   pub opened : IsGateOpen seen gate → MakesJust 1 (writes + 1) 1 before now
   pub closed : IsGateShut seen gate → MakesJust 1 writes 0 before now
 
--- the slot's header may have changed, and its gate is closed
+-- the slot's gate is closed, and its header may have changed
 pub record IsHeaderTorn (seen : List ℕ) (slot : ℕ) (image : List ℕ) : Type 0 where
   pub torn : IsTorn (header_of slot) header_bytes seen image
   pub shut : IsGateShut image (gate_of slot)
 
--- what a stop leaves while a slot is begun: its gate is closed first, and then its header is written
+-- what a stop leaves while a slot is begun: its gate is being closed, or it is closed and the header is being written
 abbrev pub IsLeftInBeginning : List ℕ → ℕ → List ℕ → Type 0
 IsLeftInBeginning seen slot image = IsLeftInShutting seen (gate_of slot) image ⊎ IsHeaderTorn seen slot image
 
@@ -65,7 +64,7 @@ pub record IsCleared (image : List ℕ) : Type 0 where
   pub first : IsGateShut image (gate_of 0)
   pub second : IsGateShut image (gate_of 1)
 
--- so they are, and the first slot has a header with generation 1 and the empty image
+-- both gates are closed, and the first slot has a header with generation 1 and the empty image
 pub record IsFirstSlot (format : Format) (image : List ℕ) : Type 0 where
   pub cleared : IsCleared image
   pub fields_are : bytes_at image (header_of 0) 20 ≡ header_fields format 1 24

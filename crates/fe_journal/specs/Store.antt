@@ -1,4 +1,4 @@
--- What opening has read of a store, part by part.
+-- What opening has read of a store, part by part: the slot that counts, its journal area and its image (`docs/store.md`).
 use Rattle.std.specs.Prelude.{◌≡◌, ◌<◌, ◌≤◌, ℕ, List, Option, Some, None, vec_len}
 use Rattle.fe_disk.specs.Disk.{bytes_at}
 use Rattle.fe_journal.specs.Layout.{area_of, image_of, area_bytes}
@@ -10,12 +10,12 @@ use Rattle.fe_journal.specs.declared.header.Header.{Header}
 use Rattle.fe_journal.specs.declared.store.Store.{Store}
 use Rattle.fe_journal.specs.declared.store.SlotParts.{SlotParts}
 
--- the slot that counts and what its header says, or that no slot is valid
+-- the slot that counts, with its header's fields; or no slot is valid
 abbrev pub CountsAs : List ℕ → Option (ℕ × Header) → Type 0
 CountsAs image None = (slot : ℕ) (format : Format) → slot < 2 → IsValidAs image slot format → ⊥
 CountsAs image (Some (slot, header)) = SlotCounts image slot header.format × (generation_at image slot ≡ header.generation) × (image_length_at image slot ≡ header.image_length)
 
--- the slot's journal area, whose groups end there, and its image
+-- what was read of a slot: its journal area, with the offset where its groups end, and its image
 pub record IsSlotRead (image : List ℕ) (slot : ℕ) (header : Header) (parts : SlotParts) : Type 0 where
   pub area_is : parts.area.items ≡ bytes_at image (area_of slot) area_bytes
   pub ends : GroupsEndAt header.format parts.area.items parts.used
@@ -25,12 +25,12 @@ pub record IsSlotRead (image : List ℕ) (slot : ℕ) (header : Header) (parts :
 abbrev pub IsReadable : ℕ × Header → Type 0
 IsReadable (slot, header) = (slot < 2) × (1 ≤ header.generation) × IsImageLength header.format header.image_length
 
--- the sizes of what was read, whatever the disk said
+-- over any disk, the sizes of what was read
 pub record AreParts (parts : SlotParts) : Type 0 where
   pub area_whole : vec_len parts.area ≡ area_bytes
   pub within : parts.used < area_bytes
 
--- all of it: a slot that counts and is not damaged, and its parts
+-- all that was read: a slot that counts and is not damaged, and its parts
 pub record IsStore (image : List ℕ) (store : Store) : Type 0 where
   pub counts : CountsAs image (Some (store.slot, store.header))
   pub numbered : 1 ≤ store.header.generation

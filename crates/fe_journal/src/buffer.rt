@@ -2,7 +2,7 @@ ghost use Rattle.std.specs.Prelude.{◌≡◌, IfOk, vec_len};
 
 use std::alloc::{AllocError, Global};
 
-/// A buffer of this many zeros. The contract gives its length alone, since a clause about its zeros would be as
+/// A buffer of zeros with this length. The contract gives its length alone, since a clause about its zeros would be as
 /// long as the buffer.
 pub fn buffer_of(alloc: Global, length: usize) -> Result<Vec<u8>, AllocError>
     ensures { IfOk result (λ buffer. vec_len buffer ≡ length) }

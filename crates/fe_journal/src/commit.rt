@@ -1,4 +1,5 @@
-// The two orders of writing that every crash promise rests on.
+// The two orders of writing that every crash promise rests on. A gate is a byte that makes what it guards count, if it
+// is 1 (`docs/store.md`, "Gates").
 ghost use Rattle.std.specs.Prelude.{◌≡◌, ◌+◌, ◌≤◌, [], ◌∷◌, length, OnOk};
 ghost use Rattle.fe_disk.specs.Disk.{IsTorn, LeavesJust, after_write};
 ghost use Rattle.fe_disk.specs.Runs.{LeavesOnly, Asks, AsksAtMost};
@@ -31,7 +32,7 @@ pub fn commit<D: Disk>(
     open_gate(disk, gate)
 }
 
-// Opens a gate, once all that was written is on the disk. Two device calls.
+// Opens a gate, once all that was written is synced. Two device calls.
 fn open_gate<D: Disk>(disk: &mut D, gate: usize) -> Result<(), DeviceFault>
     requires gate_fits { gate + 1 ≤ D.size disk.old }
     requires settled { D.honest disk.old → LeavesJust (D.seen disk.old) (D.may_leave disk.old) }
@@ -51,7 +52,7 @@ fn open_gate<D: Disk>(disk: &mut D, gate: usize) -> Result<(), DeviceFault>
 pub fn shut<D: Disk>(disk: &mut D, gate: usize) -> Result<(), DeviceFault>
     requires gate_fits { gate + 1 ≤ D.size disk.old }
 
-    // From a disk on which all that was written is synced.
+    // This holds of a disk on which all that was written is synced.
     ensures any_moment { D.honest disk.old → LeavesJust (D.seen disk.old) (D.may_leave disk.old)
         → LeavesOnly D.Disk disk.old disk.new (IsLeftInShutting (D.seen disk.old) gate) }
     ensures settled { D.honest disk.old → LeavesJust (D.seen disk.old) (D.may_leave disk.old)

@@ -17,8 +17,7 @@ use crate::{Format, Journal, StoreFault};
 use fe_disk::{DeviceFault, Disk};
 use std::alloc::Global;
 
-/// The image of a state with nothing in it: place 0, next array id 1, no arrays and no sessions. It
-/// is the same in both formats.
+/// The image of a state with no arrays and no sessions: place 0, next array id 1. It is the same in both formats.
 const EMPTY_IMAGE: [u8; 24] = [
     0, 0, 0, 0, 0, 0, 0, 0, 0, 0, 0, 0, 0, 0, 0, 1, 0, 0, 0, 0, 0, 0, 0, 0,
 ];
@@ -30,7 +29,7 @@ impl<D: Disk> Journal<D> {
         ensures formatted { D.honest disk
             → IfOk result (λ journal. KeepsContents D.Disk journal (first_contents Two) None) }
 
-        // Over any disk: a journal that is at the beginning.
+        // Over any disk, the journal is that of a new store.
         ensures value { IfOk result (λ journal. journal ≡ new_journal Two journal.disk) }
         ensures ends { Formats D.Disk Unformatted Device NoMemory (without_disk result) disk
             (disk_left result) }
@@ -38,12 +37,12 @@ impl<D: Disk> Journal<D> {
         Journal::format_in(alloc, Format::Two, disk)
     }
 
-    /// The same, in this format.
+    /// Makes a new store as `format` does, in this format.
     pub fn format_in(alloc: Global, format: Format, disk: D) -> Result<Journal<D>, (StoreFault, D)>
         ensures formatted { D.honest disk
             → IfOk result (λ journal. KeepsContents D.Disk journal (first_contents format) None) }
 
-        // Over any disk: a journal that is at the beginning.
+        // Over any disk, the journal is that of a new store.
         ensures value { IfOk result (λ journal. journal ≡ new_journal format journal.disk) }
         ensures ends { Formats D.Disk Unformatted Device NoMemory (without_disk result) disk
             (disk_left result) }
@@ -56,7 +55,7 @@ impl<D: Disk> Journal<D> {
     }
 }
 
-// Writes the store, and makes the journal's buffer first.
+// Writes a new store, after it allocated the buffer of the journal, which it returns.
 fn write_store<D: Disk>(alloc: Global, format: Format, disk: &mut D) -> Result<Vec<u8>, StoreFault>
     ensures holds { D.honest disk.old → OnOk result (Holds (first_contents format) (D.seen disk.new)) }
     ensures settled { D.honest disk.old → OnOk result (LeavesJust (D.seen disk.new) (D.may_leave disk.new)) }

@@ -5,7 +5,7 @@ ghost use Rattle.fe_journal.specs.Cursor.{Lists};
 use byteorder::{BigEndian, ByteOrder};
 use std::marker::Model;
 
-/// A cursor over the open groups in the bytes of a journal area.
+/// A cursor over the open groups in the bytes of a journal area (`docs/formats.md`, "Journal area").
 #[derive(Drop)]
 pub struct Groups {
     bytes: Vec<u8>,
@@ -26,7 +26,7 @@ impl Model for Groups {
 }
 
 impl Groups {
-    // From the first group of a journal area on, which begins at `start` of the device.
+    // A cursor before the first group of a journal area, which begins at `start` of the device.
     pub(crate) fn new(bytes: Vec<u8>, start: usize) -> Groups
         requires start { start < device_bytes }
         requires area { length bytes.items ≡ area_bytes }

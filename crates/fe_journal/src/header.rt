@@ -6,7 +6,7 @@ use crate::Format;
 use crate::layout::HEADER_BYTES;
 use byteorder::{BigEndian, ByteOrder};
 
-/// What the header of a valid slot says.
+/// The fields in the header of a valid slot: format, generation and image length.
 #[derive(Clone, Copy)]
 pub struct Header {
     pub format: Format,
@@ -43,7 +43,7 @@ fn format_of(magic: u64) -> Option<Format>
     None
 }
 
-/// Which slot counts, if the slots have these headers.
+/// Which of two slots counts, given the headers of those that are valid.
 pub fn counting(first: Option<Header>, second: Option<Header>) -> Option<(usize, Header)>
     ensures { IsCounting first second result }
 {

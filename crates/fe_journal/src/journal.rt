@@ -18,8 +18,8 @@ use crate::{Format, JournalFault};
 use fe_disk::Disk;
 use std::marker::Model;
 
-/// The journal of an opened store. Groups are appended after the image of the slot that counts, while the
-/// other slot is written in pieces until it takes over.
+/// The journal of an opened store. Groups are appended after the image of the slot that counts, while an image is
+/// written into the other slot in pieces, until that slot takes over (`docs/store.md`).
 ///
 /// After a fault of the device every call returns `Failed` and makes no device call. Opening the store again
 /// says what was stored. No call allocates memory.
@@ -64,7 +64,7 @@ impl<D: Disk> Model for Journal<D> {
 }
 
 impl<D: Disk> Journal<D> {
-    // A journal that comes after the groups of an opened or new store.
+    // A journal that goes on after the groups of an opened or new store.
     pub(crate) fn opened(
         disk: D,
         buffer: Vec<u8>,
@@ -150,7 +150,7 @@ impl<D: Disk> Journal<D> {
     }
 
     /// The disk, as the calls of the journal left it.
-    // (not inlined, as in `fe_keeper::keeper_over`)
+    // (It is not inlined, for the reason that `fe_keeper::keeper_over` gives.)
     #[inline(never)]
     pub fn into_disk(self) -> D
         ensures disk { result ≡ self.disk }
@@ -170,12 +170,12 @@ impl<D: Disk> Journal<D> {
         disk
     }
 
-    /// Appends a group with this payload after the others: four device calls (`docs/store.md`).
+    /// Appends a group with this payload after the others. Four device calls (`docs/store.md`).
     pub fn append_group(&mut self, payload: &[u8]) -> Result<(), JournalFault>
         requires allowed { IsPayloadLength self.old.format (length payload.now) }
         requires fits { length payload.now ≤ room_at self.old.used }
 
-        // A stop at any moment of the call leaves the contents of before, or those with the new group at the end.
+        // A stop at any moment of the call leaves the old contents, or those with the new group at the end.
         ensures any_moment { D.honest self.old.disk
             → (c : Contents) (draft : Option Draft) → KeepsContents D.Disk self.old c draft
             → LeavesOnly D.Disk self.old.disk self.new.disk (HoldsEither c (with_group c payload.now)) }
@@ -214,7 +214,7 @@ impl<D: Disk> Journal<D> {
         requires next { generation ≡ self.old.generation + 1 }
         requires allowed { IsImageLength format image_length }
 
-        // A stop at any moment of the call leaves the contents of before.
+        // A stop at any moment of the call leaves the old contents.
         ensures any_moment { D.honest self.old.disk → (c : Contents) → KeepsContents D.Disk self.old c None
             → LeavesOnly D.Disk self.old.disk self.new.disk (Holds c) }
         ensures closed { D.honest self.old.disk → (c : Contents) → KeepsContents D.Disk self.old c None
@@ -254,7 +254,7 @@ impl<D: Disk> Journal<D> {
         requires has_begun { IsSome self.old.begun }
         requires short { length slice.now ≤ slice_bytes }
 
-        // A stop at any moment of the call leaves the contents of before.
+        // A stop at any moment of the call leaves the old contents.
         ensures any_moment { D.honest self.old.disk
             → (c : Contents) (d : Draft) → KeepsContents D.Disk self.old c (Some d)
             → LeavesOnly D.Disk self.old.disk self.new.disk (Holds c) }
@@ -294,7 +294,7 @@ impl<D: Disk> Journal<D> {
         requires begun { ForSome self.old.begun (λ b. (b.written ≡ b.image_length) × IsCatchUp b.format catch_up.now) }
         requires has_begun { IsSome self.old.begun }
 
-        // A stop at any moment of the call leaves the contents of before or those of the new slot.
+        // A stop at any moment of the call leaves the old contents or those of the new slot.
         ensures any_moment { D.honest self.old.disk
             → (c : Contents) (d : Draft) → KeepsContents D.Disk self.old c (Some d)
             → LeavesOnly D.Disk self.old.disk self.new.disk

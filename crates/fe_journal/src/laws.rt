@@ -1,4 +1,4 @@
-//! Laws of what an image holds, apart from any code; and the layout that the code has.
+//! Laws of what an image holds, apart from any code; and that the code's sizes and offsets are those of the definitions.
 
 ghost use Rattle.std.specs.Prelude.{◌≡◌};
 ghost use Rattle.fe_journal.specs.Laws.{HasOneContents, IsHeldOrRefused};
@@ -15,7 +15,8 @@ pub fn held_or_refused()
     ensures { IsHeldOrRefused }
 {}
 
-/// The code's constants are the sizes and offsets of the format (`docs/formats.md`, "Device").
+/// The constants of `layout.rt` are the sizes and offsets of the definitions (`docs/formats.md`, "Device"). Contracts
+/// are stated with the definitions, so a wrong constant would break this law.
 pub fn layout_is()
     ensures header { HEADER_BYTES ≡ header_bytes }
     ensures begin { AREA_BEGIN ≡ area_begin }

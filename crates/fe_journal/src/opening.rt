@@ -15,8 +15,8 @@ use crate::{Groups, Journal, StoreFault};
 use fe_disk::Disk;
 use std::alloc::Global;
 
-/// An opened store: its journal, which goes on after the groups, the bytes of its image, and a cursor before the
-/// first group.
+/// An opened store: its journal, which goes on after the groups, the bytes of the state's image, and a cursor before
+/// the first group.
 #[derive(Drop)]
 pub struct Found<D: Disk> {
     pub journal: Journal<D>,
@@ -43,7 +43,7 @@ impl<D: Disk> Journal<D> {
         // No stop leaves what could not be left before, and what is read stays the same.
         ensures reads { D.honest disk → OnlyReads D.Disk disk (disk_after result) }
 
-        // Over any disk: a journal with no slot begun that has not failed.
+        // Over any disk, no slot is begun and no call has failed.
         ensures ready { IfOk result (λ found. IsIdle found.journal) }
         ensures listed { IfOk result AreListed }
         ensures device { AsksToOpen D.Disk Device (without_disk result) disk (disk_after result) }

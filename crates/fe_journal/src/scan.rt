@@ -1,4 +1,4 @@
-// The lengths of all groups of a journal area.
+// A pass over the lengths of all groups of a journal area, which finds their end.
 ghost use Rattle.std.specs.Prelude.{◌≡◌, ◌<◌, length, Option, Some, None, IfOk, IfErr};
 ghost use Rattle.fe_journal.specs.Layout.{area_bytes};
 ghost use Rattle.fe_journal.specs.Reading.{IsFitting, IsOddAt, GroupsEndAt};
@@ -26,7 +26,7 @@ pub fn scan(area: &[u8], format: Format) -> Result<usize, usize>
     Ok(at)
 }
 
-// The length after an open gate, where it is allowed and fits with a gate after it.
+// The length after an open gate, if it is allowed and fits with a gate after it.
 fn payload_length(area: &[u8], at: usize, format: Format) -> Option<usize>
     requires area { length area.now ≡ area_bytes }
     requires within { at < area_bytes }

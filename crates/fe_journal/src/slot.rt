@@ -1,4 +1,4 @@
-// The beginning of a slot that does not count.
+// How a slot that does not count is begun: its gate is closed, and then its header is written (`docs/store.md`).
 ghost use Rattle.std.specs.Prelude.{◌≡◌, ◌<◌, ◌^◌, ℕ, List, OnOk};
 ghost use Rattle.fe_disk.specs.Disk.{LeavesJust};
 ghost use Rattle.fe_disk.specs.Runs.{LeavesOnly, AsksAtMost};
@@ -23,7 +23,7 @@ pub fn begin_slot<D: Disk>(
     requires device { D.size disk.old ≡ device_bytes }
     requires short { image_length < 2 ^ 32 }
 
-    // From a disk on which all that was written is synced.
+    // This holds of a disk on which all that was written is synced.
     ensures any_moment { D.honest disk.old → LeavesJust (D.seen disk.old) (D.may_leave disk.old)
         → LeavesOnly D.Disk disk.old disk.new (IsLeftInBeginning (D.seen disk.old) slot) }
     ensures begun { D.honest disk.old → OnOk result

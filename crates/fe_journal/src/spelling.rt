@@ -1,4 +1,4 @@
-// What goes onto the device, as bytes.
+// The bytes that the journal writes: header fields, groups, and the beginning of a journal area.
 ghost use Rattle.std.specs.Prelude.{◌≡◌, ◌+◌, ◌≤◌, ◌<◌, ◌^◌, ◌∷◌, ◌++◌, length, take};
 ghost use Rattle.byteorder.specs.Endian.{big_bytes};
 ghost use Rattle.fe_disk.specs.Disk.{after_write};
@@ -38,8 +38,7 @@ fn replace(buffer: &mut [u8], at: usize, piece: &[u8])
     buffer[at..at + piece.len()].copy_from_slice(piece);
 }
 
-/// Puts an open gate, the payload's length, the payload and a closed gate into the buffer. How many bytes that
-/// is.
+/// Puts an open gate, the payload's length, the payload and a closed gate into the buffer. Returns how many bytes that is.
 pub fn put_group(buffer: &mut [u8], payload: &[u8]) -> usize
     requires room { 6 + length payload.now ≤ length buffer.old }
     requires short { length payload.now < 2 ^ 32 }
@@ -54,8 +53,8 @@ pub fn put_group(buffer: &mut [u8], payload: &[u8]) -> usize
     end + 1
 }
 
-/// Puts the beginning of a new journal area into the buffer: the catch-up as a group, or a closed gate if there
-/// is none. How many bytes that is.
+/// Puts the beginning of a new journal area into the buffer: the catch-up as a group, or a closed gate if there is
+/// none. Returns how many bytes that is.
 pub fn put_area_start(buffer: &mut [u8], catch_up: &[u8]) -> usize
     requires room { 6 + length catch_up.now ≤ length buffer.old }
     requires short { length catch_up.now < 2 ^ 32 }

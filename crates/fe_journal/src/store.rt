@@ -1,4 +1,4 @@
-// A store as it is read from its device.
+// A store as opening reads it from its device (`docs/store.md`, "Opening a store").
 ghost use Rattle.std.specs.Prelude.{◌≡◌, ◌⊎◌, ◌+◌, ◌≤◌, ◌<◌, length, Some, IfSome, IfOk, IfErr, IsErrOf, OnOk, vec_len};
 ghost use Rattle.fe_disk.specs.Disk.{LeavesJust, bytes_at};
 ghost use Rattle.fe_disk.specs.Runs.{Asks, Runs};
@@ -18,7 +18,7 @@ use crate::{Format, StoreFault};
 use fe_disk::{DeviceFault, Disk};
 use std::alloc::Global;
 
-/// The bytes of a slot: its journal area with the offset of the closed gate, and its image.
+/// The bytes of a slot: its journal area with the offset of the closed gate after its groups, and its image.
 #[derive(Drop)]
 pub struct SlotParts {
     pub area: Vec<u8>,
@@ -26,7 +26,7 @@ pub struct SlotParts {
     pub image: Vec<u8>,
 }
 
-/// The slot that counts, its parts, and a buffer for the groups to come.
+/// What was read of a store: the slot that counts, its parts, and a buffer for the groups to come.
 #[derive(Drop)]
 pub struct Store {
     pub buffer: Vec<u8>,
@@ -54,7 +54,7 @@ pub fn read_store<D: Disk>(alloc: Global, disk: &mut D) -> Result<Store, StoreFa
     read_synced(alloc, disk)
 }
 
-// The store on a device of its size, on which all that was written is synced.
+// Reads a store from a device of its size, on which all that was written is synced.
 fn read_synced<D: Disk>(alloc: Global, disk: &mut D) -> Result<Store, StoreFault>
     requires device { D.size disk.old ≡ device_bytes }
     requires settled { D.honest disk.old → LeavesJust (D.seen disk.old) (D.may_leave disk.old) }
@@ -77,7 +77,7 @@ fn read_synced<D: Disk>(alloc: Global, disk: &mut D) -> Result<Store, StoreFault
     })
 }
 
-// The slot that counts, and its header, which was tested.
+// The slot that counts, and its header, if that allows the slot to be read.
 fn read_sound<D: Disk>(disk: &mut D) -> Result<(usize, Header), StoreFault>
     requires device { D.size disk.old ≡ device_bytes }
     ensures counts { D.honest disk.old → IfOk result (λ found. CountsAs (D.seen disk.old) (Some found)) }
@@ -94,7 +94,7 @@ fn read_sound<D: Disk>(disk: &mut D) -> Result<(usize, Header), StoreFault>
     Ok((slot, header))
 }
 
-// The header of a slot, where the slot is valid.
+// The header of a slot, if the slot is valid.
 fn read_header<D: Disk>(
     disk: &mut D,
     slot: usize,
@@ -129,7 +129,7 @@ fn read_counting<D: Disk>(disk: &mut D) -> Result<Option<(usize, Header)>, Devic
     Ok(counting(first, second))
 }
 
-// Tests the generation and the image's length.
+// Checks the generation and the image's length.
 fn check_header(slot: usize, header: &Header) -> Result<(), StoreFault>
     requires { slot < 2 }
     ensures ok { OnOk result ((1 ≤ header.now.generation) × IsImageLength header.now.format header.now.image_length) }
@@ -148,7 +148,7 @@ fn check_header(slot: usize, header: &Header) -> Result<(), StoreFault>
     Ok(())
 }
 
-// This many bytes of the device.
+// Reads this many bytes of the device.
 fn read_bytes<D: Disk>(
     alloc: Global,
     disk: &mut D,
@@ -169,7 +169,7 @@ fn read_bytes<D: Disk>(
     Ok(bytes)
 }
 
-// Where the groups of a slot's journal area end. The length of each group is tested.
+// Where the groups of a slot's journal area end. Checks the length of each.
 fn groups_end(slot: usize, area: &[u8], format: Format) -> Result<usize, StoreFault>
     requires is_slot { slot < 2 }
     requires area { length area.now ≡ area_bytes }
@@ -185,7 +185,7 @@ fn groups_end(slot: usize, area: &[u8], format: Format) -> Result<usize, StoreFa
     }
 }
 
-// The journal area and the image.
+// Reads the journal area and the image of a slot.
 fn read_slot<D: Disk>(
     alloc: Global,
     disk: &mut D,

@@ -1,4 +1,5 @@
--- When a store stands for no state, and what is reported of it.
+-- When an image of a device stands for no state, and what opening reports then. The slot that counts has an image of a
+-- state, and groups of records (`docs/store.md`).
 use Rattle.std.specs.Prelude.{◌≡◌, ◌⊎◌, ℕ, ◌+◌, ◌<◌, ◌≤◌, List, [], ◌∷◌, length, Ok, Err, IsOk}
 use Rattle.fe_disk.specs.declared.calls.Calls.{Calls}
 use Rattle.fe_state.specs.State.{ServerState}
@@ -13,8 +14,8 @@ use Rattle.fe_keeper.specs.Stands.{StandsFor, greatest_generation}
 use Rattle.fe_keeper.specs.declared.fault.Fault.{Fault}
 use Rattle.fe_keeper.specs.declared.fault.Fault.TheVariants.{Device, Failed, NoMemory, Mismatch, Damaged, Unformatted}
 
--- The first record of groups, gone through from a state on, that is no entry's or whose entry may not come next begins at
--- this offset, where the gate of the first group is at `at`.
+-- Groups are replayed from a state on. The first record that is no entry's, or whose entry may not come next, begins at
+-- this offset, if the gate of the first group is at `at`.
 abbrev pub IsBadFrom : Format → List (List ℕ) → ServerState → ℕ → ℕ → Type 0
 IsBadFrom format [] s at offset = ⊥
 IsBadFrom format (payload ∷ payloads) s at offset =
@@ -24,33 +25,33 @@ IsBadFrom format (payload ∷ payloads) s at offset =
 -- The first thing wrong in what a slot holds, in this order, and its offset on the device. The gate of the slot's first
 -- group is at `at`.
 pub data IsWrongIn (slot : ℕ) (format : Format) (generation : ℕ) (image : List ℕ) (payloads : List (List ℕ)) (at offset : ℕ) : Type 0 where
-  -- a field of the image, at the field
+  -- a field of the image; the offset is the field's
   OddField : (within : ℕ) → image_at format image ≡ Err within → offset ≡ image_of slot + within → IsWrongIn slot format generation image payloads at offset
-  -- a generation that is too great for the image's place, at its field
+  -- a generation that is too great for the image's place; the offset is that of its field
   OddGeneration : (base : ServerState) → image_at format image ≡ Ok base → greatest_generation format base.place < generation → offset ≡ header_of slot + 8
       → IsWrongIn slot format generation image payloads at offset
-  -- a record that does not go on with what is before it, at the record
+  -- a record whose entry may not come after what is before it; the offset is the record's
   OddRecord : (base : ServerState) → image_at format image ≡ Ok base → generation ≤ greatest_generation format base.place
       → IsBadFrom format payloads base at offset → IsWrongIn slot format generation image payloads at offset
 
 abbrev pub IsWrongAt : Contents → ℕ → Type 0
 IsWrongAt c offset = IsWrongIn c.slot c.format c.generation c.image c.groups (area_of c.slot) offset
 
--- An image of a store's size is damaged first at this offset: in the header of the slot that counts or the lengths of its
--- groups, and where these are right, in what the slot holds.
+-- An image of a store's size is damaged first at this offset: in the header of the slot that counts or the lengths of
+-- its groups, and if these are right, in what the slot holds.
 pub data IsDamagedAt (image : List ℕ) (offset : ℕ) : Type 0 where
   InSlot : length image ≡ device_bytes → journal.IsDamagedAt image offset → IsDamagedAt image offset
   InContents : (c : Contents) → Holds c image → IsWrongAt c offset → IsDamagedAt image offset
 
 -- When memory may run out while the store of an image is opened, between these counts of calls. What was read until then is right.
 pub data MayLackMemory (image : List ℕ) (before now : Calls) : Type 0 where
-  -- before all of the store was read: the header of the slot that counts
+  -- Not all of the store was read yet; the header of the slot that counts is right.
   InPart : journal.HasSoundHeader image → ReadsInPart before now → MayLackMemory image before now
-  -- after that: the lengths of the groups, and the image's fields before its arrays
+  -- All of it was read; the lengths of the groups and the image's fields before its arrays are right.
   AfterFields : (c : Contents) → Holds c image → IsOk (header_at c.image) → MayLackMemory image before now
 
 -- What a fault of opening says of the image that the disk reads: it is unformatted; it is damaged first at this offset; or memory
--- ran out where it may. The other faults say nothing of it.
+-- ran out as `MayLackMemory` allows. The other faults say nothing of it.
 abbrev pub TellsStore : Fault → List ℕ → Calls → Calls → Type 0
 TellsStore Unformatted image before now = journal.IsUnformatted image
 TellsStore (Damaged offset) image before now = IsDamagedAt image offset

@@ -1,4 +1,4 @@
--- How a call of a keeper ends, and what it leaves.
+-- How a call of a keeper ends, and what it leaves. A keeper has a replica of the server's state, and the store that follows it.
 use Rattle.std.specs.Prelude.{◌≡◌, ◌⊎◌, ◌↔◌, ℕ, ◌+◌, true, false, IsTrue, List, MatchBool, Result, Ok, Err, MatchResult}
 use Rattle.fe_disk.specs.Disk.{Rises, MakesAtMost}
 use Rattle.fe_disk.specs.Runs.{LeavesOnly}
@@ -26,7 +26,7 @@ abbrev pub IsDurable : {D : Type 0} → Ghosts D → KeeperState D → Type 0
 IsDurable model keeper =
     model.honest keeper.store.disk → keeper.store.has_failed ≡ false → EachStandsFor model keeper.store.disk keeper.state
 
--- The keeper's state is as it was, and at every moment each image that a stop leaves stands for it.
+-- The keeper's state stays, and at every moment each image that a stop leaves stands for it.
 pub record Rests {D : Type 0} (model : Ghosts D) (old new : KeeperState D) : Type 0 where
   pub state : new.state ≡ old.state
   pub any_moment : StopsLeave model old new (λ image. StandsFor image old.state)
@@ -56,7 +56,7 @@ pub record Refuses {D : Type 0} (old new : KeeperState D) : Type 0 where
   pub before : old.store.has_failed ≡ false
   pub same : new ≡ old
 
--- Why a call failed, and what it left then. `Cause` is what each fault needs besides.
+-- Why a call failed, and what it left then. `Cause` is what each fault requires besides.
 abbrev pub Fails : {D : Type 0} → Ghosts D → (Fault → Type 0) → KeeperState D → KeeperState D → Fault → Type 0
 Fails model Cause old new Device = Cause Device × Breaks model old new
 Fails model Cause old new Failed = (old.store.has_failed ≡ true) × (new ≡ old)
@@ -68,7 +68,7 @@ Fails model Cause old new Unformatted = ⊥
 abbrev pub Ends : {T D : Type 0} → Ghosts D → (Fault → Type 0) → Result T Fault → KeeperState D → KeeperState D → Type 0
 Ends model Cause result old new = MatchResult result (λ _. Works model old new) (Fails model Cause old new)
 
--- the device is called only where this holds, and nothing else is refused
+-- The device is called only if P holds, and nothing else is refused.
 abbrev pub ForDevice : Type 0 → Fault → Type 0
 ForDevice P Device = P
 ForDevice P Failed = ⊥
@@ -77,7 +77,7 @@ ForDevice P (Mismatch place) = ⊥
 ForDevice P (Damaged offset) = ⊥
 ForDevice P Unformatted = ⊥
 
--- the device is called, and memory is taken, only where this holds, and nothing else is refused
+-- The device is called, and memory is taken, only if P holds, and nothing else is refused.
 abbrev pub ForDeviceAndMemory : Type 0 → Fault → Type 0
 ForDeviceAndMemory P Device = P
 ForDeviceAndMemory P Failed = ⊥
@@ -103,7 +103,7 @@ pub record IsAppended {D : Type 0} (old new : KeeperState D) (first : ℕ) (entr
   pub state : new.state ≡ after_all old.state entries
   pub store : new.store ≡ record (appended (made_room old.store entries) entries) { disk = new.store.disk }
 
--- the batch that comes back
+-- the batch that an append returns
 abbrev pub batch_of : Result Batch (Fault × Batch) → Batch
 batch_of (Ok batch) = batch
 batch_of (Err refused) = refused.1
@@ -113,7 +113,7 @@ abbrev pub AppendEnds : {D : Type 0} → Ghosts D → Result Batch (Fault × Bat
 AppendEnds model result old new batch =
     MatchResult result (λ _. Works model old new) (λ e. Fails model (ForBatch old batch.first batch.entries) old new e.0)
 
--- How many device calls an append makes at most, where a whole checkpoint would have this many slices.
+-- How many device calls an append makes at most. A whole checkpoint, if the batch needs one, has this many slices.
 pub record MakesToAppend {D : Type 0} (store : StoreState D) (entries : List Entry) (whole : ℕ) (before after : Calls) : Type 0 where
   -- the batch fits
   pub to_append : IsTrue (fits store entries) → MakesAtMost 0 2 2 before after
@@ -124,6 +124,6 @@ pub record MakesToAppend {D : Type 0} (store : StoreState D) (entries : List Ent
 
 -- ---- checkpoints
 
--- A checkpoint of this many bytes was begun where one could be, and else nothing was done.
+-- A checkpoint of this many bytes was begun if one could be. If not, nothing was done.
 abbrev pub HasBegun : {D : Type 0} → KeeperState D → KeeperState D → ℕ → Type 0
 HasBegun old new size = MatchBool (can_begin old.store) (new.store ≡ record (begun old.store size) { disk = new.store.disk }) (new ≡ old)

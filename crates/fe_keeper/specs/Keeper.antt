@@ -1,4 +1,5 @@
--- A keeper as its callers see it, and what its calls leave of it.
+-- A keeper as its callers see it, and what its calls leave of it. A checkpoint is an image of the state that is
+-- written, slice by slice, into the slot that does not count; then that slot counts. A place is a number of entries.
 use Rattle.std.specs.Prelude.{ℕ, zero, suc, ◌+◌, ◌-◌, ◌*◌, ◌/◌, Bool, true, false, ◌&&◌, nat_le, if◌then◌else◌, List, length, Option, Some, None, is_none, not}
 use Rattle.std.specs.Option.{option_map_or}
 use Rattle.std.specs.List.{list_all}
@@ -11,7 +12,7 @@ use Rattle.fe_format.specs.declared.format.Format.TheVariants.{One, Two}
 use Rattle.fe_journal.specs.Groups.{room_at}
 use Rattle.fe_journal.specs.Layout.{slice_bytes}
 
--- a checkpoint under way: the bytes of its image, how many of them are written, and the place of the state in it
+-- a checkpoint under way: how many bytes its image has, how many of them are written, and the place of the image's state
 pub record Progress : Type 0 where
   pub size : ℕ
   pub written : ℕ
@@ -32,7 +33,7 @@ pub record KeeperState (D : Type 0) : Type 0 where
   pub state : ServerState
   pub store : StoreState D
 
--- the store of a disk just formatted
+-- the store that formatting leaves
 abbrev pub first_store : {D : Type 0} → D → StoreState D
 first_store disk = record { disk = disk; place = 0; format = Two; used = 0; checkpoint = None; has_failed = false }
 
@@ -43,23 +44,23 @@ abbrev pub is_spellable : Format → List Entry → Bool
 is_spellable One entries = list_all entry_fits_format_1 entries
 is_spellable Two entries = true
 
--- whether this many more entries fit with those since a checkpoint's beginning, at a place
+-- whether n more entries fit into one group with those that came since the checkpoint under way was begun
 abbrev pub catches_up : ℕ → ℕ → Option Progress → Bool
 catches_up place n checkpoint = option_map_or (λ p. nat_le (place - p.place + n) (group_records Two)) checkpoint true
 
--- whether a batch can be appended as the store is
+-- whether a batch can be appended without a checkpoint first
 abbrev pub fits : {D : Type 0} → StoreState D → List Entry → Bool
 fits store entries =
     is_spellable store.format entries && nat_le (length entries * record_bytes store.format) (room_at store.used) && catches_up store.place (length entries) store.checkpoint
 
 -- ---- what calls leave
 
--- how many bytes this many entries take as a group of format 2, with its gate and length; none is no group
+-- how many bytes this many entries take as a group of format 2, with its gate and length; no entries are no group
 abbrev pub caught_up_bytes : ℕ → ℕ
 caught_up_bytes zero = 0
 caught_up_bytes (suc n) = 5 + suc n * record_bytes Two
 
--- a checkpoint can be begun: none is under way, and an entry came since the image, or the slot is of format 1
+-- whether a checkpoint can be begun: none is under way, and an entry came since the image or the slot is of format 1
 abbrev pub is_behind : Format → ℕ → Bool
 is_behind One used = true
 is_behind Two zero = false
@@ -68,22 +69,22 @@ is_behind Two (suc used) = true
 abbrev pub can_begin : {D : Type 0} → StoreState D → Bool
 can_begin store = is_none store.checkpoint && is_behind store.format store.used
 
--- a checkpoint whose image has this many bytes is begun
+-- the store once a checkpoint was begun whose image has this many bytes
 abbrev pub begun : {D : Type 0} → StoreState D → ℕ → StoreState D
 begun store size = record store { checkpoint = Some (record { size = size; written = 0; place = store.place }) }
 
--- the bytes of the next slice
+-- how many bytes the next slice has
 abbrev pub slice_size : Progress → ℕ
 slice_size p = if nat_le (p.size - p.written) slice_bytes then p.size - p.written else slice_bytes
 
--- a slice more is written
+-- the store once one slice more is written
 abbrev pub stepped_by : {D : Type 0} → StoreState D → Progress → StoreState D
 stepped_by store p = record store { checkpoint = Some (record p { written = p.written + slice_size p }) }
 
 abbrev pub stepped : {D : Type 0} → StoreState D → StoreState D
 stepped store = option_map_or (stepped_by store) store.checkpoint store
 
--- slices are left
+-- whether slices are left to be written
 abbrev pub has_slices : Option Progress → Bool
 has_slices checkpoint = option_map_or (λ p. not (nat_le p.size p.written)) checkpoint false
 
@@ -95,29 +96,29 @@ slices_of bytes = (bytes + (slice_bytes - 1)) / slice_bytes
 abbrev pub slices_left : Option Progress → ℕ
 slices_left checkpoint = option_map_or (λ p. slices_of (p.size - p.written)) checkpoint 0
 
--- a checkpoint under way is finished: its slot counts, with what came since its beginning as the first group
+-- the store once the checkpoint under way is finished: its slot counts, with what came since its beginning as the first group
 abbrev pub finished_by : {D : Type 0} → StoreState D → Progress → StoreState D
 finished_by store p = record store { format = Two; used = caught_up_bytes (store.place - p.place); checkpoint = None }
 
 abbrev pub finished : {D : Type 0} → StoreState D → StoreState D
 finished store = option_map_or (finished_by store) store.checkpoint store
 
--- a whole checkpoint was made
+-- the store once a whole checkpoint was made
 abbrev pub renewed : {D : Type 0} → StoreState D → StoreState D
 renewed store = record store { format = Two; used = 0; checkpoint = None }
 
--- a batch that does not fit has the checkpoint under way finished first
+-- the store before a batch is appended: if the batch does not fit, the checkpoint under way is finished first
 abbrev pub prepared : {D : Type 0} → StoreState D → List Entry → StoreState D
 prepared store entries = if fits store entries then store else finished store
 
--- and if it does not fit then, a whole one made
+-- whether a batch does not fit even then, so that a whole checkpoint is made
 abbrev pub must_begin : {D : Type 0} → StoreState D → List Entry → Bool
 must_begin store entries = not (fits (prepared store entries) entries)
 
 abbrev pub made_room : {D : Type 0} → StoreState D → List Entry → StoreState D
 made_room store entries = if must_begin store entries then renewed store else prepared store entries
 
--- a batch is appended where it fits
+-- the store once a batch that fits is appended
 abbrev pub appended : {D : Type 0} → StoreState D → List Entry → StoreState D
 appended store entries =
     record store { place = store.place + length entries; used = store.used + (5 + length entries * record_bytes store.format) }

@@ -1,4 +1,4 @@
--- Laws of what images stand for, and of histories over stops, which public functions name.
+-- Laws of what images stand for, and of histories over stops, cited by public functions.
 use Rattle.std.specs.Prelude.{◌≡◌, ℕ, ◌≤◌, List, ◌++◌, length, take}
 use Rattle.fe_state.specs.State.{ServerState}
 use Rattle.fe_state.specs.History.{IsHistory, after_groups}
@@ -12,7 +12,7 @@ use Rattle.fe_keeper.specs.Damage.{IsDamagedAt}
 abbrev pub StandsForOne : Type 0
 StandsForOne = (image : List ℕ) (s t : ServerState) → StandsFor image s → StandsFor image t → s ≡ t
 
--- An image that stands for a state is neither unformatted nor damaged, and none is both of these.
+-- An image that stands for a state is neither unformatted nor damaged, and no image is both unformatted and damaged.
 pub record IsToldApart (image : List ℕ) : Type 0 where
   pub formatted : (s : ServerState) → StandsFor image s → IsUnformatted image → ⊥
   pub undamaged : (s : ServerState) (offset : ℕ) → StandsFor image s → IsDamagedAt image offset → ⊥
@@ -21,7 +21,7 @@ pub record IsToldApart (image : List ℕ) : Type 0 where
 abbrev pub AreToldApart : Type 0
 AreToldApart = (image : List ℕ) → IsToldApart image
 
--- What was kept of a history and the history that went on from there, one after the other.
+-- The groups that were kept of a history, and then those of the history that went on from there, are one history.
 pub record IsContinued (beginning : ServerState) (history next : List (List Entry)) (k : ℕ) (s : ServerState) : Type 0 where
   pub kept : ℕ
   pub least : k ≤ kept

@@ -1,4 +1,4 @@
--- What opening gives.
+-- What opening a store returns: a keeper, whose replica is the state that the store stands for.
 use Rattle.std.specs.Prelude.{◌≡◌, ◌⊎◌, ℕ, ◌≤◌, List, [], ◌∷◌, None, false, Result, Ok, Err}
 use Rattle.fe_state.specs.State.{ServerState}
 use Rattle.fe_codec.specs.Image.{image_spelling, FitsImage}
@@ -14,20 +14,20 @@ use Rattle.fe_keeper.specs.declared.fault.Fault.{Fault}
 use Rattle.fe_keeper.specs.declared.fault.Fault.TheVariants.{Device, NoMemory, Damaged, Unformatted}
 use Rattle.fe_disk.specs.declared.disk.Disk.{Ghosts}
 
--- the disk, after it was opened or not
+-- the disk that is left, opened or not
 abbrev pub disk_after : {D : Type 0} → Result (KeeperState D) (Fault × D) → D
 disk_after (Ok keeper) = keeper.store.disk
 disk_after (Err refused) = refused.1
 
--- what may come of going through a slot
+-- the faults of reading the state of a slot
 abbrev pub IsSlotFault : Fault → Type 0
 IsSlotFault fault = (fault ≡ NoMemory) ⊎ ((offset : ℕ) × (fault ≡ Damaged offset))
 
--- what may come of opening
+-- the faults of opening
 abbrev pub IsOpenFault : Fault → Type 0
 IsOpenFault fault = (fault ≡ Device) ⊎ ((fault ≡ NoMemory) ⊎ ((fault ≡ Unformatted) ⊎ ((offset : ℕ) × (fault ≡ Damaged offset))))
 
--- the keeper of a state over a journal with no slot begun
+-- the keeper of a state over a journal that has no slot begun
 abbrev pub keeper_over : {D : Type 0} → JournalState D → ServerState → KeeperState D
 keeper_over journal state =
     record {
@@ -35,7 +35,7 @@ keeper_over journal state =
       store = record { disk = journal.disk; place = state.place; format = journal.format; used = journal.used; checkpoint = None; has_failed = false };
     }
 
--- each image that a stop may leave holds contents that the journal knows, which stand for the state
+-- Each image that a stop may leave holds contents that the journal knows, and these stand for the state.
 pub record KeepsState {D : Type 0} (model : Ghosts D) (journal : JournalState D) (state : ServerState) : Type 0 where
   pub contents : Contents
   pub keeps : KeepsContents model journal contents None
@@ -61,11 +61,11 @@ pub record IsReady {D : Type 0} (keeper : KeeperState D) : Type 0 where
 
 -- ---- what a slot holds, whatever disk it was read from
 
--- groups are still to be read
+-- the cursor is before a group, or after the last one
 abbrev pub IsListing : Cursor → Type 0
 IsListing cursor = (payloads : List (List ℕ)) × Lists cursor payloads
 
--- the image is the spelling of the state, and a slot with it may have this generation
+-- the image is that of the state, and its slot may have this generation
 pub record IsBase (format : Format) (generation : ℕ) (image : List ℕ) (base : ServerState) : Type 0 where
   pub fits : FitsImage format base
   pub image_is : image ≡ image_spelling format base
@@ -76,13 +76,13 @@ abbrev pub ReplaysAll : Format → List (List ℕ) → ServerState → ServerSta
 ReplaysAll format [] old new = new ≡ old
 ReplaysAll format (payload ∷ payloads) old new = (mid : ServerState) × Replays format payload old mid × ReplaysAll format payloads mid new
 
--- the image is that of a state from which the payloads lead to this one
+-- the image is that of a state from which the payloads lead to `state`
 pub record IsRecovered (format : Format) (generation : ℕ) (image : List ℕ) (payloads : List (List ℕ)) (state : ServerState) : Type 0 where
   pub base : ServerState
   pub is_base : IsBase format generation image base
   pub replays : ReplaysAll format payloads base state
 
--- what is read of a slot are parts of these contents
+-- what was read of a slot is the image and the groups of these contents
 pub record ArePartsOf (c : Contents) (format : Format) (generation : ℕ) (image : List ℕ) (groups : Cursor) : Type 0 where
   pub format_is : format ≡ c.format
   pub generation_is : generation ≡ c.generation

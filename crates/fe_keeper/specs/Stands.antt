@@ -1,4 +1,5 @@
--- What an image of a device stands for: a state of the server. No reader runs in it.
+-- What an image of a device, all of its bytes, stands for: a state of the server. No reader runs in the definition.
+-- `docs/store.md` says what slots, groups and generations are.
 use Rattle.std.specs.Prelude.{◌≡◌, ◌⊎◌, ℕ, ◌+◌, ◌≤◌, List, [], ◌∷◌}
 use Rattle.fe_state.specs.State.{ServerState}
 use Rattle.fe_state.specs.History.{IsHistory, after_groups}
@@ -40,7 +41,7 @@ pub record StandsFor (image : List ℕ) (s : ServerState) : Type 0 where
   pub holds : Holds contents image
   pub stands : Stands contents s
 
--- for this state or that
+-- an image that stands for one state or the other
 abbrev pub StandsForEither : ServerState → ServerState → List ℕ → Type 0
 StandsForEither before after image = StandsFor image before ⊎ StandsFor image after
 

@@ -13,7 +13,7 @@ use fe_journal::Journal;
 use fe_state::{BATCH_ENTRIES, State, UndoLog};
 use std::alloc::{AllocError, Global};
 
-/// Room for the group of a batch, and for taking a batch back.
+/// The memory for the group of a batch, and for taking a batch back.
 #[derive(Drop)]
 pub(crate) struct Rooms {
     group: Vec<u8>,
@@ -30,7 +30,7 @@ impl Rooms {
     }
 }
 
-/// The keeper of a state over a journal that keeps it, with room for the batches to come.
+/// The keeper of a state over a journal that keeps it, with the memory for the batches to come.
 // A keeper is some 9 KB. LLVM takes minutes over a function that moves one several times and also reaches into it, so what makes one or
 // takes one apart is not inlined.
 #[inline(never)]
@@ -62,7 +62,7 @@ pub(crate) fn keeper_over<D: Disk>(
     }
 }
 
-/// The same, with room that is made now.
+/// The keeper of a state over a journal that keeps it. Allocates the memory for the batches to come.
 pub(crate) fn keeper_with_room<D: Disk>(
     alloc: Global,
     journal: Journal<D>,

@@ -19,16 +19,16 @@ use fe_journal::{Journal, JournalFault, SLICE_BYTES};
 use fe_state::State;
 use std::alloc::Global;
 
-/// A checkpoint under way.
+/// A checkpoint: an image of the state that is written, slice by slice, into the slot that does not count.
 #[derive(Drop)]
 pub(crate) struct Checkpoint {
     /// The image of the state at its beginning, in format 2.
     pub(crate) image: Vec<u8>,
     /// How many bytes of the image are written.
     pub(crate) written: usize,
-    /// The place of that state.
+    /// The place of that state: how many entries the history has before it.
     pub(crate) place: u64,
-    /// The records of the entries since, in format 2. Its room is that of the longest group.
+    /// The records of the entries since then, in format 2. It has the memory for those of the longest group.
     pub(crate) catch_up: Vec<u8>,
 }
 
@@ -51,7 +51,7 @@ impl Checkpoint {
         })
     }
 
-    /// Where the next slice of the image ends.
+    /// The end of the next slice in the image.
     pub(crate) fn slice_end(&self) -> usize
         requires { self.now.written ≤ vec_len self.now.image }
         ensures { result ≡ self.now.written + slice_size (progress_of self.now) }
@@ -60,7 +60,7 @@ impl Checkpoint {
         self.written + left.min(SLICE_BYTES)
     }
 
-    /// Writes the next slice into the slot begun, if one is left. Whether slices are left then.
+    /// Writes the next slice into the slot begun, if one is left. Returns whether slices are left after it.
     pub(crate) fn write_slice<D: Disk>(
         &mut self,
         journal: &mut Journal<D>,

@@ -1,4 +1,5 @@
-//! Checkpoints: the image of the state is written to the slot that does not count, slice by slice.
+//! Checkpoints: the image of the state is written to the slot that does not count, slice by slice. Then the entries
+//! that came meanwhile, the catch-up, go there as a group, and the slot counts (`docs/store.md`).
 
 ghost use Rattle.std.specs.Prelude.{◌≡◌, ◌+◌, false, vec_len, IsTrue, IfOk, IfSome, OnOk};
 ghost use Rattle.fe_disk.specs.Disk.{MakesAtMost};
@@ -18,7 +19,7 @@ use fe_journal::JournalFault;
 use fe_state::Entry;
 
 impl<D: Disk> KeeperStore<D> {
-    /// Begins a checkpoint that is made: begins the other slot for it.
+    /// Begins a checkpoint: begins the other slot for it.
     pub(crate) fn begin(&mut self, checkpoint: Checkpoint) -> Result<(), JournalFault>
         requires can { CanTake self.old checkpoint }
         ensures stays { StaysSound self.old self.new }
@@ -39,7 +40,7 @@ impl<D: Disk> KeeperStore<D> {
         Ok(())
     }
 
-    /// Writes the next slice of the image, if one is left. Whether slices are left then.
+    /// Writes the next slice of the image, if one is left. Returns whether slices are left after it.
     pub(crate) fn step(&mut self) -> Result<bool, JournalFault>
         requires ready { HasCheckpoint self.old }
         ensures stays { StaysSound self.old self.new }
@@ -75,7 +76,7 @@ impl<D: Disk> KeeperStore<D> {
         Ok(())
     }
 
-    /// Lets the slot begun count, whose image is whole: what came since its beginning, and the gate.
+    /// Lets the slot begun count, whose image is whole: writes the catch-up, and opens the gate.
     fn open_slot(&mut self) -> Result<(), JournalFault>
         requires ready { HasCheckpoint self.old }
         requires whole { has_slices (store_of self.old).checkpoint ≡ false }
@@ -95,7 +96,7 @@ impl<D: Disk> KeeperStore<D> {
         Ok(())
     }
 
-    /// Finishes the checkpoint under way: the slices left, what came since its beginning, and the gate.
+    /// Finishes the checkpoint under way: writes the slices left and the catch-up, and opens the gate.
     pub(crate) fn finish(&mut self) -> Result<(), JournalFault>
         requires ready { HasCheckpoint self.old }
         ensures stays { StaysSound self.old self.new }
@@ -111,7 +112,7 @@ impl<D: Disk> KeeperStore<D> {
         self.open_slot()
     }
 
-    /// Makes a whole checkpoint: one that nothing came after.
+    /// Begins and finishes a checkpoint to which no entry has come.
     fn renew(&mut self, whole: Checkpoint) -> Result<(), JournalFault>
         requires can { CanTake self.old whole }
         ensures stays { StaysSound self.old self.new }
@@ -128,8 +129,8 @@ impl<D: Disk> KeeperStore<D> {
         self.finish()
     }
 
-    /// Makes room for a batch that does not fit: finishes the checkpoint under way, and makes the whole one
-    /// that is made for it where that is not enough.
+    /// Makes room for a batch that does not fit: finishes the checkpoint under way, and if that is not enough, makes
+    /// the whole one that the caller has prepared.
     pub(crate) fn make_room(
         &mut self,
         entries: &[Entry],

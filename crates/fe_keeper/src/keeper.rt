@@ -23,15 +23,14 @@ use fe_state::{Batch, Entry, State, UndoLog};
 use std::alloc::Global;
 use std::marker::Model;
 
-/// The keeper of a store: a replica of the state, and the journal in which each batch is stored before
-/// it is answered.
+/// The keeper of a store: a replica of the server's state, and the journal in which each batch is stored before it is answered.
 ///
 /// After a fault of the device every call returns `Failed` and makes no device call. Opening the store again
 /// says what was stored.
 pub struct Keeper<D: Disk> {
     pub(crate) store: KeeperStore<D>,
     pub(crate) state: State,
-    /// The way back from a batch that is taken and not yet stored.
+    /// The log that leads back from a batch that was taken and is not stored yet.
     pub(crate) log: UndoLog,
     pub(crate) alloc: Global,
 }
@@ -76,12 +75,12 @@ impl<D: Disk> Keeper<D> {
         &self.state
     }
 
-    /// Appends a batch and stores it. The batch comes back unchanged.
+    /// Appends a batch, entries that follow one another, and stores it as one group. Returns the batch unchanged.
     ///
     /// If the batch doesn't fit, the checkpoint under way is finished first. If it still doesn't fit, a whole
     /// checkpoint is made.
     pub fn append(&mut self, batch: Batch) -> Result<Batch, (Fault, Batch)>
-        // A stop at any moment leaves the replica before, or it with the whole batch.
+        // A stop at any moment leaves the replica as it was, or with the whole batch.
         ensures any_moment { StopsLeave D.Disk self.old self.new
             (StandsForEither self.old.state (after_all self.old.state batch.entries)) }
         ensures durable { IsDurable D.Disk self.new }
@@ -149,14 +148,14 @@ impl<D: Disk> Keeper<D> {
         Ok(true)
     }
 
-    /// Writes the next slice of the checkpoint under way, at most 65,536 bytes. Whether slices are left after
+    /// Writes the next slice of the checkpoint under way, at most 65,536 bytes. Returns whether slices are left after
     /// it; `false` also if no checkpoint is under way. It takes no memory.
     pub fn checkpoint_step(&mut self) -> Result<bool, Fault>
         ensures rests { Rests D.Disk self.old self.new }
         ensures durable { IsDurable D.Disk self.new }
         ensures value { IfOk result (λ more. more ≡ has_slices self.new.store.checkpoint) }
         ensures store { OnOk result (self.new.store ≡ record (stepped self.old.store) { disk = self.new.store.disk }) }
-        // Where no slice is left, it makes no device call.
+        // If no slice is left, it makes no device call.
         ensures idle { has_slices self.old.store.checkpoint ≡ false → self.new ≡ self.old }
         ensures ends { Ends D.Disk
             (ForDevice (IsTrue (has_slices self.old.store.checkpoint))) result self.old self.new }
@@ -179,7 +178,7 @@ impl<D: Disk> Keeper<D> {
         ensures durable { IsDurable D.Disk self.new }
         ensures value { IfOk result (λ was. was ≡ is_some self.old.store.checkpoint) }
         ensures store { OnOk result (self.new.store ≡ record (finished self.old.store) { disk = self.new.store.disk }) }
-        // Where none is under way, it makes no device call.
+        // If none is under way, it makes no device call.
         ensures idle { is_some self.old.store.checkpoint ≡ false → self.new ≡ self.old }
         ensures ends { Ends D.Disk
             (ForDevice (IsTrue (is_some self.old.store.checkpoint))) result self.old self.new }
@@ -235,15 +234,15 @@ impl<D: Disk> Keeper<D> {
     }
 }
 
-/// What is always true of a replica.
+/// The invariant of every state: a replica is within the limits.
 fn limits(state: &State)
     ensures { IsWithinLimits state.now }
 {
     let _ = state.place();
 }
 
-/// The checkpoint of the state before a batch that was taken, where a whole one has to be made for it:
-/// for that time the replica is that state. So all memory is taken before any call of the device.
+/// The checkpoint of the state before a batch that was taken, if a whole one has to be made for the batch. Meanwhile
+/// the replica is that state. So all memory is taken before any call of the device.
 fn whole_before<D: Disk>(
     alloc: Global,
     store: &KeeperStore<D>,

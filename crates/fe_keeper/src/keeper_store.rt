@@ -1,3 +1,5 @@
+//! The bytes side of a keeper: batches of entries become groups in the store's journal, and checkpoints go on between them.
+
 ghost use Rattle.std.specs.Prelude.{◌≡◌, ◌+◌, ◌≤◌, ◌*◌, ◌++◌, length, IsTrue, IfSome, OnOk, vec_len, vec_capacity};
 ghost use Rattle.std.specs.List.{AllByRecursion, list_all};
 ghost use Rattle.fe_disk.specs.Disk.{MakesAtMost};
@@ -54,8 +56,8 @@ fn spell(format: Format, entries: &[Entry], group: &mut Vec<u8>)
     let _ = put_group(format, entries, group);
 }
 
-/// Adds the records of entries in format 2, for which there is room. The bytes of a group that has them so
-/// are taken as they are.
+/// Adds the records of entries in format 2, for which there is room. If the group has the records in that format, they
+/// are copied.
 fn put_records(format: Format, group: &[u8], entries: &[Entry], out: &mut Vec<u8>)
     requires batch { IsSpelledBatch format group.now entries.now }
     requires room { vec_len out.old + length entries.now * record_bytes Two ≤ vec_capacity out.old }
@@ -69,8 +71,8 @@ fn put_records(format: Format, group: &[u8], entries: &[Entry], out: &mut Vec<u8
     };
 }
 
-/// Adds entries, for which there is room, to those that a checkpoint under way catches up with. The group is
-/// what they were spelled as.
+/// Adds entries, for which there is room, to those that a checkpoint under way catches up with. The group has their
+/// records in the store's format.
 fn catch_up(checkpoint: &mut Option<Checkpoint>, format: Format, group: &[u8], entries: &[Entry])
     requires batch { IsSpelledBatch format group.now entries.now }
     requires room { HasRoomFor checkpoint.old (length entries.now) }
@@ -81,7 +83,7 @@ fn catch_up(checkpoint: &mut Option<Checkpoint>, format: Format, group: &[u8], e
     }
 }
 
-/// The longest payload, in bytes, after a catch-up group of this many entries.
+/// The length of the longest payload, in bytes, that fits after a catch-up of this many entries.
 fn room_behind(entries: usize) -> usize
     requires few { entries ≤ group_records Two }
     ensures { result ≡ room_at (caught_up_bytes entries) }
@@ -92,8 +94,8 @@ fn room_behind(entries: usize) -> usize
     }
 }
 
-/// The bytes side of a keeper: the journal, the bytes of the group at hand, how many entries are stored,
-/// and the checkpoint under way.
+/// The bytes side of a keeper: the journal, the bytes of the group at hand, how many entries are stored, and the
+/// checkpoint under way.
 #[derive(Drop)]
 pub(crate) struct KeeperStore<D: Disk> {
     pub(crate) journal: Journal<D>,
@@ -103,7 +105,7 @@ pub(crate) struct KeeperStore<D: Disk> {
 }
 
 impl<D: Disk> KeeperStore<D> {
-    /// Whether a batch can be appended as the store is.
+    /// Whether a batch can be appended without a checkpoint first.
     pub(crate) fn fits(&self, entries: &[Entry]) -> bool
         requires sound { IsStore self.now }
         requires few { length entries.now ≤ most_batch_entries }
@@ -139,8 +141,8 @@ impl<D: Disk> KeeperStore<D> {
         }
     }
 
-    /// Whether a whole checkpoint has to be made for a batch: it does not fit, and would not once the
-    /// checkpoint under way is finished.
+    /// Whether a whole checkpoint has to be made for a batch: the batch does not fit, and would not once the checkpoint
+    /// under way is finished.
     pub(crate) fn must_begin(&self, entries: &[Entry]) -> bool
         requires sound { IsStore self.now }
         requires few { length entries.now ≤ most_batch_entries }
@@ -179,8 +181,8 @@ impl<D: Disk> KeeperStore<D> {
         Ok(())
     }
 
-    /// Stores a batch, once there is room for it: with the whole checkpoint that is made for it, where it
-    /// needs one.
+    /// Stores a batch. If it does not fit, room is made first, with the whole checkpoint that the caller has prepared
+    /// if it needs one.
     pub(crate) fn put(
         &mut self,
         entries: &[Entry],

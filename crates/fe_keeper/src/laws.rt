@@ -1,4 +1,4 @@
-//! Laws of what images stand for, and of histories over stops.
+//! Laws of what images stand for, and of histories over stops, apart from any code.
 
 ghost use Rattle.fe_keeper.specs.Laws.{StandsForOne, AreToldApart, StopsJoin};
 

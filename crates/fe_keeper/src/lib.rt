@@ -1,4 +1,4 @@
-//! The keeper of a store: a replica of the server's state, and the journal that it is kept in.
+//! The keeper of a store: a replica of the server's state, and the journal in which that is kept.
 //!
 //! Batches are appended as groups, checkpoints are made in slices between them, and a store is opened as
 //! the state after whole groups, wherever it was stopped (`docs/store.md`).

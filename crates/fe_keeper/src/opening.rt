@@ -33,7 +33,7 @@ impl<D: Disk> Keeper<D> {
         // What the disk reads stands for the keeper's state, and so does each image that a stop may leave.
         ensures opened { D.honest disk → IfOk result (IsOpenedFrom D.Disk (D.seen disk)) }
         // A reported fault is the store's. A valid store is refused only if the device fails or memory runs out, and memory runs
-        // out only where what was read until then is right.
+        // out only if what was read until then is right.
         ensures refused { D.honest disk → IfErr result (λ e. IsReason (D.seen disk) (D.calls disk) (D.calls e.1) e.0) }
         // An unformatted store is reported as such, however much memory there is.
         ensures unformatted { D.honest disk → IsUnformatted (D.seen disk)
@@ -41,7 +41,7 @@ impl<D: Disk> Keeper<D> {
         // No stop leaves what could not be left before, and what is read stays the same.
         ensures reads { D.honest disk → OnlyReads D.Disk disk (disk_after result) }
 
-        // Of any disk.
+        // These hold of any disk.
         ensures ready { IfOk result IsReady }
         ensures faults { IfErr result (λ e. IsOpenFault e.0) }
         ensures device { AsksToOpen D.Disk Device (without_disk result) disk (disk_after result) }
@@ -91,7 +91,7 @@ impl<D: Disk> Keeper<D> {
     }
 }
 
-/// The first state, and room for its keeper: all memory that is taken before a device is written.
+/// The first state, and the memory for its keeper. All memory is taken before a device is written.
 fn beginning(alloc: Global) -> Result<(State, Rooms), AllocError>
     ensures state { IfOk result (λ parts. parts.0 ≡ first_state) }
     ensures rooms { IfOk result (λ parts. AreRooms parts.1) }

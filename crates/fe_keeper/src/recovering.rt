@@ -1,4 +1,5 @@
-//! The state that a slot stands for: that of its image, and its groups gone through.
+//! Reads the state that a slot stands for: the state of its image, with the groups after it replayed. A slot is one of
+//! the two halves of a store; its generation tells which of them counts (`docs/store.md`).
 
 ghost use Rattle.std.specs.Prelude.{◌≡◌, ◌+◌, ◌<◌, ◌≤◌, ℕ, List, ◌∷◌, length, true, Ok, IsOk, IfOk, IfErr, OnOk, IsErrOf};
 ghost use Rattle.fe_state.specs.State.{ServerState};
@@ -19,8 +20,8 @@ use fe_replica::{ReplayFault, replay};
 use fe_state::State;
 use std::alloc::Global;
 
-/// The state of a slot, from what was read of it: the image, and the groups.
-// (not inlined, as in `keeper_over`)
+/// The state of a slot, from its image and its groups.
+// (It is not inlined, for the reason that `keeper_over` gives.)
 #[inline(never)]
 pub(crate) fn recovered(
     alloc: Global,
@@ -37,11 +38,11 @@ pub(crate) fn recovered(
     // A slot that stands for a state is refused only if memory runs out.
     ensures refused { (c : Contents) (s : ServerState) → ArePartsOf c format generation image.now groups.old
         → Stands c s → IfErr result (λ fault. fault ≡ NoMemory) }
-    // Of one that does not, the first thing wrong in it is reported.
+    // If the slot stands for no state, the first thing wrong in it is reported.
     ensures damaged { (offset : ℕ) (payloads : List (List ℕ)) → IsErrOf result (Damaged offset)
         → Lists groups.old payloads
         → IsWrongIn slot format generation image.now payloads (groups.old.start + groups.old.at) offset }
-    // Memory runs out only once the first fields of the image are read.
+    // Memory runs out only after the first fields of the image were read.
     ensures memory { IsErrOf result NoMemory → IsOk (header_at image.now) }
     ensures faults { IfErr result IsSlotFault }
 {
@@ -50,7 +51,7 @@ pub(crate) fn recovered(
     Ok(state)
 }
 
-/// The state of the image, in a slot of this generation.
+/// The state of the image. It is a fault if the image is wrong, or its place too small for the slot's generation.
 fn base_of(
     alloc: Global,
     format: Format,
@@ -85,7 +86,7 @@ fn base_of(
     Ok(state)
 }
 
-/// The greatest generation of a slot with an image of this state.
+/// The greatest generation of a slot whose image is of this state, by the state's place (how many entries led to it).
 fn greatest_generation(format: Format, state: &State) -> u64
     ensures { result ≡ greatest_generation format state.now.place }
 {
@@ -95,7 +96,7 @@ fn greatest_generation(format: Format, state: &State) -> u64
     }
 }
 
-/// Goes through all groups.
+/// Replays all groups.
 fn replay_all(format: Format, groups: &mut Groups, state: &mut State) -> Result<(), Fault>
     requires listing { IsListing groups.old }
     ensures all { (payloads : List (List ℕ)) → Lists groups.old payloads
@@ -111,7 +112,7 @@ fn replay_all(format: Format, groups: &mut Groups, state: &mut State) -> Result<
     Ok(())
 }
 
-/// Goes through the next group. Whether there was one.
+/// Replays the next group. Returns whether there was one.
 fn replay_next(format: Format, groups: &mut Groups, state: &mut State) -> Result<bool, Fault>
     requires listing { IsListing groups.old }
     ensures next { (payloads : List (List ℕ)) → Lists groups.old payloads

@@ -1,4 +1,4 @@
--- What the headers of a store's slots say.
+-- What the headers of a store's two slots, its halves, say (`docs/store.md`).
 use Rattle.std.specs.Prelude.{◌≡◌, ◌⊎◌, ℕ, ◌<◌, ◌≤◌, List, Option, Some, None, slice_index}
 use Rattle.fe_disk.specs.Disk.{bytes_at}
 use Rattle.fe_format.specs.Layout.{magic_of}
@@ -24,14 +24,14 @@ pub record IsHeaderOf (image : List ℕ) (slot : ℕ) (header : HeaderBytes) : T
   pub fields_are : header.fields ≡ bytes_at image (header_of slot) 20
   pub gate_is : header.gate ≡ slice_index image (gate_of slot)
 
--- of two headers the one with the greater generation counts, and the first of equal ones
+-- which of two slots' headers counts: the one with the greater generation, and the first of equal ones
 abbrev pub IsChosen : HeaderBytes → HeaderBytes → Option (ℕ × HeaderBytes) → Type 0
 IsChosen first second None = ((f : Format) → IsValid first f → ⊥) × ((f : Format) → IsValid second f → ⊥)
 IsChosen first second (Some (slot, header)) =
     ((slot ≡ 0) × (header ≡ first) × ((f : Format) × IsValid first f) × ((f : Format) → IsValid second f → generation_in second ≤ generation_in first))
     ⊎ ((slot ≡ 1) × (header ≡ second) × ((f : Format) × IsValid second f) × ((f : Format) → IsValid first f → generation_in first < generation_in second))
 
--- the slot that counts, with its header, or that no slot is valid
+-- the slot that counts, with its header; or no slot is valid
 abbrev pub Counts : List ℕ → Option (ℕ × HeaderBytes) → Type 0
 Counts image None = (slot : ℕ) (format : Format) → slot < 2 → IsValidAs image slot format → ⊥
 Counts image (Some (slot, header)) = IsHeaderOf image slot header × ((format : Format) × SlotCounts image slot format)

@@ -1,4 +1,4 @@
--- What is printed of a store.
+-- The text of a state, as `femem look` prints it.
 use Rattle.std.specs.Prelude.{◌++◌, ℕ, List, Option, codes, length, take}
 use Rattle.std.specs.Fmt.{decimal}
 use Rattle.std.specs.FinMap.{entries, len}
@@ -9,11 +9,11 @@ use Rattle.fe_state.specs.State.{ServerState}
 use Rattle.fe_state.specs.declared.array.Array.{Array}
 use Rattle.fe_keeper.specs.Stands.{StandsFor}
 
--- how many entries there were
+-- the line of a place, the number of entries so far
 abbrev pub place_line : ℕ → List ℕ
 place_line place = codes "place " ++ (decimal place ++ codes "\n")
 
--- an array: its id, its name, and its length in words
+-- the line of an array: its id, its name, and its length in words
 abbrev pub line_of_array : ℕ → List ℕ → ℕ → List ℕ
 line_of_array id name size =
     codes "array " ++ (decimal id ++ (codes " " ++ (name ++ (codes " " ++ (decimal size ++ codes "\n")))))
@@ -21,7 +21,7 @@ line_of_array id name size =
 abbrev pub array_line : ℕ × Array → List ℕ
 array_line e = line_of_array e.0 e.1.name (length e.1.words)
 
--- a session: its floor, and how many answers are kept for it
+-- the line of a session: its floor, and how many answers are kept for it
 abbrev pub line_of_session : ℕ → ℕ → ℕ → List ℕ
 line_of_session number floor kept =
     codes "session " ++ (decimal number ++ (codes " floor " ++ (decimal floor ++ (codes " kept " ++ (decimal kept ++ codes "\n")))))
@@ -33,18 +33,18 @@ session_line e = line_of_session e.0 e.1.floor (len e.1.kept)
 abbrev pub state_text : ServerState → List ℕ
 state_text s = place_line s.place ++ (flat_map array_line (entries s.arrays) ++ flat_map session_line (entries s.sessions))
 
--- the text of some state is written
+-- the text of some state was written
 pub record ShowsSome (before after : Option (List ℕ)) : Type 0 where
   pub state : ServerState
   pub written : Appends before after (state_text state)
 
--- no more than the start of some state's text is written
+-- a front of the text of some state was written, and nothing else
 pub record ShowsFront (before after : Option (List ℕ)) : Type 0 where
   pub state : ServerState
   pub count : ℕ
   pub written : Appends before after (take count (state_text state))
 
--- The image stands for a state, whose text is written.
+-- The image stands for a state, and the text of that state was written.
 pub record Shows (image : List ℕ) (before after : Option (List ℕ)) : Type 0 where
   pub state : ServerState
   pub stands : StandsFor image state

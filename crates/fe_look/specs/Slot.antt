@@ -1,4 +1,5 @@
--- How one slot of a store is copied.
+-- How one slot of a store, a half of it, is copied. A gate is the byte in front of a group that is 1 if the group
+-- counts (`docs/store.md`).
 use Rattle.std.specs.Prelude.{◌≡◌, ◌+◌, ◌<◌, ℕ, List, [], ◌∷◌, Option, Some, None}
 use Rattle.fe_disk.specs.Disk.{IsTorn, bytes_at}
 use Rattle.fe_journal.specs.Layout.{area_bytes, header_of, gate_of, image_of, area_of, number_at, IsGateOpen, IsGateShut}
@@ -18,7 +19,7 @@ pub record EndsAt (bytes : List ℕ) (area end : ℕ) : Type 0 where
   pub lengths : List ℕ
   pub gates : GatesEnd bytes area 0 lengths end
 
--- A journal area is there whole, or up to the gate that ends its groups, which is closed.
+-- A journal area is copied whole, or up to the gate that ends its groups, which is closed in the copy.
 abbrev pub IsAreaCopied : List ℕ → List ℕ → ℕ → Option ℕ → Type 0
 IsAreaCopied image copy area None = bytes_at copy area area_bytes ≡ bytes_at image area area_bytes
 IsAreaCopied image copy area (Some end) =

@@ -1,4 +1,4 @@
-//! The headers of a store's slots.
+//! Reading the headers of a store's two slots, its halves (`docs/store.md`).
 
 ghost use Rattle.std.specs.Prelude.{◌≡◌, ◌<◌, IfOk, IfSome};
 ghost use Rattle.fe_journal.specs.Layout.{device_bytes, number_at};

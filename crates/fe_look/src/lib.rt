@@ -1,4 +1,4 @@
-//! A look at a store: the text of the state in it.
+//! A look at a store, `femem look`: the text of the state in it, while a server may be writing it.
 #![tactic(auto)]
 
 mod fault;

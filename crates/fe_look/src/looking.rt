@@ -1,4 +1,4 @@
-//! Looks at a store.
+//! Opening a store, and writing the text of its state.
 
 ghost use Rattle.std.specs.Prelude.{◌≡◌, ◌↔◌, ◌≢◌, ℕ, take, OnOk, IsErrOf};
 ghost use Rattle.std.specs.Io.KnownBytes.{Appends, Keeps};

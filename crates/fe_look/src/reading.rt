@@ -1,4 +1,4 @@
-//! Copies a store that a server may be writing (`docs/store.md`, "A copy while the store is written").
+//! Copying a store that a server may be writing (`docs/store.md`, "A copy while the store is written").
 
 ghost use Rattle.std.specs.Prelude.{◌≡◌, ℕ, length, slice_index, IfOk, IfErr, IsErrOf};
 ghost use Rattle.fe_disk.specs.Disk.{Rises};

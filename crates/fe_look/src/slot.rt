@@ -1,4 +1,4 @@
-//! The bytes of one slot of a store.
+//! Reading one slot, a half of a store. A gate is the byte in front of a group that is 1 if the group counts (`docs/store.md`).
 
 ghost use Rattle.std.specs.Prelude.{◌≡◌, ◌+◌, ◌<◌, ◌≤◌, IsTrue, length, IfOk, IfSome, OnOk};
 ghost use Rattle.fe_disk.specs.Disk.{IsTorn, bytes_at, after_write};

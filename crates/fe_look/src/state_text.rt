@@ -1,4 +1,4 @@
-//! A state as text.
+//! A server state as text, as `femem look` prints it.
 
 ghost use Rattle.std.specs.Prelude.{◌≡◌, ◌++◌, true, string_bytes, length, IfOk, OnOk};
 ghost use Rattle.std.specs.FinMap.{entries};

@@ -1,4 +1,4 @@
--- The connections with their sessions and boxes, and the number of mails in all boxes.
+-- The connections, each with its session and its box of mails; and the number of mails in all boxes.
 use Rattle.std.specs.Prelude.{ℕ, List, [], length, Option, None, option_and_then}
 use Rattle.std.specs.Option.{option_map_or}
 use Rattle.std.specs.Ordering.{nat_cmp}
@@ -19,12 +19,12 @@ session_on m conn = option_and_then (λ c. c.session) (get m conn)
 abbrev pub mails_on : FinMap nat_cmp Connection → ℕ → List Mail
 mails_on m conn = option_map_or (λ c. c.mails) (get m conn) []
 
--- the connections after this one, if it is connected, gets the session, or none
+-- the connections once this one, if it is connected, has the session, or none
 abbrev pub with_session : FinMap nat_cmp Connection → ℕ → Option ℕ → FinMap nat_cmp Connection
 with_session m conn session =
     option_map_or (λ c. insert m conn (record { session = session; mails = c.mails })) (get m conn) m
 
--- the connections after this one's box, if it is connected, has these mails
+-- the connections once this one's box, if it is connected, has these mails
 abbrev pub with_mails : FinMap nat_cmp Connection → ℕ → List Mail → FinMap nat_cmp Connection
 with_mails m conn mails =
     option_map_or (λ c. insert m conn (record { session = c.session; mails = mails })) (get m conn) m

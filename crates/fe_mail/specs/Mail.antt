@@ -1,4 +1,4 @@
--- The session an entry belongs to, and the mail for an entry.
+-- The session that an entry of the history belongs to, and the mail for an entry, the message that a connection gets for it.
 use Rattle.std.specs.Prelude.{ℕ}
 use Rattle.fe_state.specs.declared.entry.Entry.{Entry}
 use Rattle.fe_state.specs.declared.entry.Entry.TheVariants.{Attached, Closed, Settled, Finished}

@@ -1,4 +1,4 @@
--- The codes and the names of refusals.
+-- The codes and the names of refusals, the reasons why an event of a client changes nothing.
 use Rattle.std.specs.Prelude.{ℕ, List, codes}
 use Rattle.fe_mail.specs.declared.refusal.Refusal.{Refusal}
 use Rattle.fe_mail.specs.declared.refusal.Refusal.TheVariants.{NotAttached, SessionLimit, BelowFloor, BeyondWindow, NumberUsed, StillWaiting, Closing, NoMemory, Spent, NotWaiting}

@@ -4,7 +4,7 @@ ghost use Rattle.fe_mail.specs.declared.books.TheConstants.{MOST_BOOKED};
 ghost use Rattle.fe_mail.specs.declared.mailbox.TheConstants.{MAILS};
 ghost use Rattle.fe_mail.specs.declared.report_text.TheConstants.{REPORT_BYTES};
 
-/// The code's constants are the limits of boxes, reports and books.
+/// The constants of the code are the limits in the definitions, with which contracts are stated.
 pub fn limits_are()
     ensures mails { MAILS ≡ most_mails_in_box }
     ensures report { REPORT_BYTES ≡ longest_report }

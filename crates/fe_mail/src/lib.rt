@@ -1,4 +1,4 @@
-//! Mails to connections, the boxes in which they wait, and the books of calls and mails.
+//! Mails, the messages from the server to connections; the boxes in which they wait; and the books, which count calls and mails.
 #![tactic(auto)]
 
 mod books;

@@ -5,7 +5,7 @@ use crate::refusal::Refusal;
 use crate::report_text::ReportText;
 use fe_state::{Answer, Entry};
 
-/// A message to a connection.
+/// A message from the server to a connection.
 #[derive(Drop)]
 pub enum Mail {
     /// The connection has the session, whose floor is this.

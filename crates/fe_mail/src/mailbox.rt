@@ -6,7 +6,7 @@ use std::alloc::{AllocError, Global};
 use std::collections::VecDeque;
 use std::marker::Model;
 
-/// The maximum number of unread mails in a box.
+/// The most mails in a box.
 pub const MAILS: usize = 128;
 
 /// The mails that a connection has not taken yet, at most `MAILS`.

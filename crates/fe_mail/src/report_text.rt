@@ -3,10 +3,10 @@ ghost use Rattle.fe_mail.specs.Limits.{longest_report};
 
 use std::marker::Model;
 
-/// The maximum length of a report, in bytes.
+/// The length of the longest report, in bytes.
 pub const REPORT_BYTES: usize = 262_144;
 
-/// The text of a report: 1 to `REPORT_BYTES` bytes.
+/// The text of a report, which lists what waits: 1 to `REPORT_BYTES` bytes.
 pub struct ReportText {
     text: String,
 }

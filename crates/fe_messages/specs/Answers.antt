@@ -1,4 +1,4 @@
--- Which answers the entries of a history give.
+-- Which answers the entries of a history give, so that a mail can be held against the history.
 use Rattle.std.specs.Prelude.{◌≡◌, ◌⊎◌, ℕ, ◌+◌, ◌<◌, List, [], ◌∷◌, ◌++◌, length, Some}
 use Rattle.std.specs.FinMap.{get}
 use Rattle.fe_state.specs.Sessions.{kept_in}
@@ -10,7 +10,7 @@ use Rattle.fe_state.specs.declared.request.Request.{Request}
 use Rattle.fe_mail.specs.declared.mail.Mail.{Mail}
 use Rattle.fe_mail.specs.declared.mail.Mail.TheVariants as mail
 
--- The answer is that of the entry at the place: its number's own, and the operation table's in the state before it.
+-- The answer is that of the entry at the place: the entry finishes the number with the reply to its request in the state before.
 pub record IsFinishedAt (begun : ServerState) (es : List Entry) (session number : ℕ) (answer : Answer) (place : ℕ) : Type 0 where
   pub before : List Entry
   pub request : Request
@@ -29,7 +29,7 @@ pub record IsKeptSince (begun : ServerState) (session number : ℕ) (answer : An
 abbrev pub IsAnswerIn : ServerState → List Entry → ℕ → ℕ → Answer → ℕ → Type 0
 IsAnswerIn begun es session number answer place = IsKeptSince begun session number answer place ⊎ IsFinishedAt begun es session number answer place
 
--- a mail is no answer, or such an answer
+-- If the mail is an answer, it is such an answer.
 abbrev pub TellsAnswerIn : ServerState → List Entry → Mail → Type 0
 TellsAnswerIn begun es (mail.Answer session number answer place) = IsAnswerIn begun es session number answer place
 TellsAnswerIn begun es (mail.Welcome session floor) = Unit {0}
@@ -39,7 +39,7 @@ TellsAnswerIn begun es (mail.Settled floor) = Unit {0}
 TellsAnswerIn begun es (mail.Goodbye session) = Unit {0}
 TellsAnswerIn begun es (mail.Report text) = Unit {0}
 
--- each entry that finishes a request has the table's reply to it in the state before
+-- Each entry that finishes a request has the reply to it in the state before the entry.
 abbrev pub AreAnswered : ServerState → List Entry → Type 0
 AreAnswered s [] = Unit {0}
 AreAnswered s (e ∷ es) = IsAnswered (directory_of s) e × AreAnswered (after s e) es

@@ -1,11 +1,11 @@
--- A front after the entries that a message made.
+-- What a message leaves of a front that makes entries.
 use Rattle.std.specs.Prelude.{◌≡◌, ℕ, true, List, ◌++◌}
 use Rattle.fe_state.specs.History.{AreLegal}
 use Rattle.fe_state.specs.State.{after_all}
 use Rattle.fe_state.specs.declared.entry.Entry.{Entry}
 use Rattle.fe_front.specs.Front.{FrontState, is_connected}
 
--- entries were made: they are legal, lead to the state now, and are pending after the others; no connection comes
+-- the entries are legal, lead to the new state and are pending after the others; no connection comes
 pub record Enters (f : FrontState) (es : List Entry) (g : FrontState) : Type 0 where
   pub legal : AreLegal f.service.state es
   pub state : g.service.state ≡ after_all f.service.state es

@@ -1,4 +1,4 @@
--- What is written to a connection: the frames of its mails.
+-- What is written to a client: the frames of the mails to its connection.
 use Rattle.std.specs.Prelude.{ℕ, List}
 use Rattle.std.specs.List.{flat_map}
 use Rattle.fe_mail.specs.Refusal.{code_of}
@@ -18,6 +18,6 @@ reply_of (mail.Settled floor) = server.Settled floor
 reply_of (mail.Goodbye session) = server.Goodbye session
 reply_of (mail.Report text) = server.Report text
 
--- the frames of mails, in their order
+-- the frames of mails, one after another
 abbrev pub spelled : List Mail → List ℕ
 spelled mails = flat_map (λ m. reply_spelling (reply_of m)) mails

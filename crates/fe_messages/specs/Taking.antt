@@ -1,4 +1,4 @@
--- What a message of a connection does to the front: its event, or why it is refused.
+-- What a message of a connection does to the front: it is an event, or is refused.
 use Rattle.std.specs.Prelude.{◌≡◌, ◌⊎◌, ℕ, List, [], ◌∷◌, Err}
 use Rattle.fe_state.specs.declared.entry.Entry.{Entry}
 use Rattle.fe_state.specs.declared.request.Request.{Request}
@@ -21,7 +21,7 @@ pub record IsRefused (f : FrontState) (conn number : ℕ) (refusal : Refusal) (e
   pub entries : es ≡ []
   pub front : g ≡ mailed f conn (mail.Refused number refusal)
 
--- a call is refused for what the front's definition names, or because memory that it needs is short
+-- a call is refused for a reason that the front's definition names, or because memory that it needs is short
 abbrev pub MayRefuse : FrontState → ℕ → ℕ → Request → Refusal → Type 0
 MayRefuse f conn number request refusal =
     IsCallRefused f conn number request refusal ⊎ ((refusal ≡ NoMemory) × WantsMemory f conn number request)

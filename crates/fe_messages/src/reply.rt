@@ -7,7 +7,7 @@ use fe_wire::{ServerMessage, put_reply};
 use std::alloc::AllocError;
 use std::marker::Model;
 
-/// What a client gets of a mail.
+/// What a client gets for a mail. An answer goes out without its session and place.
 #[derive(Drop)]
 pub struct Reply {
     message: ServerMessage,
@@ -44,8 +44,8 @@ impl Reply {
         Reply { message }
     }
 
-    /// Appends the reply's frame. `AllocError` if the frame exceeds the spare capacity and memory is short; then
-    /// nothing is appended.
+    /// Appends the reply's frame. Returns `AllocError`, with nothing appended, if the vector's spare room doesn't hold
+    /// the frame and memory runs out.
     pub fn put(&self, out: &mut Vec<u8>) -> Result<(), AllocError>
         ensures ok { OnOk result (out.new.items ≡ out.old.items ++ reply_spelling self.now) }
         ensures err { OnErr result (out.new.items ≡ out.old.items) }

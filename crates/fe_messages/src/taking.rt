@@ -1,4 +1,4 @@
-//! Hands messages to the front.
+//! Handing clients' messages to the front.
 
 ghost use Rattle.std.specs.Prelude.{◌≡◌, List, IsTrue};
 ghost use Rattle.fe_state.specs.declared.entry.Entry.{Entry};

@@ -44,7 +44,7 @@ abbrev pub IsAsked : Invocation → Option (Text × List Row) → Type 0
 IsAsked asked None = ⊥
 IsAsked asked (Some met) = IsCommand asked met.0 met.1
 
--- the command with this name and these option values asks for something
+-- whether the command with this name and these option values asks for something
 abbrev pub is_complete : Text → List Row → Bool
 is_complete name found =
     if bytes_eq name (codes "run") then true
@@ -53,7 +53,7 @@ is_complete name found =
     else if bytes_eq name (codes "look") then is_some (first_of (codes "store") found)
     else false
 
--- the command that was entered asks for something
+-- whether the command that was entered asks for something
 abbrev pub is_asked : Option (Text × List Row) → Bool
 is_asked None = false
 is_asked (Some met) = is_complete met.0 met.1

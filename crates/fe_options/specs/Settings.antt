@@ -1,4 +1,4 @@
--- The settings of a server.
+-- The settings of a server, as a TOML document has them (`docs/settings.md`).
 use Rattle.std.specs.Prelude.{◌≡◌, ◌^◌, ◌||◌, ◌&&◌, ℕ, ℤ, pos, List, Bool, true, false, codes, nat_le, if◌then◌else◌, string_bytes, Option, Some, None, option_and_then}
 use Rattle.std.specs.Option.{option_map_or}
 use Rattle.std.specs.Str.{bytes_eq}
@@ -69,7 +69,7 @@ IsWrong key.Turns document = number_under key.Turns 1 (2 ^ 40) 1000000000 docume
 abbrev pub IsRight : Key → Members → Type 0
 IsRight k document = IsWrong k document → ⊥
 
--- the two texts are right; also the connections; also the flag and the accepts
+-- the two texts are right; then also the connections; then also the flag and the accepts
 abbrev pub AreTextsRight : Members → Type 0
 AreTextsRight document = IsRight key.Socket document × IsRight key.Store document
 

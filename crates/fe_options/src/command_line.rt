@@ -1,4 +1,4 @@
-//! The command line.
+//! The command line: the commands of the program, and their options.
 
 ghost use Rattle.std.specs.Prelude.{◌≡◌, ◌⊎◌, codes, false, map, is_some, IfSome, IfOk, IfErr, Ok, option_map};
 ghost use Rattle.clap.specs.Words.{AddsSubcommand, HasKind, app_of, fault_of, first_of, found_of, kind_of, rows_of, subcommand_of, subcommand_rows_of};
@@ -19,7 +19,7 @@ const RUN: &str = "Runs a schedule from standard input";
 
 const SERVE: &str = "Serves clients at a socket";
 
-/// What its help says at its end.
+/// What the help of `serve` says at its end.
 const AFTER_SERVE: &str = "The settings are a TOML file with these keys:
   socket       the path of the Unix socket to make
   store        the path of the store's file

@@ -12,15 +12,15 @@ use crate::settings_fault::SettingsFault;
 use std::alloc::Global;
 use toml::{Table, Value};
 
-/// The maximum number of connections served at once, and the default.
+/// The most connections that are served at once. `USUAL_CONNECTIONS` is the default.
 const MOST_CONNECTIONS: u64 = 256;
 
 const USUAL_CONNECTIONS: u64 = 64;
 
-/// The maximum of `accepts`.
+/// The greatest value of `accepts`.
 const MOST_ACCEPTS: u64 = 65_536;
 
-/// The maximum of `turns`, and the default.
+/// The greatest value of `turns`. `USUAL_TURNS` is the default.
 const MOST_TURNS: u64 = 1 << 40;
 
 const USUAL_TURNS: u64 = 1_000_000_000;

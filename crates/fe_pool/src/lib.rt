@@ -1,4 +1,5 @@
-//! Nodes in one vector, linked by index. A node is on at most one list of each of two families.
+//! A pool of nodes for waiting requests, in one vector and linked by index. A node is on at most one list of each of
+//! two families, the lists of words and those of sessions.
 #![tactic(auto)]
 
 mod cells;

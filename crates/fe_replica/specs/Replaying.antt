@@ -1,4 +1,4 @@
--- What the payload of a stored group does to a state, and where it does not fit one.
+-- What the payload of a stored group (the records of its entries) does to a state, and where it does not fit one.
 use Rattle.std.specs.Prelude.{◌≡◌, ℕ, ◌≤◌, List, ◌++◌, length}
 use Rattle.fe_state.specs.State.{ServerState, IsLegal, MakesArray, after, after_all}
 use Rattle.fe_state.specs.History.{AreLegal}
@@ -14,7 +14,7 @@ pub record Replays (format : Format) (payload : List ℕ) (old new : ServerState
   pub legal : AreLegal old entries
   pub state_is : new ≡ after_all old entries
 
--- bytes that begin with the record of no entry that may come next
+-- the bytes do not begin with the record of any entry that may come next
 abbrev pub NoneFollows : Format → List ℕ → ServerState → Type 0
 NoneFollows format bytes s = (e : Entry) (more : List ℕ) → FitsRecord format e → bytes ≡ entry_spelling format e ++ more → IsLegal s e → ⊥
 
@@ -30,26 +30,26 @@ pub record IsFirstBad (format : Format) (payload : List ℕ) (old : ServerState)
   pub offset_is : offset ≡ length (group_spelling format front)
   pub bad : NoneFollows format rest (after_all old front)
 
--- bytes that begin with the record of an entry that may come next, followed by these
+-- the bytes begin with the record of an entry that may come next, and `behind` follows it
 pub record Begins (format : Format) (bytes : List ℕ) (s : ServerState) (entry : Entry) (behind : List ℕ) : Type 0 where
   pub fits : FitsRecord format entry
   pub spelled : bytes ≡ entry_spelling format entry ++ behind
   pub legal : IsLegal s entry
 
--- the first record of bytes leads from the old state to the new, and these follow it
+-- the first record of the bytes leads from the old state to the new, and `behind` follows it
 pub record Steps (format : Format) (bytes : List ℕ) (old : ServerState) (behind : List ℕ) (new : ServerState) : Type 0 where
   pub entry : Entry
   pub begins : Begins format bytes old entry behind
   pub state_is : new ≡ after old entry
 
--- bytes that begin with the record of an entry that may come next and makes an array, whose words take memory
+-- the bytes begin with the record of an entry that may come next and makes an array, whose words take memory
 pub record MakesNext (format : Format) (bytes : List ℕ) (s : ServerState) : Type 0 where
   pub entry : Entry
   pub behind : List ℕ
   pub begins : Begins format bytes s entry behind
   pub makes : MakesArray entry
 
--- some record of a payload makes an array, and may come next after those before it
+-- a record of the payload makes an array, and may come next after those before it
 pub record MakesArrayIn (format : Format) (payload : List ℕ) (old : ServerState) : Type 0 where
   pub front : List Entry
   pub rest : List ℕ

@@ -1,4 +1,5 @@
--- Which batches continue a history, and the first place at which one does not.
+-- Which batches (entries to be stored at once) continue a history, and the first place at which one does not. A place
+-- is the number of entries before an entry.
 use Rattle.std.specs.Prelude.{◌≡◌, ◌≢◌, ℕ, ◌+◌, ◌≤◌, List, [], ◌∷◌, ◌++◌, length, Contains}
 use Rattle.fe_state.specs.State.{ServerState, IsLegal, MakesArray, after_all}
 use Rattle.fe_state.specs.History.{AreLegal}
@@ -12,8 +13,8 @@ pub record Continues (s : ServerState) (first : ℕ) (entries : List Entry) : Ty
   pub some : 1 ≤ length entries
   pub legal : AreLegal s entries
 
--- The first place at which entries do not continue it: the state's place, where they begin elsewhere or there is none,
--- or else that of the first one that is not legal after those before it.
+-- The first place at which entries do not continue it: the state's place, if they begin elsewhere or there is none, or
+-- else that of the first one that is not legal after those before it.
 pub data IsMismatch (s : ServerState) (first : ℕ) (entries : List Entry) (place : ℕ) : Type 0 where
   Elsewhere : first ≢ s.place → place ≡ s.place → IsMismatch s first entries place
   Empty : entries ≡ [] → place ≡ s.place → IsMismatch s first entries place

@@ -1,5 +1,5 @@
-//! A copy of the server's state that follows the store. A batch can be taken back, and a stored group is
-//! replayed entry by entry.
+//! A copy of the server's state that follows the store. A batch is taken entry by entry and can be taken back; a stored
+//! group is replayed entry by entry.
 #![tactic(auto)]
 
 mod replaying;

@@ -17,10 +17,10 @@ pub enum ReplayFault {
     NoMemory,
 }
 
-/// Why the first record was not replayed.
+/// Why the first record of some bytes was not replayed.
 #[derive(Clone, Copy, PartialEq, Eq)]
 enum Fault {
-    /// It is no entry's, or its entry may not come next.
+    /// The record is no entry's, or its entry may not come next.
     Bad,
     /// There was no memory for the words of a new array.
     NoMemory,

@@ -1,3 +1,5 @@
+//! Taking a batch: entries that are to be stored at once. An entry's place is the number of entries before it.
+
 ghost use Rattle.std.specs.Prelude.{◌≡◌, ℕ, ◌+◌, ◌<◌, ◌≤◌, length, Err, OnOk, OnErr};
 ghost use Rattle.fe_state.specs.State.{IsLegal, MakesArray, after, after_all};
 ghost use Rattle.fe_state.specs.UndoLog.{empty_log, rewound, IsLogOf};

@@ -1,4 +1,4 @@
--- The report: what waits, line by line.
+-- The report: a text that says what waits, line by line (`docs/model.md`, "The report").
 use Rattle.std.specs.Prelude.{ℕ, ◌==◌, ◌&&◌, nat_lt, if◌then◌else◌, Bool, List, [], ◌++◌, map, codes}
 use Rattle.std.specs.List.{flat_map}
 use Rattle.std.specs.Ordering.{nat_cmp, ordering_then}
@@ -61,7 +61,7 @@ all_wait_line all = if all then codes "all-wait yes\n" else codes "all-wait no\n
 
 -- ---- the text
 
--- the lines after the first
+-- the lines after the first one
 abbrev pub lines_of : WaitingAccesses → FinMap nat_cmp Attachment → List ℕ
 lines_of waiting attached =
     flat_map word_line (entries (by_word waiting))

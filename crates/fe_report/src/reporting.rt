@@ -7,10 +7,10 @@ use crate::text::{put_all_wait, put_count, put_sessions, put_words};
 use fe_front::Front;
 use std::alloc::{AllocError, Global};
 
-/// The most bytes that a request's line has.
+/// The length of the longest line of a request, in bytes.
 pub(crate) const WORD_LINE: usize = 108;
 
-/// The most bytes that all other lines have together.
+/// The length of all other lines together, in bytes, at most.
 const OTHER_LINES: usize = 2976;
 
 /// The report of what waits in a front, 1 to `REPORT_BYTES` bytes long. Fails only if memory runs out.

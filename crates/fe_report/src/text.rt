@@ -1,4 +1,4 @@
-//! The lines of a report.
+//! The lines of a report, the text that says what waits (`docs/model.md`, "The report").
 
 ghost use Rattle.std.specs.Prelude.{◌≡◌, ◌+◌, ◌*◌, ◌≤◌, ◌++◌, OnOk, codes, drop, length, string_bytes, string_len};
 ghost use Rattle.std.specs.BTreeMap.{btree_map_len};

@@ -1,4 +1,4 @@
--- What was counted of a reader and of a writer.
+-- What the counts of a reader and of a writer say.
 use Rattle.std.specs.Prelude.{◌≡◌, ◌⊎◌, ℕ, ◌-◌, ◌^◌, ◌≤◌, min, true}
 use Rattle.fe_schedules.specs.declared.counted_reader.CountedReader.{CountedReader}
 use Rattle.fe_schedules.specs.declared.counted_writer.CountedWriter.{CountedWriter}
@@ -6,12 +6,12 @@ use Rattle.fe_text.specs.declared.fault.StreamFault.{StreamFault}
 use Rattle.fe_text.specs.declared.fault.StreamFault.TheVariants as stream
 use Rattle.fe_schedules.specs.declared.faults.Faults.{Faults}
 
--- an error of a call came to this fault
+-- a call failed with an error that is this fault
 abbrev pub HasFailed : Faults → StreamFault → Type 0
 HasFailed faults stream.Input = faults.input ≡ true
 HasFailed faults stream.Memory = faults.memory ≡ true
 
--- this many reads were made; the count stays at the top of a u64
+-- this many reads were made; the count stays at 2^64 - 1
 abbrev pub WasRead : {R : Type 0} → CountedReader R → ℕ → Type 0
 WasRead reader count = reader.reads ≡ min count (2 ^ 64 - 1)
 

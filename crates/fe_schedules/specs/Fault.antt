@@ -1,4 +1,4 @@
--- What a fault of a part ends a schedule with.
+-- Which fault of a part, a desk or a stream, ends a schedule with which fault.
 use Rattle.std.specs.Prelude.{◌≡◌, ◌⊎◌, ◌<◌, Option, None, Some}
 use Rattle.fe_disk.specs.Memory.{MemoryState}
 use Rattle.fe_keeper.specs.declared.fault.Fault.TheVariants as store
@@ -11,7 +11,7 @@ use Rattle.fe_schedules.specs.declared.fault.MachineFault.TheVariants as machine
 use Rattle.fe_schedules.specs.declared.fault.ScheduleFault.{ScheduleFault}
 use Rattle.fe_schedules.specs.declared.fault.ScheduleFault.TheVariants as fault
 
--- a desk over a store that was formatted here has no other faults than these
+-- the fault of a desk over a store that was formatted here; it has no other faults than these
 abbrev pub of_desk : DeskFault → Option MachineFault
 of_desk (desk.NoMemory fed) = Some machine.Memory
 of_desk desk.Unwritten = Some machine.Memory
@@ -27,22 +27,22 @@ abbrev pub of_stream : StreamFault → ScheduleFault
 of_stream stream.Input = fault.Input
 of_stream stream.Memory = fault.Memory
 
--- the device is the fault exactly where a call of the disk failed
+-- the fault is the device's exactly if a call of the disk failed
 abbrev pub TellsDisk : MemoryState → MachineFault → Type 0
 TellsDisk disk machine.Memory = disk.failures ≡ 0
 TellsDisk disk machine.Device = 0 < disk.failures
 
--- the same of a schedule's fault
+-- the fault of the schedule is the device's exactly if a call of the disk failed
 abbrev pub TellsOfDisk : MemoryState → ScheduleFault → Type 0
 TellsOfDisk disk (fault.Line number) = disk.failures ≡ 0
 TellsOfDisk disk fault.Input = disk.failures ≡ 0
 TellsOfDisk disk fault.Memory = disk.failures ≡ 0
 TellsOfDisk disk fault.Device = 0 < disk.failures
 
--- a stream failed, and this is its fault
+-- a stream failed, and the fault is that of the stream
 abbrev pub IsOfStream : (StreamFault → Type 0) → ScheduleFault → Type 0
 IsOfStream fails end = (f : StreamFault) × fails f × (end ≡ of_stream f)
 
--- the same, unless a writer failed that could not take what was printed
+-- the fault says whether the disk failed, or the writer failed
 abbrev pub TellsDiskOrWriter : MemoryState → (StreamFault → Type 0) → ScheduleFault → Type 0
 TellsDiskOrWriter disk writer end = TellsOfDisk disk end ⊎ IsOfStream writer end

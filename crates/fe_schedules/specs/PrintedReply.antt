@@ -25,7 +25,7 @@ number_of (server.Report text) = 0
 abbrev pub key_of : PrintedReply → ℕ × ℕ
 key_of t = (t.conn, number_of t.reply)
 
--- by the first, and then by the second
+-- by the first number, and then by the second
 abbrev in_turn : ℕ × ℕ → ℕ × ℕ → Ordering
 in_turn x y = ordering_then (nat_cmp x.0 y.0) (nat_cmp x.1 y.1)
 

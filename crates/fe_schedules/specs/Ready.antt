@@ -1,4 +1,4 @@
--- A desk over a store in memory between two steps.
+-- A desk (the front, its connections' streams and a store's keeper, in one thread) over a store in memory, between two steps.
 use Rattle.std.specs.Prelude.{◌≡◌, false, List, [], ◌∷◌, length}
 use Rattle.fe_disk.specs.Memory.{MemoryState, IsHonest}
 use Rattle.fe_state.specs.State.{ServerState}
@@ -23,7 +23,7 @@ pub record IsReady (d : DeskState MemoryState) : Type 0 where
   pub owes : d.run_state.owes ≡ false
   pub written : AreWritten d.run_state.clients
 
--- the steps did to the store what each of them says, one after the other
+-- each of the steps, one after the other, did to the store what `Checks` says
 abbrev pub ChecksEach : DeskState MemoryState → List Step → DeskState MemoryState → Type 0
 ChecksEach d [] e = e ≡ d
 ChecksEach d (step ∷ steps) e = (mid : DeskState MemoryState) × Checks step d mid × ChecksEach mid steps e

@@ -39,7 +39,7 @@ pub record PrintsMore (s : DeskRunState) (before after : List ℕ) : Type 0 wher
 
 -- ---- a machine
 
--- the disk of a store that could not be opened, or else that of the desk
+-- the disk of a store that could not be opened, or else the desk's
 abbrev pub last_of : Option MemoryState → MemoryState → MemoryState
 last_of None disk = disk
 last_of (Some lost) disk = lost
@@ -88,7 +88,7 @@ pub record RanLine (r : Run) (l : Line) (s : Run) : Type 0 where
   pub holding : s.is_holding ≡ holds_after l r.is_holding
   pub prints : PrintsMore last.run_state (string_bytes r.text) (string_bytes s.text)
 
--- the run stands where `s` says
+-- the run is at the stage `s`
 pub record IsAt (r : Run) (s : Stage) : Type 0 where
   pub stored : s.stored ≡ r.machine.desk.keeper.state
   pub run_state : s.run_state ≡ r.machine.desk.run_state
@@ -96,7 +96,7 @@ pub record IsAt (r : Run) (s : Stage) : Type 0 where
 
 -- ---- lines
 
--- The line of these bytes ran from wherever the run stood.
+-- The line of these bytes ran, at whatever stage the run was.
 pub record RanBytes (r : Run) (bytes : List ℕ) (s : Run) : Type 0 where
   pub more : List ℕ
   pub runs : (at : Stage) → IsAt r at → (next : Stage) × IsAt s next × RunsBytes at bytes next more
@@ -104,7 +104,7 @@ pub record RanBytes (r : Run) (bytes : List ℕ) (s : Run) : Type 0 where
   pub begun : s.begun.items ≡ []
   pub lines : s.lines ≡ r.lines + 1
 
--- the bytes parse as this line; `None`: there are no bytes
+-- the bytes parse as this line, or there are none
 abbrev pub SaysLine : List ℕ → Option Line → Type 0
 SaysLine bytes None = bytes ≡ []
 SaysLine bytes (Some said) = (bytes ≢ []) × (parsed bytes ≡ Some said)
@@ -117,8 +117,8 @@ IsStray number bytes end = (end ≡ fault.Line number) × (bytes ≢ []) × (par
 abbrev pub IsTooLong : ℕ → List ℕ → ScheduleFault → Type 0
 IsTooLong number bytes end = (end ≡ fault.Line number) × (longest_line < length bytes)
 
--- What a fault says of the line of these bytes with this number. `Line`: it does not parse. `Memory`, `Device`: it does, but memory
--- ran out or the disk failed. `Input`: no line after it can be counted.
+-- What a fault says of the line of these bytes with this number. For `Line` it does not parse; for `Memory` and
+-- `Device` it parses, but memory ran out or the disk failed; for `Input` no line after it can be counted.
 abbrev pub IsFaultOf : ℕ → List ℕ → ScheduleFault → Type 0
 IsFaultOf number bytes (fault.Line found) = (found ≡ number) × (bytes ≢ []) × (parsed bytes ≡ None)
 IsFaultOf number bytes fault.Memory = (bytes ≢ []) × (l : Line) × (parsed bytes ≡ Some l)
@@ -150,7 +150,8 @@ pub record Whole (input : List ℕ) (before now : Option (List ℕ)) (kept : Lis
   pub written : Appends before now text
   pub leaves : LeavesStored disk prints.end
 
--- A run over these bytes ended at a fault. What its lines print was written, except the text `kept`, and `more` where the writer failed.
+-- A run over these bytes ended at a fault. What its lines print was written, without the text `kept`, and without `more` if the
+-- writer failed.
 pub record Ended (writer : StreamFault → Type 0) (end : ScheduleFault) (input : List ℕ) (before now : Option (List ℕ)) (kept : List ℕ) : Type 0 where
   pub lines : List (List ℕ)
   pub left : List (List ℕ)

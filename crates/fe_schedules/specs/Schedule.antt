@@ -1,4 +1,4 @@
--- What a schedule does, line for line, and what it prints.
+-- What a schedule does, line by line, and what it prints (`docs/schedules.md`).
 use Rattle.std.specs.Prelude.{◌≡◌, ◌≢◌, ◌⊎◌, ℕ, ◌+◌, ◌-◌, ◌^◌, Bool, true, false, List, [], ◌∷◌, ◌++◌, length, Option, Some, None, IfSome}
 use Rattle.std.specs.Io.KnownBytes.{Appends}
 use Rattle.fe_disk.specs.Memory.{MemoryState}
@@ -25,17 +25,17 @@ use Rattle.fe_schedules.specs.declared.fault.ScheduleFault.TheVariants as fault
 use Rattle.fe_text.specs.declared.line.Line.{Line}
 use Rattle.fe_text.specs.declared.line.Line.TheVariants as line
 
--- Where a schedule stands between two lines: all that is stored, the desk with an empty trace, and whether it is on hold.
+-- The stage of a schedule between two lines: all that is stored, the desk with an empty trace, and whether it is on hold.
 pub record Stage : Type 0 where
   pub stored : ServerState
   pub run_state : DeskRunState
   pub is_holding : Bool
 
--- each image that a stop may leave of the disk stands for that state
+-- each image that a stop may leave of the disk stands for the stored state
 abbrev pub LeavesStored : MemoryState → Stage → Type 0
 LeavesStored disk s = EachStandsFor memory_model disk s.stored
 
--- a desk over a new store, and no hold
+-- the first stage: a desk over a new store, and no hold
 pub record IsStart (s : Stage) : Type 0 where
   pub stored : s.stored ≡ first_state
   pub run_state : IsFirstRunState first_state s.run_state
@@ -43,13 +43,13 @@ pub record IsStart (s : Stage) : Type 0 where
 
 -- ---- what a line does
 
--- the frame of a message comes from a connection
+-- the step brings the frame of this message from this connection
 abbrev IsFrame : ℕ → ClientMessage → Step → Type 0
 IsFrame conn message (step.Bytes c piece) = (c ≡ conn) × (piece.items ≡ spelling message)
 IsFrame conn message other = ⊥
 
--- The steps of a line. A message: its connection is made, unless it is there, and its frame comes. `Gone`: the connection goes.
--- `Check`: a checkpoint begins and is finished. The other lines take no step.
+-- The steps of a line. A message makes its connection, unless that is connected, and brings its frame. `Gone` removes
+-- the connection. `Check` begins a checkpoint and finishes it. The other lines take no step.
 abbrev pub AreStepsOf : Line → List Step → Type 0
 AreStepsOf (line.Message conn message) steps = (frame : Step) × IsFrame conn message frame × (steps ≡ step.Connect conn ∷ frame ∷ [])
 AreStepsOf (line.Gone conn) steps = steps ≡ step.Gone conn ∷ []
@@ -58,7 +58,7 @@ AreStepsOf line.Flush steps = steps ≡ []
 AreStepsOf line.Stop steps = steps ≡ []
 AreStepsOf line.Check steps = steps ≡ step.CheckBegin ∷ step.CheckFinish ∷ []
 
--- Its steps begin at `t`: after `Stop` with a fresh desk over all that was stored, else at `s`.
+-- The steps of the line begin at `t`: after `Stop` with a fresh desk over all that was stored, else at `s`.
 abbrev pub Begins : Line → Stage → Stage → Type 0
 Begins line.Stop s t = (t.stored ≡ s.stored) × IsFirstRunState t.stored t.run_state
 Begins other s t = (t.stored ≡ s.stored) × (t.run_state ≡ s.run_state)
@@ -70,12 +70,12 @@ holds_after line.Flush was = false
 holds_after line.Stop was = false
 holds_after other was = was
 
--- after the steps of each line what is pending is cut, stored and posted, unless on hold
+-- the steps after those of each line: what is pending is cut, stored and posted, unless on hold
 abbrev pub endings : Bool → List Step
 endings true = []
 endings false = step.Cut ∷ step.Append ∷ step.Post ∷ []
 
--- The steps of the line run, and the text is their replies. The groups are stored, and the trace begins anew.
+-- The steps of the line run, and the text is the replies to them. The groups are stored, and the trace begins anew.
 pub record RunsLine (s : Stage) (l : Line) (t : Stage) (text : List ℕ) : Type 0 where
   pub mid : Stage
   pub begins : Begins l s mid
@@ -120,15 +120,15 @@ abbrev pub FirstIsValid : List (List ℕ) → Type 0
 FirstIsValid [] = ⊥
 FirstIsValid (bytes ∷ others) = (bytes ≢ []) × (l : Line) × (parsed bytes ≡ Some l)
 
--- What a fault says of the line that comes next. `Line`: it does not parse, and this is its number, counted from 1. `Memory`,
--- `Device`: it parses, but memory ran out or the disk failed. `Input`: no more lines can be counted.
+-- What a fault says of the line that comes next. For `Line` it does not parse, and this is its number, counted from 1;
+-- for `Memory` and `Device` it parses, but memory ran out or the disk failed; for `Input` no more lines can be counted.
 abbrev pub EndsAtLine : ScheduleFault → List (List ℕ) → List (List ℕ) → Type 0
 EndsAtLine (fault.Line number) lines left = (number ≡ length lines + 1) × FirstIsInvalid left
 EndsAtLine fault.Memory lines left = FirstIsValid left
 EndsAtLine fault.Device lines left = FirstIsValid left
 EndsAtLine fault.Input lines left = length lines ≡ 2 ^ 64 - 2
 
--- the fault is of memory or of the disk
+-- the fault is one of memory or of the disk
 abbrev pub IsOfStore : ScheduleFault → Type 0
 IsOfStore end = (end ≡ fault.Memory) ⊎ (end ≡ fault.Device)
 
@@ -136,7 +136,7 @@ IsOfStore end = (end ≡ fault.Memory) ⊎ (end ≡ fault.Device)
 abbrev pub EndsWithin : (StreamFault → Type 0) → ScheduleFault → List (List ℕ) → List (List ℕ) → List ℕ → Type 0
 EndsWithin writer end lines left more = ((more ≡ []) × EndsAtLine end lines left) ⊎ IsOfStream writer end
 
--- A run ended within what was read, or the reader failed, or nothing was read: memory or the disk failed as it began.
+-- A run ended within what was read, or the reader failed, or nothing was read, since memory or the disk failed as it began.
 abbrev pub EndsAt : (StreamFault → Type 0) → (StreamFault → Type 0) → Type 0 → ScheduleFault → List (List ℕ) → List (List ℕ) → List ℕ → Type 0
 EndsAt reader writer unread end lines left more =
     EndsWithin writer end lines left more ⊎ ((more ≡ []) × (IsOfStream reader end ⊎ ((lines ≡ []) × IsOfStore end × unread)))
@@ -145,14 +145,13 @@ EndsAt reader writer unread end lines left more =
 abbrev pub IsReadMore : {R : Type 0} → (R → ℕ → Type 0) → R → R → ℕ → Type 0
 IsReadMore was_read old new more = (count : ℕ) → was_read old count → was_read new (count + more)
 
--- a read failed so, or 2^40 reads were made
+-- a read failed with this fault, or 2^40 reads were made
 abbrev pub ReaderFails : {R : Type 0} → (R → StreamFault → Type 0) → (R → ℕ → Type 0) → R → R → StreamFault → Type 0
 ReaderFails has_failed was_read old new f = has_failed new f ⊎ ((f ≡ stream.Input) × IsReadMore was_read old new (2 ^ 40))
 
 -- ---- a whole run
 
--- All lines of the input, where it is known, ran, and what they print is written. A stop leaves all that they
--- stored on the disk.
+-- All lines of the input ran, if that is known, and what they print was written. A stop leaves all that they stored on the disk.
 pub record RunsAll (input before after : Option (List ℕ)) (disk : MemoryState) : Type 0 where
   pub lines : List (List ℕ)
   pub all : IfSome input (λ bytes. lines_of bytes ≡ lines)
@@ -161,7 +160,7 @@ pub record RunsAll (input before after : Option (List ℕ)) (disk : MemoryState)
   pub written : Appends before after text
   pub leaves : LeavesStored disk prints.end
 
--- The first lines of the input ran. What they print is written, except what a failed writer did not take.
+-- The first lines of the input ran. What they print was written, except what a failed writer did not take.
 pub record RunsUntil (reader writer : StreamFault → Type 0) (unread : Type 0) (end : ScheduleFault) (input before after : Option (List ℕ)) : Type 0 where
   pub lines : List (List ℕ)
   pub left : List (List ℕ)

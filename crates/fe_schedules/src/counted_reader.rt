@@ -5,7 +5,7 @@ use crate::streams::Source;
 use fe_text::StreamFault;
 use std::io::{ErrorKind, Read};
 
-/// A reader of `std`. For clauses it counts its reads, and notes the faults that they came to.
+/// A reader of `std`. For clauses it counts its reads, and notes the faults with which they failed.
 #[derive(Drop)]
 pub struct CountedReader<R> {
     stream: R,
@@ -15,7 +15,7 @@ pub struct CountedReader<R> {
 }
 
 impl<R> CountedReader<R> {
-    /// The stream before its first read.
+    /// The reader before its first read.
     pub fn new(stream: R) -> CountedReader<R>
         ensures stream { result.stream ≡ stream }
         ensures reads { result.reads ≡ 0 }

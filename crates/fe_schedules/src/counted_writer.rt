@@ -8,22 +8,22 @@ use crate::streams::Sink;
 use fe_text::{StreamFault, WRITES};
 use std::io::{ErrorKind, Write};
 
-/// A writer of `std`. For clauses it counts its writes, notes the faults that its calls came to, and whether all that was
-/// written is flushed.
+/// A writer of `std`. For clauses it counts its writes, notes the faults with which its calls failed, and whether all
+/// that was written is flushed.
 #[derive(Drop)]
 pub struct CountedWriter<W> {
     stream: W,
     /// How many writes were made. The count stays at `u64::MAX`.
     writes: u64,
-    /// A write of at least one byte took none.
+    /// Whether a write of at least one byte took none.
     took_none: bool,
-    /// A flush succeeded after the last write.
+    /// Whether a flush succeeded after the last write.
     is_flushed: bool,
     faults: Faults,
 }
 
 impl<W> CountedWriter<W> {
-    /// The stream before its first write.
+    /// The writer before its first write.
     pub fn new(stream: W) -> CountedWriter<W>
         ensures stream { result.stream ≡ stream }
         ensures writes { result.writes ≡ 0 }

@@ -27,7 +27,7 @@ pub(crate) enum MachineFault {
 }
 
 impl MachineFault {
-    /// What a fault of its desk ends it with.
+    /// The fault of a machine for a fault of its desk.
     pub fn of_desk(fault: DeskFault) -> MachineFault
         requires { of_desk fault ≢ None }
         ensures { of_desk fault ≡ Some result }

@@ -6,7 +6,7 @@ ghost use Rattle.fe_text.specs.declared.fault.StreamFault.{StreamFault as Fault}
 use fe_text::{StreamFault, stream_fault};
 use std::io::{Error, ErrorKind};
 
-/// The faults that the calls of a stream came to.
+/// The faults with which the calls of a stream failed.
 #[derive(Clone, Copy)]
 pub(crate) struct Faults {
     input: bool,
@@ -24,7 +24,7 @@ impl Faults {
         }
     }
 
-    /// A call failed with this error. Returns the fault for it.
+    /// Notes the error of a call that failed. Returns the fault for it.
     pub fn fail(&mut self, error: Error) -> StreamFault
         ensures memory { (result ≡ StreamFault.Memory) ↔ (error_kind error ≡ ErrorKind.OutOfMemory) }
         ensures failed { HasFailed self.new result }

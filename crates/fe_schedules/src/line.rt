@@ -9,7 +9,7 @@ use fe_state::{Request, named};
 use fe_text::{Line, parse};
 use fe_wire::ClientMessage;
 
-/// The line that the bytes say, or none in an empty line. `None` outside the syntax.
+/// The line that the bytes say, or none if they are empty. The outer `None` says that they are outside the syntax.
 pub(crate) fn line_in(bytes: &[u8]) -> Option<Option<Line>>
     ensures stray { IfNone result ((bytes.now ≢ []) × (parsed bytes.now ≡ None)) }
     ensures said { IfSome result (SaysLine bytes.now) }

@@ -1,4 +1,4 @@
-//! The replies whose frames are written.
+//! Reading the replies whose frames were written.
 
 ghost use Rattle.std.specs.Prelude.{◌≡◌, ◌<◌, ◌++◌, List, length, map, IfOk, IfSome, OnOk};
 ghost use Rattle.std.specs.Option.{option_map};

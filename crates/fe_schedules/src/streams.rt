@@ -1,4 +1,4 @@
-//! The streams of a schedule.
+//! The streams of a schedule: its input and its output.
 
 ghost use Rattle.std.specs.Prelude.{ℕ, ◌≡◌, ◌+◌, List, Option, [], length, string_bytes, take, IfOk, IfErr, OnOk};
 ghost use Rattle.std.specs.Io.KnownBytes.{Appends, Keeps};
@@ -9,16 +9,16 @@ use fe_text::StreamFault;
 
 /// What a schedule is read from.
 pub trait Source {
-    /// The bytes that reads will give from here on, where they are known.
+    /// The bytes that reads will give from here on, if they are known.
     ghost remaining: { Self → Option (List ℕ) };
 
-    /// It was read this many times.
+    /// Whether it was read this many times.
     ghost was_read: { Self → ℕ → Type 0 };
 
-    /// A read of it failed so.
+    /// Whether a read failed with this fault.
     ghost has_failed: { Self → Fault → Type 0 };
 
-    /// Reads once, and says how many bytes that gave, 0 at the end. `None` where it was interrupted.
+    /// Reads once, and says how many bytes that gave, 0 at the end. `None` if the read was interrupted.
     fn read_piece(&mut self, piece: &mut [u8]) -> Result<Option<usize>, StreamFault>
         ensures reads { IfOk result (ReadsSome (remaining self.old) (remaining self.new) piece.new) }
         ensures len { length piece.new ≡ length piece.old }
@@ -29,16 +29,16 @@ pub trait Source {
 
 /// What the output of a schedule is written to.
 pub trait Sink {
-    /// The bytes that it holds, where they are known.
+    /// The bytes that it holds, if they are known.
     ghost contents: { Self → Option (List ℕ) };
 
     /// A text was not written whole: a write failed or took no byte, or 2^40 writes were not enough. Or a flush failed.
     ghost has_failed: { Self → Fault → Type 0 };
 
-    /// All that was written is handed on.
+    /// Whether all that was written is handed on.
     ghost is_handed_on: { Self → Type 0 };
 
-    /// Writes the text, and empties it. Where the writer fails, a front of it is written.
+    /// Writes the text, and empties it. If the writer fails, a front of it is written.
     fn write_whole(&mut self, text: &mut String) -> Result<(), StreamFault>
         ensures ok { OnOk result (Appends (contents self.old) (contents self.new) (string_bytes text.old)) }
         ensures front { (count : ℕ)

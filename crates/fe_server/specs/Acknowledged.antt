@@ -1,4 +1,4 @@
--- What an account says of the answers in its history, and of the images that a stop may leave after each.
+-- What an account, a hall's history and receipts, says of its answers, and of the images that a stop may leave after each.
 use Rattle.std.specs.Prelude.{◌≡◌, ◌⊎◌, ℕ, ◌+◌, ◌<◌, ◌≤◌, true, false, List, ◌∷◌, ◌++◌, flat_map, length, slice_get, take, Some, MatchBool, Contains}
 use Rattle.std.specs.List.{AllByRecursion}
 use Rattle.fe_disk.specs.Runs.{LeavesOnly}
@@ -16,8 +16,8 @@ use Rattle.fe_hall.specs.declared.commit_end.CommitEnd.{CommitEnd}
 use Rattle.fe_history.specs.declared.receipt.Receipt.{Receipt}
 use Rattle.fe_disk.specs.declared.disk.Disk.{Ghosts}
 
--- One of the first n groups has the entry of that place. From the end of its append on, up to the last disk, each image that a stop
--- leaves stands for a prefix of the history with that group.
+-- One of the first n groups has the entry of that place. From the end of that group's append on, up to the last disk,
+-- each image that a stop leaves stands for a prefix of the history with that group.
 pub record IsHeld {D : Type 0} (model : Ghosts D) (begun : ServerState) (groups : List (List Entry)) (appends : List (Append D)) (last : D) (n place : ℕ) : Type 0 where
   pub at : ℕ
   pub append : Append D
@@ -27,10 +27,10 @@ pub record IsHeld {D : Type 0} (model : Ghosts D) (begun : ServerState) (groups 
   pub has_it : place < append.after.state.place
   pub every_image : LeavesOnly model append.after.store.disk last (LeavesPrefix begun groups (at + 1))
 
--- A server ended so. It stored groups and noted these of them; its history has the notes in their order, and the answer of each
--- receipt. If nobody else noted groups in its hall, then each answer that was issued is that of its entry in the groups that were
--- stored before, or it was kept from the beginning; and every image since its group was stored has that group. Whoever noted
--- groups, each answer was issued to a connection that had asked for its session before.
+-- A server ended with this end of its committing side. It stored groups and noted them; its history has the notes in their order,
+-- and the answer of each receipt. If nobody else noted groups in its hall, then each answer that was issued is that of its entry
+-- in the groups that were stored before, or it was kept from the beginning; and every image since its group was stored has that
+-- group. Whoever noted groups, each answer was issued to a connection that had asked for its session before.
 pub record IsAcknowledged {D : Type 0} (model : Ghosts D) (old new : KeeperState D) (end : CommitEnd) (account : Account) : Type 0 where
   pub commits : Commits model old new (Some end)
   pub notes : List (Batch × ℕ)

@@ -1,24 +1,24 @@
--- What the connections that ended leave.
+-- What the connections leave that ended: seats (what each side counted), lists of messages, and receipts of answers.
 use Rattle.std.specs.Prelude.{◌≡◌, ℕ, Bool, false, ◌&&◌, ◌||◌, not, ◌==◌, filter, List, [], ◌∷◌, ◌++◌, Option, Some, None}
 use Rattle.fe_mail.specs.Books.{AddUp}
 use Rattle.fe_hall.specs.Audits.{Audited}
 use Rattle.fe_shared.specs.Seats.{Seats, both_seats, one_seat}
 use Rattle.fe_server.specs.declared.socket_handle.SocketHandle.{SocketHandle}
 
--- the seats of all connections that ended, with that of one more, which booked this many calls or mails
+-- the seats of all connections that ended, with that of one more, which counted this many calls or mails
 abbrev pub joined_to : Option Seats → ℕ → Option Seats
 joined_to None amount = Some (one_seat amount)
 joined_to (Some all) amount = Some (both_seats all (one_seat amount))
 
--- a list got one more element at its end, which is such a one
+-- the list got one more element at its end, for which `is` holds
 abbrev pub IsAdded : {A : Type 0} → (A → Type 0) → List A → List A → Type 0
 IsAdded {A} is before after = (a : A) × (after ≡ before ++ a ∷ []) × is a
 
--- the handles but for that of a connection
+-- the handles without that of this connection
 abbrev pub without : ℕ → List SocketHandle → List SocketHandle
 without conn handles = filter (λ handle. not (handle.conn == conn)) handles
 
--- something that the closing needs is missing: memory was short for it, or receipts are to be kept and are not whole
+-- whether the closing lacks something: memory was short, or receipts are to be kept and are not whole
 abbrev pub lacks : Bool → Bool → Bool → Bool
 lacks short keeps whole = short || (keeps && not whole)
 

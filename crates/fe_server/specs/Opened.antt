@@ -1,4 +1,4 @@
--- What serving a store that was opened leaves.
+-- What serving a store leaves, if the store was just opened.
 use Rattle.std.specs.Prelude.{◌≡◌, ℕ, false, List, Option, None, Result}
 use Rattle.fe_keeper.specs.Keeper.{KeeperState}
 use Rattle.fe_hall.specs.declared.commit_end.CommitEnd.{CommitEnd}
@@ -8,8 +8,8 @@ use Rattle.fe_server.specs.Acknowledged.{IsAcknowledged}
 use Rattle.fe_server.specs.Serving.{HasCommitted, IsAnswerAt, account_in, fault_in, keeper_in}
 use Rattle.fe_disk.specs.declared.disk.Disk.{Ghosts}
 
--- A keeper was just opened: its disk works, and no checkpoint is under way. It was served, and comes back with what was stored since;
--- the answer is that of the committing side's end; and the account says what was issued.
+-- A keeper was just opened: its disk works, and no checkpoint is under way. It was served, and is returned with what
+-- was stored since; the answer is that of the committing side's end; and the account says what was issued.
 pub record WasServed {D : Type 0} (model : Ghosts D) (answer : Result (Served D) (Failed D)) : Type 0 where
   pub opened : KeeperState D
   pub works : opened.store.has_failed ≡ false

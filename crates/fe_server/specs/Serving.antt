@@ -1,4 +1,4 @@
--- How serving a store ends.
+-- How serving a store ends. The committing side is the thread that stores.
 use Rattle.std.specs.Prelude.{◌≡◌, ◌⊎◌, ◌↔◌, ◌+◌, ℕ, true, false, List, [], ◌∷◌, Option, Some, None, Result, Ok, Err}
 use Rattle.fe_keeper.specs.Keeper.{KeeperState}
 use Rattle.fe_keeper.specs.Stands.{EachStandsFor}
@@ -17,48 +17,48 @@ use Rattle.fe_hall.specs.declared.commit_end.CommitEnd.{CommitEnd}
 use Rattle.fe_hall.specs.declared.commit_end.CommitEnd.TheVariants.{Stopped, Store, Strange, Spent}
 use Rattle.fe_disk.specs.declared.disk.Disk.{Ghosts}
 
--- A new ledger, of that name and with so many parts, is a tally's, which has a part for each connection that may ever be made, and one for
--- the hall.
+-- A blank for a ledger, with this name and this many parts, is for a tally: it has a part for each connection that may
+-- ever be made, and one for the hall.
 abbrev pub IsBlankOf : ℕ → ℕ → ℕ → ℕ → ℕ → Type 0
 IsBlankOf tally_name tally_parts all name parts = (name ≡ tally_name) × (parts ≡ tally_parts) × (all ≡ tally_parts) × (all ≡ most_connections + 1)
 
--- A keeper was lent to a committing side, which ended so: it stored a history, of which each image that a stop leaves stands
--- for a prefix at every moment; what may be left of a disk that works stands for the keeper's state; and the end says of the
--- disk's faults.
+-- A keeper was lent to a committing side, which had this end. It stored a history, and at every moment each image that
+-- a stop leaves stands for a prefix of it; if the disk works, what a stop may leave stands for the keeper's state; and
+-- the end says whether the disk failed.
 pub record HasCommitted {D : Type 0} (model : Ghosts D) (old new : KeeperState D) (end : CommitEnd) : Type 0 where
   pub commits : Commits model old new (Some end)
   pub stands : model.honest new.store.disk → new.store.has_failed ≡ false → EachStandsFor model new.store.disk new.state
   pub ended_as : EndsAs model old new (Some end)
   pub honesty : model.honest new.store.disk ↔ model.honest old.store.disk
 
--- The same, and the history of a hall that began with that keeper notes what was stored.
+-- A keeper was lent so, and the history of a hall that began with that keeper notes what was stored.
 abbrev pub HasCommittedAndNoted : {D : Type 0} → Ghosts D → KeeperState D → KeeperState D → CommitEnd → List Act → Type 0
 HasCommittedAndNoted model old new end acts =
     (all : HasCommitted model old new end) × AppendsAreNoted model all.commits.appends (Some end) (Began old.state ∷ []) acts
 
 -- ---- what a server answers
 
--- what a fault of an append ends a server with; a right keeper answers no other
+-- the fault with which a fault of an append ends a server; a correct keeper returns no other
 abbrev pub fault_of_store : keeper.Fault → StopFault
 fault_of_store store.Device = fault.Device
 fault_of_store store.Failed = fault.Device
 fault_of_store store.NoMemory = fault.Memory
 fault_of_store other = fault.Strange
 
--- the fault that a server ends with whose committing side ended so
+-- the fault of a server whose committing side had this end
 abbrev pub fault_of_end : CommitEnd → Option StopFault
 fault_of_end Stopped = None
 fault_of_end (Store why) = Some (fault_of_store why)
 fault_of_end Strange = Some fault.Strange
 fault_of_end Spent = Some fault.Strange
 
--- the fault of an answer; none if it has the books
+-- the fault in an answer, if it has one
 abbrev pub fault_in : {D : Type 0} → Result (Served D) (Failed D) → Option StopFault
 fault_in (Ok served) = None
 fault_in (Err failed) = Some failed.fault
 
--- What a server answers whose committing side ended so: that side's fault; and after a stop the books, or that memory was short, or
--- that a receipt or a seat is strange.
+-- What a server may answer after this end of its committing side: that side's fault; or after a stop the books, or that
+-- memory was short, or that a receipt or a seat is strange.
 abbrev pub IsAnswerAt : CommitEnd → Option StopFault → Type 0
 IsAnswerAt Stopped None = Unit {0}
 IsAnswerAt Stopped (Some given) = (given ≡ fault.Memory) ⊎ (given ≡ fault.Strange)
@@ -66,12 +66,12 @@ IsAnswerAt (Store why) answer = answer ≡ fault_of_end (Store why)
 IsAnswerAt Strange answer = answer ≡ fault_of_end Strange
 IsAnswerAt Spent answer = answer ≡ fault_of_end Spent
 
--- the keeper that comes back
+-- the keeper that is returned
 abbrev pub keeper_in : {D : Type 0} → Result (Served D) (Failed D) → KeeperState D
 keeper_in (Ok served) = served.keeper
 keeper_in (Err failed) = failed.keeper
 
--- the account that comes back; a hall whose history has groups of others is not closed
+-- the account that is returned; a hall in whose history others noted groups is not closed
 abbrev pub account_in : {D : Type 0} → Result (Served D) (Failed D) → Account
 account_in (Ok served) = record { receipts = served.audit.receipts; history = served.audit.history; own = true }
 account_in (Err failed) = failed.account

@@ -1,4 +1,4 @@
--- What the two sides of a connection did with its stream.
+-- What the two sides of a connection, its reading and its writing thread, did with its stream.
 use Rattle.std.specs.Prelude.{◌≡◌, ◌≢◌, ◌⊎◌, ℕ, ◌+◌, ◌≤◌, Bool, true, false, List, []}
 use Rattle.fe_mail.specs.declared.mail.Mail.{Mail}
 use Rattle.fe_wire.specs.declared.client_message.ClientMessage.{ClientMessage}
@@ -13,7 +13,7 @@ use Rattle.fe_shared.specs.Seats.{HasDeparted, HasRested, CallSeatState, MailSea
 use Rattle.fe_server.specs.declared.reads.ReadLimit.{ReadLimit}
 use Rattle.fe_server.specs.declared.reads.ReadLimit.TheVariants as most
 
--- whether a read side that ended so ends the stream: not where the write side may go on
+-- whether a read side with this end ends the stream; it does not if the write side may go on
 abbrev pub ends_stream : ReadEnd → Bool
 ends_stream read_end.Closed = false
 ends_stream read_end.Device = true
@@ -24,13 +24,13 @@ ends_stream read_end.Stopped = true
 ends_stream read_end.Spent = true
 ends_stream (read_end.NoMemory short) = true
 
--- how many reads are made from a connection at most, with the number that the settings say
+-- how many reads are made from a connection at most, if the settings allow `turns`
 abbrev pub most_reads : ReadLimit → ℕ → ℕ
 most_reads most.All turns = turns
 most_reads (most.None unstarted) turns = 0
 
--- A read side read a half, at most `turns` times: what it handled is the front of the stream, if the half's bytes are known and
--- none was read before; and it ended so. It ends for the number of its reads only after all of them.
+-- A read side read a half, at most `turns` times. What it handled is the front of the stream, if the half's bytes are
+-- known and none was read before. It ended for this reason, for the number of its reads only after all of them.
 pub record HasHandled {H : Type 0} (is_known : H → Type 0) (known : H → List ℕ) (reads_of : H → ℕ) (turns : ℕ) (old new : H) (seat left : CallSeatState) (sent : List ClientMessage) (end : ReadEnd) : Type 0 where
   pub own : left.conn ≡ seat.conn
   pub handled : is_known old → known old ≡ [] → reads.HandlesStream (known new) seat left sent end
@@ -40,8 +40,8 @@ pub record HasHandled {H : Type 0} (is_known : H → Type 0) (known : H → List
   pub departed : end ≢ read_end.Stopped → HasDeparted left
   pub rested : reads.IsQuietEnd end → HasRested left
 
--- A write side wrote to a half: of the mails that its seat counts the half got the frames, and the receipts are of the answers among
--- them; and it ended so.
+-- A write side wrote to a half, and ended for this reason. The half got the frames of the mails that the seat counts,
+-- and the receipts are of the answers among these.
 pub record HasWritten {W : Type 0} (is_known : W → Type 0) (got : W → List ℕ) (old new : W) (seat left : MailSeatState) (receipts : Receipts) (end : WriteEnd) : Type 0 where
   pub own : left.conn ≡ seat.conn
   pub receipts_own : receipts.conn ≡ left.conn

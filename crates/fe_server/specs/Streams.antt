@@ -1,7 +1,7 @@
--- The bytes of a stream.
+-- The bytes of a stream, which may not be known.
 use Rattle.std.specs.Prelude.{ℕ, List, [], Option, None, Some}
 
--- those bytes; none where they are not known
+-- the bytes, or none if they are not known
 abbrev pub known_bytes : Option (List ℕ) → List ℕ
 known_bytes None = []
 known_bytes (Some bytes) = bytes

@@ -1,4 +1,4 @@
-//! Accepts connections from a listener.
+//! Accepting connections from a listener.
 
 ghost use Rattle.std.specs.Prelude.{◌≡◌};
 ghost use Rattle.fe_server.specs.Arrivals.{HasEnded};
@@ -19,14 +19,14 @@ use std::thread::{Scope, Threads};
 use std::time::{Clock, Duration};
 use std::{io, thread};
 
-/// How many milliseconds it waits after a connection could not be accepted.
+/// How many milliseconds the acceptor waits after a connection could not be accepted.
 const PAUSE: u64 = 10;
 
 /// How many milliseconds a client waits at most for a place that is about to be free.
 const ROOM_WAIT: u64 = 1000;
 
-/// Shows that no connection comes any more, and that those that came have ended. Only `serve_clients` makes it, and a server does not
-/// stop its hall without it unless something is short or full. It is not `Drop`, since the hall has to be stopped.
+/// Shows that no connection comes any more, and that those that came have ended. Only `serve_clients` makes it, and a server does
+/// not stop its hall without it unless memory is short or a book is full. It is not `Drop`, since the hall has to be stopped.
 pub(crate) struct AllServed {
     no_more: NoMore,
 }
@@ -39,7 +39,7 @@ impl AllServed {
     }
 }
 
-/// Serves the connections that come, until as many came as the settings say or nothing is stored any more, and all of them have ended.
+/// Serves the connections that come, until as many came as the settings say or nothing is stored any more, and all have ended.
 pub(crate) fn serve_clients<
     C: Tally + Send + Sync,
     M: Tally + Send + Sync,
@@ -120,8 +120,8 @@ impl<
         unreachable!()
     }
 
-    /// Begins to serve a client, if there is room for it and the hall makes its seats. One for whom a place is about to be free waits for
-    /// it in a thread of its own.
+    /// Begins to serve a client, if there is room for it and the hall makes its seats. A client for whom a place is
+    /// about to be free waits for it in a thread of its own.
     fn welcome<E>(&self, scope: &Scope<'s, E>, accepted: Accepted)
         requires calls { C.all ≡ C.parts }
         requires mails { M.all ≡ M.parts }
@@ -213,7 +213,7 @@ fn serve_next<
     }
 }
 
-/// Takes a client that waits for its place, and serves it once that is free; or sends it away after `millis` milliseconds.
+/// Takes a client that waits for its place, and serves it once the place is free; or sends it away after `millis` milliseconds.
 fn serve_late<
     C: Tally + Send + Sync,
     M: Tally + Send + Sync,
@@ -249,8 +249,8 @@ fn serve_late<
     }
 }
 
-/// Pauses after a connection could not be accepted because there are too many open files or too little memory, so as not to try again
-/// at once and without end.
+/// Pauses after a connection could not be accepted because there are too many open files or too little memory, so that
+/// the next try does not follow at once.
 fn pause<R: Clock>(rt: &R, error: io::Error) {
     match error.kind() {
         ErrorKind::Interrupted | ErrorKind::ConnectionAborted => {}

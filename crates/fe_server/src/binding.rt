@@ -1,4 +1,4 @@
-//! Makes the socket, first under another name in its folder, so that its file is there only once it listens.
+//! Making the socket, first under another name in its folder, so that its file is there only once it listens.
 
 ghost use Rattle.std.specs.Prelude.{◌≡◌, ◌<◌, ◌++◌, codes, length, string_bytes, IfSome, IsSome};
 
@@ -13,7 +13,7 @@ use std::rt::Files;
 /// What the other name has after the path.
 const BESIDE: &str = ".new";
 
-/// The most bytes that the path of a socket has on Linux.
+/// The most bytes in the path of a socket on Linux.
 const LONGEST: usize = 107;
 
 /// More connections than any server that starts makes at the other name.

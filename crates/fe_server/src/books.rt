@@ -1,4 +1,4 @@
-//! The books as text.
+//! The books, the counts of calls and mails, as text.
 
 ghost use Rattle.std.specs.Prelude.{◌≡◌, ◌++◌, string_bytes, IfOk, OnOk};
 ghost use Rattle.fe_server.specs.BooksText.{made_text, unmade_text, mails_line, books_text};

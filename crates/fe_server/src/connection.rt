@@ -1,8 +1,8 @@
-//! A connection: its socket and its number. No other file reads or writes the socket of a client: `Listener::accept` hands it over, and
-//! a `SocketHandle` only ends its stream.
+//! A connection: its socket and its number. No other file reads or writes the socket of a client: `Listener::accept`
+//! hands it over, and a `SocketHandle` only ends its stream.
 //!
-//! What serves a connection takes any reader and any writer, whose bytes its clauses name. One expression, in `Connection::serve`, knows
-//! that it is a socket.
+//! The functions that serve a connection take any reader and any writer, whose bytes their clauses name. Only one
+//! expression, in `Connection::serve`, knows that both are a socket.
 
 ghost use Rattle.std.specs.Prelude.{◌≡◌, ◌≢◌, ◌⊎◌, ◌∷◌, ◌++◌, [], List, true, false, IfOk, IsSome, IsTrue};
 ghost use Rattle.fe_history.specs.Acts.{AreIssued};
@@ -36,7 +36,7 @@ use std::thread;
 use std::thread::{Promise, Scope, Threads};
 use std::time::Clock;
 
-/// The bytes of the stack of each thread of a connection.
+/// The size of the stack of each thread of a connection, in bytes.
 pub(crate) const STACK: usize = 1 << 20;
 
 /// A stream that can be ended, in both directions.
@@ -50,7 +50,7 @@ impl HangUp for UnixStream {
     }
 }
 
-/// By which one side of a connection ends its stream. It is not `Drop`: a side that ends does so, or leaves the stream to the other one.
+/// The right of a connection's side to end the stream. It is not `Drop`: the side does so, or leaves the stream to the other side.
 struct StreamEnd<'a, E: HangUp> {
     stream: &'a E,
 }
@@ -107,8 +107,8 @@ impl ClientSocket {
     }
 }
 
-/// A client that was accepted and is not admitted yet. It is not `Drop`: it becomes a connection, or its socket is closed where the
-/// register had no room for it.
+/// A client that was accepted and is not admitted yet. It is not `Drop`: it becomes a connection, or its socket is
+/// closed because the register had no room for it.
 pub(crate) struct Accepted {
     socket: Arc<ClientSocket, Global>,
 }
@@ -189,7 +189,7 @@ impl Connection {
         outcome
     }
 
-    /// Lets go of its socket.
+    /// Closes its socket.
     pub(crate) fn close(self) -> Admission
         ensures { result ≡ self.admission }
     {
@@ -199,8 +199,8 @@ impl Connection {
     }
 }
 
-/// What the two sides of a connection did. Only serving a connection makes one, and only `add_to` uses it up: it is not `Drop`, so the
-/// seats, the list and the receipts of each connection that was served are added.
+/// What the two sides of a connection did. Only serving a connection makes one, and only `add_to` uses it up: it is not
+/// `Drop`, so the seats, the list and the receipts of each connection that was served are added.
 pub(crate) struct ConnectionOutcome<C: Tally, M: Tally> {
     calls: CallSeat<C>,
     sent: Vec<ClientMessage>,
@@ -249,7 +249,7 @@ impl<C: Tally, M: Tally> ConnectionOutcome<C, M> {
         }
     }
 
-    /// Adds it to what the connections did that have ended. The list and the receipts are added only if `keeps`.
+    /// Adds it to what earlier connections did. The list and the receipts are added only if `keeps`.
     pub(crate) fn add_to(self, departed: &mut FinishedConnections<C, M>, keeps: bool)
         requires calls { C.all ≡ C.parts }
         requires mails { M.all ≡ M.parts }
@@ -274,7 +274,7 @@ impl<C: Tally, M: Tally> ConnectionOutcome<C, M> {
     }
 }
 
-/// What the writing thread promises of what it gives back.
+/// What the writing thread returns. Its clauses are what that thread promises.
 #[derive(Drop)]
 struct Wrote<W: WriteHalf + Drop, M: Tally> {
     before: Snapshot<W>,
@@ -290,8 +290,8 @@ impl<W: WriteHalf + Drop, M: Tally> Promise<(MailSeat<M>, Receipts<M>, WriteEnd,
         × (r.4.is_shut ≡ true) };
 }
 
-/// Serves a connection over a reader and a writer, until both its sides have ended. Where the reader's bytes are known, the front of what
-/// was read was handled; where the writer's are, it got the frames of the mails that were taken.
+/// Serves a connection over a reader and a writer, until both its sides have ended. If the reader's bytes are known,
+/// the front of what was read was handled; if the writer's are, it got the frames of the mails that were taken.
 fn serve_streams<
     C: Tally + Send + Sync,
     M: Tally + Send + Sync,
@@ -322,7 +322,7 @@ fn serve_streams<
         → IsWritten (known_bytes (O.contents writer)) all result.2.write (known_bytes (O.contents result.1.writer)))
         × AreIssued mails.conn all result.2.receipts.history }
     ensures departed { result.2.write ≢ WriteEnd.Stopped → result.2.mails.departed ≡ true }
-    // It ends for the number of its reads only after all of them.
+    // The read side ends for the number of its reads only after all of them.
     ensures turns { result.2.read ≡ ReadEnd.Turns → result.0.reads ≡ most_reads result.2.reads server.now.turns }
 {
     let (from, to) = (StreamRead::new(reader), StreamWrite::new(writer));
@@ -447,8 +447,8 @@ fn serve_in<
     }
 }
 
-/// Runs the read side of a connection. If the client has ended its stream, or the reads are used up, the write side still writes what
-/// it took. At every other end the stream is ended, which ends the write side too.
+/// Runs the read side of a connection. If the client has ended its stream, or the reads are used up, the write side
+/// still writes what it took. At every other end the stream is ended, which ends the write side too.
 fn run_read_side<C: Tally, M: Tally, G: Gate, R: Clock + Wait, H: ReadHalf + Drop, E: HangUp>(
     rt: &R,
     alloc: Global,

@@ -1,4 +1,4 @@
-//! What the connections of a server did that have ended.
+//! What the connections of a server did that have ended: what their seats count, what they sent, and their receipts.
 
 ghost use Rattle.std.specs.Prelude.{◌≡◌, ◌⊎◌, ◌∷◌, ◌++◌, [], true, false, Some, IsTrue, All, IfOk, IfErr, IsSome, map};
 ghost use mathlib.Core.List.{IsPrefix};
@@ -27,7 +27,7 @@ pub(crate) struct FinishedConnections<C: Tally, M: Tally> {
     pub(crate) short: bool,
     /// A book of the hall is full.
     pub(crate) spent: bool,
-    /// Their seats.
+    /// The seats of their sides, which count calls and mails.
     calls: Option<Seats<C>>,
     mails: Option<Seats<M>>,
     /// What each read side had sent, and the receipts of the write sides.
@@ -36,7 +36,7 @@ pub(crate) struct FinishedConnections<C: Tally, M: Tally> {
 }
 
 impl<C: Tally, M: Tally> FinishedConnections<C, M> {
-    /// No connection has ended. Only who has the right to make connections can make it, so that none of them is added to another one.
+    /// Nothing: no connection has ended. Only a caller that may make connections can make it, so it is never added to another.
     pub(crate) fn new(
         alloc: Global,
         _right: &ConnectRight,
@@ -121,15 +121,15 @@ impl<C: Tally, M: Tally> FinishedConnections<C, M> {
         account_of(hall, seat, receipts, history)
     }
 
-    /// Whether something that the closing needs is missing: memory was short for it, or receipts are not whole that are to be kept.
+    /// Whether the closing lacks something: memory was short, or receipts are to be kept and are not whole.
     fn lacks(&self, keeps: bool) -> bool
         ensures { result ≡ lacks self.now.short keeps self.now.receipts.whole }
     {
         self.short || keeps && !self.receipts.is_whole()
     }
 
-    /// Closes a hall with what its connections did. `state` is what is stored. `Memory` if not all of that could be kept; `Strange`
-    /// if a book is full, a seat is missing or a receipt is strange.
+    /// Closes a hall with what its connections did. `state` is what is stored. `Memory` if not all of that could be
+    /// kept; `Strange` if a book is full, a seat is missing or a receipt is strange.
     pub(crate) fn close(
         self,
         hall: Hall<C, M>,

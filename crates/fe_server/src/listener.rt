@@ -16,7 +16,7 @@ impl Listener {
         Listener { listener }
     }
 
-    /// Another handle of the listener. The system ends an `accept` whose listener is shut down, which the standard library does only for a stream.
+    /// Another handle of the listener, as a stream. To shut that down ends a waiting `accept`; a listener has no such call.
     pub(crate) fn door(&self) -> io::Result<UnixStream> {
         let door = self.listener.try_clone()?;
         Ok(UnixStream::from(OwnedFd::from(door)))

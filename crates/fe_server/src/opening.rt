@@ -1,4 +1,4 @@
-//! Opens the store and makes the socket, before a server begins.
+//! Opening the store and making the socket, before a server begins.
 
 ghost use Rattle.std.specs.Prelude.{◌≡◌, ◌≢◌, ℕ, None, false, IfOk, IsErrOf};
 ghost use Rattle.fe_journal.specs.Layout.{device_bytes};
@@ -18,8 +18,8 @@ use std::net::Net;
 use std::os::unix::net::UnixListener;
 use std::rt::Files;
 
-/// Shows that a store was not opened, or that the socket could not be made: contracts see why. Only `open` makes one, so a server that
-/// began ends with no such fault.
+/// Shows that a store was not opened, or that the socket could not be made: contracts see why. Only `open` makes one,
+/// so a server that began ends with no such fault.
 #[derive(Drop)]
 pub struct Unopened {
     fault: ServeFault,

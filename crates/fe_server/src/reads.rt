@@ -33,7 +33,7 @@ pub(crate) enum ReadLimit {
 }
 
 impl ReadLimit {
-    /// Their number, where the settings say `turns`.
+    /// How many reads are made at most, if the settings allow `turns`.
     pub(crate) fn most(&self, turns: u64) -> u64
         ensures { result ≡ most_reads self.now turns }
     {

@@ -1,4 +1,4 @@
-//! Which connections a server has.
+//! The register: which connections a server has, and what those did that have ended.
 
 ghost use Rattle.std.specs.Prelude.{◌≡◌, ◌↔◌, ◌⊎◌, ◌+◌, ◌-◌, ◌^◌, ◌<◌, ◌≤◌, ◌∷◌, ◌++◌, [], true, false, IfOk, IfErr, OnErr, OnOk, IsTrue};
 ghost use Rattle.fe_server.specs.FinishedConnections.{IsAdded, joined_to, without};
@@ -16,7 +16,7 @@ use std::net::Shutdown;
 use std::os::unix::net::UnixStream;
 use std::thread::JoinHandle;
 
-/// Lets a connection come: with at most `most` at once, and, unless `accepts` is 0, with at most that many in all. Only
+/// The right to one connection: at most `most` are there at once and, unless `accepts` is 0, at most that many come in all. Only
 /// `Register::enter` makes it. It is not `Drop`: a connection cannot end without giving it back to `Register::leave`.
 pub(crate) struct Admission {
     /// The number of the connection, which no other one has.
@@ -33,16 +33,16 @@ impl Admission {
     }
 }
 
-/// Shows that no more connections could come: with at most `most` at once, with at most `accepts` in all, or as the server had ended.
-/// Only a register makes it.
+/// Shows why no more connections could come: `most` were there, `accepts` came in all, or the server had ended. Only a
+/// register makes it.
 #[derive(Drop)]
 pub(crate) struct Full {
     most: u64,
     accepts: u64,
 }
 
-/// A place that is about to be free, kept for the client who waits for it. Only `Register::put_late` makes it. It is not `Drop`: who has
-/// it enters, or finds that there is no room.
+/// A place that is about to be free, kept for a client who waits for it. Only `Register::put_late` makes it. It is not
+/// `Drop`: the client who has it enters, or finds that there is no room.
 pub(crate) struct Expected(());
 
 /// Shows that no connection comes any more: the server has ended, or as many came as may come. Only `Register::running` makes it.
@@ -53,18 +53,18 @@ pub(crate) struct NoMore {
     accepts: u64,
 }
 
-/// A client was put into the register, and a thread has to take it. It is not `Drop`: either such a thread was started, or this one
-/// took a client in its place.
+/// Shows that a client was put into the register, and a thread has to take it. It is not `Drop`: either such a thread
+/// was started, or this thread took a client in its place.
 pub(crate) struct Waiting(());
 
 impl Waiting {
-    /// A thread was started that takes a client and serves it.
+    /// Notes that a thread was started that takes a client and serves it.
     pub(crate) fn begins(self, thread: JoinHandle<ArrivalEnded>) {
         let Waiting(()) = self;
         drop(thread);
     }
 
-    /// A client was taken here, and served or sent away.
+    /// Notes that a client was taken by this thread, and served or sent away.
     pub(crate) fn ends(self, ended: ArrivalEnded) -> ArrivalEnded {
         let Waiting(()) = self;
         ended
@@ -79,14 +79,14 @@ pub(crate) struct NoArrival(());
 #[derive(Drop)]
 pub(crate) struct Running(());
 
-/// Shows that the committing side of a server has ended, and how. Only `Register::end` makes it. It is not `Drop`, since the streams of
-/// the connections that are left have to be ended.
+/// Shows that the committing side of a server, the thread that stores, has ended, and how. Only `Register::end` makes
+/// it. It is not `Drop`, since the streams of the connections that are left have to be ended.
 pub(crate) struct Ending {
     end: CommitEnd,
 }
 
-/// Shows that a server has ended, and how its committing side did. Only `Register::shut_all` makes it, and a server gives neither its
-/// books nor its account without it.
+/// Shows that a server has ended, and how its committing side did. Only `Register::shut_all` makes it, and a server
+/// gives neither its books nor its account without it.
 #[derive(Drop)]
 pub(crate) struct ServerEnded {
     end: CommitEnd,
@@ -105,7 +105,7 @@ impl ServerEnded {
     }
 }
 
-/// What the second lock of a server guards.
+/// The register, which the second lock of a server guards.
 pub(crate) struct Register<C: Tally, M: Tally> {
     /// The connections whose threads have not begun.
     newcomers: Vec<Arrival<C, M>>,
@@ -113,24 +113,24 @@ pub(crate) struct Register<C: Tally, M: Tally> {
     admitted: u64,
     /// How many of them have seats in the hall, or are about to get them.
     came: u64,
-    /// How many connections are there.
+    /// How many connections the server has.
     present: u64,
     /// How many clients wait for a place that is about to be free.
     awaited: u64,
-    /// Those of them whose threads have not begun.
+    /// The clients who wait for a place and whose threads have not begun.
     latecomers: Vec<(Accepted, Expected)>,
-    /// By which their streams are ended.
+    /// The handles by which the streams of connections are ended.
     handles: Vec<SocketHandle>,
     /// Another handle of the listener, as a socket that can be shut down, while connections are accepted.
     door: Option<UnixStream>,
-    /// Nothing is stored any more.
+    /// Whether the committing side has ended, so that nothing is stored any more.
     over: bool,
     pub(crate) departed: FinishedConnections<C, M>,
     ghost few: { came ≤ admitted },
 }
 
 impl<C: Tally, M: Tally> Register<C, M> {
-    /// No connection came.
+    /// A register to which no connection came.
     pub(crate) fn new(
         alloc: Global,
         right: &ConnectRight,
@@ -187,14 +187,14 @@ impl<C: Tally, M: Tally> Register<C, M> {
         }
     }
 
-    /// Whether a newcomer who waits has to wait on: as many as `most` are there, and the server has not ended.
+    /// Whether a client who waits has to wait on: the server has `most` connections, and has not ended.
     pub(crate) fn is_full(&self, most: u64) -> bool
         ensures { IsTrue result ↔ ((self.now.over ≡ false) × (most ≤ self.now.present)) }
     {
         !self.over && self.present >= most
     }
 
-    /// Whether the clients who wait may become the last of the `accepts` that come. Without end there is no last one.
+    /// Whether the clients who wait may become the last of the `accepts` that come. If `accepts` is 0, there is no last one.
     pub(crate) fn may_reach(&self, accepts: u64) -> bool
         ensures { IsTrue result ↔ ((self.now.over ≡ false) × (self.now.came < accepts)
             × (accepts ≤ self.now.came + self.now.awaited)) }
@@ -202,8 +202,8 @@ impl<C: Tally, M: Tally> Register<C, M> {
         !self.over && self.came < accepts && accepts - self.came <= self.awaited
     }
 
-    /// Keeps a client until its thread takes it, and for it the place of a connection that is about to end. Each such place is kept once, so
-    /// nobody waits again for a connection that was waited for in vain. Gives the client back if there is no such place, or no memory.
+    /// Keeps a client for its thread, and for it the place of a connection that is about to end. Each place is kept once, so
+    /// nobody waits again for a connection that was awaited in vain. Returns the client if there is no such place, or no memory.
     pub(crate) fn put_late(
         &mut self,
         accepted: Accepted,
@@ -243,8 +243,8 @@ impl<C: Tally, M: Tally> Register<C, M> {
         }
     }
 
-    /// Admits one more connection, and gives it the next number. At most `most` are there at once and, unless `accepts` is 0, at most
-    /// that many come. A place that another newcomer waits for is not given to one who does not.
+    /// Admits one more connection, and gives it the next number. At most `most` are there at once and, unless `accepts`
+    /// is 0, at most that many come. A place that another client waits for is not given to one who does not wait.
     pub(crate) fn enter(
         &mut self,
         expected: Option<Expected>,
@@ -284,7 +284,7 @@ impl<C: Tally, M: Tally> Register<C, M> {
         })
     }
 
-    /// A connection has ended, and leaves what its sides did, and room for another one.
+    /// Takes what the sides of a connection did that has ended. There is room for another connection then.
     pub(crate) fn leave(
         &mut self,
         admission: Admission,
@@ -307,7 +307,7 @@ impl<C: Tally, M: Tally> Register<C, M> {
         self.release(admission);
     }
 
-    /// A connection was not served, since the hall made no seats for it. It does not count as one that came.
+    /// Removes a connection that was not served, since the hall made no seats for it. It does not count as one that came.
     pub(crate) fn refuse(&mut self, unserved: Unserved)
         ensures came { self.new.came ≡ self.old.came - 1 }
         ensures present { self.new.present ≡ self.old.present - 1 }
@@ -332,7 +332,7 @@ impl<C: Tally, M: Tally> Register<C, M> {
         self.handles.retain(|handle| handle.conn() != conn);
     }
 
-    /// The committing side has ended so: no connection comes any more.
+    /// Notes that the committing side has ended, and how: no connection comes any more.
     pub(crate) fn end(&mut self, end: CommitEnd) -> Ending
         ensures over { self.new.over ≡ true }
         ensures end { result.end ≡ end }
@@ -344,7 +344,7 @@ impl<C: Tally, M: Tally> Register<C, M> {
         Ending { end }
     }
 
-    /// No connection is accepted any more.
+    /// Drops the handle of the listener, since no connection is accepted any more.
     pub(crate) fn close_door(&mut self) {
         drop(self.door.take());
     }
@@ -407,7 +407,7 @@ impl<C: Tally, M: Tally> Register<C, M> {
     }
 }
 
-/// How many of the awaited places are kept from a client that wants to enter. One for whom a place was kept waits no more.
+/// How many of the awaited places are kept from a client that wants to enter. A client for whom a place was kept waits no more.
 fn places_kept(awaited: &mut u64, expected: Option<Expected>) -> u64
     ensures kept { result ≡ kept_from expected awaited.old }
     ensures awaited { awaited.new ≡ awaited_after expected awaited.old }

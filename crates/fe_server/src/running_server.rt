@@ -1,4 +1,4 @@
-//! What the threads of a server share.
+//! What the threads of a server share: the hall, which is one front under a lock, and the register of the connections.
 
 ghost use Rattle.std.specs.Prelude.{◌≡◌, ◌⊎◌, ◌∷◌, [], IsTrue, All, IfOk, IfErr, IsSome, nat_lt};
 ghost use Rattle.fe_front.specs.Front.{IsFirst};
@@ -46,11 +46,11 @@ const LAST_WAIT: u64 = 400;
 pub(crate) struct RunningServer<C: Tally, M: Tally> {
     hall: Hall<C, M>,
     register: Mutex<Register<C, M>>,
-    /// Rung when a connection has ended.
+    /// The condition variable that is rung when a connection has ended.
     freed: Condvar,
     /// How many connections may be there at once.
     most: u64,
-    /// How many connections may come; any number if it is 0.
+    /// How many connections may come; 0 sets no bound.
     accepts: u64,
     /// How many reads are made from each connection at most.
     turns: u64,
@@ -142,7 +142,7 @@ impl<C: Tally, M: Tally> Opened<C, M> {
     }
 
     /// The account of the hall, whose committing side ended with a fault.
-    // (not inlined, as in `fe_keeper::keeper_over`)
+    // (It is not inlined, for the reason that `fe_keeper::keeper_over` gives.)
     #[inline(never)]
     pub(crate) fn account(self, over: ServerEnded, seat: StoreSeat<M>) -> Account
         requires fault { IsSome (fault_of_end over.end) }
@@ -154,7 +154,7 @@ impl<C: Tally, M: Tally> Opened<C, M> {
     }
 
     /// Closes the hall with what is in the register. `state` is what is stored.
-    // (not inlined, as in `fe_keeper::keeper_over`)
+    // (It is not inlined, for the reason that `fe_keeper::keeper_over` gives.)
     #[inline(never)]
     pub(crate) fn close(
         self,
@@ -190,8 +190,8 @@ impl<C: Tally, M: Tally> RunningServer<C, M> {
         self.register.lock(rt).enter(None, most, accepts)
     }
 
-    /// Keeps a client until its thread takes it, and for it a place that is about to be free. Gives it back if there is none for which nobody
-    /// waited yet.
+    /// Keeps a client until its thread takes it, and for it a place that is about to be free. Returns the client if
+    /// there is no place for which nobody has waited yet.
     pub(crate) fn put_late<R: Wait>(
         &self,
         rt: &R,
@@ -226,7 +226,7 @@ impl<C: Tally, M: Tally> RunningServer<C, M> {
             |register| register.is_full(most),
         );
         let entered = register.enter(Some(expected), most, accepts);
-        // (the accepting thread may wait for what became of this client)
+        // The accepting thread may wait to learn what became of this client.
         self.freed.notify_all();
         entered
     }
@@ -245,7 +245,7 @@ impl<C: Tally, M: Tally> RunningServer<C, M> {
         self.register.lock(rt).take()
     }
 
-    /// A connection has ended. The register gets what its sides did.
+    /// Gives the register what the sides of a connection did that has ended.
     pub(crate) fn leave<R: Wait>(
         &self,
         rt: &R,
@@ -261,7 +261,7 @@ impl<C: Tally, M: Tally> RunningServer<C, M> {
         self.freed.notify_all();
     }
 
-    /// A connection is not served, since the hall makes no seats for it.
+    /// Removes a connection that is not served, since the hall makes no seats for it.
     pub(crate) fn refuse<R: Wait>(&self, rt: &R, unserved: Unserved) {
         self.register.lock(rt).refuse(unserved);
         self.freed.notify_all();
@@ -307,14 +307,14 @@ impl<C: Tally, M: Tally> RunningServer<C, M> {
         (keeper, over, seat)
     }
 
-    /// The committing side has ended: no connection comes any more, and those that are there end. A write side ends its stream once it
-    /// has written what was issued. If its client does not take that in time, the stream is ended here.
+    /// Ends the server after its committing side: no connection comes any more, and those that are there end. A write side ends
+    /// its stream once it has written what was issued. If its client does not take that in time, the stream is ended here.
     fn end<R: Clock + Wait>(&self, rt: &R, end: CommitEnd) -> ServerEnded
         ensures { result.end ≡ end }
     {
         let mut register = self.register.lock(rt);
         let ending = register.end(end);
-        // (clients who wait are sent away)
+        // Clients who wait are sent away.
         self.freed.notify_all();
         let waited = self.freed.wait_timeout_while(
             rt,
@@ -325,13 +325,13 @@ impl<C: Tally, M: Tally> RunningServer<C, M> {
         waited.0.shut_all(ending)
     }
 
-    /// No connection is accepted any more.
+    /// Drops the handle of the listener, since no connection is accepted any more.
     pub(crate) fn close_door<R: Wait>(&self, rt: &R) {
         self.register.lock(rt).close_door();
     }
 
-    /// Whether connections may come: the server has not ended and, unless `accepts` is 0, fewer than that came. While the clients who
-    /// wait may be as many as are left, it waits for them.
+    /// Whether connections may come: the server has not ended and, unless `accepts` is 0, fewer than that came. While
+    /// the clients who wait may be as many as are left, it waits for them.
     pub(crate) fn running<R: Wait>(&self, rt: &R, accepts: u64) -> Result<Running, NoMore>
         ensures why { IfErr result (HasEnded accepts) }
     {
@@ -342,25 +342,25 @@ impl<C: Tally, M: Tally> RunningServer<C, M> {
         register.running(accepts)
     }
 
-    /// All clients were served, so the hall may stop.
+    /// Stops the hall, once all clients were served.
     pub(crate) fn stop<R: Wait>(&self, rt: &R, served: AllServed) {
         served.end(self.hall.stop(rt));
     }
 
-    /// The committing thread could not be started, which the closing reports as a lack of memory. So the hall stops.
+    /// Stops the hall because the committing thread could not be started. The closing reports that as a lack of memory.
     pub(crate) fn fall_short<R: Wait, F>(&self, rt: &R, _refused: &SpawnError<F>) {
         self.register.lock(rt).departed.short = true;
         self.hall.stop(rt);
     }
 
-    /// A read side ended since a book of the hall is full, so the hall stops.
+    /// Stops the hall because a read side ended as a book of the hall is full.
     pub(crate) fn spend_calls<R: Wait>(&self, rt: &R, _seat: &CallSeat<C>)
         requires { _seat.now.last_answer ≡ LastAnswer.Spent }
     {
         self.spend(rt);
     }
 
-    /// A write side ended so.
+    /// Stops the hall because a write side ended as a book of the hall is full.
     pub(crate) fn spend_mails<R: Wait>(&self, rt: &R, _seat: &MailSeat<M>)
         requires { _seat.now.last_answer ≡ LastAnswer.Spent }
     {

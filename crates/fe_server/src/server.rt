@@ -1,4 +1,4 @@
-//! Serves a store.
+//! Serving a store at a socket, from its opening to the books at the end.
 
 ghost use Rattle.std.specs.Prelude.{◌≡◌, ◌≢◌, ◌<◌, ◌∷◌, ℕ, [], false, IsTrue, All, IfOk, IsErrOf, nat_lt};
 ghost use Rattle.fe_mail.specs.Books.{AddUp};
@@ -51,8 +51,8 @@ pub fn serve<R: Files<File = File> + Net + Clock + Threads + Wait + Sync, G: Gat
     settings: &Settings,
     gate: &G,
 ) -> Result<Result<Served<FileDisk>, Failed<FileDisk>>, Unopened>
-    // The store that was opened was served: its keeper comes back with what was stored since, and its account says what
-    // was issued.
+    // The store that was opened was served: its keeper is returned with what was stored since, and its account says
+    // what was issued.
     ensures served { IfOk result (WasServed ⟦<FileDisk as Disk>⟧) }
     ensures add_up { IfOk result (λ answer. IfOk answer (λ served. AddUp served.audit.books)) }
     ensures unspent { IfOk result (λ answer. IfOk answer (λ served. served.audit.books.spent ≡ false)) }
@@ -78,7 +78,7 @@ pub fn serve_store<D: Disk + Drop + Send, G: Gate + Sync, R: Clock + Threads + W
     keeper: Keeper<D>,
     gate: &G,
 ) -> Result<Served<D>, Failed<D>>
-    // Whatever the end, the keeper comes back: it is the one before with what was stored since; and the answer is that
+    // However it ends, the keeper is returned: it is the one before, with what was stored since; and the answer is that
     // of the committing side's end.
     ensures committed { (end : CommitEnd)
         × HasCommitted D.Disk keeper (keeper_in result) end
@@ -163,7 +163,7 @@ fn serve_as<
     closed(opened, over, seat, keeper)
 }
 
-/// Closes what was served. If the committing side ended with a fault, its account comes back.
+/// Closes what was served. If the committing side ended with a fault, the account is returned instead.
 fn closed<C: Tally, M: Tally, D: Disk>(
     opened: Opened<C, M>,
     over: ServerEnded,
@@ -216,7 +216,7 @@ fn unserved<D: Disk>(keeper: Keeper<D>, account: Account) -> Failed<D>
     }
 }
 
-/// What the committing thread promises of the keeper that it gives back.
+/// What the committing thread returns. Its clauses are what that thread promises of the keeper.
 #[derive(Drop)]
 struct Committed<D: Disk + Drop> {
     before: Snapshot<Keeper<D>>,
@@ -229,7 +229,7 @@ impl<D: Disk + Drop, M: Tally> Promise<(Keeper<D>, ServerEnded, StoreSeat<M>)> f
         HasCommittedAndNoted D.Disk p.before.value r.0 r.1.end r.2 };
 }
 
-/// Serves clients, and stores what they do. The keeper comes back.
+/// Serves clients, and stores what they do. Returns the keeper.
 fn run<
     C: Tally + Send + Sync,
     M: Tally + Send + Sync,

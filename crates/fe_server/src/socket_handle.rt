@@ -10,7 +10,7 @@ use std::sync::Arc;
 #[derive(Drop)]
 pub(crate) struct SocketHandle {
     conn: u64,
-    /// A newcomer waits for this connection's end, or did so in vain.
+    /// Whether a client waits for this connection's end, or did so in vain.
     is_expected: bool,
     socket: Arc<ClientSocket, Global>,
 }
@@ -33,12 +33,12 @@ impl SocketHandle {
         self.conn
     }
 
-    /// Whether the connection is about to end, and no newcomer waits or waited for that: its stream takes no more bytes.
+    /// Whether the connection is about to end, and no client waits or waited for that: its stream takes no more bytes.
     pub(crate) fn is_ending(&self) -> bool {
         !self.is_expected && self.socket.has_ended()
     }
 
-    /// A newcomer waits for the end of the connection.
+    /// Notes that a client waits for the end of the connection.
     pub(crate) fn expect_end(&mut self)
         ensures { self.new.conn ≡ self.old.conn }
     {

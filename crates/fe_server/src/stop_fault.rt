@@ -1,13 +1,13 @@
 use fe_keeper::Fault;
 
-/// Why a server over an opened store ended with no books.
+/// Why a server over an opened store ended without books.
 #[derive(Clone, Copy, PartialEq, Eq)]
 pub enum StopFault {
     /// The device of the store failed.
     Device,
     /// There is no memory.
     Memory,
-    /// A layer below answered what a right one never answers.
+    /// A layer below answered what a correct one never answers.
     Strange,
 }
 

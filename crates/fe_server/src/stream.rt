@@ -6,8 +6,7 @@ use fe_hall::{HalfFault, ReadCount, ReadHalf, WriteHalf};
 use fe_streams::{Incoming, StreamFailed, write_some};
 use std::io::{Read, Write};
 
-/// The direction from the client, over a reader. Its bytes are known where those of the reader are; those of a socket
-/// are not.
+/// The direction from the client, over a reader. Its bytes are known if those of the reader are; those of a socket are not.
 #[derive(Drop)]
 pub struct StreamRead<R: Read> {
     incoming: Incoming<R>,
@@ -16,7 +15,7 @@ pub struct StreamRead<R: Read> {
 }
 
 impl<R: Read> StreamRead<R> {
-    /// Nothing is read yet.
+    /// The direction from the client, before the first read.
     pub fn new(reader: R) -> StreamRead<R>
         ensures reader { result.incoming.reader ≡ reader }
         ensures began { result.incoming.began.value ≡ reader }
@@ -59,8 +58,7 @@ impl<R: Read> ReadHalf for StreamRead<R> {
     }
 }
 
-/// The direction to the client, over a writer. Its bytes are known where those of the writer are; those of a socket are
-/// not.
+/// The direction to the client, over a writer. Its bytes are known if those of the writer are; those of a socket are not.
 #[derive(Drop)]
 pub struct StreamWrite<W: Write> {
     writer: W,
@@ -68,7 +66,7 @@ pub struct StreamWrite<W: Write> {
 }
 
 impl<W: Write> StreamWrite<W> {
-    /// Nothing is written yet.
+    /// The direction to the client, before the first write.
     pub fn new(writer: W) -> StreamWrite<W>
         ensures { result.writer ≡ writer }
     {

@@ -1,4 +1,4 @@
--- What the events leave of a service.
+-- What the events of the front leave of a service: the state, the sessions' attachments, and what waits.
 use Rattle.std.specs.Prelude.{◌≡◌, ℕ, ◌+◌, ◌<◌, ◌≤◌, List, [], ◌∷◌, ◌++◌, length, false, Option, Some, None, IsSomeAnd}
 use Rattle.std.specs.Option.{option_map, option_map_or}
 use Rattle.std.specs.Ordering.{nat_cmp}
@@ -20,22 +20,22 @@ pub record IsFree (s : ServiceState) (session number : ℕ) : Type 0 where
   pub usable : IsSomeAnd (get s.state.sessions session) (λ x. IsUsable x number)
   pub new : get s.waiting (session, number) ≡ None
 
--- there is a place for all that one event may add, and room for it among the entries
+-- there are places for all entries that one event may add, and room for them among the pending entries
 pub record HasRoom (s : ServiceState) : Type 0 where
   pub places : s.state.place + most_event_entries ≤ greatest_place
   pub few : length s.pending ≤ most_waiting
 
--- an entry of its own, and then those that it lets be served
+-- the event makes an entry of its own, and then those of the waiting requests that it lets be served
 pub record Completes (old new : ServiceState) (own : Entry) (served : List Entry) : Type 0 where
   pub serves : Serves (after old.state own) old.waiting served new.state new.waiting
   pub pending : new.pending ≡ old.pending ++ own ∷ served
   pub attachments : new.attachments ≡ old.attachments
 
--- an entry that is made
+-- the service after this entry
 abbrev pub entered : ServiceState → Entry → ServiceState
 entered s e = record s { state = after s.state e; pending = s.pending ++ e ∷ [] }
 
--- the floor of a session, 1 where it begins
+-- the floor of a session, or 1 if the session begins
 abbrev pub floor_of : ServiceState → ℕ → ℕ
 floor_of s session = option_map_or (λ x. x.floor) (get s.state.sessions session) 1
 
@@ -52,7 +52,7 @@ settled s session floor = entered s (Settled session floor)
 abbrev pub closed : ServiceState → ℕ → ServiceState
 closed s session = record (entered s (Closed session)) { waiting = without_session s.waiting session; attachments = with_closing s.attachments session }
 
--- the service after what waits of a session was withdrawn, all of it or one request
+-- the service after waiting requests of a session were withdrawn, all of them or one
 abbrev pub withdrawn : ServiceState → ℕ → ServiceState
 withdrawn s session = record s { waiting = without_session s.waiting session }
 
@@ -71,7 +71,7 @@ left s session = record s { attachments = remove s.attachments session }
 abbrev pub waited : ServiceState → ℕ → ℕ → WaitingAccess → ServiceState
 waited s session number waiter = record s { waiting = insert s.waiting (session, number) waiter }
 
--- a session's requests wait at its new floor or above, to which it may rise
+-- a session may settle at this floor: the floor may rise to it, and all requests that wait have that number or a greater one
 pub record MaySettle (s : ServiceState) (session floor : ℕ) : Type 0 where
   pub rises : IsSomeAnd (get s.state.sessions session) (λ x. MayRise x.floor floor)
   pub above : (number : ℕ) (w : WaitingAccess) → get s.waiting (session, number) ≡ Some w → floor ≤ number
@@ -81,6 +81,6 @@ pub record IsAttachable (s : ServiceState) (session : ℕ) : Type 0 where
   pub not_closing : is_closing s.attachments session ≡ false
   pub attachment : get s.attachments session ≡ None → len s.attachments < most_sessions
 
--- one attachment for each session of a state, which nobody has
+-- each session of the state has an attachment that no connection has, and no other session has one
 abbrev pub AreFreeAttachments : FinMap nat_cmp Session → FinMap nat_cmp Attachment → Type 0
 AreFreeAttachments sessions attachments = (session : ℕ) → get attachments session ≡ option_map (λ _. free_attachment) (get sessions session)

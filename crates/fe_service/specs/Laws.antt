@@ -1,4 +1,4 @@
--- Laws of the service.
+-- A law of the service of waiting requests, cited by a public function.
 use Rattle.std.specs.Prelude.{◌+◌, ◌≤◌, List, length}
 use Rattle.fe_state.specs.State.{ServerState}
 use Rattle.fe_state.specs.History.{AreLegal}
@@ -6,7 +6,7 @@ use Rattle.fe_state.specs.declared.entry.Entry.{Entry}
 use Rattle.fe_service.specs.Service.{WaitingAccesses, AreUsable, Serves}
 use Rattle.fe_state.specs.Limits.{greatest_place}
 
--- Where there is a place for each entry of a service, they are legal one after the other.
+-- If there is a place for each entry that a service makes, the entries are legal one after the other.
 abbrev pub ServesLegally : Type 0
 ServesLegally = (s s' : ServerState) (waiting waiting' : WaitingAccesses) (es : List Entry)
     → AreUsable s waiting → s.place + length es ≤ greatest_place → Serves s waiting es s' waiting' → AreLegal s es

@@ -1,4 +1,5 @@
--- The requests that wait by session and number, which of them may be served, and what serving them leaves.
+-- The service of waiting requests: which of them may be served, and what serving them leaves. A request waits until its
+-- word has the tag that its operation needs.
 use Rattle.std.specs.Prelude.{◌≡◌, ℕ, Some, None, IsSome, IsSomeAnd, false, List, [], ◌∷◌}
 use Rattle.std.specs.FinMap.{FinMap, get, remove}
 use Rattle.fe_waits.specs.Pair.{pair_cmp}
@@ -15,15 +16,15 @@ use Rattle.fe_state.specs.declared.entry.Entry.TheVariants.{Attached, Closed, Se
 abbrev pub WaitingAccesses : Type 0
 WaitingAccesses = FinMap pair_cmp WaitingAccess
 
--- the request of one that waits: one that must not wait never does
+-- the request of a waiting access; one that must not wait never does
 abbrev pub request_of : WaitingAccess → Request
 request_of w = Access w.array w.index w.op false
 
--- one that waits may be served where its request has a reply
+-- a waiting request may be served if it has a reply
 abbrev pub IsEligible : ServerState → WaitingAccess → Type 0
 IsEligible s w = IsSome (reply s (request_of w))
 
--- no one that waits may be served
+-- no waiting request may be served
 abbrev pub IsQuiet : ServerState → WaitingAccesses → Type 0
 IsQuiet s waiting = (key : ℕ × ℕ) (w : WaitingAccess) → get waiting key ≡ Some w → reply s (request_of w) ≡ None
 
@@ -31,7 +32,7 @@ IsQuiet s waiting = (key : ℕ × ℕ) (w : WaitingAccess) → get waiting key �
 abbrev pub AreUsable : ServerState → WaitingAccesses → Type 0
 AreUsable s waiting = (key : ℕ × ℕ) (w : WaitingAccess) → get waiting key ≡ Some w → IsSomeAnd (get s.sessions key.0) (λ x. IsUsable x key.1)
 
--- an entry that serves one that waits, whichever may be served: it finishes with its reply
+-- the entry serves a waiting request, whichever may be served: it finishes the request with its reply
 pub record IsTurn (s : ServerState) (waiting : WaitingAccesses) (e : Entry) : Type 0 where
   pub session : ℕ
   pub number : ℕ
@@ -41,24 +42,24 @@ pub record IsTurn (s : ServerState) (waiting : WaitingAccesses) (e : Entry) : Ty
   pub answered : reply s (request_of waiter) ≡ Some answer
   pub entry : e ≡ Finished session number (request_of waiter) answer
 
--- what waits without the request that an entry finishes
+-- what waits without the request that the entry finishes
 abbrev pub without_turn : WaitingAccesses → Entry → WaitingAccesses
 without_turn waiting (Attached session floor) = waiting
 without_turn waiting (Closed session) = waiting
 without_turn waiting (Settled session floor) = waiting
 without_turn waiting (Finished session number request answer) = remove waiting (session, number)
 
--- the same for entries, the first of them first
+-- what waits without the requests that the entries finish, the first of them first
 abbrev pub without_turns : WaitingAccesses → List Entry → WaitingAccesses
 without_turns waiting [] = waiting
 without_turns waiting (e ∷ es) = without_turns (without_turn waiting e) es
 
--- entries that serve one after the other
+-- the entries serve waiting requests, one after the other
 abbrev pub AreTurns : ServerState → WaitingAccesses → List Entry → Type 0
 AreTurns s waiting [] = Unit {0}
 AreTurns s waiting (e ∷ es) = IsTurn s waiting e × AreTurns (after s e) (without_turn waiting e) es
 
--- The service of what waits: one after the other is served until none is left that may be, whoever comes first.
+-- The service of what waits: one request after the other is served, in whichever order, until no more may be.
 pub record Serves (s : ServerState) (waiting : WaitingAccesses) (es : List Entry) (s' : ServerState) (waiting' : WaitingAccesses) : Type 0 where
   pub turns : AreTurns s waiting es
   pub state : s' ≡ after_all s es

@@ -1,4 +1,4 @@
--- A service as its callers see it, and what is always true of it.
+-- The service of waiting requests as its callers see it, and what is always true of it.
 use Rattle.std.specs.Prelude.{◌≡◌, ℕ, Bool, false, not, List, is_some, refl}
 use Rattle.std.specs.Option.{option_map_or}
 use Rattle.std.specs.Ordering.{nat_cmp}
@@ -37,8 +37,8 @@ service_code =
 abbrev pub is_open : FinMap nat_cmp Attachment → ℕ → Bool
 is_open attachments session = option_map_or (λ attachment. not attachment.closing) (get attachments session) false
 
--- What is always true: each one that waits has a session and a number of its window, none of them may be served, and
--- the sessions of the state are those that have an attachment and are not closing.
+-- What is always true: each request that waits has a session and a number of its window; none of them may be served;
+-- and the sessions of the state are those that have an attachment and are not closing.
 pub record IsService (s : ServiceState) : Type 0 where
   pub usable : AreUsable s.state s.waiting
   pub quiet : IsQuiet s.state s.waiting

@@ -1,4 +1,4 @@
-//! Laws of the service, which hold apart from any code.
+//! Laws of the service of waiting requests, which hold apart from any code.
 
 ghost use Rattle.fe_service.specs.Laws.{ServesLegally};
 

@@ -1,4 +1,5 @@
--- What a hold of a hall's lock did to the front, and why it did nothing.
+-- What a hold of a hall's lock did to the front, and why it did nothing. A hall is a front that many threads share; a
+-- hold is one time that a thread has its lock, and makes at most one event.
 use Rattle.std.specs.Prelude.{◌≡◌, ◌⊎◌, ℕ, ◌≤◌, Bool, true, false, List, [], length, nat_lt, Option, Some, None}
 use Rattle.fe_mail.specs.Connections.{mails_on}
 use Rattle.fe_front.specs.Event as event
@@ -19,7 +20,7 @@ use Rattle.fe_shared.specs.declared.taking.Taking.TheVariants as taking
 use Rattle.fe_shared.specs.declared.unconnected.Unconnected.{Unconnected}
 use Rattle.fe_shared.specs.declared.unconnected.Unconnected.TheVariants as unconnected
 
--- The event of this hold was made. It does not stop the hall, nor start it again.
+-- The event of this hold was made. It neither stops the hall nor starts it again.
 abbrev pub MakesEvent : SharedState → SharedState → Type 0
 MakesEvent s t = (t.used ≡ true) × (t.stopped ≡ s.stopped)
 
@@ -31,17 +32,17 @@ MakesNoEvent s t = (t.used ≡ s.used) × (t.stopped ≡ s.stopped)
 abbrev pub has_mail : FrontState → ℕ → Bool
 has_mail f conn = nat_lt 0 (length (mails_on f.connections conn))
 
--- Why a connection was not made: one of its number is there, or all were made, or memory was short.
+-- Why a connection was not made: one with its number is connected, or all were made, or memory was short.
 abbrev pub IsUnconnected : FrontState → ℕ → ℕ → Unconnected → Type 0
 IsUnconnected f connections_made conn (unconnected.InUse in_use) = is_connected f conn ≡ true
 IsUnconnected f connections_made conn (unconnected.NoMemory short) = is_connected f conn ≡ false
 IsUnconnected f connections_made conn (unconnected.Spent all) = (is_connected f conn ≡ false) × (connections_made ≡ most_connections)
 
--- the connection is gone, with its box and what waits of its session
+-- the connection is removed, with its box and what waits of its session
 abbrev pub Leaves : FrontState → ℕ → FrontState → Type 0
 Leaves f conn g = (count : ℕ) × FrontStep f (event.Gone conn count) [] g
 
--- Why no mail comes any more for a connection whose box is empty; `None`: one may come.
+-- Why no mail comes any more for a connection whose box is empty. `None` says that one may come.
 abbrev pub Ends : FrontState → Bool → ℕ → Option Taking → Type 0
 Ends f stopped conn (Some (taking.Mail mail more)) = ⊥
 Ends f stopped conn (Some taking.Gone) = is_connected f conn ≡ false
@@ -49,7 +50,7 @@ Ends f stopped conn (Some taking.Stopped) = (is_connected f conn ≡ true) × (s
 Ends f stopped conn (Some taking.Spent) = most_counted ≤ f.books.taken
 Ends f stopped conn None = (is_connected f conn ≡ true) × (stopped ≡ false)
 
--- A mail of a connection was taken, or its box was empty, and then why none comes any more.
+-- A mail of a connection was taken; or its box was empty, and this is why none comes any more.
 abbrev pub TakesMail : FrontState → Bool → ℕ → Option Taking → FrontState → Type 0
 TakesMail f stopped conn (Some (taking.Mail mail more)) g = FrontStep f (event.TakeMail conn (Some mail)) [] g × (more ≡ has_mail g conn)
 TakesMail f stopped conn (Some taking.Gone) g = FrontStep f (event.TakeMail conn None) [] g × Ends g stopped conn (Some taking.Gone)
@@ -57,21 +58,21 @@ TakesMail f stopped conn (Some taking.Stopped) g = FrontStep f (event.TakeMail c
 TakesMail f stopped conn (Some taking.Spent) g = FrontStep f (event.TakeMail conn None) [] g × Ends g stopped conn (Some taking.Spent)
 TakesMail f stopped conn None g = FrontStep f (event.TakeMail conn None) [] g × Ends g stopped conn None
 
--- Nothing more comes for a connection: it is gone, or the hall is stopped.
+-- Nothing more comes for a connection: it is not connected, or the hall is stopped.
 abbrev pub IsOver : FrontState → Bool → ℕ → Type 0
 IsOver f stopped conn = (stopped ≡ true) ⊎ (is_connected f conn ≡ false)
 
--- Nothing more comes for a connection of what was made before this place: it is over, or all that is durable and its box is empty.
+-- Nothing more comes for a connection from what was made before this place: it is over, or all of it is durable and its box empty.
 abbrev pub IsDrained : FrontState → Bool → ℕ → ℕ → Type 0
 IsDrained f stopped conn place = IsOver f stopped conn ⊎ ((place ≤ f.durable) × (has_mail f conn ≡ false))
 
--- Why a batch was not posted: a book has no room for its mails, or it is not as the one that is out.
+-- Why a batch was not posted: a book has no room for its mails, or it is not the batch that is out.
 abbrev pub IsUnposted : FrontState → Batch → Unposted → Type 0
 IsUnposted f batch (unposted.Full full) = posts_more f.books batch ≡ false
 IsUnposted f batch (unposted.Strange strange) = (posts_more f.books batch ≡ true) × (¬ IsOut f.out batch)
 
--- A batch was cut; or none was, and where the hall is stopped all that was made is durable, so that nothing is left to store; or
--- another side cut batches, and nothing happens.
+-- A batch was cut; or none was, and if the hall is stopped all that was made is durable, so nothing is left to store;
+-- or another side cut batches, and nothing happens.
 abbrev pub Cuts : FrontState → Bool → Option CutOutcome → FrontState → Type 0
 Cuts f stopped (Some (cutting.Batch cut)) g = FrontStep f (event.Cut (Some cut.batch)) [] g
 Cuts f stopped (Some (cutting.Stopped all)) g = FrontStep f (event.Cut None) [] g × (stopped ≡ true) × (g.durable ≡ g.service.state.place)

@@ -1,4 +1,4 @@
--- The lists that the logs of a connection's sides stand for.
+-- The logs of a connection's sides, as lists of the messages or mails that they took.
 use Rattle.std.specs.Prelude.{List, [], ◌∷◌, ◌++◌}
 use Rattle.fe_wire.specs.declared.client_message.ClientMessage.{ClientMessage}
 use Rattle.fe_mail.specs.declared.mail.Mail.{Mail}

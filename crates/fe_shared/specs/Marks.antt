@@ -1,4 +1,4 @@
--- What is under a hall's lock follows the hall's history: the front's entries are those of the batches that were cut, and what is pending.
+-- How the part under a hall's lock follows the history: the front's entries are those of the batches cut, and those pending.
 use Rattle.std.specs.Prelude.{◌≡◌, ℕ, Bool, List, [], ◌∷◌, ◌++◌, length, Option, None, Some, IfSome}
 use Rattle.std.specs.List.{AllByRecursion}
 use Rattle.std.specs.Option.{option_map}
@@ -20,7 +20,7 @@ use Rattle.fe_shared.specs.declared.taking.Taking.TheVariants as taking
 use Rattle.fe_history.specs.Acts.{IsLegal, MayBeAppended, StandsIn, WasIssued, batches_of, cuts_in, entries_in, place_after, stores_in}
 use Rattle.fe_history.specs.Receipts.{receipt_of}
 
--- a front as it begins, in a hall whose history is just this
+-- a front that begins, in a hall whose history has only begun
 abbrev pub IsBegun : FrontState → List Act → Type 0
 IsBegun f acts = (begun : ServerState) × IsFirst begun f × (acts ≡ Began begun ∷ [])
 
@@ -29,7 +29,7 @@ abbrev pub out_batches : Option Batch → List Batch
 out_batches None = []
 out_batches (Some batch) = batch ∷ []
 
--- what the front knows of it
+-- what the front knows of the batch that is out
 abbrev pub out_of : Batch → Out
 out_of batch = record { first = batch.first; length = length batch.entries }
 
@@ -41,7 +41,7 @@ BoxesTell begun es f = (conn : ℕ) → AllByRecursion (TellsAnswerIn begun es) 
 abbrev pub AskedIn : List Act → ℕ → ℕ → Type 0
 AskedIn acts = λ conn session. StandsIn acts (Asked conn session)
 
--- the mail is no answer, or this connection asked for its session
+-- if the mail is an answer, this connection asked for its session
 abbrev pub WasAskedFor : List Act → ℕ → Mail → Type 0
 WasAskedFor acts conn mail = IfSome (receipt_of conn mail) (λ r. AskedIn acts conn r.session)
 
@@ -53,9 +53,9 @@ BoxesAsked acts f = (conn : ℕ) → AllByRecursion (WasAskedFor acts conn) (mai
 abbrev pub made_entries : List Batch → Option Batch → FrontState → List Entry
 made_entries posted out f = entries_in posted ++ (entries_in (out_batches out) ++ f.service.pending)
 
--- A front whose posted batches, this many, were stored in the history, and whose batch that is out was cut next: its state is the one after
--- all entries that were made, each answered as the table says, and each answer in its boxes is of an entry that was posted. A connection
--- has only sessions that it asked for in that history, and each answer in its box is of one of them.
+-- A front whose posted batches, this many, were stored in the history, and whose batch that is out was cut next. Its state is the
+-- one after all entries made, each answered as the operation table says, and each answer in its boxes is of a posted entry. A
+-- connection has only sessions that it asked for in that history, and each answer in its box is of one of them.
 pub record IsMarked (f : FrontState) (count : ℕ) (acts : List Act) : Type 0 where
   pub begun : ServerState
   pub past : List Act
@@ -85,14 +85,14 @@ pub record SharedState : Type 0 where
   -- the read sides that wait for their boxes
   pub watched : List Watcher
 
--- what came of a look into the box of a connection may be issued to it after these acts
+-- what was found in the box of a connection may be issued to it after these acts, if it is an answer
 abbrev pub MayBeIssued : ℕ → Taking → List Act → Type 0
 MayBeIssued conn (taking.Mail mail more) acts = IfSome (receipt_of conn mail) (λ r. MayBeAppended acts (Issued r))
 MayBeIssued conn taking.Gone acts = Unit {0}
 MayBeIssued conn taking.Stopped acts = Unit {0}
 MayBeIssued conn taking.Spent acts = Unit {0}
 
--- what came of a look into the box of a connection was issued to it, if it is an answer
+-- what was found in the box of a connection was issued to it, if it is an answer
 abbrev pub TakingIssued : ℕ → Taking → List Act → Type 0
 TakingIssued conn (taking.Mail mail more) acts = WasIssued conn mail acts
 TakingIssued conn taking.Gone acts = Unit {0}

@@ -1,4 +1,4 @@
--- What the sides of connections did, and what the books of a hall may hold.
+-- Seats: what the two sides of a connection, its reading and its writing thread, did; and what the books of a hall may count.
 use Rattle.std.specs.Prelude.{◌≡◌, ◌⊎◌, ℕ, ◌+◌, ◌-◌, ◌^◌, ◌≤◌, Bool, true, false, ◌&&◌, nat_lt, nat_le, List, [], ◌∷◌, ◌++◌, length}
 use Rattle.fe_state.specs.declared.batch.Batch.{Batch}
 use Rattle.fe_mail.specs.Books.{Books}
@@ -20,11 +20,11 @@ pub record CallSeatState : Type 0 where
   pub messages : List ClientMessage
   -- the place after all entries that were made when the last of them was taken
   pub place : ℕ
-  -- how it stood when the hall last answered it
+  -- what the hall last answered the side
   pub last_answer : LastAnswer
-  -- whether it made its connection gone
+  -- whether the side removed its connection
   pub departed : Bool
-  -- whether it did so once it need not wait for what came of its messages
+  -- whether it did so only once it need not wait for what came of its messages
   pub rested : Bool
 
 -- what the write side of a connection did
@@ -37,12 +37,12 @@ pub record MailSeatState : Type 0 where
   pub taken : List Mail
   -- whether more were in its box then
   pub more : Bool
-  -- how it stood when the hall last answered it
+  -- what the hall last answered the side
   pub last_answer : LastAnswer
-  -- whether it made its connection gone
+  -- whether the side removed its connection
   pub departed : Bool
 
--- the seats of this many connections, and how many calls or mails they booked
+-- the seats of this many connections, and how many calls or mails they counted
 pub record Seats : Type 0 where
   pub connections : ℕ
   pub amount : ℕ
@@ -54,18 +54,18 @@ first_call_seat conn = record { conn = conn; calls = 0; messages = []; place = 0
 abbrev pub first_mail_seat : ℕ → MailSeatState
 first_mail_seat conn = record { conn = conn; mails = 0; taken = []; more = false; last_answer = Served; departed = false }
 
--- the seats of one connection, which booked this many, and of the connections of both
+-- the seats of one connection, which counted this many calls or mails; and the seats of two groups of connections
 abbrev pub one_seat : ℕ → Seats
 one_seat amount = record { connections = 1; amount = amount }
 
 abbrev pub both_seats : Seats → Seats → Seats
 both_seats s t = record { connections = s.connections + t.connections; amount = s.amount + t.amount }
 
--- how many connections a hall makes at most
+-- the most connections that a hall makes
 abbrev pub most_connections : ℕ
 most_connections = 2 ^ 62
 
--- as many as a book may count before the sides of a hall end: one post more stays below 2^63
+-- the most that a book may count before the sides of a hall end: one post more stays below 2^63
 abbrev pub most_counted : ℕ
 most_counted = 2 ^ 63 - 8192
 
@@ -84,53 +84,53 @@ calls_in (Settle floor) = 0
 calls_in Bye = 0
 calls_in Report = 0
 
--- a message of a read side was taken, after which this is the place after all entries
+-- a message of a read side was taken; after it, this is the place after all entries
 abbrev pub message_taken : CallSeatState → ClientMessage → ℕ → CallSeatState
 message_taken s m place = record s { calls = s.calls + calls_in m; messages = s.messages ++ m ∷ []; place = place; last_answer = Served }
 
--- the seat of a read side whose message was answered so, at this place
+-- the seat of a read side after this answer to its message, at this place
 abbrev pub message_answered : CallSeatState → ClientMessage → ℕ → LastAnswer → CallSeatState
 message_answered s m place Served = message_taken s m place
 message_answered s m place Gone = record s { last_answer = Gone }
 message_answered s m place Stopped = record s { last_answer = Stopped }
 message_answered s m place Spent = record s { last_answer = Spent }
 
--- a mail was taken for a write side, and whether more are in its box
+-- a mail was taken for a write side; `more` says whether more are in its box
 abbrev pub mail_taken : MailSeatState → Mail → Bool → MailSeatState
 mail_taken s mail more = record s { mails = s.mails + 1; taken = s.taken ++ mail ∷ []; more = more; last_answer = Served }
 
--- the seat of a write side whose box was looked into with this outcome
+-- the seat of a write side after this outcome of a look into its box
 abbrev pub taking_answered : MailSeatState → Taking → MailSeatState
 taking_answered s (taking.Mail mail more) = mail_taken s mail more
 taking_answered s taking.Gone = record s { last_answer = Gone }
 taking_answered s taking.Stopped = record s { last_answer = Stopped }
 taking_answered s taking.Spent = record s { last_answer = Spent }
 
--- a read side had no message taken in between
+-- the read side had no message taken between the two states
 pub record TookNoMessage (s t : CallSeatState) : Type 0 where
   pub conn : t.conn ≡ s.conn
   pub calls : t.calls ≡ s.calls
   pub messages : t.messages ≡ s.messages
   pub place : t.place ≡ s.place
 
--- a write side took no mail in between
+-- the write side took no mail between the two states
 pub record TookNoMail (s t : MailSeatState) : Type 0 where
   pub conn : t.conn ≡ s.conn
   pub mails : t.mails ≡ s.mails
   pub taken : t.taken ≡ s.taken
 
--- the side made its connection gone, or the hall answered that it is stopped
+-- the side removed its connection, or the hall answered that it is stopped
 abbrev pub HasDeparted : CallSeatState → Type 0
 HasDeparted s = (s.departed ≡ true) ⊎ (s.last_answer ≡ Stopped)
 
--- the side made its connection gone once it need not wait, or the hall answered that it is stopped
+-- the side removed its connection once it need not wait, or the hall answered that it is stopped
 abbrev pub HasRested : CallSeatState → Type 0
 HasRested s = ((s.departed ≡ true) × (s.rested ≡ true)) ⊎ (s.last_answer ≡ Stopped)
 
--- one message more may be taken
+-- whether one more message may be taken
 abbrev pub takes_more : Books → Bool
 takes_more b = nat_lt b.calls most_counted && nat_lt b.mails most_counted
 
--- the mails of a batch may be made
+-- whether the mails of a batch may be made
 abbrev pub posts_more : Books → Batch → Bool
 posts_more b batch = nat_le (b.mails + length batch.entries) most_counted

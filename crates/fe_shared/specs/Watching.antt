@@ -1,4 +1,4 @@
--- Which read sides wait for their boxes.
+-- Which read sides (connections' reading threads) wait for their boxes, that is until the mails there are taken.
 use Rattle.std.specs.Prelude.{ℕ, Bool, List, ◌==◌}
 use Rattle.std.specs.List.{list_any}
 use Rattle.fe_shared.specs.declared.watchers.Watcher.{Watcher}

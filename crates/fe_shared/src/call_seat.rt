@@ -11,20 +11,20 @@ use std::marker::Model;
 use std::snapshot::Snapshot;
 use std::sync::ledger::{Book, Share};
 
-/// The seat of a connection's read side: contracts see the connection's number, and what the side did.
+/// The seat of a connection's read side, the thread that reads. Contracts see the connection's number, and what the side did.
 ///
-/// Only the hall changes it, and only in a hold, since each change needs the book, which is under the lock.
+/// Only the hall changes it, and only in a hold of the lock, since each change needs the book, which is under the lock.
 #[derive(Drop)]
 pub struct CallSeat<C: Tally> {
     share: Share<C>,
     conn: u64,
     messages: MessageLog,
-    /// The place after all entries that were made when the last of them was taken.
+    /// The place after all entries that were made when its last message was taken.
     place: u64,
     last_answer: LastAnswer,
-    /// The side made its connection gone.
+    /// Whether the side removed its connection.
     departed: bool,
-    /// It did so once it need not wait for what came of its messages.
+    /// Whether it did so only once it need not wait for what came of its messages.
     rested: bool,
 }
 
@@ -81,7 +81,7 @@ impl<C: Tally> CallSeat<C> {
         self.place
     }
 
-    /// A message was taken, after which this is the place after all entries. Its calls are counted here and in the book.
+    /// Notes that a message was taken, and the place after all entries then. Its calls are counted here and in the book.
     pub(crate) fn take(&mut self, book: &mut Book<C>, message: &ClientMessage, place: u64)
         ensures seat { self.new ≡ message_taken self.old message.now place }
         ensures book { book.new.total ≡ book.old.total + calls_in message.now }
@@ -100,14 +100,14 @@ impl<C: Tally> CallSeat<C> {
         self.last_answer = last_answer;
     }
 
-    /// The side makes its connection gone.
+    /// Notes that the side removes its connection.
     pub(crate) fn depart(&mut self, _book: &Book<C>)
         ensures { self.new ≡ record self.old { departed = true } }
     {
         self.departed = true;
     }
 
-    /// The side makes its connection gone, since it need not wait.
+    /// Notes that the side removes its connection, since it need not wait.
     pub(crate) fn rest(&mut self, _book: &Book<C>, _rest: Rest)
         requires own { _rest.conn ≡ self.old.conn }
         ensures { self.new ≡ record self.old { departed = true; rested = true } }
@@ -116,7 +116,7 @@ impl<C: Tally> CallSeat<C> {
         self.rested = true;
     }
 
-    /// The seats of its connection alone.
+    /// The seats of its one connection.
     pub fn into_seats(self) -> Seats<C>
         ensures { result ≡ one_seat self.calls }
     {

@@ -1,9 +1,9 @@
-/// How a side of a connection stood when the hall last answered it.
+/// What the hall last answered a side of a connection.
 #[derive(Clone, Copy, PartialEq, Eq)]
 pub enum LastAnswer {
-    /// It was served, or nothing was asked for it yet.
+    /// The side was served, or has asked nothing yet.
     Served,
-    /// Its connection is not there.
+    /// The connection is not connected.
     Gone,
     /// The hall is stopped. A write side learns of it once its box is empty.
     Stopped,

@@ -10,9 +10,9 @@ use std::marker::Model;
 use std::snapshot::Snapshot;
 use std::sync::ledger::{Book, Share};
 
-/// The seat of a connection's write side: contracts see the connection's number, and what the side did.
+/// The seat of a connection's write side, the thread that writes. Contracts see the connection's number, and what the side did.
 ///
-/// Only the hall changes it, and only in a hold, since each change needs the book, which is under the lock.
+/// Only the hall changes it, and only in a hold of the lock, since each change needs the book, which is under the lock.
 #[derive(Drop)]
 pub struct MailSeat<M: Tally> {
     share: Share<M>,
@@ -21,7 +21,7 @@ pub struct MailSeat<M: Tally> {
     /// Whether more mails were in the box when one was taken.
     more: bool,
     last_answer: LastAnswer,
-    /// The side made its connection gone.
+    /// Whether the side removed its connection.
     departed: bool,
 }
 
@@ -69,14 +69,14 @@ impl<M: Tally> MailSeat<M> {
         self.conn
     }
 
-    /// Whether more mails were in the box when one was taken last.
+    /// Whether more mails were in the box when the last one was taken.
     pub fn more(&self) -> bool
         ensures { result ≡ self.now.more }
     {
         self.more
     }
 
-    /// A mail is taken. It is counted here and in the book. `more`: others are in the box.
+    /// Notes that a mail was taken. It is counted here and in the book. `more` says whether others are in the box.
     pub(crate) fn take(&mut self, book: &mut Book<M>, mail: &Mail, more: bool)
         ensures seat { self.new ≡ mail_taken self.old mail.now more }
         ensures book { book.new.total ≡ book.old.total + 1 }
@@ -95,14 +95,14 @@ impl<M: Tally> MailSeat<M> {
         self.last_answer = last_answer;
     }
 
-    /// The side makes its connection gone.
+    /// Notes that the side removes its connection.
     pub(crate) fn depart(&mut self, _book: &Book<M>)
         ensures { self.new ≡ record self.old { departed = true } }
     {
         self.departed = true;
     }
 
-    /// The seats of its connection alone.
+    /// The seats of its one connection.
     pub fn into_seats(self) -> Seats<M>
         ensures { result ≡ one_seat self.mails }
     {

@@ -7,7 +7,7 @@ use fe_history::Tally;
 use std::marker::Model;
 use std::sync::ledger::Share;
 
-/// The seats of a connection just made, whose two sides have not begun: contracts see the connection's number.
+/// The seats of a new connection, whose two sides have not begun. Contracts see the connection's number.
 #[derive(Drop)]
 pub struct NewSeats<C: Tally, M: Tally> {
     calls: Share<C>,
@@ -28,7 +28,7 @@ impl<C: Tally, M: Tally> Model for NewSeats<C, M> {
 }
 
 impl<C: Tally, M: Tally> NewSeats<C, M> {
-    /// Those of a connection just made: one part of each ledger.
+    /// The seats of a new connection: one part of each ledger.
     pub(crate) fn new(calls: Share<C>, mails: Share<M>, conn: u64) -> NewSeats<C, M>
         requires calls { (calls.parts ≡ 1) × (calls.amount ≡ 0) × (C.all ≡ most_connections + 1) }
         requires mails { (mails.parts ≡ 1) × (mails.amount ≡ 0) × (M.all ≡ most_connections + 1) }
@@ -37,7 +37,7 @@ impl<C: Tally, M: Tally> NewSeats<C, M> {
         NewSeats { calls, mails, conn }
     }
 
-    /// The seats of its two sides, which begin.
+    /// The seats of its two sides, which begin now.
     pub fn begin(self) -> (CallSeat<C>, MailSeat<M>)
         ensures calls { result.0 ≡ first_call_seat self }
         ensures mails { result.1 ≡ first_mail_seat self }

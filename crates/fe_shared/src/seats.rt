@@ -5,7 +5,7 @@ use fe_history::Tally;
 use std::marker::Model;
 use std::sync::ledger::{Book, Share};
 
-/// The seats of one side of some connections: contracts see how many connections, and how many calls or mails they booked in all.
+/// The seats of one side of some connections. Contracts see how many these are, and how many calls or mails they counted in all.
 #[derive(Drop)]
 pub struct Seats<L: Tally> {
     share: Share<L>,
@@ -24,7 +24,7 @@ impl<L: Tally> Model for Seats<L> {
 }
 
 impl<L: Tally> Seats<L> {
-    /// That of one connection, with its part of the ledger.
+    /// The seat of one connection, with its part of the ledger.
     pub(crate) fn of(share: Share<L>) -> Seats<L>
         requires part { share.parts ≡ 1 }
         requires all { L.all ≡ most_connections + 1 }
@@ -46,14 +46,14 @@ impl<L: Tally> Seats<L> {
         self.connections += connections;
     }
 
-    /// How many connections they are of, at least 1.
+    /// The number of connections whose seats these are, at least 1.
     pub(crate) fn connections(&self) -> u64
         ensures { result ≡ self.now.connections }
     {
         self.connections
     }
 
-    /// The seats of all connections have what the book has; the spare part is the hall's own.
+    /// Shows that the seats of all connections counted what the book has. The spare part of the ledger is the hall's own.
     pub(crate) fn audit(self, book: &mut Book<L>, spare: Share<L>)
         requires ledger { L.all ≡ L.parts }
         requires whole { spare.parts + self.connections ≡ L.all }

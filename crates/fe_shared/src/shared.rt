@@ -1,4 +1,5 @@
-//! What is under the lock of a hall: the front, with a ledger of its calls and one of the mails that were taken.
+//! What is under the lock of a hall: the front, with a ledger of its calls and one of the mails that were taken. A ledger has
+//! parts whose counts add up to its own, and exists in proofs alone; a hold is one time that a thread has the lock.
 
 ghost use Rattle.std.specs.Prelude.{IsNone, ◌≡◌, ◌≢◌, ◌+◌, ◌≤◌, ◌↔◌, ℕ, List, [], true, false, Ok, Err, Some, None, IsTrue, IsErr, IfErr, IfOk, OnOk, OnErr, IfSome, MatchOption};
 ghost use Rattle.fe_state.specs.declared.entry.Entry.{Entry};
@@ -37,13 +38,13 @@ use std::alloc::Global;
 use std::marker::Model;
 use std::sync::ledger::{Blank, Book, Share};
 
-/// How many connections a hall makes at most.
+/// The most connections that a hall makes.
 const CONNECTIONS: u64 = 1 << 62;
 
-/// How many parts each ledger of a hall has: one for each connection that it makes, and that of the book.
+/// The parts of each ledger of a hall: one for each connection that it may make, and one for the book.
 pub const PARTS: u64 = CONNECTIONS + 1;
 
-/// As many as a book of a hall may count before its sides end. One post more stays below 2^63.
+/// The most that a book of a hall may count before its sides end. One post more stays below 2^63.
 const MOST_COUNTED: u64 = (1 << 63) - 8192;
 
 /// The front and its ledgers, which agree with its books.
@@ -62,7 +63,7 @@ pub struct Shared<C: Tally, M: Tally> {
     watchers: Watchers,
     paces: Paces,
     stopped: bool,
-    /// The event of this hold was made.
+    /// Whether the event of this hold was made.
     used: bool,
     ghost open: { IsOpen front.books },
     ghost calls_agree: { calls.total ≡ front.books.calls },
@@ -123,7 +124,7 @@ impl<C: Tally, M: Tally> Model for Shared<C, M> {
     ghost invariant = { λ s. IsMarked s.front s.posted s.history };
 }
 
-/// The right to make connections in a hall. There is one, which the hall gives to whoever begins it.
+/// The right to make connections in a hall. There is one, which the hall gives to the caller that begins it.
 #[derive(Drop)]
 pub struct ConnectRight(());
 
@@ -131,7 +132,7 @@ pub struct ConnectRight(());
 #[derive(Drop)]
 pub struct HoldRight(());
 
-/// Shows that a connection of some number was there. Only `Shared::connect` makes one.
+/// Shows that a connection with some number was connected. Only `Shared::connect` makes one.
 #[derive(Clone, Copy, PartialEq, Eq)]
 pub struct InUse(());
 
@@ -143,7 +144,7 @@ pub struct AllMade(());
 #[derive(Clone, Copy)]
 pub struct HasStopped(());
 
-/// The place after all entries that were made when a read side looked. Only `Shared::connections_made` makes one.
+/// The place after all entries that were made when a read side looked. Only `Shared::place_then` makes one.
 #[derive(Drop)]
 pub struct PlaceThen {
     place: u64,
@@ -159,7 +160,7 @@ impl Model for PlaceThen {
 #[derive(Drop)]
 pub struct Rest {
     conn: u64,
-    /// There was no memory to note that it waits.
+    /// Whether there was no memory to note that the side waits.
     short: Option<Short>,
 }
 
@@ -172,8 +173,8 @@ impl Model for Rest {
     ghost view = { λ r. record { conn = r.conn; short = is_some r.short } };
 }
 
-/// Shows that the seats handed in were not those of all connections that were made, or that another side stored groups. Only the
-/// audit of a hall makes one.
+/// Shows that the seats that were handed in were not those of all connections that were made, or that another side
+/// stored groups. Only the audit of a hall makes one.
 #[derive(Clone, Copy, PartialEq, Eq)]
 pub struct SeatMissing(());
 
@@ -191,8 +192,8 @@ impl SeatMissing {
 }
 
 impl<C: Tally, M: Tally> Shared<C, M> {
-    /// A front that is as it began, with no connection made, and the rights to make some and to begin holds. Until a hold begins there is
-    /// no event.
+    /// A front that has only begun, with no connection made, and the rights to make some and to begin holds. Before the
+    /// first hold there is no event.
     pub fn new(
         alloc: Global,
         front: Front,
@@ -227,7 +228,7 @@ impl<C: Tally, M: Tally> Shared<C, M> {
         (shared, ConnectRight(()), HoldRight(()))
     }
 
-    /// A hold begins, in which one event may be made.
+    /// Begins a hold, in which one event may be made.
     pub fn begin_hold(&mut self, _right: &HoldRight)
         ensures { self.new ≡ record self.old { used = false } }
     {
@@ -276,7 +277,7 @@ impl<C: Tally, M: Tally> Shared<C, M> {
         books.calls < MOST_COUNTED && books.mails < MOST_COUNTED
     }
 
-    /// A message of a connection is its event, or its refusal is mailed.
+    /// Takes a message of a connection: it is an event, or its refusal is mailed.
     fn take_message(
         &mut self,
         alloc: Global,
@@ -300,8 +301,8 @@ impl<C: Tally, M: Tally> Shared<C, M> {
         self.paces.note_message(conn);
     }
 
-    /// Handles a message, or records in its seat why not. If there is no room for it, does nothing and returns `None`. The history hears
-    /// which session the message asks for.
+    /// Handles a message, or records in its seat why it does not. If there is no room for the message, does nothing and
+    /// returns `None`. The history learns which session the message asks for.
     pub fn handle(
         &mut self,
         alloc: Global,
@@ -318,7 +319,7 @@ impl<C: Tally, M: Tally> Shared<C, M> {
         ensures unheard { result ≢ Some LastAnswer.Served → self.new.history ≡ self.old.history }
         ensures seat { MatchOption result (seat.new ≡ seat.old)
             (λ s. seat.new ≡ message_answered seat.old message.now self.new.front.service.state.place s) }
-        // Each other answer has its reason, and stopped comes first.
+        // Each other answer has its reason, and `Stopped` comes first.
         ensures stopped { (result ≡ Some LastAnswer.Stopped) ↔ (self.old.stopped ≡ true) }
         ensures gone { result ≡ Some LastAnswer.Gone → is_connected self.old.front seat.old.conn ≡ false }
         ensures spent { result ≡ Some LastAnswer.Spent → takes_more self.old.front.books ≡ false }
@@ -353,7 +354,7 @@ impl<C: Tally, M: Tally> Shared<C, M> {
         self.watchers.add_to(set);
     }
 
-    /// The read side of a connection waits for its box. Whether that is noted, for which there may be no memory.
+    /// Notes that the read side of a connection waits for its box. Fails if there is no memory for that.
     pub fn watch(&mut self, conn: u64) -> Result<(), Short>
         ensures watched { OnOk result (IsTrue (waits self.new.watched conn)) }
         ensures front { self.new.front ≡ self.old.front }
@@ -362,7 +363,7 @@ impl<C: Tally, M: Tally> Shared<C, M> {
         self.watchers.add(conn)
     }
 
-    /// The read side of a connection waits no more. Whether it was noted as waiting.
+    /// Notes that the read side of a connection waits no more. Returns whether it was noted as waiting.
     pub fn unwatch(&mut self, conn: u64) -> bool
         ensures watched { result ≡ waits self.old.watched conn }
         ensures front { self.new.front ≡ self.old.front }
@@ -378,7 +379,7 @@ impl<C: Tally, M: Tally> Shared<C, M> {
         self.watchers.has(conn)
     }
 
-    /// The hall is stopped. This is no event of the front, and the hold makes none after it.
+    /// Stops the hall. This is no event of the front, and the hold makes none after it.
     pub fn stop(&mut self) -> HasStopped
         requires fresh { self.old.used ≡ false }
         ensures stopped { self.new.stopped ≡ true }
@@ -406,14 +407,14 @@ impl<C: Tally, M: Tally> Shared<C, M> {
         }
     }
 
-    /// Whether nothing is left to take for a connection of what was made before this place: that is durable, and its box is empty.
+    /// Whether nothing made before this place is left to take for a connection: all of it is durable, and its box is empty.
     fn is_drained(&self, conn: u64, place: u64) -> bool
         ensures { IsTrue result ↔ IsDrained self.now.front self.now.stopped conn place }
     {
         self.is_over(conn) || self.front.durable() >= place && !self.front.has_mail(conn)
     }
 
-    /// Whether the read side of a connection need not wait for what comes of its messages. `None`: it is noted that it waits.
+    /// Whether the read side of a connection need not wait for what comes of its messages. If `None`, it is noted that it waits.
     pub fn rest(&mut self, seat: &CallSeat<C>) -> Option<Rest>
         ensures watched { IsNone result → IsTrue (waits self.new.watched seat.now.conn) }
         ensures own { IfSome result (λ rest. rest.conn ≡ seat.now.conn) }
@@ -434,8 +435,8 @@ impl<C: Tally, M: Tally> Shared<C, M> {
         Some(Rest { conn, short })
     }
 
-    /// Whether the read side of a connection may hand on more: its write side is close behind, or has taken what came of all that was
-    /// made before, or there is no memory to note that it waits. If not, it is noted.
+    /// Whether the read side of a connection may hand on more: its write side is close behind, or has taken what came of all that
+    /// was made before, or there is no memory to note that the side waits. If it may not, it is noted as waiting.
     pub fn may_go_on(&mut self, conn: u64, place_then: &PlaceThen) -> bool
         ensures waits { result ≡ false → ¬ IsDrained self.old.front self.old.stopped conn place_then.now }
         ensures watched { result ≡ false → IsTrue (waits self.new.watched conn) }
@@ -456,22 +457,22 @@ impl<C: Tally, M: Tally> Shared<C, M> {
         self.front.durable() >= place_then.place
     }
 
-    /// Whether the read side of a connection that waits has to go on waiting: something of what was made before is left to take, and
-    /// since it was noted that the side waits, its write side has taken nothing.
+    /// Whether the read side of a connection that waits has to go on waiting: something of what was made before is left
+    /// to take, and its write side has taken nothing since it was noted that the side waits.
     pub fn is_stuck(&self, conn: u64, place_then: &PlaceThen) -> bool
         ensures { IsTrue result → ¬ IsDrained self.now.front self.now.stopped conn place_then.now }
     {
         !self.is_drained(conn, place_then.place) && self.watchers.is_still(conn)
     }
 
-    /// How many mails were made, also those that met a full box.
+    /// How many mails were made, those that met a full box among them.
     pub fn mails_made(&self) -> u64
         ensures { result ≡ self.now.front.books.mails }
     {
         self.front.books().mails
     }
 
-    /// Takes the first mail out of a connection's box, or records in its seat why none comes. `None`: one may come.
+    /// Takes the first mail out of a connection's box, or records in its seat why none comes. `None` says that one may come.
     pub fn take_mail(&mut self, seat: &mut MailSeat<M>) -> Option<Taking>
         requires fresh { self.old.used ≡ false }
         ensures takes { TakesMail self.old.front self.old.stopped seat.old.conn result self.new.front }
@@ -494,7 +495,7 @@ impl<C: Tally, M: Tally> Shared<C, M> {
         }
     }
 
-    /// The history learns what was cut, what connections asked for, and what was stored, at least as far as it is posted.
+    /// Adds to a thread's history what was cut, what connections asked for, and what was stored, at least as far as it is posted.
     pub fn teach(&self, history: &mut History<M>)
         ensures this { IsPrefix history.old history.new }
         ensures that { IsPrefix self.now.history history.new }
@@ -502,7 +503,7 @@ impl<C: Tally, M: Tally> Shared<C, M> {
         history.learn(&self.history);
     }
 
-    /// Why no mail comes any more for a connection whose box is empty. `None`: one may come.
+    /// Why no mail comes any more for a connection whose box is empty. `None` says that one may come.
     fn end_of_mails(&self, seat: &mut MailSeat<M>) -> Option<Taking>
         ensures ends { Ends self.now.front self.now.stopped seat.old.conn result }
         ensures seat { MatchOption result (seat.new ≡ seat.old) (λ taking. seat.new ≡ taking_answered seat.old taking) }
@@ -522,7 +523,7 @@ impl<C: Tally, M: Tally> Shared<C, M> {
         None
     }
 
-    /// A connection is gone, with its box and what waits of its session.
+    /// Removes a connection, with its box and what waits of its session.
     fn drop_connection(&mut self, conn: u64)
         ensures step { Leaves self.old.front conn self.new.front }
         ensures still { MakesNoEvent self.old self.new }
@@ -531,7 +532,7 @@ impl<C: Tally, M: Tally> Shared<C, M> {
         let _ = self.front.gone(conn);
     }
 
-    /// A read side makes its connection gone.
+    /// Removes the connection of a read side.
     pub fn leave_by_reader(&mut self, seat: &mut CallSeat<C>)
         requires fresh { self.old.used ≡ false }
         ensures step { Leaves self.old.front seat.old.conn self.new.front }
@@ -543,7 +544,7 @@ impl<C: Tally, M: Tally> Shared<C, M> {
         seat.depart(&self.calls);
     }
 
-    /// A write side makes its connection gone.
+    /// Removes the connection of a write side.
     pub fn leave_by_writer(&mut self, seat: &mut MailSeat<M>)
         requires fresh { self.old.used ≡ false }
         ensures step { Leaves self.old.front seat.old.conn self.new.front }
@@ -555,8 +556,8 @@ impl<C: Tally, M: Tally> Shared<C, M> {
         seat.depart(&self.mails);
     }
 
-    /// A read side that need not wait makes its connection gone, unless the hall is stopped: then the hall says so, and the write side
-    /// goes on.
+    /// Removes the connection of a read side that need not wait. If the hall is stopped, records that instead, and the
+    /// write side goes on.
     pub fn depart(&mut self, seat: &mut CallSeat<C>, rest: Rest)
         requires fresh { self.old.used ≡ false }
         requires own { rest.conn ≡ seat.old.conn }
@@ -591,7 +592,7 @@ impl<C: Tally, M: Tally> Shared<C, M> {
             (λ books. (books.calls ≡ calls.amount) × (books.taken ≡ mails.amount) × (books ≡ self.front.books)) }
         ensures add_up { IfOk result (λ books. AddUp books) }
         ensures unspent { IfOk result (λ books. books.spent ≡ false) }
-        // No book is kept back where the seats are those of all connections that were made.
+        // It fails only if the seats are not those of all connections that were made.
         ensures missing { IsErr result → calls.connections ≡ self.connections_made → mails.connections
             ≡ self.connections_made → ⊥ }
     {

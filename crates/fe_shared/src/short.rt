@@ -1,4 +1,4 @@
-//! What takes memory for a connection. That memory was short is shown by a value that nothing else makes.
+//! Calls that take memory for a connection. A value that only they make shows that memory was short.
 
 ghost use Rattle.std.specs.Prelude.{◌≡◌, ◌+◌, ◌<◌, ◌++◌, None, ℕ, List, length, vec_len, vec_capacity, IfOk, OnOk, OnErr};
 ghost use Rattle.std.specs.FinMap.{get};
@@ -26,7 +26,7 @@ pub fn zeros(alloc: Global, count: u16) -> Result<Vec<u8>, Short>
     }
 }
 
-/// Makes room for one element more.
+/// Makes room for one more element.
 pub fn reserve_one<T>(list: &mut Vec<T>) -> Result<(), Short>
     ensures items { list.new.items ≡ list.old.items }
     ensures room { OnOk result (vec_len list.new < vec_capacity list.new) }

@@ -3,9 +3,9 @@ use fe_front::Mail;
 /// What a look into a connection's box found.
 #[derive(Drop)]
 pub enum Taking {
-    /// A mail was taken, and whether more are in the box.
+    /// A mail was taken. `more` says whether more are in the box.
     Mail { mail: Mail, more: bool },
-    /// The connection is not there.
+    /// The connection is not connected.
     Gone,
     /// The hall is stopped, and the box is empty.
     Stopped,

@@ -4,9 +4,9 @@ use crate::short::Short;
 /// Why no connection was made.
 #[derive(Clone, Copy, PartialEq, Eq)]
 pub enum Unconnected {
-    /// A connection of that number is there.
+    /// A connection with that number is connected.
     InUse(InUse),
     NoMemory(Short),
-    /// As many connections were made as a hall makes, 2^62.
+    /// All connections that a hall makes, 2^62, were made.
     Spent(AllMade),
 }

@@ -1,4 +1,4 @@
-//! Which read sides wait for their boxes.
+//! Which read sides (connections' reading threads) wait for their boxes, that is until the mails there are taken.
 
 ghost use Rattle.std.specs.Prelude.{◌≡◌, ℕ, IsTrue, OnOk};
 ghost use Rattle.fe_front.specs.ConnectionSet.{may_have};
@@ -23,7 +23,7 @@ pub(crate) struct Watchers {
 }
 
 impl Watchers {
-    /// Nobody waits.
+    /// No read side waits.
     pub(crate) fn new(alloc: Global) -> Watchers {
         Watchers {
             items: Vec::new(alloc),
@@ -37,7 +37,7 @@ impl Watchers {
         self.items.iter().any(|watcher| watcher.conn == conn)
     }
 
-    /// The read side of a connection waits. Whether that is noted: there may be no memory for it.
+    /// Notes that the read side of a connection waits. Fails if there is no memory for that.
     pub(crate) fn add(&mut self, conn: u64) -> Result<(), Short>
         ensures { OnOk result (IsTrue (waits self.new.items.items conn)) }
     {
@@ -47,7 +47,7 @@ impl Watchers {
         Ok(())
     }
 
-    /// The read side of a connection waits no more. Whether it was noted as waiting.
+    /// Notes that the read side of a connection waits no more. Returns whether it was noted as waiting.
     pub(crate) fn remove(&mut self, conn: u64) -> bool
         ensures { result ≡ waits self.old.items.items conn }
     {
@@ -56,7 +56,7 @@ impl Watchers {
         was
     }
 
-    /// A mail was taken out of the box of a connection.
+    /// Notes that a mail was taken out of the box of a connection.
     pub(crate) fn note_move(&mut self, conn: u64) {
         if let Some(at) = self.items.iter().position(|other| other.conn == conn) {
             self.items[at].moved = true;
@@ -70,7 +70,7 @@ impl Watchers {
             .any(|watcher| watcher.conn == conn && !watcher.moved)
     }
 
-    /// Adds their connections.
+    /// Adds the connections to a set.
     pub(crate) fn add_to(&self, set: &mut ConnectionSet)
         ensures added { (conn : ℕ) → IsTrue (waits self.now.items.items conn) → IsTrue (may_have set.new conn) }
         ensures still { (other : ℕ) → IsTrue (may_have set.old other) → IsTrue (may_have set.new other) }

@@ -1,4 +1,4 @@
--- What a request changed of a directory, and the directory before it.
+-- What a request changed in the directory (the arrays by id, and the next id), and the directory before the change.
 use Rattle.std.specs.Prelude.{◌≡◌, ℕ, ◌+◌, ◌-◌, ◌≤◌, ◌<◌, length, None, IsSome}
 use Rattle.std.specs.FinMap.{get, insert, remove, len}
 use Rattle.fe_state.specs.Directory.{Directory, IsArray, named, word_in, word_count}
@@ -15,7 +15,7 @@ restored Created d = record { arrays = remove d.arrays (d.next_id - 1); next_id 
 restored (Removed id a) d = record { arrays = insert d.arrays id a; next_id = d.next_id }
 restored (Wrote id index w) d = record { arrays = put_word d.arrays id index w (get d.arrays id); next_id = d.next_id }
 
--- an array that may come to a directory under an id: it has room there, and the id and the name are free
+-- an array that may be added to a directory under an id: it has room there, and the id and the name are free
 pub record MayBeAdded (d : Directory) (id : ℕ) (a : Array) : Type 0 where
   pub array : IsArray d id a
   pub id_free : get d.arrays id ≡ None
@@ -23,7 +23,7 @@ pub record MayBeAdded (d : Directory) (id : ℕ) (a : Array) : Type 0 where
   pub few_arrays : len d.arrays < most_arrays
   pub few_words : word_count d.arrays + length a.words ≤ most_words
 
--- a directory that a change may have left: what it changed is there to be changed back
+-- a directory that a change may have left: what it made, removed or wrote can be put back
 abbrev pub CanRestore : Change → Directory → Type 0
 CanRestore Nothing d = Unit {0}
 CanRestore Created d = IsSome (get d.arrays (d.next_id - 1))

@@ -1,4 +1,4 @@
--- The directory of arrays, what a request is answered in it, and what the request leaves.
+-- The directory: the arrays by id, and the id that the next one gets. The answer to a request in it.
 use Rattle.std.specs.Prelude.{◌≡◌, ℕ, Bool, ◌+◌, ◌≤◌, ◌<◌, refl, not, ◌&&◌, nat_le, nat_lt, if◌then◌else◌, List, length, find, slice_get, Option, Some, None, is_some, IsTrue}
 use Rattle.std.specs.Option.{option_map}
 use Rattle.std.specs.Ordering.{nat_cmp}
@@ -42,16 +42,16 @@ word_count arrays = total (λ a. length a.words) arrays
 abbrev pub named : FinMap nat_cmp Array → List ℕ → Option (ℕ × Array)
 named arrays name = find (λ e. bytes_eq e.1.name name) (entries arrays)
 
--- the word at an index of an array, if both are there
+-- the word at an index of an array, if both exist
 abbrev pub word_in : Option Array → ℕ → Option Word
 word_in None index = None
 word_in (Some a) index = slice_get a.words index
 
--- how many words an array has, if it is there
+-- the number of words of an array, if it exists
 abbrev pub words_in : Option Array → Option ℕ
 words_in here = option_map (λ a. length a.words) here
 
--- a new array is answered the first of these that applies
+-- the answer to a request for a new array: the first of these that applies
 abbrev pub creation : Directory → List ℕ → ℕ → Answer
 creation d name size =
     if not (is_plain name) then answer.BadName
@@ -61,7 +61,7 @@ creation d name size =
     else if nat_lt most_words (word_count d.arrays + size) then answer.WordLimit
     else answer.Array d.next_id size
 
--- an array that is looked up by its name is answered so
+-- the answer to a look-up by name
 abbrev pub found : Option (ℕ × Array) → Answer
 found None = answer.NoArray
 found (Some e) = answer.Array e.0 (length e.1.words)
@@ -71,22 +71,22 @@ abbrev pub answer_of : Reply → Answer
 answer_of (reply.Value v) = answer.Value v
 answer_of reply.Done = answer.Done
 
--- an operation on a word is answered by the operation table, if the word is there
+-- the answer to an operation on a word, if the word exists: that of the operation table
 abbrev pub accessed : Option Word → Op → Option Answer
 accessed None op = Some answer.BadIndex
 accessed (Some w) op = option_map (λ after. answer_of after.1) (table op w)
 
--- the same, if the array is there
+-- the answer to an operation on a word of an array, if the array exists
 abbrev pub access : Option Array → ℕ → Op → Option Answer
 access None index op = Some answer.NoArray
 access (Some a) index op = accessed (slice_get a.words index) op
 
--- an access that must not wait is answered at once where it would have to
+-- the answer to an access that would have to wait: `NotNow` if it must not wait
 abbrev pub at_once : Bool → Option Answer → Option Answer
 at_once no_wait None = if no_wait then Some answer.NotNow else None
 at_once no_wait (Some a) = Some a
 
--- what a request is answered; None where it has to wait
+-- the answer to a request, or None if it has to wait
 abbrev pub answer_in : Directory → Request → Option Answer
 answer_in d (Create name size tag) = Some (creation d name size)
 answer_in d (Find name) = Some (if not (is_plain name) then answer.BadName else found (named d.arrays name))

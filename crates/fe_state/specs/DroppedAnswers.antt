@@ -1,4 +1,4 @@
--- Answers that sessions lost when they were settled or closed, and what it takes to keep them again.
+-- Answers that sessions dropped when they were settled or closed, and how they are kept again when that is undone.
 use Rattle.std.specs.Prelude.{◌≡◌, ℕ, ◌+◌, ◌≤◌, ◌<◌, List, [], ◌∷◌, ◌++◌, length, take, reverse, slice_index_or, Option, None, Some}
 use Rattle.std.specs.Ordering.{nat_cmp}
 use Rattle.std.specs.FinMap.{FinMap, get, insert, len}
@@ -21,19 +21,19 @@ keeping_all m (d ∷ ds) = keeping_all (insert m d.number d.kept) ds
 abbrev pub kept_again : Session → ℕ → ℕ → List Dropped → Session
 kept_again s floor answers dropped = record { floor = floor; kept = keeping_all s.kept (take answers dropped) }
 
--- the first of the answers were dropped for numbers of the window of a floor
+-- the first `answers` of the dropped answers are those of numbers in the window of a floor
 pub record AreDropped (floor answers : ℕ) (dropped : List Dropped) : Type 0 where
   pub there : answers ≤ length dropped
   pub in_window : (k : ℕ) (d : Dropped) → k < answers → IsInWindow floor (slice_index_or dropped k d).number
 
--- a floor may be lowered again, by a window at the most, where nothing is kept beyond the window of the lower one
+-- a floor may be lowered again, by a window at the most, if nothing is kept beyond the window of the lower floor
 pub record MayLower (s : Session) (floor : ℕ) : Type 0 where
   pub least : 1 ≤ floor
   pub no_higher : floor ≤ s.floor
   pub within_window : s.floor ≤ floor + window_length
   pub in_window : (number : ℕ) (k : Kept) → get s.kept number ≡ Some k → number < floor + window_length
 
--- a session may be opened again where it is not, with a floor and answers that it may have
+-- a session that does not exist may be opened again, with a floor and answers that it may have
 pub record MayReopen (floor answers : ℕ) (dropped : List Dropped) (sessions : FinMap nat_cmp Session) (session : ℕ) : Type 0 where
   pub least : 1 ≤ floor
   pub most : floor ≤ greatest_floor
@@ -41,10 +41,10 @@ pub record MayReopen (floor answers : ℕ) (dropped : List Dropped) (sessions : 
   pub free : get sessions session ≡ None
   pub few : len sessions < most_sessions
 
--- what was dropped for the numbers from a floor on and below an end came after what had been dropped, and
--- brings back what was kept before
+-- the answers for the numbers from `floor` on and below `end` were dropped: they were added to those dropped earlier,
+-- and to keep them again gives what was kept before
 pub record WereDropped (floor end : ℕ) (before after : FinMap nat_cmp Kept) (old new : List Dropped) : Type 0 where
-  -- the latest first
+  -- the answers dropped, the latest first
   pub answers : List Dropped
   pub added : new ≡ old ++ reverse answers
   pub few : length answers + floor ≤ end

@@ -1,4 +1,4 @@
--- What a request that was answered changes of the directory, and what it leaves.
+-- What a request changes in the directory once it is answered, and the directory after it.
 use Rattle.std.specs.Prelude.{ℕ, ◌+◌, List, slice_set, replicate, Option, Some, None, option_and_then}
 use Rattle.std.specs.Ordering.{nat_cmp}
 use Rattle.std.specs.FinMap.{FinMap, get, insert, remove}
@@ -20,7 +20,7 @@ use Rattle.fe_state.specs.declared.request.Request.TheVariants.{Create, Find, Re
 abbrev pub new_array : List ℕ → ℕ → Tag → Array
 new_array name size tag = record { name = name; words = replicate size (word 0 tag) }
 
--- a creation that is answered with an array adds it, and any other leaves the directory as it is
+-- the directory after a request for a new array: an answer with an array adds it, any other changes nothing
 abbrev pub created : Directory → List ℕ → ℕ → Tag → Answer → Directory
 created d name size tag (answer.Array id _) =
     record { arrays = insert d.arrays id (new_array name size tag); next_id = d.next_id + 1 }
@@ -30,17 +30,17 @@ created d name size tag _ = d
 abbrev pub with_word : Array → ℕ → Word → Array
 with_word a index w = record { name = a.name; words = slice_set a.words index w }
 
--- the arrays with this word at the index of the array that was looked up, if it is there
+-- the arrays with this word at the index of the array that was looked up, if that exists
 abbrev pub put_word : FinMap nat_cmp Array → ℕ → ℕ → Word → Option Array → FinMap nat_cmp Array
 put_word arrays id index w None = arrays
 put_word arrays id index w (Some a) = insert arrays id (with_word a index w)
 
--- an operation leaves the word that the operation table says, and changes nothing where it waits
+-- the arrays after an operation: the word is what the operation table says; an operation that waits changes nothing
 abbrev pub operated : FinMap nat_cmp Array → ℕ → ℕ → Option (Word × Reply) → FinMap nat_cmp Array
 operated arrays id index None = arrays
 operated arrays id index (Some after) = put_word arrays id index after.0 (get arrays id)
 
--- an access leaves the word that the operation table says, whether it may wait or not
+-- the directory after an access, whether the access may wait or not
 abbrev pub operated_on : Directory → ℕ → ℕ → Op → Directory
 operated_on d id index op =
     record { arrays = operated d.arrays id index (option_and_then (table op) (word_in (get d.arrays id) index)); next_id = d.next_id }
@@ -62,22 +62,22 @@ abbrev pub CreatesArray : Directory → Request → Type 0
 CreatesArray d (Create name size tag) = IsNewArray (creation d name size)
 CreatesArray d _ = ⊥
 
--- what a creation changes that is answered so
+-- the effect of a request for a new array with this answer
 abbrev pub creating : Answer → Effect
 creating (answer.Array id size) = effect.Create
 creating _ = effect.Nothing
 
--- what the removal of an array changes, if it is there
+-- the effect of removing an array, if it exists
 abbrev pub removing : ℕ → Option Array → Effect
 removing id None = effect.Nothing
 removing id (Some a) = effect.Remove id
 
--- what an operation changes that leaves a word, or waits
+-- the effect of an operation that leaves this word, or waits
 abbrev pub writing : ℕ → ℕ → Option (Word × Reply) → Effect
 writing id index None = effect.Nothing
 writing id index (Some after) = effect.Write id index after.0
 
--- what a request changes once it is answered
+-- the effect of a request once it is answered
 abbrev pub effect_of : Directory → Request → Effect
 effect_of d (Create name size tag) = creating (creation d name size)
 effect_of d (Find name) = effect.Nothing

@@ -1,4 +1,4 @@
--- Worked examples of the definitions, computed by the checker.
+-- Worked examples of the definitions of answers, effects and entries, computed by the checker.
 use Rattle.std.specs.Prelude.{◌≡◌, List, [], ◌∷◌, Some, None, true, false, codes}
 use Rattle.std.specs.FinMap.{empty, get, insert, len}
 use Rattle.fe_words.specs.Table.{word}
@@ -24,7 +24,7 @@ two_words = word 0 Empty ∷ word 5 Full ∷ []
 abbrev pub cells : Array
 cells = record { name = codes "cells"; words = two_words }
 
--- a directory that has it, and nothing else
+-- a directory that has this array and no other
 abbrev pub one_array : Directory
 one_array = record { arrays = insert empty 1 cells; next_id = 2 }
 
@@ -46,7 +46,7 @@ pub record ExampleAnswers : Type 0 where
   pub word_limit : answer_in one_array (Create (codes "w") 65535 Full) ≡ Some answer.WordLimit
   pub array_limit : (d : Directory) → len d.arrays ≡ most_arrays → named d.arrays (codes "w") ≡ None → answer_in d (Create (codes "w") 1 Full) ≡ Some answer.ArrayLimit
 
--- what requests leave of the directory
+-- the directory after some requests
 pub record ExampleEffects : Type 0 where
   pub made : performed one_array (Create (codes "w") 1 Full) ≡ record { arrays = insert one_array.arrays 2 (record { name = codes "w"; words = word 0 Full ∷ [] }); next_id = 3 }
   pub written : performed one_array (Access 1 0 (WriteEf 42) false) ≡ record { arrays = insert one_array.arrays 1 (record { name = codes "cells"; words = word 42 Full ∷ word 5 Full ∷ [] }); next_id = 2 }

@@ -1,4 +1,4 @@
--- Histories: groups of entries, each legal after those before it.
+-- Histories: groups of entries (steps of the server's state), each entry legal after those before it.
 use Rattle.std.specs.Prelude.{◌≡◌, ◌<◌, ℕ, List, [], ◌∷◌, ◌++◌, length, flat_map, Contains}
 use Rattle.fe_state.specs.State.{ServerState, IsLegal, IsWithinLimits, after, after_all}
 use Rattle.fe_state.specs.declared.answer.Answer.{Answer}
@@ -21,18 +21,18 @@ abbrev pub after_groups : ServerState → List (List Entry) → ServerState
 after_groups s [] = s
 after_groups s (group ∷ groups) = after_groups (after_all s group) groups
 
--- a legal entry leaves a state within the limits within them
+-- a legal entry leads from a state within the limits to one within the limits
 abbrev pub KeepsLimits : Type 0
 KeepsLimits = (s : ServerState) (e : Entry) → IsWithinLimits s → IsLegal s e → IsWithinLimits (after s e)
 
--- where a number of a session is finished twice, the session was closed in between
+-- if a number of a session finishes twice, the session was closed in between
 abbrev pub FinishesOnce : Type 0
 FinishesOnce = (s : ServerState) (groups : List (List Entry)) → IsHistory s groups
     → (before between behind : List Entry) (session number : ℕ) (first second : Request) (one other : Answer)
     → flat_map (λ group. group) groups ≡ before ++ Finished session number first one ∷ between ++ Finished session number second other ∷ behind
     → Contains between (Closed session)
 
--- two histories one after the other are one, and a history is two where it is cut between groups
+-- two histories one after the other are one, and a history that is cut between groups is two
 abbrev pub JoinsAndCuts : Type 0
 JoinsAndCuts = (s : ServerState) (front rest : List (List Entry))
     → (IsHistory s front → IsHistory (after_groups s front) rest → IsHistory s (front ++ rest))

@@ -17,14 +17,14 @@ id_made _ = None
 abbrev pub ids_made : List Entry → List ℕ
 ids_made es = filter_map id_made es
 
--- ids that are new where a state goes to another: each is above those before it, the first is no less than the next id
--- of the old state, and the last is below the next id of the new one
+-- the ids are new between an old state and a new one: each is above those before it, the first is no less than the next id of the
+-- old state, and the last is below the next id of the new one
 pub record AreNew (old : ServerState) (ids : List ℕ) (new : ServerState) : Type 0 where
   pub rise : IsStrictlyIncreasing ids
   pub not_before : All (λ id. old.next_id ≤ id) ids
   pub not_after : All (λ id. id < new.next_id) ids
   pub no_lower : old.next_id ≤ new.next_id
 
--- the ids that entries give are new, where each entry is legal after those before it
+-- if each entry is legal after those before it, the ids that the entries give are new
 abbrev pub IdsNeverReturn : Type 0
 IdsNeverReturn = (s : ServerState) (es : List Entry) → AreLegal s es → AreNew s (ids_made es) (after_all s es)

@@ -1,4 +1,4 @@
--- What a session keeps, one after the other.
+-- The answers that a session keeps, as an iterator over them gives them.
 use Rattle.std.specs.Prelude.{ℕ, nat_le}
 use Rattle.std.specs.Ordering.{nat_cmp}
 use Rattle.std.specs.FinMap.{FinMap, retain_keys}

@@ -13,7 +13,7 @@ IsOwnWord d (Find name) a i = ⊥
 IsOwnWord d (Remove id) a i = a ≡ id
 IsOwnWord d (Access id index op no_wait) a i = (a ≡ id) × (i ≡ index)
 
--- every other word is as before
+-- every other word keeps its value and its tag
 abbrev pub KeepsOtherWords : Type 0
 KeepsOtherWords =
     (d : Directory) (request : Request) (a i : ℕ)

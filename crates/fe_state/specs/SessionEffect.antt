@@ -1,4 +1,4 @@
--- What an entry asks of the sessions, and what it leaves of them.
+-- What an entry, a step of the history, requires of the sessions, and the sessions after it.
 use Rattle.std.specs.Prelude.{◌≡◌, ℕ, ◌<◌, Option, None, IsSome, IsSomeAnd, MatchOption}
 use Rattle.std.specs.Option.{option_map}
 use Rattle.std.specs.Ordering.{nat_cmp}
@@ -8,7 +8,7 @@ use Rattle.fe_state.specs.declared.entry.Entry.{Entry}
 use Rattle.fe_state.specs.declared.entry.Entry.TheVariants.{Attached, Closed, Settled, Finished}
 use Rattle.fe_state.specs.Limits.{most_sessions}
 
--- a session may be attached with its own floor, or, while there are fewer than the most, begin with floor 1
+-- a session may be attached with its own floor, or begin with floor 1 while there are fewer than the most
 abbrev pub MayAttach : FinMap nat_cmp Session → ℕ → Option Session → Type 0
 MayAttach sessions floor here = MatchOption here ((floor ≡ 1) × (len sessions < most_sessions)) (λ s. floor ≡ s.floor)
 
@@ -17,7 +17,7 @@ pub record IsUsable (s : Session) (number : ℕ) : Type 0 where
   pub in_window : IsInWindow s.floor number
   pub not_kept : get s.kept number ≡ None
 
--- what each kind of entry asks of the sessions before it
+-- what each kind of entry requires of the sessions before it
 abbrev pub SessionsAllow : FinMap nat_cmp Session → Entry → Type 0
 SessionsAllow sessions (Attached session floor) = MayAttach sessions floor (get sessions session)
 SessionsAllow sessions (Closed session) = IsSome (get sessions session)

@@ -1,4 +1,5 @@
--- Sessions. Each has a floor, its least usable number, and the answers kept for its numbers.
+-- Sessions. A client numbers its requests in a session, so that one it repeats takes effect once. A session has a
+-- floor, its least usable number, and the answers kept for its numbers.
 use Rattle.std.specs.Prelude.{ℕ, ◌+◌, ◌≤◌, ◌<◌, nat_le, refl, Option, Some, None, if◌then◌else◌}
 use Rattle.std.specs.Ordering.{nat_cmp}
 use Rattle.std.specs.Coded.{Coded, code_by, coded×, coded_ℕ}
@@ -45,7 +46,7 @@ abbrev pub put_session : FinMap nat_cmp Session → ℕ → Option Session → F
 put_session sessions session None = sessions
 put_session sessions session (Some s) = insert sessions session s
 
--- a session that is attached begins, unless it is there
+-- the sessions after one is attached: it begins, unless it exists already
 abbrev pub opened : FinMap nat_cmp Session → ℕ → FinMap nat_cmp Session
 opened sessions session =
     if contains_key sessions session then sessions else insert sessions session first_session

@@ -1,4 +1,5 @@
--- The state of the server, what a request is answered in it, which entries are legal, and what they leave.
+-- The state of the server, the answer to a request in it, which entries (steps of the history) are legal in it, and the
+-- state after them. `docs/model.md` has the same in words.
 use Rattle.std.specs.Prelude.{◌≡◌, ℕ, ◌+◌, ◌^◌, ◌≤◌, ◌<◌, refl, List, [], ◌∷◌, Option, Some}
 use Rattle.std.specs.Ordering.{nat_cmp}
 use Rattle.std.specs.Coded.{Coded, code_by, coded×, coded_ℕ}
@@ -48,11 +49,11 @@ with_arrays s arrays = record { arrays = arrays; sessions = s.sessions; next_id 
 abbrev pub with_sessions : ServerState → FinMap nat_cmp Session → ServerState
 with_sessions s sessions = record { arrays = s.arrays; sessions = sessions; next_id = s.next_id; place = s.place }
 
--- what a request is answered; None where it has to wait
+-- the answer to a request, or None if it has to wait
 abbrev pub reply : ServerState → Request → Option Answer
 reply s request = answer_in (directory_of s) request
 
--- what a request that finished was answered is the reply to it; the other entries have no answer
+-- the answer of an entry that finishes a request is the reply to it; the other entries have no answer
 abbrev pub IsAnswered : Directory → Entry → Type 0
 IsAnswered d (Attached session floor) = Unit {0}
 IsAnswered d (Closed session) = Unit {0}
@@ -65,7 +66,7 @@ pub record IsLegal (s : ServerState) (e : Entry) : Type 0 where
   pub allowed : SessionsAllow s.sessions e
   pub answered : IsAnswered (directory_of s) e
 
--- what an entry changes of the directory
+-- the effect of an entry on the directory
 abbrev pub effect_in : Directory → Entry → Effect
 effect_in d (Attached session floor) = Nothing
 effect_in d (Closed session) = Nothing
@@ -109,7 +110,7 @@ abbrev pub MakesArray : Entry → Type 0
 MakesArray (Finished session number (Create name size tag) (answer.Array id words)) = Unit {0}
 MakesArray _ = ⊥
 
--- what holds of the request of an entry that has one; there is one
+-- the entry finishes a request, and P holds of the request
 abbrev pub OnFinished : Entry → (Request → Type 0) → Type 0
 OnFinished (Finished session number request answer) P = P request
 OnFinished _ P = ⊥

@@ -1,4 +1,4 @@
--- What a log keeps of the entries that were applied, and the states that it leads back to.
+-- Undo logs: what each entry (a step of the history) that was applied changed, and the states before these entries.
 use Rattle.std.specs.Prelude.{◌≡◌, ℕ, ◌-◌, ◌*◌, ◌≤◌, refl, List, [], ◌∷◌, ◌++◌, length, min, sum_by, drop, reverse, IsSome, IsSomeAnd}
 use Rattle.std.specs.Option.{option_map}
 use Rattle.std.specs.Ordering.{nat_cmp}
@@ -53,7 +53,7 @@ pub record HasMemory (l : UndoLog) (undos dropped : ℕ) : Type 0 where
   pub few : length l.undos ≤ l.room
   -- each answer was dropped by an entry
   pub paired : length l.dropped ≤ sum_by with_room l.undos
-  -- and the memory of the whole room is there
+  -- the memory for the whole room is reserved
   pub undos_room : l.room ≤ undos
   pub dropped_room : l.room * window_length ≤ dropped
 
@@ -75,7 +75,7 @@ put_back (Settled floor answers) dropped sessions session =
 put_back (Kept number) dropped sessions session =
     put_session sessions session (option_map (forgetting number) (get sessions session))
 
--- sessions that a change may have left: what it changed is there to be changed back
+-- sessions that a change may have left: what it changed can be put back
 abbrev pub CanPutBack : SessionChange → List Dropped → FinMap nat_cmp Session → ℕ → Type 0
 CanPutBack Same dropped sessions session = Unit {0}
 CanPutBack Opened dropped sessions session = Unit {0}
@@ -129,7 +129,7 @@ abbrev pub MayFollowAll : List Undo → List Dropped → ServerState → Type 0
 MayFollowAll [] dropped s = Unit {0}
 MayFollowAll (u ∷ us) dropped s = CanUndo u dropped s × MayFollowAll us (left u.session_change dropped) (before u dropped s)
 
--- a log that a state may have: the entries of the log may have led to it. An empty log is of every state
+-- a log that a state may have: the entries of the log may have led to it. Every state may have an empty log
 abbrev pub IsLogOf : UndoLog → ServerState → Type 0
 IsLogOf l s = MayFollowAll l.undos l.dropped s
 

@@ -10,9 +10,9 @@ pub enum Answer {
     NoArray,
     /// The array has no word at the index.
     BadIndex,
-    /// An array of that name is there already.
+    /// An array of that name exists already.
     NameTaken,
-    /// As many arrays are there as there may be.
+    /// There are 64 arrays already.
     ArrayLimit,
     /// All arrays together would have too many words.
     WordLimit,
@@ -20,6 +20,6 @@ pub enum Answer {
     BadName,
     /// The length is not 1 to 65,536 words.
     BadLength,
-    /// The word is in the wrong state, and the request was not to wait.
+    /// The word does not have the tag that the operation needs, and the request must not wait.
     NotNow,
 }

@@ -76,7 +76,7 @@ impl Arrays {
         Some(array)
     }
 
-    /// The array with an id that is there, to write.
+    /// The array with a present id, for writing.
     pub fn get_mut(&mut self, id: u64) -> &mut Array
         requires present { IsSome (map.get self.old id) }
         ensures* writes_back { sem 𝓛 (lends_array self.entry id result) }
@@ -95,7 +95,7 @@ impl Arrays {
         }
     }
 
-    // The position of the array with an id, if it is there.
+    // The position of the array with an id, if it exists.
     fn position_of(&self, id: u64) -> Option<usize>
         ensures there { IfSome result (IsAt (map.entries self.now) id) }
         ensures none { IfNone result (map.get self.now id ≡ None) }

@@ -10,7 +10,7 @@ use crate::request::Request;
 use std::alloc::{AllocError, Global};
 use std::marker::Model;
 
-/// The entries of a batch, in order: at most `BATCH_ENTRIES`, with room for as many.
+/// The entries of a batch, in order: at most `BATCH_ENTRIES`, with the memory for all.
 pub struct Entries {
     items: Vec<Entry>,
 }
@@ -35,7 +35,7 @@ impl Model for Entries {
 }
 
 impl Entries {
-    /// No entries yet. It makes all the room.
+    /// No entries yet. Allocates the memory for all.
     pub fn new(alloc: Global) -> Result<Entries, AllocError>
         ensures { IfOk result (λ entries. entries ≡ []) }
     {
@@ -75,16 +75,16 @@ impl Entries {
     }
 }
 
-/// Entries that follow one another in the history.
+/// Entries that follow one another in the history, to be stored as one group.
 #[derive(Drop)]
 pub struct Batch {
-    /// The place of the first entry.
+    /// The place of the first entry: how many entries the history has before it.
     pub first: u64,
     pub entries: Entries,
 }
 
 impl Batch {
-    /// A batch with no entries yet. It makes all the room.
+    /// A batch with no entries yet. Allocates the memory for all.
     pub fn new(alloc: Global, first: u64) -> Result<Batch, AllocError>
         ensures first { IfOk result (λ batch. batch.first ≡ first) }
         ensures empty { IfOk result (λ batch. batch.entries ≡ []) }

@@ -1,7 +1,7 @@
 use crate::array::Array;
 use fe_words::Word;
 
-/// What a request changed of the arrays, with what it takes to bring the arrays before it back.
+/// What a request changed of the arrays, with what it takes to restore them.
 #[derive(Drop)]
 pub enum Change {
     Nothing,

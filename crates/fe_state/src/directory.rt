@@ -46,8 +46,8 @@ impl Model for Directory {
 }
 
 impl Directory {
-    /// No array yet, where the next one gets this id. Allocates the memory for the ids and names of all; fails only if
-    /// memory runs out.
+    /// A directory with no arrays, in which the next one gets this id. Allocates the memory for the ids and names of
+    /// all; fails only if memory runs out.
     pub fn starting(alloc: Global, next_id: u64) -> Result<Directory, AllocError>
         requires { 1 ≤ next_id }
         ensures { IfOk result (λ directory. directory ≡ record { arrays = first_directory.arrays; next_id = next_id }) }

@@ -1,6 +1,6 @@
 use crate::kept::Kept;
 
-/// What was kept for a number, and is no more.
+/// An answer that a session kept for a number and has dropped.
 #[derive(Clone, Copy)]
 pub struct Dropped {
     pub number: u64,

@@ -6,6 +6,6 @@ use crate::request::Request;
 pub struct Kept {
     pub request: Request,
     pub answer: Answer,
-    /// The number of entries before the request's own.
+    /// The place of its entry: how many entries the history has before it.
     pub place: u64,
 }

@@ -9,11 +9,11 @@ use crate::kept::Kept;
 use crate::session::Session;
 use std::marker::Model;
 
-/// What a session keeps, with the numbers, in ascending order. Contracts see the map of what is left.
+/// An iterator over what a session keeps, with the numbers, in ascending order. Contracts see the map of what is left.
 #[derive(Drop)]
 pub struct KeptAnswers<'a> {
     session: &'a Session,
-    /// What is kept for the numbers below was given.
+    /// The answers for the numbers below this one were given already.
     next: u64,
 }
 
@@ -38,7 +38,7 @@ impl<'a> Model for KeptAnswers<'a> {
 }
 
 impl<'a> KeptAnswers<'a> {
-    /// What a session keeps for the numbers from one of its window on.
+    /// An iterator over what a session keeps for the numbers from `next` on.
     pub(crate) fn starting(session: &'a Session, next: u64) -> KeptAnswers<'a>
         requires next { session.now.floor ≤ next }
         requires few { len (answers_from session.now next) ≤ window_length }
@@ -47,7 +47,7 @@ impl<'a> KeptAnswers<'a> {
         KeptAnswers { session, next }
     }
 
-    /// How many are left, 0 to `WINDOW`.
+    /// How many answers are left, 0 to `WINDOW`.
     pub fn len(&self) -> usize
         ensures count { result ≡ len self.now }
         ensures few { result ≤ window_length }

@@ -39,7 +39,7 @@ pub fn ids_never_return()
     ensures { IdsNeverReturn }
 {}
 
-/// The code's constants are the limits of a state.
+/// The constants of `bounds.rt` are the definitions' limits of a state. Contracts are stated with the definitions.
 pub fn limits_are()
     ensures sessions { SESSIONS ≡ most_sessions }
     ensures window { WINDOW ≡ window_length }
@@ -50,14 +50,14 @@ pub fn limits_are()
     ensures place { GREATEST_PLACE ≡ greatest_place }
 {}
 
-/// The code's constants are the limits of what waits, of an event and of a batch.
+/// The constants of `bounds.rt` are the definitions' limits of what waits, of an event and of a batch.
 pub fn entry_limits_are()
     ensures waiting { WAITING ≡ most_waiting }
     ensures event { EVENT_ENTRIES ≡ most_event_entries }
     ensures batch { BATCH_ENTRIES ≡ most_batch_entries }
 {}
 
-/// How the limits that follow from others do so.
+/// The limits that are computed from other limits.
 pub fn limits_follow()
     ensures floor { greatest_floor ≡ 2 ^ 63 - window_length }
     ensures place { greatest_place ≡ 2 ^ 63 - 1 }

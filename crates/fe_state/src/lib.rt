@@ -1,4 +1,5 @@
-//! The state of the server: arrays of tagged words, and sessions with the answers kept for them.
+//! The state of the server: arrays of tagged words, and sessions with the answers kept for them. An entry is one step
+//! of its history; its place is the number of entries before it. An undo log takes entries back.
 #![tactic(auto)]
 
 mod answer;

@@ -35,7 +35,7 @@ impl Model for Name {
 }
 
 impl Name {
-    /// The name of these bytes, or `None` where they are more than 32.
+    /// The name of these bytes, or `None` if they are more than 32.
     pub fn new(bytes: &[u8]) -> Option<Name>
         ensures fits { IsSome result ↔ (length bytes.now ≤ longest_name) }
         ensures value { IfSome result (λ name. name ≡ bytes.now) }
@@ -59,7 +59,7 @@ impl Name {
         &self.cells[..usize::from(self.len)]
     }
 
-    /// Whether store format 1 has room for the name, which is so up to 16 bytes.
+    /// Whether store format 1 has room for the name: it has for up to 16 bytes.
     pub fn fits_format_1(&self) -> bool
         ensures { result ≡ name_fits_format_1 self.now }
     {

@@ -88,7 +88,7 @@ impl Session {
         }
     }
 
-    /// The first number from `from` on that something is kept for, with what is kept.
+    /// The least number from `from` on for which something is kept, and what is kept.
     pub(crate) fn first_kept(&self, from: u64) -> Option<(u64, &Kept)>
         requires { self.now.floor ≤ from }
         ensures first { IfSome result

@@ -19,7 +19,7 @@ use crate::undo_log::UndoLog;
 use fe_table::{Copied, Table};
 use std::alloc::{AllocError, Global};
 
-// What moves a whole session, some 3 KB, is not inlined, so that a request which finishes pays for no such local.
+// A function that moves a whole session, some 3 KB, is not inlined, so that a request that finishes pays for no such local.
 
 /// The sessions by number.
 pub type Sessions = Table<Session, SESSIONS>;
@@ -57,7 +57,7 @@ fn may_finish(sessions: &Sessions, session: u64, number: u64) -> bool
     }
 }
 
-/// Whether an entry may come next, as far as the sessions go.
+/// Whether an entry may come next, as far as the sessions decide it.
 pub fn allow(sessions: &Sessions, entry: &Entry) -> bool
     ensures { IsTrue result ↔ SessionsAllow sessions.now entry.now }
 {
@@ -220,7 +220,7 @@ fn drop_session(sessions: &mut Sessions, session: u64)
     let _ = sessions.remove(session);
 }
 
-// Keeps the latest of the answers that were dropped again.
+// Keeps the latest of the dropped answers again.
 fn keep_again(here: &mut Session, log: &UndoLog, answers: usize)
     requires { AreDropped here.old.floor answers log.now.dropped }
     ensures floor { here.new.floor ≡ here.old.floor }

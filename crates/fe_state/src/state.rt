@@ -91,7 +91,7 @@ impl State {
         State::starting(alloc, 0, 1)
     }
 
-    /// A state with nothing in it yet, at a place of the history. Fails only if memory runs out.
+    /// A state with no arrays and no sessions, at a place of the history. Fails only if memory runs out.
     pub fn starting(alloc: Global, place: u64, next_id: u64) -> Result<State, AllocError>
         requires place { place < 2 ^ 63 }
         requires least { 1 ≤ next_id }
@@ -131,15 +131,14 @@ impl State {
         self.directory.look(request)
     }
 
-    /// What a request is answered, or `None` where it has to wait.
+    /// The answer to a request, or `None` if it has to wait.
     pub fn answer_to(&self, request: &Request) -> Option<Answer>
         ensures { result ≡ reply self.now request.now }
     {
         self.look(request).map(|x| x.0)
     }
 
-    /// What an entry that may come next changes of the arrays. It is `Illegal` exactly where the entry is not legal
-    /// here.
+    /// The effect of an entry that may come next. It is `Illegal` exactly if the entry is not legal here.
     pub fn examine(&self, entry: &Entry) -> Result<Effect, Illegal>
         ensures legal { IsOk result ↔ IsLegal self.now entry.now }
         ensures effect { IfOk result (λ effect. effect ≡ effect_in (directory_of self.now) entry.now) }
@@ -179,7 +178,7 @@ impl State {
         ensures length { OnOk result (length log.new.undos ≡ length log.old.undos + 1) }
         ensures room { log.new.room ≡ log.old.room }
 
-        // So the log is the state's if it was, and leads back to where it led back to.
+        // A log that belonged to the state still does, and leads back to the same state.
         ensures log { IsLogOf log.old self.old → IsLogOf log.new self.new }
         ensures beginning { rewound log.new self.new ≡ rewound log.old self.old }
     {
@@ -240,7 +239,7 @@ impl State {
         self.directory.arrays().get(array)?.words.get(index)
     }
 
-    /// How many words an array has, if it is there.
+    /// How many words an array has, if it exists.
     pub fn length(&self, array: u64) -> Option<u32>
         ensures { result ≡ words_in (get self.now.arrays array) }
     {
@@ -326,7 +325,7 @@ impl State {
         Some((session, here.floor(), here.answers()))
     }
 
-    /// Adds an array of an image, its words empty and of value 0. Fails only if memory runs out.
+    /// Adds an array that an image, a state's bytes, has; its words are empty and of value 0. Fails only if memory runs out.
     pub fn load_array(&mut self, id: u64, name: Name, length: u32) -> Result<(), AllocError>
         requires { MayBeAdded (directory_of self.old) id (new_array name length Empty) }
         ensures ok { OnOk result (self.new

@@ -18,8 +18,8 @@ use std::marker::Model;
 
 /// What entries changed, so that they can be undone from the latest to the first.
 ///
-/// It makes its room when it is made. The answers that a session lost when it was settled or closed are
-/// in a part that the other entries never touch.
+/// It allocates its memory when it is made. The answers that a session dropped when it was settled or closed are in a
+/// part that the other entries never touch.
 #[derive(Drop)]
 pub struct UndoLog {
     room: usize,
@@ -152,7 +152,7 @@ impl UndoLog {
         });
     }
 
-    /// Takes the latest entry out, and gives what it changed of the arrays.
+    /// Takes the latest entry out, and returns what it changed of the arrays.
     pub(crate) fn take(&mut self) -> Change
         requires { 0 < length self.old.undos }
         ensures shortened { self.new ≡ shortened self.old }

@@ -1,4 +1,4 @@
--- What opening a store gives.
+-- What opening a store returns. An image is the list of all bytes of a disk.
 use Rattle.std.specs.Prelude.{◌≡◌, ◌⊎◌, ℕ, Bool, true, List, Result, Ok, Err}
 use Rattle.fe_state.specs.State.{ServerState, first_state}
 use Rattle.fe_journal.specs.Damage.{IsUnformatted}
@@ -9,7 +9,7 @@ use Rattle.fe_store.specs.declared.fault.OpenFault.{OpenFault}
 use Rattle.fe_store.specs.declared.fault.OpenFault.TheVariants as fault
 use Rattle.fe_disk.specs.declared.disk.Disk.{Ghosts}
 
--- the image holds no store, and one is to be made then
+-- the image holds no store, and a new one is asked for
 abbrev pub IsToFormat : List ℕ → Bool → Type 0
 IsToFormat image format = IsUnformatted image × (format ≡ true)
 
@@ -17,18 +17,18 @@ IsToFormat image format = IsUnformatted image × (format ≡ true)
 abbrev pub Opens : List ℕ → Bool → ServerState → Type 0
 Opens image format s = StandsFor image s ⊎ (IsToFormat image format × (s ≡ first_state))
 
--- The same of the keeper's state, for which each image that a stop may leave stands.
+-- What the image stands for, or the first state, is the keeper's state, and each image that a stop may leave stands for it.
 pub record IsOpenedAs {D : Type 0} (model : Ghosts D) (image : List ℕ) (format : Bool) (keeper : KeeperState D) : Type 0 where
   pub state : Opens image format keeper.state
   pub durable : EachStandsFor model keeper.store.disk keeper.state
 
--- the disk of the keeper, or the one that came back
+-- the disk of the keeper, or the one that is returned with the fault
 abbrev pub disk_after : {D : Type 0} → Result (KeeperState D) (OpenFault × D) → D
 disk_after (Ok keeper) = keeper.store.disk
 disk_after (Err refused) = refused.1
 
--- What a fault says of the image that a disk reads: it is unformatted, or damaged first at this offset. The others say
--- nothing of it.
+-- What a fault says of the image that a disk reads: it is unformatted, or damaged first at this offset. The other
+-- faults say nothing of it.
 abbrev pub TellsImage : OpenFault → List ℕ → Type 0
 TellsImage fault.Unformatted image = IsUnformatted image
 TellsImage (fault.Damaged offset) image = IsDamagedAt image offset

@@ -85,7 +85,7 @@ pub(crate) fn tidy<R: Files<File = File>>(rt: &R, alloc: Global, path: &str) {
     }
 }
 
-/// The same, but fails if a file stays. `others` are bytes that are kept elsewhere.
+/// Removes `PATH.new` as `tidy` does, but fails if a file stays. `others` are bytes that are kept elsewhere.
 fn clear<R: Files<File = File>>(
     rt: &R,
     alloc: Global,
@@ -191,7 +191,7 @@ fn made<R: Files<File = File>>(rt: &R, new: &str) -> Result<FileDisk, OpenFault>
     }
 }
 
-/// Gives the file its last name, and removes its `PATH.new` in any case. `false` if a file has the name already; then this one has none left.
+/// Gives the file its last name, and removes its `PATH.new`. `false` if a file has the name already; this one then has no name.
 fn renamed<R: Files<File = File>>(rt: &R, new: &str, name: &str) -> io::Result<bool> {
     let given = add_name(rt, new, name);
     remove_name(rt, new)?;

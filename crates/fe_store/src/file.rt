@@ -1,4 +1,4 @@
-//! The store in a file.
+//! Opening the store in a file, which is made or formatted if that is asked for (`docs/store.md`, "The file").
 
 ghost use Rattle.std.specs.Prelude.{◌≡◌, ◌≢◌, ℕ, false, IfOk, IsErrOf, None};
 ghost use Rattle.fe_disk.specs.FileDisk.{file_size};

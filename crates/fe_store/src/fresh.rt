@@ -1,4 +1,4 @@
-//! Bytes that may be overwritten.
+//! Bytes of a store that may be overwritten without loss.
 
 use fe_journal::image_of;
 
@@ -7,10 +7,10 @@ const HEADER: [u8; 20] = [
     70, 69, 77, 69, 77, 83, 84, 50, 0, 0, 0, 0, 0, 0, 0, 1, 0, 0, 0, 24,
 ];
 
-/// Where the byte of the empty image lies that is not zero: the last of its next array id (`docs/formats.md`, "Image").
+/// The offset in the empty image of its only byte that is not zero: the last of its next array id (`docs/formats.md`, "Image").
 const NEXT_ID: usize = 15;
 
-/// The byte that a new store has there. The gate of its header is open, and its image begins behind the gate.
+/// The byte that a new store has at this offset. The gate of its header is open, and its image begins after the gate.
 fn fresh_byte(at: usize) -> u8 {
     let image = image_of(0);
     match HEADER.get(at) {

@@ -1,4 +1,4 @@
-//! The store in a file, opened or made.
+//! The store in a file: it is opened, or made (`docs/store.md`, "The file").
 #![tactic(auto)]
 
 mod beside;

@@ -1,4 +1,4 @@
-//! The store on a disk is opened, or made.
+//! Opening the store on a disk, or making a new one there.
 
 ghost use Rattle.std.specs.Prelude.{◌≡◌, ◌≢◌, ◌⊎◌, ◌↔◌, ℕ, false, IfOk, IfErr};
 ghost use Rattle.fe_disk.specs.Runs.{without_disk};
@@ -23,7 +23,7 @@ pub fn open_existing<D: Disk>(alloc: Global, disk: D) -> Result<Keeper<D>, (Open
     ensures opened { D.honest disk → IfOk result (IsOpenedFrom D.Disk (D.seen disk)) }
     // A reported fault is the store's. A valid store is refused only if the device fails or memory runs out.
     ensures refused { D.honest disk → IfErr result (λ e. IsReason (D.seen disk) e.0) }
-    // Memory runs out only where what was read until then is right.
+    // Memory runs out only if what was read until then is right.
     ensures memory { D.honest disk
         → IfErr result (λ e. e.0 ≡ fault.Memory → MayLackMemory (D.seen disk) (D.calls disk) (D.calls e.1)) }
     // No stop leaves what could not be left before, and what is read stays the same.
@@ -46,7 +46,7 @@ pub fn open_on<D: Disk>(alloc: Global, disk: D, format: bool) -> Result<Keeper<D
     ensures opened { D.honest disk → IfOk result (IsOpenedAs D.Disk (D.seen disk) format) }
     // A reported fault is the store's. A valid store is refused only if the device fails or memory runs out.
     ensures refused { D.honest disk → IfErr result (λ e. IsReason (D.seen disk) e.0) }
-    // Where no store is made, no stop leaves what could not be left before, and what is read stays the same.
+    // If no store is made, no stop leaves what could not be left before, and what is read stays the same.
     ensures reads { D.honest disk → (IsToFormat (D.seen disk) format → ⊥)
         → OnlyReads D.Disk disk (disk_after result) }
 

@@ -2,16 +2,16 @@
 use Rattle.std.specs.Prelude.{◌≡◌, ℕ, ◌-◌, List, [], length, take, Option, Some, None, option_map}
 use Rattle.std.specs.Io.KnownBytes.{prepend_known}
 
--- of a reader that had the first bytes and has the others left, the bytes that are not left
+-- a reader had the first bytes and has others left: the bytes that are not left
 abbrev pub front_read : List ℕ → Option (List ℕ) → List ℕ
 front_read first None = []
 front_read first (Some left) = take (length first - length left) first
 
--- the bytes that were read, where they are known
+-- the bytes that were read, if they are known
 abbrev pub bytes_read : Option (List ℕ) → Option (List ℕ) → Option (List ℕ)
 bytes_read first left = option_map (λ bytes. front_read bytes left) first
 
--- what was read, and then what is left
+-- the bytes that were read, and after them those that are left
 abbrev pub read_and_left : Option (List ℕ) → Option (List ℕ) → Option (List ℕ)
 read_and_left None left = None
 read_and_left (Some first) left = prepend_known (front_read first left) left

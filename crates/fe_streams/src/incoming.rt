@@ -8,7 +8,7 @@ use crate::{StreamFailed, read_some};
 use std::io::Read;
 use std::snapshot::Snapshot;
 
-/// A reader, and for clauses the bytes that were read of it, where its bytes are known.
+/// A reader. Clauses see also the bytes that were read of it, if its bytes are known.
 #[derive(Drop)]
 pub struct Incoming<R: Read> {
     reader: R,
@@ -18,7 +18,7 @@ pub struct Incoming<R: Read> {
 }
 
 impl<R: Read> Incoming<R> {
-    /// Nothing is read of this reader yet.
+    /// This reader, before its first read.
     pub fn new(reader: R) -> Incoming<R>
         ensures reader { result.reader ≡ reader }
         ensures began { result.began.value ≡ reader }

@@ -22,7 +22,7 @@ pub record IsTable {X : Type 0} (room : ℕ) (keys : List ℕ) (values : List X)
   pub paired : length values ≡ length keys
   -- there are at most `room` keys
   pub few : length keys ≤ room
-  -- and the memory for `room` keys and values is reserved
+  -- the memory for `room` keys and values is reserved
   pub keys_reserved : room ≤ key_capacity
   pub values_reserved : room ≤ value_capacity
 

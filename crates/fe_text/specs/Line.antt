@@ -1,4 +1,4 @@
--- The lines of schedules.
+-- The lines of schedules (`docs/schedules.md`, "Lines"). A definition `.._in` reads a part of a line, given as bytes.
 use Rattle.std.specs.Prelude.{ℕ, length, List, [], ◌∷◌, codes, Option, Some, None, nat_lt, ◌==◌, if◌then◌else◌}
 use Rattle.std.specs.Option.{option_map_or}
 use Rattle.std.specs.Str.{bytes_eq}
@@ -12,11 +12,11 @@ use Rattle.fe_text.specs.Limits.{longest_line}
 use Rattle.fe_text.specs.declared.line.Line.{Line}
 use Rattle.fe_text.specs.declared.line.Line.TheVariants.{Message, Gone, Hold, Flush, Stop, Check}
 
--- the number of a connection, 1 to 999
+-- the number of a connection, if it is one: 1 to 999
 abbrev in_range : ℕ → Option ℕ
 in_range conn = if nat_lt conn 1 then None else if nat_lt 999 conn then None else Some conn
 
--- the letter c, and the number of a connection
+-- the number of a connection's name: the letter c and the number
 unfoldable pub conn_of : List ℕ → Option ℕ
 conn_of [] = None
 conn_of (letter ∷ digits) = if letter == 99 then (number_of digits >>= in_range) else None
@@ -36,20 +36,20 @@ plain_in word =
     else if bytes_eq word (codes "report") then Some message.Report
     else None
 
--- a message made from the number in the word
+-- a message made from the number that the word spells
 abbrev made_of : (ℕ → ClientMessage) → List ℕ → Option ClientMessage
 made_of make word = do
   number ← number_of word
   Some (make number)
 
--- NUMBER, then a request
+-- the call of the bytes NUMBER REQUEST
 abbrev call_in : List ℕ → List ℕ → Option ClientMessage
 call_in word words = do
   number ← number_of word
   request ← request_in words
   Some (message.Call number request)
 
--- attach SESSION, cancel NUMBER, settle FLOOR, or NUMBER and a request
+-- the message of the bytes attach SESSION, cancel NUMBER, settle FLOOR, or NUMBER REQUEST
 unfoldable pub numbered_in : List ℕ → List ℕ → Option ClientMessage
 numbered_in first words =
     if bytes_eq first (codes "attach") then made_of (λ session. message.Attach session) words

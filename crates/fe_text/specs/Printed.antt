@@ -1,4 +1,4 @@
--- Replies as text.
+-- Replies as text (`docs/schedules.md`, "Printed").
 use Rattle.std.specs.Prelude.{ℕ, List, [], ◌++◌, codes, Option, None, Some, ◌==◌, if◌then◌else◌}
 use Rattle.std.specs.Fmt.{decimal}
 use Rattle.std.specs.List.{flat_map}

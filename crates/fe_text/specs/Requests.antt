@@ -1,4 +1,4 @@
--- The requests of a schedule's lines.
+-- The requests of a schedule's lines (`docs/schedules.md`, "Lines"). A definition `.._in` reads the bytes that its comment shows.
 use Rattle.std.specs.Prelude.{ℕ, ◌^◌, ◌<◌, ◌≤◌, length, List, codes, Bool, true, false, Option, Some, None, if◌then◌else◌}
 use Rattle.std.specs.Option.{option_map_or}
 use Rattle.std.specs.Str.{bytes_eq}
@@ -54,17 +54,17 @@ find_named word = do
 unfoldable pub find_in : List ℕ → Option Request
 find_in words = option_map_or (λ _. None) (words_at words) (find_named words)
 
--- ARRAY
+-- ARRAY, a number
 unfoldable pub remove_in : List ℕ → Option Request
 remove_in words = do
   array ← number_of words
   Some (Remove array)
 
--- the words before the word nowait
+-- the words before `nowait`, and that it is there
 abbrev flagged_in : List ℕ → List ℕ → Option (List ℕ × Bool)
 flagged_in word flag = if bytes_eq flag (codes "nowait") then Some (word, true) else None
 
--- the last word without the nowait after it, and whether there is one
+-- the last word, without `nowait` if that comes after it, and whether it does
 unfoldable pub last_in : List ℕ → Option (List ℕ × Bool)
 last_in words = option_map_or (λ parts. flagged_in parts.0 parts.1) (words_at words) (Some (words, false))
 
@@ -89,8 +89,7 @@ writing_access_in name words = do
   op ← writing_op_named name operand
   Some (Access array index op last.1)
 
--- an access by the operation, if it was found without an operand, and otherwise by the one with this name and an
--- operand
+-- an access by the operation, if one was found that has no operand, and otherwise by the operation with this name and an operand
 unfoldable pub access_named : Option Op → List ℕ → List ℕ → Option Request
 access_named (Some op) name words = access_in op words
 access_named None name words = writing_access_in name words

@@ -17,7 +17,7 @@ unfoldable pub number_of : List ℕ → Option ℕ
 number_of word =
     if nat_lt (digits_value 10 word) (2 ^ 64) && bytes_eq word (decimal (digits_value 10 word)) then Some (digits_value 10 word) else None
 
--- the same for a number below 2 ^ 32
+-- the number below 2 ^ 32 whose decimal digits the word is
 unfoldable pub small_number_of : List ℕ → Option ℕ
 small_number_of word = do
   number ← number_of word

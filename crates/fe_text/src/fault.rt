@@ -1,7 +1,7 @@
 /// Why a stream was not read or written to its end.
 #[derive(Clone, Copy, PartialEq, Eq)]
 pub enum StreamFault {
-    /// It can't be read or written any further.
+    /// The stream can't be read or written any further.
     Input,
     /// Memory ran out.
     Memory,

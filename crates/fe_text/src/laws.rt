@@ -8,7 +8,7 @@ pub fn refusals_print_their_names()
     ensures { PrintsTheirNames }
 {}
 
-/// The code's constant is the limit of a line.
+/// The constant of the code is the limit in the definitions, with which contracts are stated.
 pub fn limits_are()
     ensures line { LONGEST_LINE ≡ longest_line }
 {}

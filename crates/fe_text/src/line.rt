@@ -46,7 +46,7 @@ fn conn_of(word: &[u8]) -> Option<u64>
     Some(conn)
 }
 
-/// `hold`, `flush`, `stop` or `check`.
+/// The line `hold`, `flush`, `stop` or `check`.
 #[tactic(auto, unfolding(crate::specs::Line::control_in))]
 fn control_in(word: &[u8]) -> Option<Line>
     ensures { result ≡ control_in word.now }
@@ -64,7 +64,7 @@ fn control_in(word: &[u8]) -> Option<Line>
     }
 }
 
-/// `bye` or `report`.
+/// The message `bye` or `report`.
 #[tactic(auto, unfolding(crate::specs::Line::plain_in))]
 fn plain_in(word: &[u8]) -> Option<ClientMessage>
     ensures message { result ≡ plain_in word.now }
@@ -79,7 +79,7 @@ fn plain_in(word: &[u8]) -> Option<ClientMessage>
     }
 }
 
-/// `attach S`, `cancel NUM`, `settle F` or `NUM REQUEST`.
+/// The message `attach S`, `cancel NUM`, `settle F` or `NUM REQUEST`.
 #[tactic(auto, unfolding(crate::specs::Line::numbered_in))]
 fn numbered_in(first: &[u8], words: &[u8]) -> Option<ClientMessage>
     ensures message { result ≡ numbered_in first.now words.now }
@@ -115,7 +115,7 @@ pub fn message_in(words: &[u8]) -> Option<ClientMessage>
     }
 }
 
-/// The line after the name of its connection.
+/// The line that is left after the name of its connection.
 #[tactic(auto, unfolding(crate::specs::Line::conn_line_in))]
 fn conn_line_in(conn: u64, words: &[u8]) -> Option<Line>
     ensures line { result ≡ conn_line_in conn words.now }

@@ -1,4 +1,4 @@
-//! Replies as text.
+//! Replies as text (`docs/schedules.md`, "Printed").
 
 ghost use Rattle.std.specs.Prelude.{◌≡◌, ◌++◌, string_bytes, OnOk};
 ghost use Rattle.std.specs.List.{flat_map};

@@ -1,4 +1,4 @@
-//! The requests of a schedule's lines.
+//! The requests of a schedule's lines (`docs/schedules.md`, "Lines"). A function `.._in` reads the bytes that its comment shows.
 
 ghost use Rattle.std.specs.Prelude.{◌≡◌, IfSome};
 ghost use Rattle.std.specs.Option.{option_map};
@@ -58,7 +58,7 @@ fn create_in(words: &[u8]) -> Option<Request>
     Some(Request::Create { name, length, tag })
 }
 
-/// `NAME`, one word.
+/// `NAME`, which is one word.
 #[tactic(auto, unfolding(crate::specs::Requests::find_in))]
 fn find_in(words: &[u8]) -> Option<Request>
     ensures request { result ≡ find_in words.now }
@@ -73,7 +73,7 @@ fn find_in(words: &[u8]) -> Option<Request>
     }
 }
 
-/// `A`.
+/// `A`, the number of an array.
 #[tactic(auto, unfolding(crate::specs::Requests::remove_in))]
 fn remove_in(words: &[u8]) -> Option<Request>
     ensures request { result ≡ remove_in words.now }
@@ -83,7 +83,7 @@ fn remove_in(words: &[u8]) -> Option<Request>
     Some(Request::Remove { array })
 }
 
-/// The last word without the `nowait` after it, and whether there is one.
+/// The last word, without `nowait` if that comes after it, and whether it does.
 #[tactic(auto, unfolding(crate::specs::Requests::last_in))]
 fn last_in(words: &[u8]) -> Option<(&[u8], bool)>
     ensures { option_map (λ p. (p.0.now, p.1)) result ≡ last_in words.entry.now }

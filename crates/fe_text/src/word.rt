@@ -49,7 +49,7 @@ pub(crate) fn number_of(word: &[u8]) -> Option<u64>
     text.parse::<u64>().ok()
 }
 
-/// The same for a number below 2^32.
+/// The number below 2^32 whose decimal digits the word is, without leading zeros.
 #[tactic(auto, unfolding(crate::specs::Words::small_number_of))]
 pub(crate) fn small_number_of(word: &[u8]) -> Option<u32>
     ensures { result ≡ small_number_of word.now }

@@ -2,7 +2,7 @@ ghost use Rattle.std.specs.Prelude.{◌≡◌};
 ghost use Rattle.fe_waits.specs.declared.waits.TheConstants.{SLOTS, NODES};
 ghost use Rattle.fe_waits.specs.declared.word_chains.TheConstants.{ARRAYS};
 
-/// The code's constants are the limits of what waits.
+/// The constants of the code are the limits in the definitions, with which contracts are stated.
 pub fn limits_are()
     ensures slots { SLOTS ≡ 64 }
     ensures members { NODES ≡ 2048 }

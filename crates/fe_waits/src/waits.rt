@@ -19,7 +19,7 @@ const NODES: u32 = 2048;
 
 /// The waiting requests of at most 64 sessions, on the words of at most 64 arrays.
 ///
-/// Only `new`, `add_array` and `waiting_requests` allocate memory. A node is valid until the next change.
+/// Only `new`, `add_array` and `waiting_requests` allocate memory. A node, one waiting request, is valid until the next change.
 pub struct Waits {
     pool: Pool<Row>,
     sessions: Chains,

@@ -1,4 +1,5 @@
--- What the readers of fields and of messages' bodies return: the value, or None if the bytes spell none.
+-- What the readers of fields and of messages' bodies return: the value, or None if the bytes spell none. A frame is a
+-- length, a kind and a body; its kind says which message it is.
 use Rattle.std.specs.Prelude.{ℕ, List, [], ◌∷◌, length, take, drop, Bool, true, false, ◌&&◌, Option, Some, None, nat_le, ◌==◌, if◌then◌else◌}
 use Rattle.std.specs.List.{list_all}
 use Rattle.std.specs.Int.{w32, w64}
@@ -29,7 +30,7 @@ next_name long bytes = do
   name ← name_of long count.0 cells.0
   Some (name, cells.1)
 
--- the value, or None if bytes are left
+-- the value if no bytes are left, else None
 abbrev pub ended : {A : Type 0} → List ℕ → A → Option A
 ended [] x = Some x
 ended (b ∷ rest) x = None

@@ -1,4 +1,4 @@
--- The one spelling of each message as bytes, which messages have one, and which messages a version has.
+-- The one spelling of each message as bytes, its frame; which messages have one, and which messages a version has.
 use Rattle.std.specs.Prelude.{◌≡◌, ℕ, ◌+◌, ◌-◌, ◌<◌, ◌≤◌, ◌^◌, Bool, false, List, [], ◌∷◌, ◌++◌, length, replicate, nat_lt, if◌then◌else◌}
 use Rattle.std.specs.Int.{w32, w64, to_be_bytes}
 use Rattle.std.specs.Str.{IsUtf8}
@@ -38,7 +38,7 @@ find_kind long = if long then 13 else 3
 abbrev pub access_kind : Bool → ℕ
 access_kind no_wait = if no_wait then 11 else 5
 
--- One row for each kind of message from a client.
+-- The frame of a message from a client, with one row for each kind.
 abbrev pub spelling : ClientMessage → List ℕ
 spelling (Attach session) = frame 1 (to_be_bytes w64 session)
 spelling (Call number (Create name length tag)) =
@@ -81,7 +81,7 @@ IsIn Two m = Unit {0}
 abbrev pub FitsIn : Version → ClientMessage → Type 0
 FitsIn version m = Fits m × IsIn version m
 
--- One row for each kind of message from the server.
+-- The frame of a message from the server, with one row for each kind.
 abbrev pub reply_spelling : ServerMessage → List ℕ
 reply_spelling (server.Welcome session floor) = frame 65 (to_be_bytes w64 session ++ to_be_bytes w64 floor)
 reply_spelling (server.Answer number answer) =

@@ -47,19 +47,19 @@ kind_field bytes = slice_index bytes 4
 abbrev pub front_frame : List ℕ → List ℕ
 front_frame bytes = take (4 + length_field bytes) bytes
 
--- The four bytes of the length are there, and no frame has this length.
+-- The four bytes of the length have come, and no frame has this length.
 abbrev pub HasBadLength : Version → List ℕ → Type 0
 HasBadLength v bytes = (4 ≤ length bytes) × ((length_field bytes ≡ 0) ⊎ (longest v < length_field bytes))
 
--- The kind is there, and it is not one of the version's, or its frames have another length.
+-- The kind has come, and it is not one of the version's, or its frames have another length.
 abbrev pub HasBadKind : Version → List ℕ → Type 0
 HasBadKind v bytes = (5 ≤ length bytes) × (length_of_kind v (kind_field bytes) ≢ Some (length_field bytes))
 
--- The whole frame is there.
+-- The whole frame has come.
 abbrev pub IsWhole : List ℕ → Type 0
 IsWhole bytes = 4 + length_field bytes ≤ length bytes
 
--- The whole frame is there, and it spells no message of the version.
+-- The whole frame has come, and it spells no message of the version.
 abbrev pub HasBadBody : Version → List ℕ → Type 0
 HasBadBody v bytes = IsWhole bytes × ((m : ClientMessage) → FitsIn v m → front_frame bytes ≢ spelling m)
 
@@ -67,7 +67,7 @@ HasBadBody v bytes = IsWhole bytes × ((m : ClientMessage) → FitsIn v m → fr
 abbrev pub IsBad : Version → List ℕ → Type 0
 IsBad v bytes = HasBadLength v bytes ⊎ (HasBadKind v bytes ⊎ HasBadBody v bytes)
 
--- More bytes are needed.
+-- The frame at the front is not whole, and not bad either: more bytes are needed.
 abbrev pub IsUnfinished : Version → List ℕ → Type 0
 IsUnfinished v bytes = (¬ IsWhole bytes) × (¬ IsBad v bytes)
 
@@ -88,7 +88,7 @@ pub record Decoding : Type 0 where
   -- the current frame is bad
   pub is_bad : Bool
 
--- the decoder is at this rest: it stores an unfinished frame, and nothing of a bad one
+-- what the decoder stores of the rest of the stream: an unfinished frame, and nothing of a bad one
 abbrev pub StandsAt : Version → Bool → List ℕ → List ℕ → Type 0
 StandsAt v false held rest = IsUnfinished v rest × (held ≡ rest)
 StandsAt v true held rest = IsBad v rest × (held ≡ [])
@@ -114,7 +114,7 @@ CompletesMessage decoder piece =
 abbrev pub fault_of : Decoding → Option BadFrame
 fault_of decoder = if decoder.is_bad then Some (record { offset = decoder.offset }) else None
 
--- the result describes the frame at the front of these bytes
+-- the head is that of the frame at the front of these bytes
 abbrev pub IsHead : Version → Head → List ℕ → Type 0
 IsHead v Unfinished bytes = IsUnfinished v bytes
 IsHead v Bad bytes = IsBad v bytes

@@ -59,7 +59,7 @@ impl DecoderState {
         count
     }
 
-    /// `step` when bytes of the current frame are stored already: reads the frame in `cells`.
+    /// Reads the frame in `cells`, as `step` does if bytes of the current frame are stored already.
     fn step_in_cells(&mut self, piece: &[u8]) -> (usize, Option<ClientMessage>)
         requires state { IsDecoderState self.old }
         requires good { self.old.is_bad ≡ false }

@@ -1,4 +1,5 @@
-//! What the bytes at the front of a stream are.
+//! The head of a stream: the frame that its first bytes begin, as far as they have come. A frame is a length field, a
+//! kind of one byte, and a body (`docs/formats.md`, "Frames").
 
 ghost use Rattle.std.specs.Prelude.{◌≡◌, ◌≤◌, length};
 ghost use Rattle.fe_wire.specs.Stream.{IsHead, length_field, length_of_kind, longest};
@@ -12,16 +13,16 @@ use fe_fields::u32_at;
 /// The number of bytes in the length field of a frame.
 pub const LENGTH_BYTES: usize = 4;
 
-/// The least value of the length field: the kind alone.
+/// The least value of the length field, which counts the kind and the body: that of a frame without a body.
 const SHORTEST: u32 = 1;
 
-/// What is known of a frame from the bytes that have come.
+/// A frame, as far as the bytes that have come show it.
 pub enum Head {
     /// More bytes are needed.
     Unfinished,
     /// The frame is bad, whatever bytes follow.
     Bad,
-    /// The frame is complete. It has this many bytes, and spells the message.
+    /// The frame is complete. It has this many bytes with its length field, and spells the message.
     Whole(usize, ClientMessage),
 }
 
@@ -63,7 +64,7 @@ fn length_of_kind(version: Version, kind: u8) -> Option<u32>
     }
 }
 
-/// What the bytes begin with; more bytes may follow the frame.
+/// The head of these bytes. More bytes may follow the frame.
 pub fn head_of(version: Version, bytes: &[u8]) -> Head
     ensures { IsHead version result bytes.now }
 {

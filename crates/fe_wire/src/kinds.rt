@@ -1,9 +1,9 @@
-//! The kinds of frames (`docs/formats.md`, "Frames").
+//! The kinds of frames: the byte after a frame's length, which says what message it is (`docs/formats.md`, "Frames").
 
 ghost use Rattle.std.specs.Prelude.{◌≡◌};
 ghost use Rattle.fe_wire.specs.Spelling.{create_kind, find_kind, access_kind};
 
-// From a client.
+// These are kinds of frames from a client.
 
 pub const ATTACH: u8 = 1;
 
@@ -35,7 +35,7 @@ pub const CREATE_LONG: u8 = 12;
 /// A find with a longer name, of version 2.
 pub const FIND_LONG: u8 = 13;
 
-// From the server.
+// These are kinds of frames from the server.
 
 pub const WELCOME: u8 = 65;
 

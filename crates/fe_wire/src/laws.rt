@@ -1,4 +1,4 @@
-//! Laws of the grammar. They hold of streams and messages, independently of any decoder; and the lengths that the code has.
+//! Laws of the grammar of frames, which hold of streams and messages apart from any decoder.
 
 ghost use Rattle.std.specs.Prelude.{◌≡◌, ◌+◌};
 ghost use Rattle.fe_wire.specs.Stream.{longest};
@@ -45,8 +45,8 @@ pub fn frames_are_spelled()
     ensures replies { ExampleReplies }
 {}
 
-/// The code's constants are the bytes of a length field, and of a client's longest frame: its length field and what
-/// that may say.
+/// The constants of the code are the bytes of a length field, and those of a client's longest frame: its length field
+/// and the greatest value of that.
 pub fn limits_are()
     ensures length { LENGTH_BYTES ≡ 4 }
     ensures frame { FRAME_BYTES ≡ 4 + longest Two }

@@ -1,4 +1,4 @@
-//! The frames of clients' messages.
+//! The frames of clients' messages (`docs/formats.md`, "Frames").
 
 ghost use Rattle.std.specs.Prelude.{◌≡◌};
 ghost use Rattle.fe_wire.specs.Spelling.{spelling, Fits};

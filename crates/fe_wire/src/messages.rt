@@ -1,4 +1,4 @@
-//! Reading clients' messages from the bodies of their frames.
+//! Reading clients' messages from the bodies of their frames (`docs/formats.md`, "Frames").
 
 ghost use Rattle.std.specs.Prelude.{◌≡◌};
 ghost use Rattle.fe_wire.specs.Reading.{create_of, find_of, access_of, plain_of, message_of};

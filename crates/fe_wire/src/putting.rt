@@ -1,4 +1,4 @@
-//! Writing messages as bytes.
+//! Writing messages and replies as frames, the bytes that go over a connection (`docs/formats.md`, "Frames").
 
 ghost use Rattle.std.specs.Prelude.{◌≡◌, ◌+◌, ◌<◌, ◌++◌, length, OnOk, OnErr, vec_len, vec_capacity};
 ghost use Rattle.fe_wire.specs.Spelling.{spelling, reply_spelling, Fits, ReplyFits, HasRefusalCode};

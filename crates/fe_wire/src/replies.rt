@@ -1,4 +1,4 @@
-//! Reading the server's replies from their frames.
+//! Reading the server's replies from their frames (`docs/formats.md`, "Replies").
 
 ghost use Rattle.std.specs.Prelude.{◌≡◌, Some, IfOk, IfSome, OnErr};
 ghost use Rattle.fe_wire.specs.Spelling.{reply_spelling, ReplyFits, IsReport};

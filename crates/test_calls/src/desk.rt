@@ -1,5 +1,5 @@
-//! A desk where memory ends. The tests whose names end so are run again and again with the first allocation refused, then
-//! the second, and so on (`scripts/refuse_test`), and once with memory enough.
+//! Tests of a desk when memory runs out. Those whose names end in `where_memory_ends` are run again and again with the
+//! first allocation refused, then the second, and so on (`scripts/refuse_test`), and once with memory enough.
 
 use crate::disk::DEVICE_BYTES;
 use crate::messages::{Said, first_frame, put_expected, put_said};
@@ -12,7 +12,7 @@ use std::process::Abort;
 /// The refusals of a creation and of a report because memory is short, up to the number.
 const NO_MEMORY: u8 = 8;
 
-/// What a report tells where nothing waits.
+/// The report if nothing waits.
 const NONE_WAITS: &[u8] = b"\0\0\0\x0b\x47waiting 0\n";
 
 /// The bytes of a new store, except those that are zero: slot 0 has generation 1 and the image of the first state
@@ -24,7 +24,7 @@ const STORE: [(usize, &'static [u8]); 4] = [
     (4111, &[1]),
 ];
 
-// Zeros, at the second try if not at the first.
+// Makes a device of zeros, at the latest at the second try.
 fn zeros(rt: &impl Abort, alloc: Global) -> Vec<u8> {
     match vec![in alloc; 0; DEVICE_BYTES] {
         Ok(bytes) => bytes,
@@ -53,7 +53,7 @@ fn open_at_last(rt: &impl Abort, alloc: Global) -> Desk<Liar> {
     }
 }
 
-// Takes a step that takes no bytes, at the second try if not at the first. What is stored and written then stands.
+// Takes a step that has no bytes, at the latest at the second try. A failed try stores nothing.
 fn take(rt: &impl Abort, desk: &mut Desk<Liar>, step: &Step) {
     let place = desk.keeper().state().place();
     match desk.step(step) {
@@ -70,7 +70,7 @@ fn take(rt: &impl Abort, desk: &mut Desk<Liar>, step: &Step) {
     }
 }
 
-// Bytes come: what is left of them is taken by a step without bytes, where they were read.
+// Takes a step with bytes. If memory runs out, takes it again, without the bytes if they were read.
 fn take_bytes(rt: &impl Abort, desk: &mut Desk<Liar>, step: &Step, empty: &Step) {
     match desk.step(step) {
         Ok(()) => {}
@@ -101,7 +101,7 @@ fn is_refusal(frame: &[u8]) -> bool {
     frame.len() == 14 && frame[4] == 70 && frame[13] == NO_MEMORY
 }
 
-// How often something was refused so. All else that was written is these frames, or the first of them.
+// How many refusals for lack of memory were written. All else that was written is these frames, or the first of them.
 fn refusals_in(rt: &impl Abort, written: &[u8], frames: &[u8]) -> usize {
     let mut found: usize = 0;
     let (mut written, mut frames) = (written, frames);
@@ -132,7 +132,7 @@ fn written_to(desk: &Desk<Liar>, conn: u64) -> &[u8] {
     &[]
 }
 
-// Takes a line. Where it is refused because memory is short it is said again, and that is a creation or a report.
+// Takes a line. If it is refused because memory is short, it is said again; only a creation or a report may be refused so.
 fn take_expected(
     rt: &impl Abort,
     alloc: Global,
@@ -155,7 +155,7 @@ fn put_bytes(rt: &impl Abort, out: &mut Vec<u8>, bytes: &[u8]) {
     }
 }
 
-// What a connection is told. Connection 1 asks for a report last.
+// The frames that a connection should be sent. Connection 1 asks for a report last.
 fn frames_for(rt: &impl Abort, alloc: Global, path: &Path, conn: u64) -> Vec<u8> {
     let mut frames = Vec::new(alloc);
     for (to, expected) in path.replies {
@@ -169,8 +169,8 @@ fn frames_for(rt: &impl Abort, alloc: Global, path: &Path, conn: u64) -> Vec<u8>
     frames
 }
 
-// What was written to the connection, apart from refusals for lack of memory. Where no frames are expected, nothing was
-// written.
+// Checks what was written to the connection, apart from refusals for lack of memory. If no frames are expected, nothing
+// may be written.
 fn check_written(rt: &impl Abort, desk: &Desk<Liar>, conn: u64, frames: &[u8]) {
     let written = written_to(desk, conn);
     assert!(rt; !frames.is_empty() || written.is_empty());
@@ -178,7 +178,7 @@ fn check_written(rt: &impl Abort, desk: &Desk<Liar>, conn: u64, frames: &[u8]) {
     assert!(rt; written.len() == frames.len().saturating_add(14 * refused));
 }
 
-// The path, a report and a checkpoint.
+// Takes the lines of a path, a report and a checkpoint.
 fn take_path(rt: &impl Abort, alloc: Global, desk: &mut Desk<Liar>, path: &Path) {
     for (conn, said) in path.lines {
         let frames = frames_for(rt, alloc, path, *conn);

@@ -1,4 +1,4 @@
-//! A disk in memory where memory ends.
+//! A disk in memory when memory runs out.
 use fe_disk::{Disk, MemoryDisk};
 use std::process::Abort;
 use std::test::Fail;
@@ -6,7 +6,7 @@ use std::test::Fail;
 /// The size of a store's device, in bytes.
 pub const DEVICE_BYTES: usize = 4_202_496;
 
-/// Where the disk is read and written, two bytes each time.
+/// The offset at which the disk is read and written, two bytes each time.
 const AT: usize = 7;
 
 fn found(rt: &impl Abort, disk: &mut MemoryDisk) -> [u8; 2] {

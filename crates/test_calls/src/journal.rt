@@ -12,7 +12,7 @@ const EMPTY: [u8; 24] = [
     0, 0, 0, 0, 0, 0, 0, 0, 0, 0, 0, 0, 0, 0, 0, 1, 0, 0, 0, 0, 0, 0, 0, 0,
 ];
 
-// Memory ran out in the journal, or in the disk for its record of the call, which is then a fault of the device.
+// Whether memory ran out in the journal, or in the disk for its record of the call, which is then a fault of the device.
 fn wants_memory(fault: StoreFault, disk: &MemoryDisk) -> bool {
     match fault {
         StoreFault::NoMemory => disk.failures() == 0,

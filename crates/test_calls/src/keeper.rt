@@ -1,5 +1,5 @@
-//! A keeper where memory ends, as in `desk`: what is refused leaves the state, gives disk and batch back, and is done when
-//! it is asked again.
+//! A keeper when memory runs out, as in `desk`: what is refused leaves the state, returns disk and batch, and is done
+//! when it is asked again.
 
 use crate::desk::new_liar;
 use fe_disk::Liar;
@@ -34,7 +34,7 @@ fn open_at_last(rt: &impl Abort, alloc: Global) -> Keeper<Liar> {
     }
 }
 
-// Number 2 of session 7 makes array 1 of 1,000 words.
+// The entry by which number 2 of session 7 makes array 1 of 1,000 words.
 fn created(rt: &impl Abort) -> Entry {
     Entry::Finished {
         session: 7,
@@ -58,7 +58,7 @@ fn batch_at_last(rt: &impl Abort, alloc: Global, first: u64) -> Batch {
     }
 }
 
-// A batch of this many times the entry.
+// A batch with the entry this many times.
 fn batch_of(rt: &impl Abort, alloc: Global, first: u64, entry: &Entry, count: usize) -> Batch {
     let mut batch = batch_at_last(rt, alloc, first);
     for _ in 0..count {
@@ -75,7 +75,7 @@ fn is_same(batch: &Batch, first: u64, entry: &Entry, count: usize) -> bool {
     batch.first == first && entries.len() == count && entries.iter().all(|one| one == entry)
 }
 
-// Appends this many times the entry, at the second try if not at the first: the batch comes back and the state stays.
+// Appends the entry this many times, at the latest at the second try. A failed try returns the batch and leaves the state.
 fn append_at_last(
     rt: &impl Abort,
     alloc: Global,
@@ -102,7 +102,7 @@ fn append_at_last(
     drop(back);
 }
 
-// Begins a checkpoint, at the second try if not at the first: none is under way between.
+// Begins a checkpoint, at the latest at the second try. None is under way after a failed one.
 fn begin_at_last(rt: &impl Abort, keeper: &mut Keeper<Liar>) {
     match keeper.checkpoint_begin() {
         Ok(begun) => assert!(rt; begun),
@@ -114,7 +114,7 @@ fn begin_at_last(rt: &impl Abort, keeper: &mut Keeper<Liar>) {
     }
 }
 
-// Groups, and a checkpoint with a group in it.
+// Appends groups, and makes a checkpoint with a group in it.
 fn check_checkpoint(rt: &impl Abort, alloc: Global, keeper: &mut Keeper<Liar>) {
     append_at_last(rt, alloc, keeper, &ATTACHED, 1);
     append_at_last(rt, alloc, keeper, &created(rt), 1);
@@ -126,7 +126,7 @@ fn check_checkpoint(rt: &impl Abort, alloc: Global, keeper: &mut Keeper<Liar>) {
     assert!(rt; keeper.used() == 165);
 }
 
-// The fourth batch does not fit, and has a whole checkpoint made: 4,000 records take 320,005 bytes.
+// Appends four batches. The fourth does not fit, and has a whole checkpoint made: 4,000 records take 320,005 bytes.
 fn check_whole(rt: &impl Abort, alloc: Global, keeper: &mut Keeper<Liar>) {
     for _ in 0..4 {
         append_at_last(rt, alloc, keeper, &ATTACHED, 4000);

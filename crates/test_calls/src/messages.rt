@@ -10,11 +10,11 @@ use std::process::Abort;
 #[derive(Clone, Copy)]
 pub enum Said {
     Attach(u64),
-    /// The array of this many words, under a number.
+    /// A call makes the array of this many words, under a number.
     Create(u64, u32, Tag),
-    /// Array 1 goes.
+    /// A call removes array 1.
     Remove(u64),
-    /// A word of array 1.
+    /// A call operates on a word of array 1.
     Access(u64, u32, Op),
     Report,
 }
@@ -22,7 +22,7 @@ pub enum Said {
 /// What a client is sent.
 #[derive(Clone, Copy)]
 pub enum ExpectedReply {
-    /// A session, whose floor is 1.
+    /// The session was attached, and its floor is 1.
     Welcome(u64),
     Answer(u64, Answer),
 }
@@ -57,7 +57,7 @@ fn message_of(rt: &impl Abort, said: Said) -> ClientMessage {
     }
 }
 
-/// Appends the frame. Where one allocation is refused it is done at the second try.
+/// Appends the frame of a message, at the latest at the second try.
 pub fn put_said(rt: &impl Abort, out: &mut Vec<u8>, said: Said) {
     let message = message_of(rt, said);
     if put_message(out, &message).is_err() {
@@ -97,7 +97,7 @@ fn put_answer(rt: &impl Abort, out: &mut Vec<u8>, number: u64, answer: Answer) {
     put(rt, out, &length.to_be_bytes());
 }
 
-/// Appends the frame, as `docs/formats.md` spells it. Where one allocation is refused it is done at the second try.
+/// Appends the frame of a reply, as `docs/formats.md` spells it, at the latest at the second try.
 pub fn put_expected(rt: &impl Abort, out: &mut Vec<u8>, expected: ExpectedReply) {
     match expected {
         ExpectedReply::Welcome(session) => {

@@ -97,7 +97,7 @@ fn check(rt: &impl Abort, waits: &mut Waits)
     fill(rt, waits);
 }
 
-/// Lists with an array of eight words.
+/// Waiting lists with an array of eight words.
 fn new_waits(alloc: Global) -> Result<Waits, AllocError>
     ensures { IfOk result (λ waits. map.get waits.arrays 1 ≡ Some 8) }
 {

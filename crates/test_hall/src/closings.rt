@@ -1,4 +1,4 @@
-//! Halls that are closed with receipts that none of their connections got.
+//! Closing halls with receipts that none of their connections got.
 
 ghost use Rattle.std.specs.Prelude.{◌≡◌, ◌+◌, ◌∷◌, []};
 ghost use Rattle.fe_shared.specs.Seats.{most_connections};

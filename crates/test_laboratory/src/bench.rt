@@ -24,7 +24,7 @@ pub struct Bench {
     pub names: Names,
     pub disk: MemoryDisk,
     pub level: Level,
-    // As the script spells them: the bytes of a name in them may change later.
+    // The calls as the script spells them: the bytes of a name in them may change later.
     calls: Vec<String>,
     pub made: Made,
     pub counts: Counts,

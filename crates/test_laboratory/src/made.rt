@@ -45,7 +45,7 @@ impl Made {
         }
     }
 
-    /// The store was not opened.
+    /// The result if the store was not opened.
     pub fn refused(alloc: Global, fault: Fault) -> Made {
         let mut made = Made::new(alloc);
         made.fault = Some(fault);

@@ -84,7 +84,7 @@ impl<'a> Trial<'a> {
         }
     }
 
-    // The same after stops at each device call of an opening.
+    // Whether a stop of this kind leaves what is allowed, also after stops at each device call of an opening.
     fn leaves_behind_stops(
         &self,
         disk: &MemoryDisk,
@@ -143,7 +143,7 @@ impl<'a> Trial<'a> {
         Ok(Err(PLENTY))
     }
 
-    /// Lets each device call fail once, in the same way.
+    /// Lets each device call fail once, as `fuse_each` stops them.
     pub fn fail_once_each(&self) -> Result<Result<u64, u64>, Trouble> {
         for calls in 0..PLENTY {
             let run = self.failing(calls)?;

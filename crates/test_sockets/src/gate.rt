@@ -64,7 +64,7 @@ fn connected<R: Net + Clock + Abort>(rt: &R, socket: &str) -> UnixStream {
     None.expect(rt, "there is a server")
 }
 
-/// Each line is answered, with these answers.
+/// Sends the lines, and checks that each is answered with these answers.
 fn asks(rt: &(impl Abort + AllocGlobal), stream: &UnixStream, lines: &[u8], answers: &[u8]) {
     let mut connection = StreamConnection::new(stream, stream);
     let mut reader = lines;
@@ -108,7 +108,7 @@ fn gate_holds_one(rt: HostRuntime) {
     let id = process::id(rt.process());
     let socket = path_of(&rt, id, "socket").expect(&rt, "a path");
     let store = path_of(&rt, id, "store").expect(&rt, "a path");
-    // (an earlier process with this number may have been killed in this test)
+    // An earlier process with this number may have been killed in this test.
     let _ = (
         fs::remove_file(&rt, socket.as_str()),
         fs::remove_file(&rt, store.as_str()),

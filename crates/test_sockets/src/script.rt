@@ -20,9 +20,9 @@ const FLUSHED: u8 = 131;
 struct Dialogue<'i, 'r> {
     /// The input that is not typed yet.
     input: &'i [u8],
-    /// The reply to the last line typed is not written and flushed yet.
+    /// Whether the reply to the last line typed is still to be written and flushed.
     is_waiting: bool,
-    /// Something was written after the last flush.
+    /// Whether something was written after the last flush.
     has_written: bool,
     /// The replies that are not received yet.
     replies: &'r [u8],

@@ -1,4 +1,4 @@
--- Which slot of the waiting lists each session has. No public clause cites this module.
+-- Which slot of the waiting lists (`fe_waits`) each session has. No public clause cites this module.
 use Rattle.std.specs.Prelude.{◌≡◌, ◌↔◌, ℕ, ◌+◌, ◌<◌, ◌≤◌, List, [], ◌∷◌, ◌++◌, zero, suc, map, length, Option, Some, None, IsSome, slice_get, slice_index_or, unwrap_or}
 use Rattle.std.specs.Option.{option_map}
 use Rattle.std.specs.Ordering.{nat_cmp}
@@ -17,7 +17,7 @@ use Rattle.fe_state.specs.Limits.{most_sessions}
 abbrev pub owner_at : List (Option ℕ) → ℕ → Option ℕ
 owner_at owners slot = slice_index_or owners slot None
 
--- the session of a slot that one has
+-- the session that has the slot, or 0 if none has it
 abbrev pub owner_of : List (Option ℕ) → ℕ → ℕ
 owner_of owners slot = unwrap_or (owner_at owners slot) 0
 
@@ -69,7 +69,7 @@ pub record AreAttachments (waits : Waiting) (occupants : FinMap nat_cmp Occupant
   pub reserved : most_sessions ≤ capacity
   pub owned : (key : ℕ × ℕ) (waiter : WaitingAccess) → get waits.members key ≡ Some waiter → IsSome (owner_at owners key.0)
 
--- what a contract sees of them
+-- the attachments as contracts see them
 abbrev pub attachments_state_of : Waiting → FinMap nat_cmp Occupant → List (Option ℕ) → AttachmentsState
 attachments_state_of waits occupants owners =
     record { arrays = waits.arrays; attachments = attachments_of occupants; waiting = by_session owners waits.members; requests_by_node = requests_from owners waits.nodes }

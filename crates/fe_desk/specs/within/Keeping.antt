@@ -1,4 +1,4 @@
--- What stays of a desk where mails are taken and connections go.
+-- What stays of a desk while mails are taken and connections go.
 use Rattle.std.specs.Prelude.{◌≡◌, ℕ, true, List, [], ◌++◌, map}
 use Rattle.fe_mail.specs.Connections.{mails_on}
 use Rattle.fe_front.specs.Front.{FrontState, is_connected}
@@ -25,14 +25,14 @@ pub record HasStore {D : Type 0} (old new : DeskState D) : Type 0 where
 pub record KeepsEmpty (f g : FrontState) : Type 0 where
   pub empty : (conn : ℕ) → mails_on f.connections conn ≡ [] → mails_on g.connections conn ≡ []
 
--- some mails of a client are written and some are not: writing those comes to the same as writing all at the beginning
+-- some mails of a client are written and some are not; to write the rest later comes to the same as to write all at once
 pub record IsWrittenOutLater (f : FrontState) (c : Client) (g : FrontState) (d : Client) : Type 0 where
   pub conn : d.conn ≡ c.conn
   pub output : (more : List ℕ) × (d.written ≡ c.written ++ more)
   pub front : emptied_box g d.conn ≡ emptied_box f c.conn
   pub client : written_out g d ≡ written_out f c
 
--- the same of all clients
+-- some mails of these clients are written and some are not; to write the rest later comes to the same as to write all at once
 pub record AreWrittenOutLater (f : FrontState) (cs : List Client) (g : FrontState) (ds : List Client) : Type 0 where
   pub front : all_emptied g ds ≡ all_emptied f cs
   pub clients : all_written_out g ds ≡ all_written_out f cs

@@ -1,4 +1,4 @@
--- Where the client of a connection number stands among the clients, and what comes first where it connects.
+-- Which index the client of a connection number has among the clients, and what a connection changes when it comes.
 use Rattle.std.specs.Prelude.{◌≡◌, ◌≢◌, ℕ, ◌<◌, List, length, Option, Some, slice_get}
 use Rattle.std.specs.Option.{option_map}
 use Rattle.fe_wire.specs.Stream.{Decoding}
@@ -6,11 +6,11 @@ use Rattle.fe_front.specs.Steps.{connected}
 use Rattle.fe_desk.specs.DeskRunState.{Client, DeskRunState}
 use Rattle.fe_desk.specs.Steps.{BeginsStream, clients_with}
 
--- the number of the client at a place
+-- the number of the client at an index
 abbrev pub client_number_at : List Client → ℕ → Option ℕ
 client_number_at clients i = option_map (λ c. c.conn) (slice_get clients i)
 
--- the first client of a number is at this place
+-- the first client of a number is at this index
 pub record IsFirstAt (clients : List Client) (conn at : ℕ) : Type 0 where
   pub within : at < length clients
   pub here : client_number_at clients at ≡ Some conn

@@ -6,7 +6,7 @@ use Rattle.fe_front.specs.declared.front.Front.TheInside.{Inside}
 abbrev pub front_of : Inside → FrontState
 front_of f = record { service = f.service; connections = f.connections; durable = f.durable; out = f.out; books = f.books }
 
--- the parts are tied, and the room for the entries after the next cut is there while no batch is out
+-- the parts are tied, and while no batch is out, the memory for the entries after the next cut is there
 pub record IsSound (f : Inside) : Type 0 where
   pub tied : IsTied (front_of f)
   pub spare : f.out ≡ None → f.spare ≡ Some []

@@ -1,4 +1,4 @@
--- What a checkpoint under way catches up with.
+-- What a checkpoint under way catches up with: the entries that came since it was begun.
 use Rattle.std.specs.Prelude.{◌≡◌, ℕ, ◌+◌, ◌*◌, ◌≤◌, List, ◌++◌, length, Option, Some, None, vec_len, vec_capacity}
 use Rattle.fe_state.specs.declared.entry.Entry.{Entry}
 use Rattle.std.specs.List.{AllByRecursion}
@@ -13,14 +13,14 @@ use Rattle.fe_keeper.specs.declared.checkpoint.Checkpoint.{Checkpoint}
 abbrev pub batch_bytes : ℕ
 batch_bytes = most_batch_entries * record_bytes Two
 
--- The bytes spell the entries of a batch, which can be spelled in format 2 too.
+-- The bytes spell the entries of a batch, which have records in format 2 too.
 pub record IsSpelledBatch (format : Format) (group : List ℕ) (entries : List Entry) : Type 0 where
   pub spelled : group ≡ group_spelling format entries
   pub fits : FitsGroup format entries
   pub each : AllByRecursion (CanPut Two) entries
   pub few : length entries ≤ most_batch_entries
 
--- room for the records of this many entries more, if a checkpoint is under way
+-- the checkpoint under way, if there is one, has room for the records of n more entries
 abbrev pub HasRoomFor : Option Checkpoint → ℕ → Type 0
 HasRoomFor None n = Unit {0}
 HasRoomFor (Some c) n = vec_len c.catch_up + n * record_bytes Two ≤ vec_capacity c.catch_up

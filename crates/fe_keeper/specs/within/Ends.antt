@@ -1,4 +1,4 @@
--- How a call of a store ends, and what it carries over.
+-- How a call of a store, the bytes side of a keeper, ends, and what it keeps.
 use Rattle.std.specs.Prelude.{◌≡◌, ◌↔◌, ℕ, ◌+◌, Bool, true, false, IsTrue, List, Result, MatchResult, OnOk}
 use Rattle.fe_disk.specs.Disk.{Rises, MakesAtMost}
 use Rattle.fe_disk.specs.Runs.{LeavesOnly}
@@ -18,7 +18,7 @@ use Rattle.fe_keeper.specs.declared.checkpoint.Checkpoint.{Checkpoint}
 use Rattle.fe_keeper.specs.declared.keeper_store.KeeperStore.{KeeperStore}
 use Rattle.fe_disk.specs.declared.disk.Disk.{Ghosts}
 
--- ---- how a call ends, where the device worked before it
+-- ---- how a call ends, if the device worked before it
 
 -- no call of the device failed
 pub record WorksOn {D : Type 0} (model : Ghosts D) (old new : JournalState D) : Type 0 where
@@ -30,19 +30,19 @@ pub record BreaksOff {D : Type 0} (model : Ghosts D) (old new : JournalState D) 
   pub failed : new.has_failed ≡ true
   pub rises : Rises (model.failures old.disk) (model.failures new.disk)
 
--- Only the device fails, and the disk is as honest as it was.
+-- Only the device fails, and the disk's honesty stays as it was.
 pub record StoreEnds {T D : Type 0} (model : Ghosts D) (result : Result T JournalFault) (old new : JournalState D) : Type 0 where
   pub outcome : MatchResult result (λ _. WorksOn model old new) (λ fault. (fault ≡ Device) × BreaksOff model old new)
   pub honesty : model.honest new.disk ↔ model.honest old.disk
 
--- ---- what it carries over
+-- ---- what it keeps
 
 -- The store is sound, and no entry came.
 pub record StaysSound {D : Type 0} (old new : KeeperStore D) : Type 0 where
   pub sound : IsStore new
   pub place : new.place ≡ old.place
 
--- The store is sound, and counts the entries of a batch exactly where the batch is stored.
+-- The store is sound, and counts the entries of a batch exactly if the batch is stored.
 pub record CountsBatch {T D : Type 0} (result : Result T JournalFault) (old new : KeeperStore D) (n : ℕ) : Type 0 where
   pub sound : IsStore new
   pub place : MatchResult result (λ _. new.place ≡ old.place + n) (λ _. new.place ≡ old.place)
@@ -53,24 +53,24 @@ pub record IsStepped {D : Type 0} (old new : KeeperStore D) (more : Bool) : Type
   pub more_is : more ≡ has_slices (store_of new).checkpoint
   pub ready : HasCheckpoint new
 
--- Each image that a stop leaves stands for the state, and the store upholds it then, if the call succeeds.
+-- Each image that a stop leaves stands for the state, and if the call succeeds, the store still upholds the state.
 pub record Carries {T D : Type 0} (model : Ghosts D) (result : Result T JournalFault) (old new : KeeperStore D) (s : ServerState) : Type 0 where
   pub any_moment : LeavesOnly model old.journal.disk new.journal.disk (λ image. StandsFor image s)
   pub upheld : OnOk result (Upholds model new s)
 
--- Each image that a stop leaves stands for one of two states, and the store upholds the second, if the call succeeds.
+-- Each image that a stop leaves stands for one of two states, and if the call succeeds, the store upholds the second.
 pub record Leads {T D : Type 0} (model : Ghosts D) (result : Result T JournalFault) (old new : KeeperStore D) (s t : ServerState) : Type 0 where
   pub any_moment : LeavesOnly model old.journal.disk new.journal.disk (StandsForEither s t)
   pub upheld : OnOk result (Upholds model new t)
 
--- The same of a journal's contents, and the draft of a checkpoint beside them.
+-- Each image that a stop leaves holds the contents, and if the call succeeds, the journal keeps them and the checkpoint's draft.
 pub record CarriesDraft {T D : Type 0} (model : Ghosts D) (result : Result T JournalFault) (old new : JournalState D) (contents : Contents) (c : Checkpoint) (s : ServerState) : Type 0 where
   pub any_moment : LeavesOnly model old.disk new.disk (Holds contents)
   pub drafted : OnOk result (KeepsDraft model new contents c s)
 
 -- ---- calls of the device
 
--- How many of them make room for a batch, where a whole checkpoint would have this many slices.
+-- How many device calls make room for a batch. A whole checkpoint, if the batch needs one, has this many slices.
 pub record MakesRoom {D : Type 0} (store : StoreState D) (entries : List Entry) (whole : ℕ) (before after : Calls) : Type 0 where
   pub none : IsTrue (fits store entries) → MakesAtMost 0 0 0 before after
   pub to_finish : must_begin store entries ≡ false → MakesAtMost 0 (slices_left store.checkpoint + 2) 2 before after

@@ -1,4 +1,4 @@
--- What a keeper gives for the faults of the layers below it.
+-- Which fault a keeper returns for a fault of the layers below it.
 use Rattle.fe_journal.specs.declared.fault.JournalFault.{JournalFault}
 use Rattle.fe_journal.specs.declared.fault.JournalFault.TheVariants as journal
 use Rattle.fe_journal.specs.declared.fault.StoreFault.{StoreFault}

@@ -1,4 +1,4 @@
--- A checkpoint that is made and not begun: all memory that it takes is there.
+-- A checkpoint, an image to be written into the other slot, that has all its memory and is not begun.
 use Rattle.std.specs.Prelude.{◌≡◌, ℕ, ◌≤◌, [], Option, vec_len, vec_capacity}
 use Rattle.std.specs.Option.{option_map_or}
 use Rattle.fe_state.specs.State.{ServerState}
@@ -8,7 +8,7 @@ use Rattle.fe_format.specs.declared.format.Format.TheVariants.{Two}
 use Rattle.fe_keeper.specs.Keeper.{slices_of}
 use Rattle.fe_keeper.specs.declared.checkpoint.Checkpoint.{Checkpoint}
 
--- nothing of its image is written and nothing came since this place, and it has room for the longest group
+-- Nothing of its image is written, nothing came since this place, and it has room for the longest group.
 pub record IsFresh (c : Checkpoint) (place : ℕ) : Type 0 where
   pub allowed : IsImageLength Two (vec_len c.image)
   pub written : c.written ≡ 0
@@ -22,6 +22,6 @@ pub record IsImageOf (c : Checkpoint) (s : ServerState) : Type 0 where
   pub image_is : c.image.items ≡ image_spelling Two s
   pub place_is : c.place ≡ s.place
 
--- how many slices the image takes, where a checkpoint is made
+-- how many slices the image of a checkpoint takes, if there is one
 abbrev pub whole_slices : Option Checkpoint → ℕ
 whole_slices whole = option_map_or (λ made. slices_of (vec_len made.image)) whole 0

@@ -1,4 +1,4 @@
--- What the calls of a store begin with.
+-- What the calls of a store, the bytes side of a keeper, require.
 use Rattle.std.specs.Prelude.{◌≡◌, ◌+◌, ◌≤◌, false, IsTrue, IsSome, IfSome, is_some, List, length, Option, vec_len}
 use Rattle.std.specs.List.{AllByRecursion}
 use Rattle.fe_state.specs.Limits.{most_batch_entries, greatest_place}
@@ -25,7 +25,7 @@ pub record HasCheckpoint {D : Type 0} (store : KeeperStore D) : Type 0 where
   pub works : store.journal.has_failed ≡ false
   pub under_way : IsSome store.checkpoint
 
--- A checkpoint can be begun, this one is made for it, and the device works.
+-- A checkpoint can be begun, this one has the memory for it, and the device works.
 pub record CanTake {D : Type 0} (store : KeeperStore D) (c : Checkpoint) : Type 0 where
   pub sound : IsStore store
   pub works : store.journal.has_failed ≡ false
@@ -41,7 +41,7 @@ pub record CanStore {D : Type 0} (store : KeeperStore D) (entries : List Entry) 
   pub each : AllByRecursion (CanPut Two) entries
   pub place : store.place + length entries ≤ greatest_place
 
--- A whole checkpoint is made for the batch exactly where it needs one.
+-- There is a whole checkpoint for the batch exactly if the batch needs one.
 pub record IsWholeFor {D : Type 0} (store : KeeperStore D) (entries : List Entry) (whole : Option Checkpoint) : Type 0 where
   pub must : is_some whole ≡ must_begin (store_of store) entries
   pub fresh : IfSome whole (λ made. IsFresh made store.place)

@@ -1,4 +1,4 @@
--- The groups of a slot, gone through one after the other.
+-- Replaying the groups of a slot, one after the other: their entries are carried out on a state.
 use Rattle.std.specs.Prelude.{◌≡◌, ℕ, Bool, true, false, List, [], ◌∷◌}
 use Rattle.fe_state.specs.State.{ServerState}
 use Rattle.fe_state.specs.History.{IsHistory}
@@ -14,7 +14,7 @@ pub record CanGoOn (format : Format) (payloads : List (List ℕ)) (s : ServerSta
   pub groups_are : AreGroups format groups payloads
   pub legal : IsHistory s groups
 
--- the first payload was gone through, and the rest is still to be read; or there was none
+-- the first payload was replayed, and the rest is still to be read; or there was none
 abbrev pub IsNext : Format → List (List ℕ) → Cursor → ServerState → ServerState → Bool → Type 0
 IsNext format [] groups old new more = (more ≡ false) × (new ≡ old)
 IsNext format (payload ∷ payloads) groups old new more = (more ≡ true) × Replays format payload old new × Lists groups payloads

@@ -1,4 +1,4 @@
--- A checkpoint and the journal's slot begun for it, as slices are written.
+-- A checkpoint, and the slot that the journal began for it, as slices of its image are written.
 use Rattle.std.specs.Prelude.{◌≡◌, ℕ, ◌+◌, List, Some, vec_len}
 use Rattle.fe_state.specs.State.{ServerState}
 use Rattle.fe_format.specs.declared.format.Format.TheVariants.{Two}
@@ -9,15 +9,15 @@ use Rattle.fe_keeper.specs.within.Upholds.{IsDraftOf, progress_of}
 use Rattle.fe_keeper.specs.declared.checkpoint.Checkpoint.{Checkpoint}
 use Rattle.fe_disk.specs.declared.disk.Disk.{Ghosts}
 
--- the slot begun is the checkpoint's
+-- the slot that was begun is the checkpoint's
 abbrev pub IsBegunFor : {D : Type 0} → JournalState D → Checkpoint → Type 0
 IsBegunFor j c = j.begun ≡ Some (record { format = Two; generation = j.generation + 1; image_length = vec_len c.image; written = c.written })
 
--- the checkpoint with one slice more written
+-- the checkpoint once one slice more is written
 abbrev pub sliced : Checkpoint → Checkpoint
 sliced c = record c { written = c.written + slice_size (progress_of c) }
 
--- the journal after it
+-- the journal once that slice is written
 abbrev pub journal_sliced : {D : Type 0} → JournalState D → D → Checkpoint → JournalState D
 journal_sliced j disk c =
     record j {
@@ -25,7 +25,7 @@ journal_sliced j disk c =
       begun = Some (record { format = Two; generation = j.generation + 1; image_length = vec_len c.image; written = c.written });
     }
 
--- The journal keeps contents, and beside them a draft of the checkpoint that leads to the state.
+-- The journal keeps these contents, and beside them a draft of the checkpoint, which leads to the state.
 pub record KeepsDraft {D : Type 0} (model : Ghosts D) (j : JournalState D) (contents : Contents) (c : Checkpoint) (s : ServerState) : Type 0 where
   pub draft : Draft
   pub keeps : KeepsContents model j contents (Some draft)

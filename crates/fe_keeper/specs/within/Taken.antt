@@ -1,4 +1,4 @@
--- A batch that is taken and not yet stored.
+-- A batch that was taken by the replica and is not stored yet.
 use Rattle.std.specs.Prelude.{◌≡◌, ◌≤◌, List, length, IfSome, Option}
 use Rattle.fe_state.specs.State.{ServerState, after_all}
 use Rattle.fe_state.specs.Limits.{most_batch_entries}
@@ -20,14 +20,14 @@ pub record HasTaken (before : ServerState) (entries : List Entry) (now : ServerS
   pub beginning : rewound log now ≡ before
   pub room : length entries ≤ log.room
 
--- A batch is taken from the state that the store is at.
+-- A batch was taken from the state at whose place the store is.
 pub record HasBatch {D : Type 0} (store : KeeperStore D) (now : ServerState) (log : UndoLog) (entries : List Entry) : Type 0 where
   pub sound : IsStore store
   pub few : length entries ≤ most_batch_entries
   pub taken : HasTaken (rewound log now) entries now log
   pub place : store.place ≡ (rewound log now).place
 
--- A whole checkpoint of the state before the batch is made, exactly where the batch needs one.
+-- There is a whole checkpoint of the state before the batch exactly if the batch needs one.
 pub record IsMadeFor {D : Type 0} (store : KeeperStore D) (before : ServerState) (entries : List Entry) (whole : Option Checkpoint) : Type 0 where
   pub made : IsWholeFor store entries whole
   pub image : IfSome whole (λ made. IsImageOf made before)

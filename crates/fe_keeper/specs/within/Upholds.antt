@@ -1,4 +1,5 @@
--- How the bytes side of a keeper stands to a state, and to the images that its disk may leave.
+-- How a keeper's store, its bytes side, stands to a state and to the images that its disk may leave. It upholds a state
+-- if these images stand for it.
 use Rattle.std.specs.Prelude.{◌≡◌, ◌⊎◌, ℕ, ◌+◌, ◌-◌, ◌*◌, ◌≤◌, List, take, Option, Some, None, vec_len, vec_capacity}
 use Rattle.fe_state.specs.State.{ServerState, after_all}
 use Rattle.fe_state.specs.History.{AreLegal}
@@ -20,11 +21,11 @@ use Rattle.fe_disk.specs.declared.disk.Disk.{Ghosts}
 
 -- ---- over any disk
 
--- the generation leaves room for the next one's: below what the image of the state now would allow, once something came since the image
+-- The generation leaves room for the next: below what an image of the state now would allow, once something came since the image.
 abbrev pub IsNumbered : {D : Type 0} → ℕ → JournalState D → Type 0
 IsNumbered place j = (j.generation ≤ place + 1) ⊎ ((j.generation ≤ place + 2) × (j.used ≡ 0) × (j.format ≡ Two))
 
--- a checkpoint under way: the journal's slot begun is its image's, and what came since is caught up with
+-- a checkpoint is under way: the journal's slot begun is its image's, and its catch-up has what came since
 pub record IsUnderWay {D : Type 0} (place : ℕ) (j : JournalState D) (c : Checkpoint) : Type 0 where
   pub begun : j.begun ≡ Some (record { format = Two; generation = j.generation + 1; image_length = vec_len c.image; written = c.written })
   pub allowed : IsImageLength Two (vec_len c.image)
@@ -35,19 +36,19 @@ pub record IsUnderWay {D : Type 0} (place : ℕ) (j : JournalState D) (c : Check
   pub few : place - c.place ≤ group_records Two
   pub room : longest_payload Two ≤ vec_capacity c.catch_up
 
--- a checkpoint is under way exactly where the journal has a slot begun
+-- a checkpoint is under way exactly if the journal has a slot begun
 abbrev pub IsCheckpoint : {D : Type 0} → ℕ → JournalState D → Option Checkpoint → Type 0
 IsCheckpoint place j None = j.begun ≡ None
 IsCheckpoint place j (Some c) = IsUnderWay place j c
 
--- what is always true of the bytes side
+-- the invariant of the store
 pub record IsStore {D : Type 0} (store : KeeperStore D) : Type 0 where
   pub place : store.place ≤ greatest_place
   pub numbered : IsNumbered store.place store.journal
   pub group : batch_bytes ≤ vec_capacity store.group
   pub checkpoint : IsCheckpoint store.place store.journal store.checkpoint
 
--- how the fields give what a keeper's callers see
+-- how the fields of the store give what a keeper's callers see
 abbrev pub progress_of : Checkpoint → Progress
 progress_of c = record { size = vec_len c.image; written = c.written; place = c.place }
 

@@ -7,7 +7,7 @@ use Rattle.fe_waits.specs.Waiting.{AreWaitingRequestsOf, AreListedOnce}
 use Rattle.fe_service.specs.Service.{WaitingAccesses}
 use Rattle.fe_report.specs.Report.{Spot}
 
--- the entries are some of the map, in its order
+-- the entries are some entries of the map, in its order
 pub record ArePart {K X : Type 0} {R : K → K → Ordering} (m : FinMap R X) (es : List (K × X)) : Type 0 where
   pub sorted : T (is_sorted R es)
   pub sound : (q : K) (x : X) → find R q es ≡ Some x → get m q ≡ Some x

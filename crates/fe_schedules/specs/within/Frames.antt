@@ -2,7 +2,7 @@
 use Rattle.std.specs.Prelude.{ℕ, ◌+◌, List, length, take, drop, Option, Some, None, nat_lt, if◌then◌else◌}
 use Rattle.fe_wire.specs.Stream.{length_field}
 
--- the frame at the front with the bytes of its length, and what follows it; nothing where no whole one is there
+-- the frame at the front, with the bytes of its length, and what follows it; None if no whole frame is there
 unfoldable pub frame_at : List ℕ → Option (List ℕ × List ℕ)
 frame_at bytes =
     if nat_lt (length bytes) 4 then None

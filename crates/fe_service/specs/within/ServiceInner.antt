@@ -1,4 +1,4 @@
--- How the parts of a service go on while it serves. No public clause cites this module.
+-- How the parts of a service change while it serves. No public clause cites this module.
 use Rattle.std.specs.Prelude.{◌≡◌, ℕ, ◌⊎◌, List, [], ◌∷◌, ◌++◌, Some, None}
 use Rattle.std.specs.FinMap.{get}
 use Rattle.fe_words.specs.Table.{row}
@@ -9,15 +9,15 @@ use Rattle.fe_state.specs.declared.entry.Entry.{Entry}
 use Rattle.fe_service.specs.Service.{WaitingAccesses, request_of, IsTurn, AreTurns, without_turn, without_turns}
 use Rattle.fe_service.specs.declared.service_inner.ServiceInner.{ServiceInner}
 
--- no one that waits on the word may be served
+-- no request that waits on the word may be served
 abbrev pub IsQuietAt : ServerState → WaitingAccesses → ℕ → ℕ → Type 0
 IsQuietAt s waiting array index = (key : ℕ × ℕ) (w : WaitingAccess) → get waiting key ≡ Some w → IsOn w array index → reply s (request_of w) ≡ None
 
--- all that wait on the word do so where it has the tag
+-- all requests that wait on the word wait if this is its tag
 abbrev pub WaitAtTag : WaitingAccesses → ℕ → ℕ → Tag → Type 0
 WaitAtTag waiting array index tag = (key : ℕ × ℕ) (w : WaitingAccess) → get waiting key ≡ Some w → IsOn w array index → row w.op tag 0 ≡ None
 
--- one that waits on the word may not be served
+-- some request that waits on the word may not be served
 pub record HasIdle (s : ServerState) (waiting : WaitingAccesses) (array index : ℕ) : Type 0 where
   pub key : ℕ × ℕ
   pub waiter : WaitingAccess
@@ -25,7 +25,7 @@ pub record HasIdle (s : ServerState) (waiting : WaitingAccesses) (array index : 
   pub on_word : IsOn waiter array index
   pub idle : reply s (request_of waiter) ≡ None
 
--- nobody waits on the word, or one does that may not be served
+-- no request waits on the word, or some that does may not be served
 abbrev pub IsAtRest : ServerState → WaitingAccesses → ℕ → ℕ → Type 0
 IsAtRest s waiting array index = NoneOnWord waiting array index ⊎ HasIdle s waiting array index
 

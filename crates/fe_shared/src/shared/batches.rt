@@ -1,4 +1,4 @@
-//! What is under the lock hands batches out, and takes those that were stored.
+//! How the part under the lock hands batches out, and takes back those that were stored.
 
 ghost use Rattle.std.specs.Prelude.{◌≡◌, ◌+◌, ◌≤◌, ℕ, [], Some, None, false, IfErr, IfOk, IfSome, OnOk, OnErr, length};
 ghost use Rattle.fe_front.specs.Event as event;
@@ -21,8 +21,8 @@ use std::marker::Model;
 #[derive(Clone, Copy)]
 pub struct AllDurable(());
 
-/// A batch as it was cut, still to be stored, and how many were cut before it. Only a cut makes one, and nothing changes it. It is not
-/// `Drop`, so whoever has one hands it to a keeper.
+/// A batch that was cut and is to be stored, and how many were cut before it. Only a cut makes one, and nothing changes
+/// it. It is not `Drop`, so whoever has one hands it to a keeper.
 pub struct CutBatch {
     batch: Batch,
     count: u64,
@@ -50,12 +50,12 @@ impl CutBatch {
 #[derive(Clone, Copy)]
 pub struct Uncut(());
 
-/// What a cut gave.
+/// The outcome of a cut.
 pub enum CutOutcome {
     Batch(CutBatch),
     /// The hall is stopped, and nothing is left to store.
     Stopped(AllDurable),
-    /// Nothing is cut any more.
+    /// Another side cut a batch, so nothing is cut any more.
     Strange(Uncut),
 }
 
@@ -75,7 +75,7 @@ impl Model for Posted {
 #[derive(Clone, Copy)]
 pub struct FullBook(());
 
-/// Shows that a batch is not as the one that is out. Only a post makes one.
+/// Shows that a batch is not the one that is out. Only a post makes one.
 #[derive(Clone, Copy)]
 pub struct NotOut(());
 
@@ -87,7 +87,7 @@ pub enum Unposted {
 }
 
 impl<C: Tally, M: Tally> Shared<C, M> {
-    /// Hands all pending entries out, if there are some and no batch is out. `None`: there may be some later. The history has the cut then.
+    /// Hands out all pending entries, if there are some and no batch is out, and notes the cut. `None`: there may be some later.
     pub fn cut(
         &mut self,
         history_words: &HistoryWords<M>,
@@ -137,8 +137,8 @@ impl<C: Tally, M: Tally> Shared<C, M> {
         self.front.books().mails <= MOST_COUNTED - count
     }
 
-    /// The batch that is out, which was stored last, is durable now: mails its entries, and adds the connections whose boxes change.
-    /// It is not posted where a book has no room for its mails.
+    /// Makes the batch that is out durable, which was stored last: mails its entries, and adds the connections whose
+    /// boxes change. It is not posted if a book has no room for its mails.
     pub fn post(
         &mut self,
         batch: Batch,

@@ -9,5 +9,5 @@ use Rattle.fe_state.specs.Limits.{most_arrays}
 pub record IsIndex {S X : Type 0} (ids : IndexSet ℕ S) (arrays : FinMap nat_cmp X) : Type 0 where
   -- the ids rise, as they were given out
   pub order : ids.keys ≡ keys arrays
-  -- and the memory of the whole room is there
+  -- the memory for all ids is reserved
   pub room : most_arrays ≤ index_set_len ids + spare ids

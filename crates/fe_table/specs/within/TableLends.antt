@@ -11,6 +11,6 @@ module _ (V ROOM : RattleType) (table : MutBor (FinMap nat_cmp V.Denot)) where
   abbrev pub lends_value : ℕ → MutBor V.Denot → Fml
   lends_value key r = Lends (the_row V ROOM) V table r (insert table.now key)
 
-  -- the same for the key at a position
+  -- the key at this position has the last value written through r, and every other key keeps its value
   abbrev pub lends_position : ℕ → MutBor V.Denot → Fml
   lends_position position r = Lends (the_row V ROOM) V table r (put_at table.now position)

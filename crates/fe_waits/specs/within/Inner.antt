@@ -1,4 +1,4 @@
--- How the pool and the chains hold the waiting requests. No public clause cites this module.
+-- How the pool of nodes and the chains (the ends of its lists) hold the waiting requests. No public clause cites this module.
 use Rattle.std.specs.Prelude.{◌≡◌, ℕ, ◌≤◌, List, [], ◌∷◌, length, sum_by, Option, Some, None, slice_index_or, slice_get, Contains}
 use Rattle.std.specs.Ordering.{nat_cmp}
 use Rattle.std.specs.FinMap.{FinMap, insert, empty, len}
@@ -36,7 +36,7 @@ pub record AreListed {Position : Type 0} (nodes : List (Option Row)) (pool : Con
 abbrev pub empty_chain : Chain
 empty_chain = record { first = None; last = None; length = 0 }
 
--- where a request belongs in each family
+-- which list of each family a request belongs to: that of its slot, and that of its word
 abbrev pub session_of : Row → ℕ
 session_of row = row.slot
 

@@ -1,4 +1,4 @@
--- The chains of the words of each added array. No public clause cites this module.
+-- The chains (ends of lists of waiting requests) of the words of each added array. No public clause cites this module.
 use Rattle.std.specs.Prelude.{ℕ, List, [], map, length, Option, slice_get, slice_set, unwrap_or}
 use Rattle.std.specs.Option.{option_and_then}
 use Rattle.std.specs.Ordering.{nat_cmp}

@@ -1,4 +1,4 @@
--- How far the bytes of a frame are filled.
+-- How far the bytes of a client's unfinished frame are filled.
 use Rattle.std.specs.Prelude.{ℕ, ◌+◌, List, length, nat_lt, if◌then◌else◌}
 use Rattle.fe_wire.specs.Stream.{length_field}
 

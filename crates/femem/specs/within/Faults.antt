@@ -19,7 +19,7 @@ use Rattle.fe_text.specs.declared.fault.StreamFault.TheVariants as stream
 use Rattle.femem.specs.declared.fault.Fault.{Fault}
 use Rattle.femem.specs.declared.fault.Fault.TheVariants as fault
 
--- 2 for a fault of the input, the output or the settings, 4 for one of the socket, otherwise 3
+-- the exit status: 2 for a fault of the input, the output or the settings, 4 for one of the socket, otherwise 3
 abbrev pub status_of : Fault → ℕ
 status_of (fault.Line number) = 2
 status_of fault.Input = 2
@@ -35,12 +35,12 @@ status_of fault.Unreadable = 2
 status_of fault.Socket = 4
 status_of fault.Strange = 3
 
--- a stream was not read or written to its end
+-- the fault if a stream was not read or written to its end
 abbrev pub of_stream : StreamFault → Fault
 of_stream stream.Input = fault.Input
 of_stream stream.Memory = fault.Memory
 
--- a store was not opened
+-- the fault if a store was not opened
 abbrev pub of_store : OpenFault → Fault
 of_store store.Device = fault.Device
 of_store store.Memory = fault.Memory
@@ -48,37 +48,37 @@ of_store (store.Size found) = fault.Size found
 of_store store.Unformatted = fault.Unformatted
 of_store (store.Damaged offset) = fault.Damaged offset
 
--- a schedule was not run to its end
+-- the fault if a schedule was not run to its end
 abbrev pub of_schedule : ScheduleFault → Fault
 of_schedule (schedule.Line number) = fault.Line number
 of_schedule schedule.Input = fault.Input
 of_schedule schedule.Memory = fault.Memory
 of_schedule schedule.Device = fault.Device
 
--- a store was not shown
+-- the fault if a store was not shown
 abbrev pub of_look : LookFault → Fault
 of_look (look.Store why) = of_store why
 of_look (look.Stream why) = of_stream why
 
--- settings were not read
+-- the fault if settings were not read
 abbrev pub of_settings : SettingsFault → Fault
 of_settings (settings.Setting key) = fault.Setting key
 of_settings settings.UnknownKey = fault.UnknownKey
 of_settings settings.NotToml = fault.NotToml
 of_settings settings.Memory = fault.Memory
 
--- a server that had opened its store stopped because of a fault
+-- the fault if a server that had opened its store stopped because of a fault
 abbrev pub of_stop : StopFault → Fault
 of_stop stop.Device = fault.Device
 of_stop stop.Memory = fault.Memory
 of_stop stop.Strange = fault.Strange
 
--- a store was not served
+-- the fault if a store was not served
 abbrev pub of_serve : ServeFault → Fault
 of_serve (serve.Store why) = of_store why
 of_serve serve.Socket = fault.Socket
 
--- a call ended before its input did
+-- the fault if a call ended before its input did
 abbrev pub of_call : CallFault → Fault
 of_call (call.Line number) = fault.Line number
 of_call call.Socket = fault.Socket

@@ -1,4 +1,4 @@
--- What serving with the settings in a file gives.
+-- What serving with the settings in a file leaves.
 use Rattle.std.specs.Prelude.{◌≡◌, ◌⊎◌, ℕ, List, Option, Some, false}
 use Rattle.std.specs.Io.KnownBytes.{Appends}
 use Rattle.toml.specs.Data.{Members}

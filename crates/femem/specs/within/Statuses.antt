@@ -6,7 +6,7 @@ use Rattle.femem.specs.declared.fault.Fault.{Fault}
 use Rattle.femem.specs.declared.fault.Fault.TheVariants as fault
 use Rattle.femem.specs.within.Faults.{status_of}
 
--- 0 for help or a version that was asked for, 3 if memory ran out, 2 for any other words
+-- the status for words that ask for no command: 0 for help or a version, 3 if memory ran out, 2 for any other words
 abbrev pub words_status : ErrorKind → ℕ
 words_status kind.OutOfMemory = 3
 words_status kind.DisplayHelp = 0
@@ -21,7 +21,7 @@ shown_status k false = if words_status k == 0 then status_of fault.Input else wo
 abbrev pub IsWordsStatus : ErrorKind → ℕ → Type 0
 IsWordsStatus k status = (written : Bool) × (status ≡ shown_status k written)
 
--- 0 for a command without a fault, otherwise the status of its fault
+-- the status of a command: 0 without a fault, otherwise that of its fault
 abbrev pub command_status : Result (Unit {0}) Fault → ℕ
 command_status (Ok done) = 0
 command_status (Err fault) = status_of fault
