@@ -14,7 +14,8 @@ use Rattle.fe_state.specs.KeptAnswers.{answers_from}
 use Rattle.fe_state.specs.Sessions.{Session, IsInWindow}
 use Rattle.fe_state.specs.Limits.{window_length}
 use Rattle.fe_state.proofs.Maps.{get_inserted, get_beside, same_or_other}
-use Rattle.fe_state.proofs.SessionLemmas.{same_numbers, raised_above, raised_below, raised_next, removed_absent, kept_above, none_or_some}
+use Rattle.fe_table.proofs.TableLemmas.{remove_absent}
+use Rattle.fe_state.proofs.SessionLemmas.{same_numbers, raised_above, raised_below, raised_next, kept_above, none_or_some}
 
 find_first : {X : Type 0} (e : ℕ × X) (es : List (ℕ × X)) → find nat_cmp e.0 (e ∷ es) ≡ Some e.1
 find_first e es =
@@ -29,7 +30,7 @@ put_first n x (e ∷ es) above =
 
 -- where nothing is kept for a number, the numbers from it on are those from the next one on
 pub from_absent : {X : Type 0} (m : FinMap nat_cmp X) (n : ℕ) → get m n ≡ None → retain_keys m (nat_le n) ≡ retain_keys m (nat_le (n + 1))
-from_absent m n none = removed_absent (retain_keys m (nat_le n)) n (raised_above m n n (omega arith) ∙ none) ∙ raised_next m n
+from_absent m n none = remove_absent (retain_keys m (nat_le n)) n (raised_above m n n (omega arith) ∙ none) ∙ raised_next m n
 
 -- where something is, it comes first
 from_present_map : {X : Type 0} (m : FinMap nat_cmp X) (n : ℕ) (x : X) → get m n ≡ Some x → retain_keys m (nat_le n) ≡ insert (retain_keys m (nat_le (n + 1))) n x

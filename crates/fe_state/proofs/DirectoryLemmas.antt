@@ -19,6 +19,7 @@ use Rattle.fe_state.proofs.Maps.{get_inserted, get_beside, get_removed, get_left
 use Rattle.fe_state.proofs.Empty.{empty_directory, no_words}
 use Rattle.fe_state.proofs.Limits.{array_in, creation_passed, remove_kept, size_of, unnamed}
 use Rattle.fe_table.proofs.TableLemmas.{first, second}
+use Rattle.fe_state.proofs.Undone.{insert-insert, remove-insert}
 use Rattle.fe_state.proofs.Totals.{total_added, total_removed, total_replaced}
 use Rattle.fe_state.specs.Directory.{Directory, IsDirectory, IsArray, answer_in, creation, word_count, word_in}
 use Rattle.fe_state.specs.Effect.{with_word, put_word}
@@ -27,39 +28,6 @@ use Rattle.fe_state.specs.declared.array.Array.{Array}
 use Rattle.fe_state.specs.declared.answer.Answer.{Answer}
 use Rattle.fe_state.specs.declared.answer.Answer.TheVariants as answer
 use Rattle.fe_state.specs.declared.request.Request.TheVariants.{Remove}
-
-module _ {X : Type 0} where
-  -- what was put and taken again leaves the map before it
-  pub taken_again : (m : FinMap nat_cmp X) (k : ℕ) (v : X) → get m k ≡ None → remove (insert m k v) k ≡ m
-  taken_again m k v none = same_map nat_cmp_total nat_cmp-IsAntisymmetric _ _ (λ q.
-      elim (same_or_other q k) [
-        | inl e ↦ rw (e, get_removed) (sym none)
-        | inr ne ↦ get_left (insert m k v) k q ne ∙ get_beside m k v q ne
-      ])
-
-  -- what was taken and put again
-  pub put_again : (m : FinMap nat_cmp X) (k : ℕ) (v : X) → get m k ≡ Some v → insert (remove m k) k v ≡ m
-  put_again m k v is = same_map nat_cmp_total nat_cmp-IsAntisymmetric _ _ (λ q.
-      elim (same_or_other q k) [
-        | inl e ↦ rw (e, get_inserted) (sym is)
-        | inr ne ↦ get_beside (remove m k) k v q ne ∙ get_left m k q ne
-      ])
-
-  -- what was put over and put again
-  pub put_back : (m : FinMap nat_cmp X) (k : ℕ) (v w : X) → get m k ≡ Some v → insert (insert m k w) k v ≡ m
-  put_back m k v w is = same_map nat_cmp_total nat_cmp-IsAntisymmetric _ _ (λ q.
-      elim (same_or_other q k) [
-        | inl e ↦ rw (e, get_inserted) (sym is)
-        | inr ne ↦ get_beside (insert m k w) k v q ne ∙ get_beside m k w q ne
-      ])
-
-  -- to take what is not there changes nothing
-  pub not_taken : (m : FinMap nat_cmp X) (k : ℕ) → get m k ≡ None → remove m k ≡ m
-  not_taken m k none = same_map nat_cmp_total nat_cmp-IsAntisymmetric _ _ (λ q.
-      elim (same_or_other q k) [
-        | inl e ↦ rw (e, get_removed) (sym none)
-        | inr ne ↦ get_left m k q ne
-      ])
 
 -- ---- how many words there are after an array comes or goes
 
@@ -220,14 +188,6 @@ creation_may_come d name size i n next_id id a e made older none called sized =
       few_words = rw sized p.0.words;
     }
 
--- an id is free where its removal is answered so
-pub removal_free : (d : Directory) (id : ℕ) → answer_in d (Remove id) ≡ Some answer.NoArray → get d.arrays id ≡ None
-removal_free d id e = by (get d.arrays id) e
-  where
-    by : (here : Option Array) → ◌≡◌ {A = Option Answer} (Some (cond (is_some here) answer.Done answer.NoArray)) (Some answer.NoArray) → here ≡ None
-    by None e = refl
-    by (Some a) e = cc
-
 -- that of the creation itself comes under the next id
 pub creation_comes : (d : Directory) (name : List ℕ) (size i n : ℕ) (a : Array) → IsDirectory d → creation d name size ≡ answer.Array i n → a.name ≡ name → length a.words ≡ size → MayBeAdded (record { arrays = d.arrays; next_id = d.next_id + 1 }) i a
 creation_comes d name size i n a h e called sized =
@@ -244,7 +204,7 @@ made_last m next_id id a is =
 pub made_restored : (m : FinMap nat_cmp Array) (next_id id : ℕ) (a : Array) → id ≡ next_id → get m id ≡ None → ◌≡◌ {A = Directory} (record { arrays = remove (insert m id a) (next_id + 1 - 1); next_id = next_id + 1 - 1 }) (record { arrays = m; next_id = next_id })
 made_restored m next_id id a is none =
     let last : next_id + 1 - 1 ≡ id = omega arith in
-    let same : remove (insert m id a) id ≡ m = taken_again m id a none in
+    let same : remove (insert m id a) id ≡ m = remove-insert m id a none in
     rw (last, same, is) refl
 
 -- ---- a word that is written
@@ -270,7 +230,7 @@ written_back m id index before after None e is = cc
 written_back m id index before after (Some a) e is =
     let new : get (insert m id (with_word a index after)) id ≡ Some (with_word a index after) = get_inserted m id (with_word a index after) in
     let same : with_word (with_word a index after) index before ≡ a = ap (λ ws. record { name = a.name; words = ws }) (set_back a.words index before after is) in
-    rw (new, same) (put_back m id a (with_word a index after) e)
+    rw (new, same) (insert-insert m id a (with_word a index after) e)
 
 -- ---- a search through the entries
 

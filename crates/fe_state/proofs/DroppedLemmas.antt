@@ -21,7 +21,7 @@ use Rattle.fe_state.specs.Sessions.{Session, IsInWindow, first_session, put_sess
 use Rattle.fe_state.specs.UndoLog.{with_room, answers_of, log_of, put_back, shortened, without_latest, HasDropped, HasMemory, UndoLog}
 use Rattle.fe_state.proofs.Maps.{get_inserted, get_beside, get_removed, get_left, same_or_other}
 use Rattle.fe_state.proofs.Undone.{insert-remove, insert-insert}
-use Rattle.fe_state.proofs.SessionLemmas.{removed_absent}
+use Rattle.fe_table.proofs.TableLemmas.{remove_absent}
 
 -- nothing is dropped yet
 pub none_dropped : (floor end : ℕ) (m : FinMap nat_cmp Kept) (old : List Dropped) → floor ≡ end → WereDropped floor end m m old old
@@ -42,7 +42,7 @@ one_dropped floor n before after old mid new near low is h = by (get after n) re
       answers = h.answers;
       added = is ∙ append-nil mid ∙ h.added;
       few = omega (arith, h.few);
-      again = ap (λ (m : FinMap nat_cmp Kept). keeping_all m h.answers) (sym (removed_absent after n e)) ∙ h.again;
+      again = ap (λ (m : FinMap nat_cmp Kept). keeping_all m h.answers) (sym (remove_absent after n e)) ∙ h.again;
       in_window = h.in_window;
     }
     by (Some k) e is =

@@ -1,5 +1,5 @@
 -- An entry with no effect leaves the directory as it is.
-use Rattle.std.proofs.Common.{◌≡◌, ℕ, List, Option, Some, None, refl, ap}
+use Rattle.std.proofs.Common.{◌≡◌, ℕ, List, Option, Some, None, refl, sym, ap}
 use Rattle.std.specs.FinMap.{get}
 use Rattle.fe_words.specs.declared.word.Word.{Word}
 use Rattle.fe_words.specs.declared.word.Reply.{Reply}
@@ -15,14 +15,14 @@ use Rattle.fe_state.specs.declared.entry.Entry.{Entry}
 use Rattle.fe_state.specs.declared.entry.Entry.TheVariants.{Attached, Closed, Settled, Finished}
 use Rattle.fe_state.specs.declared.request.Request.{Request}
 use Rattle.fe_state.specs.declared.request.Request.TheVariants.{Create, Find, Remove, Access}
-use Rattle.fe_state.proofs.DirectoryLemmas.{not_taken}
+use Rattle.fe_table.proofs.TableLemmas.{remove_absent}
 
 refused : (d : Directory) (name : List ℕ) (size : ℕ) (tag : Tag) (a : Answer) → creating a ≡ Nothing → created d name size tag a ≡ d
 refused d name size tag (answer.Array i n) is = absurd cc
 refused d name size tag _ is = refl
 
 absent : (d : Directory) (id : ℕ) (here : Option Array) → get d.arrays id ≡ here → removing id here ≡ Nothing → performed d (Remove id) ≡ d
-absent d id None e is = ap (λ m. record { arrays = m; next_id = d.next_id }) (not_taken d.arrays id e)
+absent d id None e is = ap (λ m. record { arrays = m; next_id = d.next_id }) (sym (remove_absent d.arrays id e))
 absent d id (Some a) e is = absurd cc
 
 unwritten : (d : Directory) (id index : ℕ) (after : Option (Word × Reply)) → writing id index after ≡ Nothing → operated d.arrays id index after ≡ d.arrays

@@ -45,19 +45,3 @@ empty_within place next_id fits least most = record {
   few_sessions = rw (len-empty nat_cmp Session) (omega arith);
   each = λ session x e. absurd (not_there session x e);
 }
-
--- a first array may come
-pub comes_first : (next_id id : ℕ) (name : List ℕ) (size : ℕ) (tag : Tag) → 1 ≤ id → id < next_id → is_plain name ≡ true → 1 ≤ size → size ≤ 65536 → MayBeAdded (record { arrays = empty; next_id = next_id }) id (new_array name size tag)
-comes_first next_id id name size tag made older plain least most = record {
-  array = record {
-    made = made;
-    older = older;
-    name = plain;
-    some_words = rw length-replicate least;
-    few_words = rw length-replicate most;
-  };
-  id_free = get-empty nat_cmp id;
-  name_free = rw no_entries refl;
-  few_arrays = rw (len-empty nat_cmp Array) (omega arith);
-  few_words = rw (no_words, length-replicate) (omega arith);
-}

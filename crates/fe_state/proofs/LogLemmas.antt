@@ -20,7 +20,7 @@ pub latest_change : (found : Option Undo) (u : Undo) (change : Change) → Some 
 latest_change None u change is there = absurd (cc)
 latest_change (Some v) u change is there = cc
 
--- with no entries the state is that at the beginning
-pub before_all-none : (undos : List Undo) (dropped : List Dropped) (s : ServerState) → length undos ≡ 0 → before_all undos dropped s ≡ s
+-- with no latest entry the state is that at the beginning
+pub before_all-none : (undos : List Undo) (dropped : List Dropped) (s : ServerState) → slice_get undos 0 ≡ None → before_all undos dropped s ≡ s
 before_all-none [] dropped s none = refl
-before_all-none (u ∷ us) dropped s none = absurd (omega arith)
+before_all-none (u ∷ us) dropped s none = absurd (cc)

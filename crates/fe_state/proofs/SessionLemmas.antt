@@ -9,7 +9,7 @@ use Rattle.std.specs.FinMap.{FinMap, empty, get, insert, remove, retain_keys, le
 use Rattle.std.specs.Cmp.{nat_cmp_total}
 use Rattle.fe_state.specs.declared.kept.Kept.{Kept}
 use Rattle.fe_state.specs.DroppedAnswers.{MayLower}
-use Rattle.fe_state.specs.Sessions.{Session, IsInWindow, MayRise, raised, keeping}
+use Rattle.fe_state.specs.Sessions.{Session, IsInWindow, MayRise, raised, keeping, forgetting}
 use Rattle.fe_state.specs.SessionEffect.{IsUsable}
 use Rattle.fe_state.specs.within.Window.{cell_of, with_cell, held, window_of}
 use Rattle.fe_state.proofs.Maps.{get_inserted, get_beside, get_removed, get_left, same_or_other, get_retained}
@@ -104,14 +104,6 @@ window_remove cells floor k whole h =
     same_numbers _ _ (λ q. elim (same_or_other q k) [
       | inl here ↦ ap (get (window_of (slice_set cells (k % 32) None) floor)) here ∙ window_written cells floor k None whole h ∙ sym (ap (get (remove (window_of cells floor) k)) here ∙ get_removed (window_of cells floor) k)
       | inr other ↦ window_beside cells floor k None q h other ∙ sym (get_left (window_of cells floor) k q other)
-    ])
-
--- to remove what is not there changes nothing
-pub removed_absent : {X : Type 0} (m : FinMap nat_cmp X) (k : ℕ) → get m k ≡ None → m ≡ remove m k
-removed_absent m k none =
-    same_numbers _ _ (λ q. elim (same_or_other q k) [
-      | inl here ↦ ap (get m) here ∙ none ∙ sym (ap (get (remove m k)) here ∙ get_removed m k)
-      | inr other ↦ sym (get_left m k q other)
     ])
 
 -- cells that hold nothing
@@ -251,10 +243,10 @@ module _ (cells : List (Option Kept)) (floor : ℕ) (s : Session) (is : session_
       subst (λ (x : Session). IsInWindow x.floor n → session_of (slice_set cells (n % 32) (Some k)) floor ≡ keeping x n k) is
       (λ h. ap (λ (m : FinMap nat_cmp Kept). let t : Session = record { floor = floor; kept = m } in t) (window_insert cells floor n k whole h))
 
-  pub kept_remove : (n : ℕ) → length cells ≡ 32 → IsInWindow s.floor n → window_of (slice_set cells (n % 32) None) floor ≡ remove s.kept n
+  pub kept_remove : (n : ℕ) → length cells ≡ 32 → IsInWindow s.floor n → session_of (slice_set cells (n % 32) None) floor ≡ forgetting s n
   kept_remove n whole =
-      subst (λ (x : Session). IsInWindow x.floor n → window_of (slice_set cells (n % 32) None) floor ≡ remove x.kept n) is
-      (λ h. window_remove cells floor n whole h)
+      subst (λ (x : Session). IsInWindow x.floor n → session_of (slice_set cells (n % 32) None) floor ≡ forgetting x n) is
+      (λ h. ap (λ (m : FinMap nat_cmp Kept). let t : Session = record { floor = floor; kept = m } in t) (window_remove cells floor n whole h))
 
   -- nothing is kept below the floor, so to raise it to where it is drops nothing
   pub kept_from_floor : s.kept ≡ retain_keys s.kept (nat_le floor)

@@ -7,8 +7,8 @@ use Rattle.std.specs.Ordering.{nat_cmp}
 use Rattle.std.specs.Cmp.{nat_cmp_total}
 use Rattle.std.specs.FinMap.{FinMap, get, insert, remove, len, same_map, nat_cmp-IsAntisymmetric, len-remove, len-insert}
 use Rattle.fe_state.proofs.Maps.{get_inserted, get_beside, get_removed, get_left, same_or_other}
-use Rattle.fe_state.specs.Sessions.{Session, keeping, put_session}
-use Rattle.fe_state.specs.UndoLog.{put_back, forgetting}
+use Rattle.fe_state.specs.Sessions.{Session, forgetting, keeping, put_session}
+use Rattle.fe_state.specs.UndoLog.{put_back}
 use Rattle.fe_state.specs.declared.dropped.Dropped.{Dropped}
 use Rattle.fe_state.specs.declared.kept.Kept.{Kept}
 use Rattle.fe_state.specs.declared.undo.SessionChange.TheVariants as change
@@ -61,12 +61,12 @@ pub at_some : {X : Type 0} (P : X → Type 0) (here : Option X) (x : X) → IsSo
 at_some P here x h e = rw e at h
 
 -- a session that keeps an answer and forgets it is as it was
-forgotten : (x : Session) (n : ℕ) (k : Kept) → get x.kept n ≡ None → forgetting n (keeping x n k) ≡ x
+forgotten : (x : Session) (n : ℕ) (k : Kept) → get x.kept n ≡ None → forgetting (keeping x n k) n ≡ x
 forgotten x n k none = λ i. record { floor = x.floor; kept = remove-insert x.kept n k none i }
 
 -- what the sessions are once an answer that was kept is forgotten
 pub put_back-keeping : (m : FinMap nat_cmp Session) (dropped : List Dropped) (s n : ℕ) (x : Session) (k : Kept) → get m s ≡ Some x → get x.kept n ≡ None → put_back (change.Kept n) dropped (insert m s (keeping x n k)) s ≡ m
 put_back-keeping m dropped s n x k is none =
-    ap (λ here. put_session (insert m s (keeping x n k)) s (option_map (forgetting n) here)) (get_inserted m s (keeping x n k))
+    ap (λ here. put_session (insert m s (keeping x n k)) s (option_map (λ z. forgetting z n) here)) (get_inserted m s (keeping x n k))
     ∙ ap (insert (insert m s (keeping x n k)) s) (forgotten x n k none)
     ∙ insert-insert m s x (keeping x n k) is

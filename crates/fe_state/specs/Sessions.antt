@@ -3,7 +3,7 @@
 use Rattle.std.specs.Prelude.{ℕ, ◌+◌, ◌≤◌, ◌<◌, nat_le, refl, Option, Some, None, if◌then◌else◌}
 use Rattle.std.specs.Ordering.{nat_cmp}
 use Rattle.std.specs.Coded.{Coded, code_by, coded×, coded_ℕ}
-use Rattle.std.specs.FinMap.{FinMap, code, empty, get, insert, retain_keys, contains_key}
+use Rattle.std.specs.FinMap.{FinMap, code, empty, get, insert, remove, retain_keys, contains_key}
 use Rattle.fe_state.specs.declared.kept.Kept.{Kept}
 use Rattle.fe_state.specs.contracts.kept.Kept.{the_row}
 use Rattle.fe_state.specs.Limits.{window_length, greatest_floor}
@@ -40,6 +40,10 @@ raised s floor = record { floor = floor; kept = retain_keys s.kept (nat_le floor
 -- a session that keeps this for a number
 abbrev pub keeping : Session → ℕ → Kept → Session
 keeping s number kept = record { floor = s.floor; kept = insert s.kept number kept }
+
+-- a session with nothing kept for a number any more
+abbrev pub forgetting : Session → ℕ → Session
+forgetting s number = record { floor = s.floor; kept = remove s.kept number }
 
 -- the sessions with this one put instead of the one that was looked up, if it was there
 abbrev pub put_session : FinMap nat_cmp Session → ℕ → Option Session → FinMap nat_cmp Session

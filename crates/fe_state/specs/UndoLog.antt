@@ -6,7 +6,7 @@ use Rattle.std.specs.Coded.{Coded, code_by, coded×, coded_ℕ, coded_list}
 use Rattle.std.specs.FinMap.{FinMap, get, insert, remove}
 use Rattle.fe_state.specs.Change.{restored, CanRestore}
 use Rattle.fe_state.specs.DroppedAnswers.{keeping_all, kept_again, AreDropped, MayLower, MayReopen}
-use Rattle.fe_state.specs.Sessions.{Session, first_session, put_session}
+use Rattle.fe_state.specs.Sessions.{Session, first_session, forgetting, put_session}
 use Rattle.fe_state.specs.State.{ServerState, IsWithinLimits, directory_of}
 use Rattle.fe_state.specs.declared.change.Change.{Change}
 use Rattle.fe_state.specs.declared.dropped.Dropped.{Dropped}
@@ -61,10 +61,6 @@ pub record HasMemory (l : UndoLog) (undos dropped : ℕ) : Type 0 where
 abbrev pub left : SessionChange → List Dropped → List Dropped
 left change dropped = drop (answers_of change) dropped
 
--- a session with nothing kept for a number any more
-abbrev pub forgetting : ℕ → Session → Session
-forgetting number s = record { floor = s.floor; kept = remove s.kept number }
-
 -- the sessions before a change of one of them, given those after it and the dropped answers
 abbrev pub put_back : SessionChange → List Dropped → FinMap nat_cmp Session → ℕ → FinMap nat_cmp Session
 put_back Same dropped sessions session = sessions
@@ -73,7 +69,7 @@ put_back (Closed floor answers) dropped sessions session = insert sessions sessi
 put_back (Settled floor answers) dropped sessions session =
     put_session sessions session (option_map (λ s. kept_again s floor answers dropped) (get sessions session))
 put_back (Kept number) dropped sessions session =
-    put_session sessions session (option_map (forgetting number) (get sessions session))
+    put_session sessions session (option_map (λ s. forgetting s number) (get sessions session))
 
 -- sessions that a change may have left: what it changed can be put back
 abbrev pub CanPutBack : SessionChange → List Dropped → FinMap nat_cmp Session → ℕ → Type 0

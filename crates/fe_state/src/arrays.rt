@@ -1,11 +1,10 @@
-ghost use Rattle.std.specs.Prelude.{◌≡◌, ◌+◌, ◌<◌, ◌≤◌, IfOk, IfSome, IfNone, None, Some, IsSome, option_copied, slice_get};
-ghost use Rattle.std.specs.Option.{option_map};
+ghost use Rattle.std.specs.Prelude.{◌≡◌, ◌+◌, ◌<◌, ◌≤◌, IfOk, IfSome, IfNone, None, Some, IsSome, option_copied};
 ghost use Rattle.std.specs.FinMap as map;
 ghost use Rattle.std.specs.Borrow.{sem};
 ghost use Rattle.indexmap.specs.IndexSet.{index_set_len, spare};
 ghost use Rattle.fe_state.specs.within.Arrays.{IsIndex};
 ghost use Rattle.fe_state.specs.ArraysLends.{lends_array};
-ghost use Rattle.fe_table.specs.Table.{shown_entry, IsAt};
+ghost use Rattle.fe_table.specs.Table.{IsAt};
 ghost use Rattle.fe_state.specs.Limits.{most_arrays};
 
 use crate::array::Array;

@@ -1,4 +1,4 @@
-ghost use Rattle.std.specs.Prelude.{◌≡◌, ◌+◌, ◌<◌, ◌≤◌, ◌↔◌, [], ◌∷◌, ◌++◌, length, IfOk, IsTrue};
+ghost use Rattle.std.specs.Prelude.{◌≡◌, ◌+◌, ◌<◌, ◌≤◌, [], ◌∷◌, ◌++◌, length, IfOk};
 ghost use Rattle.std.specs.List.{list_all};
 ghost use Rattle.fe_state.specs.Format.{entry_fits_format_1};
 ghost use Rattle.fe_state.specs.Limits.{most_batch_entries};
@@ -44,18 +44,12 @@ impl Entries {
         })
     }
 
+    /// All of them.
     pub fn as_slice(&self) -> &[Entry]
         ensures entries { result.now ≡ self.now }
         ensures most { length result.now ≤ most_batch_entries }
     {
-        self.items.as_slice()
-    }
-
-    /// Whether no further entry has room.
-    pub fn is_full(&self) -> bool
-        ensures { IsTrue result ↔ (length self.now ≡ most_batch_entries) }
-    {
-        self.items.len() == BATCH_ENTRIES
+        &self.items
     }
 
     /// Adds an entry at the end. Allocates nothing.

@@ -1,10 +1,8 @@
-ghost use Rattle.std.specs.Prelude.{◌≡◌, ◌≤◌, ◌<◌, ◌+◌, ◌^◌, ℕ, length, slice_get, find, drop, not, nat_le, nat_lt, ◌&&◌, is_some, IsTrue, IsSome, IfOk, IfSome, OnErr, OnOk, Some, None};
+ghost use Rattle.std.specs.Prelude.{◌≡◌, ◌≤◌, ◌<◌, ◌+◌, ◌^◌, length, is_some, IsSome, IfOk, IfSome, OnErr, OnOk, Some, None};
 ghost use Rattle.std.specs.Option.{option_map};
-ghost use Rattle.std.specs.Str.{bytes_eq};
-ghost use Rattle.std.specs.FinMap.{entries, get, insert, len, contains_key};
-ghost use Rattle.fe_words.specs.Table.{table};
+ghost use Rattle.std.specs.FinMap.{get, insert, len};
 ghost use Rattle.fe_state.specs.Directory.{first_directory, named, creation, answer_of, answer_in, word_in};
-ghost use Rattle.fe_state.specs.Effect.{put_word, creating, effect_of, performed};
+ghost use Rattle.fe_state.specs.Effect.{put_word, effect_of, performed};
 ghost use Rattle.fe_state.specs.Change.{restored, CanRestore, MayBeAdded};
 
 use crate::answer::Answer;
@@ -24,8 +22,8 @@ use std::marker::Model;
 /// The arrays by id, with the id that the next one gets.
 #[derive(Drop)]
 pub struct Directory {
-    arrays: Arrays,
-    next_id: u64,
+    pub(crate) arrays: Arrays,
+    pub(crate) next_id: u64,
     /// The words of all arrays together.
     words: u32,
     alloc: Global,
@@ -61,35 +59,8 @@ impl Directory {
         })
     }
 
-    /// The id that the next array gets.
-    pub fn next_id(&self) -> u64
-        ensures { result ≡ self.now.next_id }
-    {
-        self.next_id
-    }
-
-    /// What a request is answered, with what it changes, or `None` where it has to wait.
-    pub fn look(&self, request: &Request) -> Option<(Answer, Effect)>
-        ensures answer { option_map (λ x. x.0) result ≡ answer_in self.now request.now }
-        ensures effect { IfSome result (λ x. x.1 ≡ effect_of self.now request.now) }
-    {
-        match request {
-            Request::Create { name, length, .. } => {
-                let answer = self.creation(name, *length);
-                Some((answer, creating(answer)))
-            }
-            Request::Find { name } => Some((self.found(name), Effect::Nothing)),
-            Request::Remove { array } => Some(self.removal(*array)),
-            Request::Access {
-                array,
-                index,
-                op,
-                no_wait,
-            } => self.access(*array, *index, *op, *no_wait),
-        }
-    }
-
-    fn creation(&self, name: &Name, length: u32) -> Answer
+    /// What a creation is answered.
+    pub(crate) fn creation(&self, name: &Name, length: u32) -> Answer
         ensures { result ≡ creation self.now name.now length }
     {
         if !name.is_plain() {
@@ -110,7 +81,8 @@ impl Directory {
         }
     }
 
-    fn found(&self, name: &Name) -> Answer
+    /// What a request for the array of a name is answered.
+    pub(crate) fn found(&self, name: &Name) -> Answer
         ensures { Some result ≡ answer_in self.now (Request.Find name.now) }
     {
         if !name.is_plain() {
@@ -122,7 +94,8 @@ impl Directory {
         }
     }
 
-    fn removal(&self, array: u64) -> (Answer, Effect)
+    /// What a removal is answered, and what it changes.
+    pub(crate) fn removal(&self, array: u64) -> (Answer, Effect)
         ensures answer { Some result.0 ≡ answer_in self.now (Request.Remove array) }
         ensures effect { result.1 ≡ effect_of self.now (Request.Remove array) }
     {
@@ -132,7 +105,14 @@ impl Directory {
         }
     }
 
-    fn access(&self, array: u64, index: u32, op: Op, no_wait: bool) -> Option<(Answer, Effect)>
+    /// What an access is answered, and what it changes, or `None` where it has to wait.
+    pub(crate) fn access(
+        &self,
+        array: u64,
+        index: u32,
+        op: Op,
+        no_wait: bool,
+    ) -> Option<(Answer, Effect)>
         ensures answer { option_map (λ x. x.0) result
             ≡ answer_in self.now (Request.Access array index op no_wait) }
         ensures effect { IfSome result (λ x. x.1 ≡ effect_of self.now (Request.Access array index op no_wait)) }
@@ -140,10 +120,10 @@ impl Directory {
         let Some(here) = self.arrays.get(array) else {
             return Some((Answer::NoArray, Effect::Nothing));
         };
-        let Some(before) = here.words.get(index) else {
+        let Some(before) = here.words.as_slice().get(index as usize) else {
             return Some((Answer::BadIndex, Effect::Nothing));
         };
-        match (op.rule(before), no_wait) {
+        match (op.rule(*before), no_wait) {
             (Some((word, reply)), _) => {
                 Some((answer_of(reply), Effect::Write { array, index, word }))
             }
@@ -244,20 +224,6 @@ impl Directory {
         self.words += array.words.len();
         self.arrays.insert(id, array);
     }
-
-    /// The arrays.
-    pub fn arrays(&self) -> &Arrays
-        ensures { result.now ≡ self.now.arrays }
-    {
-        &self.arrays
-    }
-
-    /// Looks for an array, so that the look-ups of it that follow take one comparison each.
-    pub fn aim(&mut self, array: u64)
-        ensures { self.new ≡ self.old }
-    {
-        self.arrays.aim(array);
-    }
 }
 
 impl Copied for Directory {
@@ -268,15 +234,6 @@ impl Copied for Directory {
             words: self.words,
             alloc,
         })
-    }
-}
-
-fn creating(answer: Answer) -> Effect
-    ensures { result ≡ creating answer }
-{
-    match answer {
-        Answer::Array { .. } => Effect::Create,
-        _ => Effect::Nothing,
     }
 }
 

@@ -1,5 +1,5 @@
 ghost use Rattle.std.specs.Prelude.{◌≡◌};
-ghost use Rattle.fe_state.specs.Format.{request_fits_format_1, answer_fits_format_1, entry_fits_format_1};
+ghost use Rattle.fe_state.specs.Format.{request_fits_format_1, entry_fits_format_1};
 
 use crate::answer::Answer;
 use crate::request::Request;

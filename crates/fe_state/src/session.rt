@@ -1,9 +1,9 @@
-ghost use Rattle.std.specs.Prelude.{◌≡◌, ◌↔◌, ℕ, ◌+◌, ◌-◌, ◌%◌, ◌^◌, ◌≤◌, ◌<◌, [], ◌∷◌, ◌++◌, Some, IsTrue, IfSome, IfNone, nat_le, option_copied, vec_len, vec_capacity};
+ghost use Rattle.std.specs.Prelude.{◌≡◌, ◌↔◌, ℕ, ◌+◌, ◌-◌, ◌%◌, ◌^◌, ◌≤◌, ◌<◌, [], ◌∷◌, Some, IsTrue, IfSome, IfNone, nat_le, option_copied, vec_len, vec_capacity};
 ghost use Rattle.std.specs.FinMap as map;
 ghost use Rattle.fe_state.specs.declared.kept.Kept.{Kept};
-ghost use Rattle.fe_state.specs.Sessions.{first_session, IsInWindow, MayRise, raised, keeping};
+ghost use Rattle.fe_state.specs.Sessions.{first_session, IsInWindow, MayRise, raised, keeping, forgetting};
 ghost use Rattle.fe_state.specs.SessionEffect.{IsUsable};
-ghost use Rattle.fe_state.specs.DroppedAnswers.{answer_at, WereDropped, MayLower};
+ghost use Rattle.fe_state.specs.DroppedAnswers.{WereDropped};
 ghost use Rattle.fe_state.specs.KeptAnswers.{answers_from};
 ghost use Rattle.fe_table.specs.Table.{shown_entry};
 ghost use Rattle.fe_state.specs.Limits.{greatest_floor, window_length};
@@ -14,13 +14,15 @@ use crate::kept::Kept;
 use crate::kept_answers::KeptAnswers;
 use crate::naming::named;
 use crate::request::Request;
+use fe_table::Copied;
+use std::alloc::{AllocError, Global};
 use std::marker::Model;
 
 /// A session: its floor, which is its least usable number, and what is kept for the numbers of its window, from the
 /// floor on. It owns no allocated memory.
 #[derive(Drop)]
 pub struct Session {
-    floor: u64,
+    pub(crate) floor: u64,
     /// What is kept for a number is in the cell of the number's remainder by `WINDOW`.
     cells: [Option<Kept>; WINDOW as usize],
 }
@@ -130,8 +132,7 @@ impl Session {
 
     /// Keeps nothing more for the number.
     pub fn forget(&mut self, number: u64)
-        ensures floor { self.new.floor ≡ self.old.floor }
-        ensures kept { self.new.kept ≡ map.remove self.old.kept number }
+        ensures { self.new ≡ forgetting self.old number }
     {
         if self.is_in_window(number) {
             self.cells[cell_of(number)] = None;
@@ -146,30 +147,6 @@ impl Session {
         for number in self.floor..floor {
             self.forget(number);
         }
-        self.floor = floor;
-    }
-
-    /// Raises the floor as `raise`, and appends what is dropped to `dropped`, which has room for `WINDOW` more.
-    pub(crate) fn settle(&mut self, floor: u64, dropped: &mut Vec<Dropped>)
-        requires rise { MayRise self.old.floor floor }
-        requires room { vec_len dropped.old + window_length ≤ vec_capacity dropped.old }
-        ensures raised { self.new ≡ raised self.old floor }
-        ensures lowered { MayLower self.new self.old.floor }
-        ensures dropped { WereDropped self.old.floor floor self.old.kept self.new.kept
-            dropped.old.items dropped.new.items }
-        ensures len { vec_len dropped.old ≤ vec_len dropped.new }
-        ensures capacity { vec_capacity dropped.new ≡ vec_capacity dropped.old }
-    {
-        self.drop_below(floor, dropped);
-        self.floor = floor;
-    }
-
-    /// Lowers the floor again, by `WINDOW` at the most. What is kept stays.
-    pub(crate) fn lower(&mut self, floor: u64)
-        requires { MayLower self.old floor }
-        ensures floor { self.new.floor ≡ floor }
-        ensures kept { self.new.kept ≡ self.old.kept }
-    {
         self.floor = floor;
     }
 
@@ -188,35 +165,24 @@ impl Session {
         ensures capacity { vec_capacity dropped.new ≡ vec_capacity dropped.old }
     {
         for number in self.floor..end {
-            self.drop_one(number, dropped);
+            named::<Request>();
+            if let Some(kept) = self.kept(number).copied() {
+                self.forget(number);
+                dropped.push_reserved(Dropped { number, kept });
+            }
         }
     }
+}
 
-    // Drops what is kept for a number, if anything is.
-    fn drop_one(&mut self, number: u64, dropped: &mut Vec<Dropped>)
-        requires room { vec_len dropped.old < vec_capacity dropped.old }
-        ensures floor { self.new.floor ≡ self.old.floor }
-        ensures kept { self.new.kept ≡ map.remove self.old.kept number }
-        ensures dropped { dropped.new.items ≡ dropped.old.items ++ answer_at number (map.get self.old.kept number) }
-        ensures capacity { vec_capacity dropped.new ≡ vec_capacity dropped.old }
-    {
-        named::<Request>();
-        if let Some(kept) = self.kept(number).copied() {
-            self.forget(number);
-            dropped.push_reserved(Dropped { number, kept });
-        }
-    }
-
-    /// A copy of the session. Allocates nothing.
-    pub fn copied(&self) -> Session
-        ensures { result ≡ self.now }
-    {
+impl Copied for Session {
+    /// Allocates nothing.
+    fn copied(&self, _alloc: Global) -> Result<Self, AllocError> {
         let mut cells = [None; WINDOW as usize];
         cells.copy_from_slice(&self.cells);
-        Session {
+        Ok(Session {
             floor: self.floor,
             cells,
-        }
+        })
     }
 }
 

@@ -1,8 +1,7 @@
-ghost use Rattle.std.specs.Prelude.{◌≡◌, ◌↔◌, ◌≤◌, ◌<◌, length, take, IsTrue, IsSome, IsSomeAnd, None};
+ghost use Rattle.std.specs.Prelude.{◌≡◌, ◌↔◌, ◌≤◌, ◌<◌, length, take, IsTrue, IsSomeAnd, None};
 ghost use Rattle.std.specs.Bool.{OnTrue, OnFalse};
-ghost use Rattle.std.specs.Option.{option_map};
 ghost use Rattle.std.specs.FinMap.{get, insert, remove, len};
-ghost use Rattle.fe_state.specs.Sessions.{MayRise, first_session, raised, keeping, put_session, opened};
+ghost use Rattle.fe_state.specs.Sessions.{MayRise, first_session, opened};
 ghost use Rattle.fe_state.specs.SessionEffect.{MayAttach, IsUsable, SessionsAllow, sessions_after};
 ghost use Rattle.fe_state.specs.DroppedAnswers.{keeping_all, kept_again, AreDropped, MayLower, MayReopen};
 ghost use Rattle.fe_state.specs.UndoLog.{put_back, CanPutBack, Remembers};
@@ -12,12 +11,10 @@ use crate::bounds::{GREATEST_FLOOR, SESSIONS, WINDOW};
 use crate::change::Change;
 use crate::entry::Entry;
 use crate::kept::Kept;
-use crate::request::Request;
 use crate::session::Session;
 use crate::undo::{SessionChange, Undo};
 use crate::undo_log::UndoLog;
-use fe_table::{Copied, Table};
-use std::alloc::{AllocError, Global};
+use fe_table::Table;
 
 // A function that moves a whole session, some 3 KB, is not inlined, so that a request that finishes pays for no such local.
 
@@ -89,69 +86,6 @@ fn open(sessions: &mut Sessions, session: u64) -> bool
     is_new
 }
 
-fn attach(sessions: &mut Sessions, session: u64, change: Change, log: &mut UndoLog)
-    requires room { length log.old.undos < log.old.room }
-    requires few { get sessions.old session ≡ None → len sessions.old < most_sessions }
-    ensures after { sessions.new ≡ opened sessions.old session }
-    ensures remembered { Remembers change log.old log.new sessions.old sessions.new }
-{
-    let session_change = if open(sessions, session) {
-        SessionChange::Opened
-    } else {
-        SessionChange::Same
-    };
-    log.add(Undo {
-        session,
-        session_change,
-        change,
-    });
-}
-
-#[inline(never)]
-fn close(sessions: &mut Sessions, session: u64, change: Change, log: &mut UndoLog)
-    requires room { length log.old.undos < log.old.room }
-    requires present { IsSome (get sessions.old session) }
-    requires few { len sessions.old ≤ most_sessions }
-    ensures after { sessions.new ≡ remove sessions.old session }
-    ensures remembered { Remembers change log.old log.new sessions.old sessions.new }
-{
-    log.close(session, sessions.get_mut(session), change);
-    drop_session(sessions, session);
-}
-
-#[inline(never)]
-fn settle(sessions: &mut Sessions, session: u64, floor: u64, change: Change, log: &mut UndoLog)
-    requires room { length log.old.undos < log.old.room }
-    requires rises { IsSomeAnd (get sessions.old session) (λ x. MayRise x.floor floor) }
-    ensures after { sessions.new
-        ≡ put_session sessions.old session (option_map (λ s. raised s floor) (get sessions.old session)) }
-    ensures remembered { Remembers change log.old log.new sessions.old sessions.new }
-{
-    log.settle(session, sessions.get_mut(session), floor, change);
-}
-
-fn finish(
-    sessions: &mut Sessions,
-    session: u64,
-    number: u64,
-    kept: Kept,
-    change: Change,
-    log: &mut UndoLog,
-)
-    requires room { length log.old.undos < log.old.room }
-    requires usable { IsSomeAnd (get sessions.old session) (λ x. IsUsable x number) }
-    ensures after { sessions.new
-        ≡ put_session sessions.old session (option_map (λ s. keeping s number kept) (get sessions.old session)) }
-    ensures remembered { Remembers change log.old log.new sessions.old sessions.new }
-{
-    sessions.get_mut(session).keep(number, kept);
-    log.add(Undo {
-        session,
-        session_change: SessionChange::Kept(number),
-        change,
-    });
-}
-
 /// Carries out an entry, and adds it to the log with its change of the arrays.
 pub fn record_entry(
     sessions: &mut Sessions,
@@ -167,9 +101,25 @@ pub fn record_entry(
     ensures remembered { Remembers change log.old log.new sessions.old sessions.new }
 {
     match entry {
-        Entry::Attached { session, .. } => attach(sessions, *session, change, log),
-        Entry::Closed { session } => close(sessions, *session, change, log),
-        Entry::Settled { session, floor } => settle(sessions, *session, *floor, change, log),
+        Entry::Attached { session, .. } => {
+            let session_change = if open(sessions, *session) {
+                SessionChange::Opened
+            } else {
+                SessionChange::Same
+            };
+            log.add(Undo {
+                session: *session,
+                session_change,
+                change,
+            });
+        }
+        Entry::Closed { session } => {
+            log.close(*session, sessions.get_mut(*session), change);
+            drop_session(sessions, *session);
+        }
+        Entry::Settled { session, floor } => {
+            log.settle(*session, sessions.get_mut(*session), *floor, change);
+        }
         Entry::Finished {
             session,
             number,
@@ -181,7 +131,12 @@ pub fn record_entry(
                 answer: *answer,
                 place,
             };
-            finish(sessions, *session, *number, kept, change, log)
+            sessions.get_mut(*session).keep(*number, kept);
+            log.add(Undo {
+                session: *session,
+                session_change: SessionChange::Kept(*number),
+                change,
+            });
         }
     }
 }
@@ -249,7 +204,7 @@ fn unsettle(here: &mut Session, floor: u64, log: &UndoLog, answers: usize)
     requires dropped { AreDropped floor answers log.now.dropped }
     ensures { here.new ≡ kept_again here.old floor answers log.now.dropped }
 {
-    here.lower(floor);
+    here.floor = floor;
     keep_again(here, log, answers);
 }
 
@@ -267,11 +222,5 @@ pub fn restore(sessions: &mut Sessions, undo: &Undo, log: &UndoLog)
             unsettle(sessions.get_mut(session), floor, log, answers);
         }
         SessionChange::Kept(number) => sessions.get_mut(session).forget(number),
-    }
-}
-
-impl Copied for Session {
-    fn copied(&self, _alloc: Global) -> Result<Self, AllocError> {
-        Ok(self.copied())
     }
 }

@@ -1,12 +1,12 @@
-ghost use Rattle.std.specs.Prelude.{◌≡◌, ℕ, ◌+◌, ◌-◌, ◌^◌, ◌<◌, ◌≤◌, ◌↔◌, length, slice_get, None, IfOk, IfSome, OnOk, OnErr, IsOk, IsSome, IsSomeAnd, IsTrue, option_copied};
+ghost use Rattle.std.specs.Prelude.{◌≡◌, ◌+◌, ◌-◌, ◌^◌, ◌<◌, ◌≤◌, ◌↔◌, length, slice_get, None, IfOk, IfSome, OnOk, OnErr, IsOk, IsSome, IsSomeAnd, option_copied};
 ghost use Rattle.std.specs.Option.{option_map};
 ghost use Rattle.std.specs.FinMap.{get, keys, entries, len, empty, insert};
 ghost use Rattle.fe_state.specs.Change.{MayBeAdded, restored, CanRestore};
 ghost use Rattle.fe_state.specs.Directory.{word_in, words_in};
-ghost use Rattle.fe_state.specs.Effect.{CreatesArray, effect_of, new_array, put_word};
+ghost use Rattle.fe_state.specs.Effect.{CreatesArray, creating, effect_of, new_array, put_word};
 ghost use Rattle.fe_state.specs.Sessions.{kept_in, IsInWindow, keeping, put_session};
 ghost use Rattle.fe_state.specs.Shown.{shown_array, shown_session};
-ghost use Rattle.fe_state.specs.State.{first_state, reply, IsLegal, IsAnswered, after, directory_of, directory_after, effect_in, with_arrays, with_sessions, IsWithinLimits, MakesArray, OnFinished};
+ghost use Rattle.fe_state.specs.State.{first_state, reply, IsLegal, after, directory_of, directory_after, effect_in, with_arrays, with_sessions, IsWithinLimits, MakesArray, OnFinished};
 ghost use Rattle.fe_words.specs.declared.word.Tag.TheVariants.{Empty};
 ghost use Rattle.fe_state.specs.UndoLog.{empty_log, shortened, undone, rewound, IsLogOf};
 ghost use Rattle.fe_state.specs.Limits.{most_sessions, greatest_floor};
@@ -128,7 +128,20 @@ impl State {
         ensures answer { option_map (λ x. x.0) result ≡ reply self.now request.now }
         ensures effect { IfSome result (λ x. x.1 ≡ effect_of (directory_of self.now) request.now) }
     {
-        self.directory.look(request)
+        match request {
+            Request::Create { name, length, .. } => {
+                let answer = self.directory.creation(name, *length);
+                Some((answer, creating(answer)))
+            }
+            Request::Find { name } => Some((self.directory.found(name), Effect::Nothing)),
+            Request::Remove { array } => Some(self.directory.removal(*array)),
+            Request::Access {
+                array,
+                index,
+                op,
+                no_wait,
+            } => self.directory.access(*array, *index, *op, *no_wait),
+        }
     }
 
     /// The answer to a request, or `None` if it has to wait.
@@ -143,10 +156,20 @@ impl State {
         ensures legal { IsOk result ↔ IsLegal self.now entry.now }
         ensures effect { IfOk result (λ effect. effect ≡ effect_in (directory_of self.now) entry.now) }
     {
-        if self.place < GREATEST_PLACE && sessions::allow(&self.sessions, entry) {
-            answered(&self.directory, entry).ok_or(Illegal)
-        } else {
-            Err(Illegal)
+        if self.place >= GREATEST_PLACE || !sessions::allow(&self.sessions, entry) {
+            return Err(Illegal);
+        }
+        let Entry::Finished {
+            request,
+            answer,
+            ..
+        } = entry
+        else {
+            return Ok(Effect::Nothing);
+        };
+        match self.look(request) {
+            Some((right, effect)) if right == *answer => Ok(effect),
+            _ => Err(Illegal),
         }
     }
 
@@ -226,7 +249,7 @@ impl State {
         ensures beginning { self.new ≡ rewound log.old self.old }
         ensures empty { log.new ≡ empty_log log.old.room }
     {
-        for _ in 0..log.len() {
+        while log.latest().is_some() {
             self.undo(log);
         }
         log.clear();
@@ -236,14 +259,15 @@ impl State {
     pub fn word(&self, array: u64, index: u32) -> Option<Word>
         ensures { result ≡ word_in (get self.now.arrays array) index }
     {
-        self.directory.arrays().get(array)?.words.get(index)
+        let words = self.directory.arrays.get(array)?.words.as_slice();
+        words.get(index as usize).copied()
     }
 
     /// How many words an array has, if it exists.
     pub fn length(&self, array: u64) -> Option<u32>
         ensures { result ≡ words_in (get self.now.arrays array) }
     {
-        Some(self.directory.arrays().get(array)?.words.len())
+        Some(self.directory.arrays.get(array)?.words.len())
     }
 
     /// What is kept for a number of a session.
@@ -267,7 +291,7 @@ impl State {
     {
         let _ = self.sessions.aim(session, guess);
         if let Request::Access { array, .. } = request {
-            self.directory.aim(*array);
+            self.directory.arrays.aim(*array);
         }
     }
 
@@ -283,7 +307,7 @@ impl State {
     pub fn next_id(&self) -> u64
         ensures { result ≡ self.now.next_id }
     {
-        self.directory.next_id()
+        self.directory.next_id
     }
 
     /// The number of a session, by its position in ascending order, counted from zero.
@@ -298,7 +322,7 @@ impl State {
     pub fn array_count(&self) -> usize
         ensures { result ≡ len self.now.arrays }
     {
-        self.directory.arrays().table().len()
+        self.directory.arrays.table().len()
     }
 
     /// How many sessions there are.
@@ -313,7 +337,7 @@ impl State {
         ensures entry { option_map shown_array result ≡ slice_get (entries self.now.arrays) k }
         ensures few { IfSome result (λ e. length e.2.now < 2 ^ 32) }
     {
-        let (id, array) = self.directory.arrays().table().at(k)?;
+        let (id, array) = self.directory.arrays.table().at(k)?;
         Some((id, &array.name, array.words.as_slice()))
     }
 
@@ -370,21 +394,12 @@ impl State {
     }
 }
 
-/// What an entry changes, if its answer is the right one.
-fn answered(directory: &Directory, entry: &Entry) -> Option<Effect>
-    ensures answered { IsSome result ↔ IsAnswered directory.now entry.now }
-    ensures effect { IfSome result (λ effect. effect ≡ effect_in directory.now entry.now) }
+fn creating(answer: Answer) -> Effect
+    ensures { result ≡ creating answer }
 {
-    match entry {
-        Entry::Finished {
-            request,
-            answer,
-            ..
-        } => match directory.look(request) {
-            Some((right, effect)) if right == *answer => Some(effect),
-            _ => None,
-        },
-        _ => Some(Effect::Nothing),
+    match answer {
+        Answer::Array { .. } => Effect::Create,
+        _ => Effect::Nothing,
     }
 }
 

@@ -1,4 +1,4 @@
-ghost use Rattle.std.specs.Prelude.{◌≡◌, ◌-◌, ◌^◌, ◌<◌, ◌≤◌, ◌↔◌, ◌∷◌, length, slice_get, IfOk, IsTrue, Some, option_copied};
+ghost use Rattle.std.specs.Prelude.{◌≡◌, ◌-◌, ◌<◌, ◌≤◌, ◌↔◌, ◌∷◌, length, slice_get, IfOk, IsTrue, Some, option_copied};
 ghost use Rattle.std.specs.Option.{option_map};
 ghost use Rattle.std.specs.FinMap.{empty};
 ghost use Rattle.fe_state.specs.DroppedAnswers.{MayLower};
@@ -54,13 +54,6 @@ impl UndoLog {
         })
     }
 
-    /// How many entries can be undone.
-    pub fn len(&self) -> usize
-        ensures { result ≡ length self.now.undos }
-    {
-        self.undos.len()
-    }
-
     /// Whether one more entry has room.
     pub fn has_room(&self) -> bool
         ensures { IsTrue result ↔ (length self.now.undos < self.now.room) }
@@ -106,6 +99,7 @@ impl UndoLog {
     }
 
     /// Settles a session, and adds the entry that does so. Allocates nothing.
+    #[inline(never)]
     pub(crate) fn settle(&mut self, session: u64, here: &mut Session, floor: u64, change: Change)
         requires room { length self.old.undos < self.old.room }
         requires rise { MayRise here.old.floor floor }
@@ -116,7 +110,8 @@ impl UndoLog {
     {
         let before = here.floor();
         let first = self.dropped.len();
-        here.settle(floor, &mut self.dropped);
+        here.drop_below(floor, &mut self.dropped);
+        here.floor = floor;
         let session_change = SessionChange::Settled {
             floor: before,
             answers: self.dropped.len() - first,
@@ -129,6 +124,7 @@ impl UndoLog {
     }
 
     /// Drops all answers of a session that is closed, and adds the entry that closes it. Allocates nothing.
+    #[inline(never)]
     pub(crate) fn close(&mut self, session: u64, here: &mut Session, change: Change)
         requires room { length self.old.undos < self.old.room }
         ensures floor { here.new.floor ≡ here.old.floor }

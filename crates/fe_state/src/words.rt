@@ -47,19 +47,12 @@ impl Words {
         self.items.len() as u32
     }
 
-    /// The word at an index.
-    pub fn get(&self, index: u32) -> Option<Word>
-        ensures { result ≡ slice_get self.now index }
-    {
-        self.items.get(index as usize).copied()
-    }
-
     /// All of them.
     pub fn as_slice(&self) -> &[Word]
         ensures words { result.now ≡ self.now }
         ensures few { length self.now < 2 ^ 32 }
     {
-        self.items.as_slice()
+        &self.items
     }
 
     /// Replaces the word at an index, and returns the word before.

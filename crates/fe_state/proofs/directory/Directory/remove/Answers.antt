@@ -1,6 +1,7 @@
 use Rattle.std.proofs.Common.{sym, ◌∙◌, arith}
-use Rattle.fe_state.proofs.DirectoryLemmas.{go_words, gone_may_come, put_again}
+use Rattle.fe_state.proofs.DirectoryLemmas.{go_words, gone_may_come}
 use Rattle.fe_state.proofs.Limits.{remove_kept}
+use Rattle.fe_state.proofs.Undone.{insert-remove}
 use Rattle.fe_state.proofs.directory.Directory.remove.Goals as goal
 
 pub overflow_sub-self : goal.overflow_sub-self
@@ -15,4 +16,4 @@ pub returns-clause-undoable : goal.returns-clause-undoable
 returns-clause-undoable c = rw c.remove.ensures.removed (gone_may_come _ _ _ c.self.invariant.0 (sym c.remove.ensures.value ∙ c.unwrap-array.ensures))
 
 pub returns-clause-undone : goal.returns-clause-undone
-returns-clause-undone c = rw (c.remove.ensures.removed, put_again _ _ _ (sym c.remove.ensures.value ∙ c.unwrap-array.ensures)) c.self.view_is
+returns-clause-undone c = rw (c.remove.ensures.removed, insert-remove _ _ _ (sym c.remove.ensures.value ∙ c.unwrap-array.ensures)) c.self.view_is

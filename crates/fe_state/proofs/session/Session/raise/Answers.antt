@@ -14,8 +14,8 @@ loop-number-init c = record {
 
 pub loop-number-preserved : goal.loop-number-preserved
 loop-number-preserved c = record {
-  floor = c.forget.ensures.floor ∙ c.loop-number.invariant.floor;
-  kept = c.forget.ensures.kept
+  floor = ap (λ (x : Session). x.floor) c.forget.ensures ∙ c.loop-number.invariant.floor;
+  kept = ap (λ (x : Session). x.kept) c.forget.ensures
       ∙ ap (λ (m : FinMap nat_cmp Kept). remove m c.loop-number.number) c.loop-number.invariant.kept
       ∙ raised_next c.args.self.now.kept c.loop-number.number;
 }
