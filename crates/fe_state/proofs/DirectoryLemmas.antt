@@ -10,7 +10,7 @@ use Rattle.std.proofs.lemmas.Cmp.{ranked}
 use Rattle.std.specs.List.{find}
 use Rattle.std.specs.Str.{bytes_eq}
 use Rattle.std.specs.FinMap as map
-use Rattle.std.specs.FinMap.{FinMap, empty, entries, entries_sorted, get, insert, remove, is_sorted, get-entries, same_map, nat_cmp-IsAntisymmetric, len-insert, len-remove}
+use Rattle.std.specs.FinMap.{FinMap, empty, entries, entries_sorted, get, insert, remove, is_sorted, get-entries, len-insert, len-remove}
 use Rattle.std.specs.FinMap.Entries.{below_all}
 use Rattle.std.proofs.lemmas.Slice.Eq.{bytes_eq-Decides}
 use Rattle.std.proofs.Math.Seq.{drop-nil}
@@ -21,13 +21,11 @@ use Rattle.fe_state.proofs.Limits.{array_in, creation_passed, remove_kept, size_
 use Rattle.fe_table.proofs.TableLemmas.{first, second}
 use Rattle.fe_state.proofs.Undone.{insert-insert, remove-insert}
 use Rattle.fe_state.proofs.Totals.{total_added, total_removed, total_replaced}
-use Rattle.fe_state.specs.Directory.{Directory, IsDirectory, IsArray, answer_in, creation, word_count, word_in}
+use Rattle.fe_state.specs.Directory.{Directory, IsDirectory, IsArray, creation, word_count, word_in}
 use Rattle.fe_state.specs.Effect.{with_word, put_word}
 use Rattle.fe_state.specs.Change.{MayBeAdded}
 use Rattle.fe_state.specs.declared.array.Array.{Array}
-use Rattle.fe_state.specs.declared.answer.Answer.{Answer}
 use Rattle.fe_state.specs.declared.answer.Answer.TheVariants as answer
-use Rattle.fe_state.specs.declared.request.Request.TheVariants.{Remove}
 
 -- ---- how many words there are after an array comes or goes
 

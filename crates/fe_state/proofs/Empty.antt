@@ -1,12 +1,7 @@
 -- A state with nothing in it is within the limits.
-use Rattle.std.proofs.Common.{◌≡◌, ℕ, ◌+◌, ◌^◌, ◌<◌, ◌≤◌, true, List, [], ◌∷◌, length, Some, None, refl, sym, ◌∙◌, arith}
+use Rattle.std.proofs.Common.{◌≡◌, ℕ, ◌+◌, ◌^◌, ◌<◌, ◌≤◌, List, [], ◌∷◌, length, Some, None, refl, sym, ◌∙◌, arith}
 use Rattle.std.specs.Ordering.{nat_cmp}
 use Rattle.std.specs.FinMap.{empty, entries, get, get-empty, len-empty, len-entries}
-use Rattle.std.proofs.lemmas.List.{length-replicate}
-use Rattle.fe_words.specs.declared.word.Tag.{Tag}
-use Rattle.fe_state.specs.Name.{is_plain}
-use Rattle.fe_state.specs.Change.{MayBeAdded}
-use Rattle.fe_state.specs.Effect.{new_array}
 use Rattle.fe_state.specs.Directory.{IsDirectory, word_count}
 use Rattle.fe_state.specs.State.{IsWithinLimits}
 use Rattle.fe_state.specs.Sessions.{Session}

@@ -29,3 +29,8 @@ CanRestore Nothing d = Unit {0}
 CanRestore Created d = IsSome (get d.arrays (d.next_id - 1))
 CanRestore (Removed id a) d = MayBeAdded d id a
 CanRestore (Wrote id index w) d = IsSome (word_in (get d.arrays id) index)
+
+-- a change that leads back from the directory after it to the one before
+pub record LeadsBack (change : Change) (before after : Directory) : Type 0 where
+  pub can_restore : CanRestore change after
+  pub restored : restored change after ≡ before

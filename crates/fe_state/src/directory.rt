@@ -3,7 +3,7 @@ ghost use Rattle.std.specs.Option.{option_map};
 ghost use Rattle.std.specs.FinMap.{get, insert, len};
 ghost use Rattle.fe_state.specs.Directory.{first_directory, named, creation, answer_of, answer_in, word_in};
 ghost use Rattle.fe_state.specs.Effect.{put_word, effect_of, performed};
-ghost use Rattle.fe_state.specs.Change.{restored, CanRestore, MayBeAdded};
+ghost use Rattle.fe_state.specs.Change.{restored, CanRestore, LeadsBack, MayBeAdded};
 
 use crate::answer::Answer;
 use crate::array::Array;
@@ -151,8 +151,7 @@ impl Directory {
         requires id { self.old.next_id < 2 ^ 63 }
         requires answered { creation self.old name length ≡ Answer.Array self.old.next_id length }
         ensures performed { OnOk result (self.new ≡ performed self.old (Request.Create name length tag)) }
-        ensures undoable { IfOk result (λ change. CanRestore change self.new) }
-        ensures undone { IfOk result (λ change. restored change self.new ≡ self.old) }
+        ensures back { IfOk result (λ change. LeadsBack change self.old self.new) }
         ensures unchanged { OnErr result (self.new ≡ self.old) }
     {
         let words = Words::new(self.alloc, length, tag)?;
@@ -166,8 +165,7 @@ impl Directory {
     pub(crate) fn remove(&mut self, id: u64) -> Change
         requires { IsSome (get self.old.arrays id) }
         ensures removed { self.new ≡ performed self.old (Request.Remove id) }
-        ensures undoable { CanRestore result self.new }
-        ensures undone { restored result self.new ≡ self.old }
+        ensures back { LeadsBack result self.old self.new }
     {
         let array = self.arrays.remove(id).unwrap();
         self.words -= array.words.len();
@@ -181,8 +179,7 @@ impl Directory {
           arrays = put_word self.old.arrays array index after (get self.old.arrays array);
           next_id = self.old.next_id;
         } }
-        ensures undoable { CanRestore result self.new }
-        ensures undone { restored result self.new ≡ self.old }
+        ensures back { LeadsBack result self.old self.new }
     {
         let before = self.arrays.get_mut(array).words.replace(index, after);
         Change::Wrote {
@@ -199,21 +196,16 @@ impl Directory {
     {
         match change {
             Change::Nothing => {}
-            Change::Created => self.take_last(),
+            Change::Created => {
+                self.next_id -= 1;
+                let last = self.arrays.remove(self.next_id).unwrap();
+                self.words -= last.words.len();
+            }
             Change::Removed { id, array } => self.insert(id, array),
             Change::Wrote { array, index, word } => {
                 let _ = self.write(array, index, word);
             }
         }
-    }
-
-    fn take_last(&mut self)
-        requires { CanRestore Change.Created self.old }
-        ensures { self.new ≡ restored Change.Created self.old }
-    {
-        self.next_id -= 1;
-        let last = self.arrays.remove(self.next_id).unwrap();
-        self.words -= last.words.len();
     }
 
     /// Puts an array at an id. Allocates nothing.

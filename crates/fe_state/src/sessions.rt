@@ -3,7 +3,7 @@ ghost use Rattle.std.specs.Bool.{OnTrue, OnFalse};
 ghost use Rattle.std.specs.FinMap.{get, insert, remove, len};
 ghost use Rattle.fe_state.specs.Sessions.{MayRise, first_session, opened};
 ghost use Rattle.fe_state.specs.SessionEffect.{MayAttach, IsUsable, SessionsAllow, sessions_after};
-ghost use Rattle.fe_state.specs.DroppedAnswers.{keeping_all, kept_again, AreDropped, MayLower, MayReopen};
+ghost use Rattle.fe_state.specs.DroppedAnswers.{keeping_all, kept_again, AreDropped, MayReopen};
 ghost use Rattle.fe_state.specs.UndoLog.{put_back, CanPutBack, Remembers};
 ghost use Rattle.fe_state.specs.Limits.{most_sessions};
 
@@ -198,16 +198,6 @@ fn reopen(sessions: &mut Sessions, session: u64, floor: u64, log: &UndoLog, answ
     sessions.insert(session, before);
 }
 
-#[inline(never)]
-fn unsettle(here: &mut Session, floor: u64, log: &UndoLog, answers: usize)
-    requires lower { MayLower here.old floor }
-    requires dropped { AreDropped floor answers log.now.dropped }
-    ensures { here.new ≡ kept_again here.old floor answers log.now.dropped }
-{
-    here.floor = floor;
-    keep_again(here, log, answers);
-}
-
 /// Brings the sessions before the latest entry of a log back.
 pub fn restore(sessions: &mut Sessions, undo: &Undo, log: &UndoLog)
     requires { CanPutBack undo.now.session_change log.now.dropped sessions.old undo.now.session }
@@ -219,7 +209,9 @@ pub fn restore(sessions: &mut Sessions, undo: &Undo, log: &UndoLog)
         SessionChange::Opened => drop_session(sessions, session),
         SessionChange::Closed { floor, answers } => reopen(sessions, session, floor, log, answers),
         SessionChange::Settled { floor, answers } => {
-            unsettle(sessions.get_mut(session), floor, log, answers);
+            let here = sessions.get_mut(session);
+            here.floor = floor;
+            keep_again(here, log, answers);
         }
         SessionChange::Kept(number) => sessions.get_mut(session).forget(number),
     }

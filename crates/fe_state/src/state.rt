@@ -1,7 +1,7 @@
 ghost use Rattle.std.specs.Prelude.{◌≡◌, ◌+◌, ◌-◌, ◌^◌, ◌<◌, ◌≤◌, ◌↔◌, length, slice_get, None, IfOk, IfSome, OnOk, OnErr, IsOk, IsSome, IsSomeAnd, option_copied};
 ghost use Rattle.std.specs.Option.{option_map};
 ghost use Rattle.std.specs.FinMap.{get, keys, entries, len, empty, insert};
-ghost use Rattle.fe_state.specs.Change.{MayBeAdded, restored, CanRestore};
+ghost use Rattle.fe_state.specs.Change.{LeadsBack, MayBeAdded};
 ghost use Rattle.fe_state.specs.Directory.{word_in, words_in};
 ghost use Rattle.fe_state.specs.Effect.{CreatesArray, creating, effect_of, new_array, put_word};
 ghost use Rattle.fe_state.specs.Sessions.{kept_in, IsInWindow, keeping, put_session};
@@ -408,8 +408,7 @@ fn enact(directory: &mut Directory, entry: &Entry, effect: Effect) -> Result<Cha
     requires id { directory.old.next_id < 2 ^ 63 }
     requires effect { effect ≡ effect_in directory.old entry.now }
     ensures ok { OnOk result (directory.new ≡ directory_after directory.old entry.now) }
-    ensures undoable { IfOk result (λ change. CanRestore change directory.new) }
-    ensures restored { IfOk result (λ change. restored change directory.new ≡ directory.old) }
+    ensures back { IfOk result (λ change. LeadsBack change directory.old directory.new) }
     ensures err { OnErr result (directory.new ≡ directory.old) }
     ensures memory { OnErr result (OnFinished entry.now (CreatesArray directory.old)) }
 {

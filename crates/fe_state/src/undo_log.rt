@@ -127,7 +127,6 @@ impl UndoLog {
     #[inline(never)]
     pub(crate) fn close(&mut self, session: u64, here: &mut Session, change: Change)
         requires room { length self.old.undos < self.old.room }
-        ensures floor { here.new.floor ≡ here.old.floor }
         ensures least { 1 ≤ here.old.floor }
         ensures most { here.old.floor ≤ greatest_floor }
         ensures emptied { here.new.kept ≡ empty }

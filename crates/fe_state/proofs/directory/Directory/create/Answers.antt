@@ -14,11 +14,11 @@ insert-requires c =
     let made = subst (λ (x : Directory). creation x c.args.name c.args.length ≡ answer.Array x.next_id c.args.length) (sym c.self.view_is) c.requires.answered in
     creation_comes d c.args.name c.args.length _ _ _ c.self.invariant.0 made refl (ap length c.in_ok-words.ensures ∙ length-replicate _ _)
 
-pub returns-clause-undoable : goal.returns-clause-undoable
-returns-clause-undoable c = rw c.insert.ensures (made_last c.self.inside.arrays c.self.inside.next_id _ _ refl)
-
-pub returns-clause-undone : goal.returns-clause-undone
-returns-clause-undone c =
+pub returns-clause-back : goal.returns-clause-back
+returns-clause-back c =
     let d : Directory = record { arrays = c.self.inside.arrays; next_id = c.self.inside.next_id } in
     let made = subst (λ (x : Directory). creation x c.args.name c.args.length ≡ answer.Array x.next_id c.args.length) (sym c.self.view_is) c.requires.answered in
-    rw c.insert.ensures (made_restored d.arrays d.next_id _ _ refl (creation_free d c.args.name c.args.length _ _ c.self.invariant.0 made) ∙ c.self.view_is)
+    record {
+      can_restore = rw c.insert.ensures (made_last c.self.inside.arrays c.self.inside.next_id _ _ refl);
+      restored = rw c.insert.ensures (made_restored d.arrays d.next_id _ _ refl (creation_free d c.args.name c.args.length _ _ c.self.invariant.0 made) ∙ c.self.view_is);
+    }

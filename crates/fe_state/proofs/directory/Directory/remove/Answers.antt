@@ -12,8 +12,10 @@ invariant_of-self c =
     let there = sym c.remove.ensures.value ∙ c.unwrap-array.ensures in
     rw c.remove.ensures.removed (remove_kept _ _ c.self.invariant.0, omega (arith, go_words _ _ _ there, c.self.invariant.1, c.len.ensures))
 
-pub returns-clause-undoable : goal.returns-clause-undoable
-returns-clause-undoable c = rw c.remove.ensures.removed (gone_may_come _ _ _ c.self.invariant.0 (sym c.remove.ensures.value ∙ c.unwrap-array.ensures))
-
-pub returns-clause-undone : goal.returns-clause-undone
-returns-clause-undone c = rw (c.remove.ensures.removed, insert-remove _ _ _ (sym c.remove.ensures.value ∙ c.unwrap-array.ensures)) c.self.view_is
+pub returns-clause-back : goal.returns-clause-back
+returns-clause-back c =
+    let there = sym c.remove.ensures.value ∙ c.unwrap-array.ensures in
+    rw c.remove.ensures.removed (record {
+      can_restore = gone_may_come _ _ _ c.self.invariant.0 there;
+      restored = rw (insert-remove _ _ _ there) c.self.view_is;
+    })
