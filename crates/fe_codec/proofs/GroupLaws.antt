@@ -1,6 +1,8 @@
 -- The records of a group, one after another.
-use Rattle.std.proofs.Common.{◌≡◌, ℕ, ◌+◌, ◌*◌, ◌≤◌, List, [], ◌∷◌, ◌++◌, length, refl, sym, ap, subst, ◌∙◌, append_assoc, arith}
+use Rattle.std.proofs.Common.{◌≡◌, ℕ, true, false, ◌+◌, ◌*◌, ◌≤◌, List, [], ◌∷◌, ◌++◌, length, Result, Ok, Err, IsOk, refl, sym, ap, subst, ◌∙◌, append_assoc, arith}
+use Rattle.std.specs.Prelude.{OnOk}
 use Rattle.std.specs.List.{AllByRecursion}
+use Rattle.std.specs.declared.alloc.AllocError.{AllocError}
 use Rattle.std.proofs.lemmas.List.{length-append}
 use Rattle.std.proofs.Math.Nat.{add-mul}
 use Rattle.fe_state.specs.declared.entry.Entry.{Entry}
@@ -37,18 +39,24 @@ pub record IsPutting (format : Format) (before out : List ℕ) (entries left : L
   pub grows : old_capacity ≤ capacity
   pub fits : FitsGroup format left → FitsGroup format entries
 
--- one entry more
-pub puts_one : (format : Format) (before out more : List ℕ) (entries left rest : List Entry) (entry : Entry) (len len' old_capacity capacity capacity' : ℕ)
-    → left ≡ entry ∷ rest → more ≡ out ++ entry_spelling format entry → len' ≡ len + record_bytes format → capacity ≤ capacity' → FitsRecord format entry
-    → IsPutting format before out entries left len old_capacity capacity → IsPutting format before more entries rest len' old_capacity capacity'
-puts_one format before out more entries left rest entry len len' old_capacity capacity capacity' is more_is len_is grows fits h =
+-- one entry more, for which there is room
+pub puts_one : (format : Format) (before out more : List ℕ) (entries left rest : List Entry) (entry : Entry) (len len' old_capacity capacity capacity' : ℕ) (r : Result (Unit {0}) AllocError)
+    → left ≡ entry ∷ rest → OnOk r (more ≡ out ++ entry_spelling format entry) → (len + record_bytes format ≤ capacity → IsOk r) → len ≡ length out → len' ≡ length more → capacity ≤ capacity'
+    → FitsRecord format entry → IsPutting format before out entries left len old_capacity capacity → IsPutting format before more entries rest len' old_capacity capacity'
+puts_one format before out more entries left rest entry len len' old_capacity capacity capacity' r is ok room len_is len'_is grows fits h =
     let h' : IsPutting format before out entries (entry ∷ rest) len old_capacity capacity = subst (λ (es : List Entry). IsPutting format before out entries es len old_capacity capacity) is h in
-    let joined : more ++ group_spelling format rest ≡ out ++ (entry_spelling format entry ++ group_spelling format rest) = ap (λ (t : List ℕ). t ++ group_spelling format rest) more_is ∙ append_assoc out (entry_spelling format entry) (group_spelling format rest) in
     let more_room : (length rest + 1) * record_bytes format ≡ length rest * record_bytes format + record_bytes format = add-mul (length rest) 1 (record_bytes format) ∙ omega arith in
+    let more_is : more ≡ out ++ entry_spelling format entry = done r ok (room (omega (arith, h'.room, more_room))) in
+    let joined : more ++ group_spelling format rest ≡ out ++ (entry_spelling format entry ++ group_spelling format rest) = ap (λ (t : List ℕ). t ++ group_spelling format rest) more_is ∙ append_assoc out (entry_spelling format entry) (group_spelling format rest) in
+    let grown : length more ≡ length out + length (entry_spelling format entry) = ap length more_is ∙ length-append out (entry_spelling format entry) in
     record {
       items = joined ∙ h'.items;
       each = h'.each.1;
-      room = omega (arith, h'.room, more_room);
-      grows = omega (arith, h'.grows);
+      room = omega (arith, h'.room, more_room, grown, length-entry_spelling format entry fits, len_is, len'_is, grows);
+      grows = omega (arith, h'.grows, grows);
       fits = λ g. h'.fits (fits, g);
     }
+  where
+  done : (r : Result (Unit {0}) AllocError) → OnOk r (more ≡ out ++ entry_spelling format entry) → IsOk r → more ≡ out ++ entry_spelling format entry
+  done (Ok u) ok is_ok = ok
+  done (Err e) ok is_ok = let clash : false ≡ true = is_ok in absurd cc

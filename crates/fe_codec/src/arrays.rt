@@ -110,21 +110,6 @@ fn new_name_at<'a>(
     }
 }
 
-/// Whether a new array may have this length.
-fn has_room(state: &State, name: &Name, length: u32) -> bool
-    requires plain { is_plain name.now ≡ true }
-    requires free { is_some (named state.now.arrays name.now) ≡ false }
-    requires few { len state.now.arrays < most_arrays }
-    ensures { result ≡ (nat_le 1 length && nat_lt length (most_words + 1 - word_count state.now.arrays)) }
-{
-    let request = Request::Create {
-        name: *name,
-        length,
-        tag: Tag::Empty,
-    };
-    matches!(state.answer_to(&request), Some(Answer::Array { .. }))
-}
-
 #[tactic(auto, unfolding(crate::specs::FirstFault::number_in))]
 fn length_at<'a>(state: &State, name: &Name, bytes: &'a [u8]) -> Result<(u32, &'a [u8]), Fault>
     requires plain { is_plain name.now ≡ true }
@@ -136,10 +121,14 @@ fn length_at<'a>(state: &State, name: &Name, bytes: &'a [u8]) -> Result<(u32, &'
     ensures room { IfOk result (λ x. word_count state.now.arrays + x.0 ≤ most_words) }
 {
     let (length, rest) = u32_next(bytes)?;
-    if has_room(state, name, length) {
-        Ok((length, rest))
-    } else {
-        Err(Fault::Left(bytes.len()))
+    let request = Request::Create {
+        name: *name,
+        length,
+        tag: Tag::Empty,
+    };
+    match state.answer_to(&request) {
+        Some(Answer::Array { .. }) => Ok((length, rest)),
+        _ => Err(Fault::Left(bytes.len())),
     }
 }
 

@@ -7,8 +7,8 @@ ghost use Rattle.fe_codec.specs.Record.{entry_spelling, FitsRecord, IsOfFormat, 
 ghost use Rattle.fe_state.specs.declared.entry.Entry.{Entry as Step};
 
 use crate::Format;
-use crate::entry_of::entry_of;
 use crate::record::record_of;
+use crate::record_bytes::RecordBytes;
 use fe_state::Entry;
 use std::alloc::AllocError;
 
@@ -74,7 +74,8 @@ pub fn read_entry(format: Format, bytes: &[u8]) -> Option<Entry>
     if bytes.len() != format.record_bytes() {
         return None;
     }
-    let entry = entry_of(format, bytes)?;
+    let record = RecordBytes { format, bytes };
+    let entry = record.entry()?;
     if is_record(format, &entry, bytes) {
         Some(entry)
     } else {

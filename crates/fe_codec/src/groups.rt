@@ -12,31 +12,6 @@ use crate::entries::{put_entry, read_entry};
 use fe_state::Entry;
 use std::alloc::{AllocError, Global};
 
-/// Appends the record of an entry. There is room for it.
-fn append_entry(format: Format, entry: &Entry, out: &mut Vec<u8>)
-    requires can { CanPut format entry.now }
-    requires room { vec_len out.old + record_bytes format ≤ vec_capacity out.old }
-    ensures items { out.new.items ≡ out.old.items ++ entry_spelling format entry.now }
-    ensures length { vec_len out.new ≡ vec_len out.old + record_bytes format }
-    ensures capacity { vec_capacity out.old ≤ vec_capacity out.new }
-    ensures fits { FitsRecord format entry.now }
-{
-    let _ = put_entry(format, entry, out);
-}
-
-/// Appends the records of entries. There is room for them.
-fn append_entries(format: Format, entries: &[Entry], out: &mut Vec<u8>)
-    requires each { AllByRecursion (CanPut format) entries.now }
-    requires room { vec_len out.old + length entries.now * record_bytes format ≤ vec_capacity out.old }
-    ensures items { out.new.items ≡ out.old.items ++ group_spelling format entries.now }
-    ensures capacity { vec_capacity out.old ≤ vec_capacity out.new }
-    ensures fits { FitsGroup format entries.now }
-{
-    for entry in entries {
-        append_entry(format, entry, out);
-    }
-}
-
 /// Appends the records of entries, one after another. Returns `AllocError`, with nothing appended, if the vector's
 /// spare room doesn't hold them and memory runs out.
 pub fn put_group(format: Format, entries: &[Entry], out: &mut Vec<u8>) -> Result<(), AllocError>
@@ -51,7 +26,10 @@ pub fn put_group(format: Format, entries: &[Entry], out: &mut Vec<u8>) -> Result
     ensures fits { OnOk result (FitsGroup format entries.now) }
 {
     out.reserve(entries.len() * format.record_bytes())?;
-    append_entries(format, entries, out);
+    for entry in entries {
+        // There is room for it.
+        let _ = put_entry(format, entry, out);
+    }
     Ok(())
 }
 

@@ -4,14 +4,13 @@
 mod appending;
 mod arrays;
 mod entries;
-mod entry_of;
 mod fault;
-mod fields;
 mod groups;
 mod header;
 mod laws;
 mod reading;
 mod record;
+mod record_bytes;
 mod sessions;
 mod writing;
 

@@ -3,7 +3,7 @@ ghost use Rattle.std.specs.Int.{w32, w64, to_be_bytes};
 ghost use Rattle.fe_codes.specs.Codes.{answer_code, answer_length, answer_number};
 ghost use Rattle.fe_format.specs.Layout.{name_bytes, record_bytes};
 ghost use Rattle.fe_format.specs.declared.format.Format.TheVariants.{Two};
-ghost use Rattle.fe_codec.specs.Record.{flag_code, codes_field, name_field, name_row, array_row, request_row, request_codes, request_size, record_spelling, short_spelling, entry_spelling, IsShort, HasRoomForEntry, HasRow, RequestFits, FieldsFit};
+ghost use Rattle.fe_codec.specs.Record.{codes_field, name_field, name_row, array_row, request_row, request_codes, request_size, record_spelling, short_spelling, entry_spelling, IsShort, HasRoomForEntry, HasRow, RequestFits, FieldsFit};
 ghost use Rattle.fe_state.specs.Limits.{longest_name};
 
 use crate::Format;
@@ -98,30 +98,6 @@ fn short_record(format: Format, kind: u8, session: u64, number: u64) -> Record
     record
 }
 
-/// The record of a request that finished.
-fn finished_record(
-    format: Format,
-    session: u64,
-    number: u64,
-    request: &Request,
-    answer: Answer,
-) -> Record
-    requires { HasRow format request.now }
-    ensures bytes { result ≡ entry_spelling format (Entry.Finished session number request.now answer) }
-    ensures length { length result ≡ record_bytes format }
-    ensures fits { FieldsFit (Entry.Finished session number request.now answer) }
-{
-    let mut record = Record::new();
-    record.put(&request_codes(answer_code(answer), request));
-    record.put_u64(session);
-    record.put_u64(number);
-    put_request(&mut record, format, request);
-    record.put_u32(answer_length(answer));
-    record.put_u64(answer_number(answer));
-    record.put(&[0; 8]);
-    record
-}
-
 /// The record of an entry. If it has a name, the format's field of names has room for it.
 pub fn record_of(format: Format, entry: &Entry) -> Record
     requires { HasRoomForEntry format entry.now }
@@ -138,14 +114,18 @@ pub fn record_of(format: Format, entry: &Entry) -> Record
             number,
             request,
             answer,
-        } => finished_record(format, *session, *number, request, *answer),
+        } => {
+            let mut record = Record::new();
+            record.put(&request_codes(answer_code(*answer), request));
+            record.put_u64(*session);
+            record.put_u64(*number);
+            put_request(&mut record, format, request);
+            record.put_u32(answer_length(*answer));
+            record.put_u64(answer_number(*answer));
+            record.put(&[0; 8]);
+            record
+        }
     }
-}
-
-fn flag_code(no_wait: bool) -> u8
-    ensures { result ≡ flag_code no_wait }
-{
-    if no_wait { 1 } else { 0 }
 }
 
 fn request_codes(answer: u8, request: &Request) -> [u8; 8]
@@ -167,7 +147,8 @@ fn request_codes(answer: u8, request: &Request) -> [u8; 8]
         Request::Find { name } => [4, 2, answer, name.bytes().len() as u8, 0, 0, 0, 0],
         Request::Remove { .. } => [4, 3, answer, 0, 0, 0, 0, 0],
         Request::Access { op, no_wait, .. } => {
-            [4, op_code(*op), answer, 0, 0, flag_code(*no_wait), 0, 0]
+            let flag = if *no_wait { 1 } else { 0 };
+            [4, op_code(*op), answer, 0, 0, flag, 0, 0]
         }
     }
 }

@@ -19,12 +19,12 @@ refused format bytes got entry b is fits same h failed =
     let clash : false ≡ true = sym failed ∙ there in absurd cc
 
 pub returns-in_err-entry-clause-only : goal.returns-in_err-entry-clause-only
-returns-in_err-entry-clause-only c = λ entry fits same. absurd (none-some entry (sym c.in_err-entry.was ∙ read c.args.format c.args.bytes.now c.entry_of.result entry c.entry_of.ensures fits same))
+returns-in_err-entry-clause-only c = λ entry fits same. absurd (none-some entry (sym c.in_err-entry.was ∙ read c.args.format c.args.bytes.now c.entry.result entry c.entry.ensures fits same))
 
 pub returns-then-is_record-clause-only : goal.returns-then-is_record-clause-only
-returns-then-is_record-clause-only c = λ entry fits same. sym c.in_ok-entry.was ∙ read c.args.format c.args.bytes.now c.entry_of.result entry c.entry_of.ensures fits same
+returns-then-is_record-clause-only c = λ entry fits same. sym c.in_ok-entry.was ∙ read c.args.format c.args.bytes.now c.entry.result entry c.entry.ensures fits same
 
 pub returns-else-is_record-clause-only : goal.returns-else-is_record-clause-only
 returns-else-is_record-clause-only c = λ entry fits same.
-    let is : c.in_ok-entry.entry ≡ entry = same_Some c.in_ok-entry.entry entry (sym c.in_ok-entry.was ∙ read c.args.format c.args.bytes.now c.entry_of.result entry c.entry_of.ensures fits same) in
+    let is : c.in_ok-entry.entry ≡ entry = same_Some c.in_ok-entry.entry entry (sym c.in_ok-entry.was ∙ read c.args.format c.args.bytes.now c.entry.result entry c.entry.ensures fits same) in
     absurd (refused c.args.format c.args.bytes.now c.in_ok-entry.entry entry _ is fits same c.is_record.ensures.fact c.if-is_record.false)
