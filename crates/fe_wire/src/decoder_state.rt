@@ -1,7 +1,6 @@
 ghost use Rattle.std.specs.Prelude.{◌≡◌, ◌+◌, ◌<◌, ◌≤◌, ◌++◌, false, length, take, option_to_list};
 ghost use Rattle.fe_wire.specs.Stream.{length_field, fault_of};
 ghost use Rattle.fe_wire.specs.DecoderState.{IsDecoderState, Consumes, held_of, decoding};
-ghost use Rattle.fe_wire.specs.within.Filling.{wanted_of};
 
 use crate::client_message::ClientMessage;
 use crate::fed::BadFrame;
@@ -26,16 +25,6 @@ pub struct DecoderState {
     pub version: Version,
 }
 
-fn wanted(held: &[u8]) -> usize
-    ensures { result ≡ wanted_of held.now }
-{
-    if held.len() < LENGTH_BYTES {
-        LENGTH_BYTES
-    } else {
-        LENGTH_BYTES + length_field(held) as usize
-    }
-}
-
 impl DecoderState {
     /// Copies bytes of the piece, up to the known end of the current frame, and returns how many.
     fn fill(&mut self, piece: &[u8]) -> usize
@@ -52,37 +41,15 @@ impl DecoderState {
         ensures is_bad { self.new.is_bad ≡ self.old.is_bad }
         ensures version { self.new.version ≡ self.old.version }
     {
-        let wanted = wanted(&self.cells[..self.len]);
+        let wanted = if self.len < LENGTH_BYTES {
+            LENGTH_BYTES
+        } else {
+            LENGTH_BYTES + length_field(&self.cells[..self.len]) as usize
+        };
         let count = piece.len().min(wanted - self.len);
         self.cells[self.len..self.len + count].copy_from_slice(&piece[..count]);
         self.len += count;
         count
-    }
-
-    /// Reads the frame in `cells`, as `step` does if bytes of the current frame are stored already.
-    fn step_in_cells(&mut self, piece: &[u8]) -> (usize, Option<ClientMessage>)
-        requires state { IsDecoderState self.old }
-        requires good { self.old.is_bad ≡ false }
-        requires more { 0 < length piece.now }
-        ensures state { IsDecoderState self.new }
-        ensures some { 0 < result.0 }
-        ensures within { result.0 ≤ length piece.now }
-        ensures reads { Consumes self.old self.new (take result.0 piece.now) (option_to_list result.1) }
-    {
-        let count = self.fill(piece);
-        match head_of(self.version, &self.cells[..self.len]) {
-            Head::Unfinished => (count, None),
-            Head::Bad => {
-                self.is_bad = true;
-                self.len = 0;
-                (count, None)
-            }
-            Head::Whole(_, message) => {
-                self.offset = self.offset.saturating_add(self.len as u64);
-                self.len = 0;
-                (count, Some(message))
-            }
-        }
     }
 
     /// Reads to the end of the current frame, to the end of the piece, or to where the frame turns out bad. Returns
@@ -98,7 +65,20 @@ impl DecoderState {
         ensures reads { Consumes self.old self.new (take result.0 piece.now) (option_to_list result.1) }
     {
         if self.len > 0 {
-            return self.step_in_cells(piece);
+            let count = self.fill(piece);
+            return match head_of(self.version, &self.cells[..self.len]) {
+                Head::Unfinished => (count, None),
+                Head::Bad => {
+                    self.is_bad = true;
+                    self.len = 0;
+                    (count, None)
+                }
+                Head::Whole(_, message) => {
+                    self.offset = self.offset.saturating_add(self.len as u64);
+                    self.len = 0;
+                    (count, Some(message))
+                }
+            };
         }
         match head_of(self.version, piece) {
             Head::Unfinished => {

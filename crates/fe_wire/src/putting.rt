@@ -9,7 +9,6 @@ use crate::kinds;
 use crate::message_frames::message_frame;
 use crate::server_message::ServerMessage;
 use fe_codes::{answer_code, answer_length, answer_number};
-use fe_mail::ReportText;
 use fe_state::Answer;
 use std::alloc::AllocError;
 
@@ -79,22 +78,6 @@ fn refused_frame(number: u64, code: u8) -> Frame
     frame
 }
 
-/// Writes the text directly to `out`, after the length and the kind, instead of through a `Frame`.
-fn put_report(out: &mut Vec<u8>, report: &ReportText) -> Result<(), AllocError>
-    ensures ok { OnOk result (out.new.items ≡ out.old.items ++ reply_spelling (ServerMessage.Report report.now)) }
-    ensures err { OnErr result (out.new.items ≡ out.old.items) }
-    ensures full { OnErr result (vec_capacity out.old
-        < vec_len out.old + length (reply_spelling (ServerMessage.Report report.now))) }
-    ensures fits { ReplyFits (ServerMessage.Report report.now) }
-{
-    let text = report.as_str().as_bytes();
-    let head = frame_of(text.len() as u32 + 1, kinds::REPORT);
-    let head = head.bytes();
-    out.reserve(head.len() + text.len())?;
-    out.extend_from_slice(head)?;
-    out.extend_from_slice(text)
-}
-
 /// Appends the frame of a reply. The code of a refusal must be 1 to 10. Fails only if the vector has no spare room
 /// for it and memory runs out; then nothing is appended.
 pub fn put_reply(out: &mut Vec<u8>, message: &ServerMessage) -> Result<(), AllocError>
@@ -112,7 +95,15 @@ pub fn put_reply(out: &mut Vec<u8>, message: &ServerMessage) -> Result<(), Alloc
         ServerMessage::Settled { floor } => settled_frame(*floor),
         ServerMessage::Goodbye { session } => goodbye_frame(*session),
         ServerMessage::Refused { number, code } => refused_frame(*number, *code),
-        ServerMessage::Report(report) => return put_report(out, report),
+        // The text goes directly to `out`, after the length and the kind, instead of through a `Frame`.
+        ServerMessage::Report(report) => {
+            let text = report.as_str().as_bytes();
+            let head = frame_of(text.len() as u32 + 1, kinds::REPORT);
+            let head = head.bytes();
+            out.reserve(head.len() + text.len())?;
+            out.extend_from_slice(head)?;
+            return out.extend_from_slice(text);
+        }
     };
     out.extend_from_slice(frame.bytes())
 }
