@@ -100,22 +100,6 @@ impl MemoryDisk {
         })
     }
 
-    fn get(&mut self, at: usize, buffer: &mut [u8]) -> Result<(), DeviceFault>
-        requires { at + length buffer.old ≤ length self.old.image }
-        ensures ok { OnOk result (self.new ≡ disk_after_read self.old) }
-        ensures read { OnOk result (buffer.new ≡ bytes_at self.old.image at (length buffer.old)) }
-        ensures err { OnErr result (self.new ≡ disk_after_fault self.old) }
-        ensures fault { IsErr result ↔ Rises self.old.failures self.new.failures }
-        ensures only_at_top { IsErr result ↔ ((self.old.failures ≡ 2 ^ 64 - 1) ⊎ (self.old.calls.reads ≡ 2 ^ 64 - 1)) }
-    {
-        if self.failures == u64::MAX || self.calls.reads == u64::MAX {
-            return Err(fault(&mut self.failures));
-        }
-        self.calls.reads += 1;
-        buffer.copy_from_slice(&self.bytes[at..at + buffer.len()]);
-        Ok(())
-    }
-
     fn put(&mut self, at: usize, bytes: &[u8]) -> Result<(), DeviceFault>
         requires { at + length bytes.now ≤ length self.old.image }
         ensures ok { OnOk result (self.new ≡ disk_after_write self.old at bytes.now) }
@@ -131,21 +115,6 @@ impl MemoryDisk {
         }
         self.calls.writes += 1;
         replace(&mut self.bytes, at, bytes);
-        Ok(())
-    }
-
-    fn settle(&mut self) -> Result<(), DeviceFault>
-        ensures ok { OnOk result (self.new ≡ disk_after_sync self.old) }
-        ensures err { OnErr result (self.new ≡ disk_after_fault self.old) }
-        ensures fault { IsErr result ↔ Rises self.old.failures self.new.failures }
-    {
-        if self.failures == u64::MAX
-            || self.calls.syncs == u64::MAX
-            || record_sync(&mut self.record).is_err()
-        {
-            return Err(fault(&mut self.failures));
-        }
-        self.calls.syncs += 1;
         Ok(())
     }
 }
@@ -200,7 +169,12 @@ impl Disk for MemoryDisk {
         ensures ok { OnOk result (self.new ≡ disk_after_read self.old) }
         ensures err { OnErr result (self.new ≡ disk_after_fault self.old) }
     {
-        self.get(at, buffer)
+        if self.failures == u64::MAX || self.calls.reads == u64::MAX {
+            return Err(fault(&mut self.failures));
+        }
+        self.calls.reads += 1;
+        buffer.copy_from_slice(&self.bytes[at..at + buffer.len()]);
+        Ok(())
     }
 
     fn write_at(&mut self, at: usize, bytes: &[u8]) -> Result<(), DeviceFault>
@@ -230,6 +204,13 @@ impl Disk for MemoryDisk {
         ensures ok { OnOk result (self.new ≡ disk_after_sync self.old) }
         ensures err { OnErr result (self.new ≡ disk_after_fault self.old) }
     {
-        self.settle()
+        if self.failures == u64::MAX
+            || self.calls.syncs == u64::MAX
+            || record_sync(&mut self.record).is_err()
+        {
+            return Err(fault(&mut self.failures));
+        }
+        self.calls.syncs += 1;
+        Ok(())
     }
 }

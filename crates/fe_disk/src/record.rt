@@ -2,7 +2,7 @@
 ghost use Rattle.std.specs.Prelude.{◌≡◌, ◌+◌, ◌≤◌, ◌∷◌, length, IfOk, OnOk, OnErr};
 ghost use Rattle.fe_disk.specs.Disk.{IsImage, bytes_at, after_write};
 ghost use Rattle.fe_disk.specs.Memory.{Write, Sync};
-ghost use Rattle.fe_disk.specs.Ranges.{AreWithin, image_with_tear, image_with_tears};
+ghost use Rattle.fe_disk.specs.Ranges.{AreWithin, image_with_tears};
 ghost use Rattle.fe_disk.specs.Record.{newest_first};
 
 use crate::Torn;
@@ -50,19 +50,6 @@ pub fn replace(image: &mut [u8], at: usize, bytes: &[u8])
     image[at..at + bytes.len()].copy_from_slice(bytes);
 }
 
-fn repaint(torn: Torn, image: &mut [u8], at: usize, before: &[u8])
-    requires fits { at + length before.now ≤ length image.old }
-    requires bytes { IsImage (length image.old) image.old }
-    ensures torn { image.new ≡ image_with_tear torn image.old at before.now }
-    ensures bytes { IsImage (length image.old) image.new }
-{
-    match torn {
-        Torn::Kept => {}
-        Torn::Lost => replace(image, at, before),
-        Torn::Byte(byte) => image[at..at + before.len()].fill(byte),
-    }
-}
-
 // Does to the ranges written since the last sync what a stop does.
 fn tear(torn: Torn, calls: &[Call], image: &mut [u8])
     requires within { AreWithin (length image.old) (newest_first calls.now) }
@@ -72,7 +59,11 @@ fn tear(torn: Torn, calls: &[Call], image: &mut [u8])
 {
     let mut rest = calls;
     while let [earlier @ .., Call::Wrote { at, before }] = rest {
-        repaint(torn, image, *at, before);
+        match torn {
+            Torn::Kept => {}
+            Torn::Lost => replace(image, *at, before),
+            Torn::Byte(byte) => image[*at..*at + before.len()].fill(byte),
+        }
         rest = earlier;
     }
 }
