@@ -9,8 +9,8 @@ use Rattle.fe_waits.proofs.MemberLemmas.{none_some}
 use Rattle.fe_state.specs.Sessions.{Session, MayRise, kept_in}
 use Rattle.fe_state.specs.SessionEffect.{IsUsable}
 use Rattle.fe_state.specs.declared.kept.Kept.{Kept}
-use Rattle.fe_attachments.specs.AttachmentsState.{is_closing}
-use Rattle.fe_attachments.specs.declared.attachment.Attachment.{Attachment}
+use Rattle.fe_service.specs.AttachmentsState.{is_closing}
+use Rattle.fe_service.specs.declared.attachment.Attachment.{Attachment}
 use Rattle.fe_service.specs.Service.{request_of}
 use Rattle.fe_service.specs.ServiceState.{IsService}
 use Rattle.fe_service.specs.Events.{MaySettle, IsFree, floor_of}

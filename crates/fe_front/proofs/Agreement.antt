@@ -5,8 +5,8 @@ use Rattle.std.specs.Ordering.{nat_cmp}
 use Rattle.std.specs.FinMap.{FinMap, get, insert, remove}
 use Rattle.fe_state.proofs.Maps.{get_inserted, get_beside, get_removed, get_left, same_or_other}
 use Rattle.fe_waits.proofs.MemberLemmas.{none_some, some_same}
-use Rattle.fe_attachments.specs.AttachmentsState.{holder_of, with_holder, with_closing}
-use Rattle.fe_attachments.specs.declared.attachment.Attachment.{Attachment}
+use Rattle.fe_service.specs.AttachmentsState.{holder_of, with_holder, with_closing}
+use Rattle.fe_service.specs.declared.attachment.Attachment.{Attachment}
 use Rattle.fe_mail.specs.Connections.{first_connection, session_on, with_session, with_mails}
 use Rattle.fe_mail.specs.declared.connection.Connection.{Connection}
 use Rattle.fe_mail.specs.declared.mail.Mail.{Mail}

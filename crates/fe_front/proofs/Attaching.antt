@@ -8,8 +8,8 @@ use Rattle.std.specs.FinMap.{FinMap, get, insert, len, len-insert}
 use Rattle.std.proofs.lemmas.Bool.Decides.{nat_tests}
 use Rattle.fe_state.proofs.Maps.{get_inserted, get_beside, same_or_other}
 use Rattle.fe_waits.proofs.MemberLemmas.{none_some}
-use Rattle.fe_attachments.specs.AttachmentsState.{holder_of, with_holder, is_closing}
-use Rattle.fe_attachments.specs.declared.attachment.Attachment.{Attachment}
+use Rattle.fe_service.specs.AttachmentsState.{holder_of, with_holder, is_closing}
+use Rattle.fe_service.specs.declared.attachment.Attachment.{Attachment}
 use Rattle.fe_service.specs.ServiceState.{ServiceState}
 use Rattle.fe_service.specs.Events.{IsAttachable, HasRoom, held}
 use Rattle.fe_mail.specs.Connections.{session_on, with_session}

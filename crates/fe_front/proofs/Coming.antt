@@ -10,7 +10,7 @@ use Rattle.fe_state.specs.declared.batch.Batch.{Batch}
 use Rattle.fe_state.specs.declared.entry.Entry.{Entry}
 use Rattle.fe_state.specs.declared.entry.Entry.TheVariants.{Attached, Closed, Settled, Finished}
 use Rattle.fe_state.specs.declared.kept.Kept.{Kept}
-use Rattle.fe_attachments.specs.AttachmentsState.{holder_of, is_closing}
+use Rattle.fe_service.specs.AttachmentsState.{holder_of, is_closing}
 use Rattle.fe_service.specs.Events.{left}
 use Rattle.fe_mail.specs.Books.{mail_refused_by_box, mail_taken, call_repeated}
 use Rattle.fe_mail.specs.Connections.{session_on, mails_on, with_mails}

@@ -9,7 +9,7 @@ use Rattle.fe_waits.specs.Waiting.{WaitingAccess}
 use Rattle.fe_waits.proofs.MemberLemmas.{len-remove_old, len-positive, none_some, get-of_slot, without-none, count-remove, without-remove}
 use Rattle.fe_state.specs.State.{ServerState, after}
 use Rattle.fe_state.specs.declared.entry.Entry.{Entry}
-use Rattle.fe_attachments.specs.AttachmentsState.{count_of, of_session, without_session}
+use Rattle.fe_service.specs.AttachmentsState.{count_of, of_session, without_session}
 use Rattle.fe_service.specs.Service.{WaitingAccesses, AreTurns, without_turn, without_turns}
 use Rattle.fe_service.proofs.Serving.{turn_len}
 

@@ -10,8 +10,8 @@ use Rattle.fe_waits.proofs.MemberLemmas.{none_some}
 use Rattle.fe_state.specs.Sessions.{Session}
 use Rattle.fe_state.specs.State.{ServerState}
 use Rattle.fe_state.specs.declared.entry.Entry.{Entry}
-use Rattle.fe_attachments.specs.AttachmentsState.{holder_of, free_attachment}
-use Rattle.fe_attachments.specs.declared.attachment.Attachment.{Attachment}
+use Rattle.fe_service.specs.AttachmentsState.{holder_of, free_attachment}
+use Rattle.fe_service.specs.declared.attachment.Attachment.{Attachment}
 use Rattle.fe_service.specs.Events.{AreFreeAttachments}
 use Rattle.fe_service.specs.ServiceState.{ServiceState}
 use Rattle.fe_mail.specs.Books.{Books, Balances}

@@ -4,7 +4,7 @@ use Rattle.std.specs.Prelude.{nat_lt, length, if◌then◌else◌}
 use Rattle.std.specs.Option.{option_map_or}
 use Rattle.fe_state.specs.declared.entry.Entry.{Entry}
 use Rattle.fe_state.specs.declared.entry.Entry.TheVariants.{Attached, Closed, Settled, Finished}
-use Rattle.fe_attachments.specs.AttachmentsState.{holder_of, is_closing}
+use Rattle.fe_service.specs.AttachmentsState.{holder_of, is_closing}
 use Rattle.fe_service.specs.Events.{left}
 use Rattle.fe_mail.specs.Books.{mail_refused_by_box}
 use Rattle.fe_mail.specs.Connections.{session_on, mails_on}

@@ -4,7 +4,7 @@ use Rattle.std.specs.Prelude.{IsTrue, nat_lt, if◌then◌else◌, ◌++◌, ◌
 use Rattle.std.specs.Option.{option_map_or}
 use Rattle.std.specs.FinMap.{get}
 use Rattle.fe_state.proofs.Maps.{get_left, same_or_other}
-use Rattle.fe_attachments.specs.AttachmentsState.{holder_of, is_closing}
+use Rattle.fe_service.specs.AttachmentsState.{holder_of, is_closing}
 use Rattle.fe_service.specs.Events.{left}
 use Rattle.fe_mail.specs.Books.{mail_refused_by_box}
 use Rattle.fe_mail.specs.Connections.{session_on, mails_on}

@@ -9,7 +9,7 @@ use Rattle.fe_state.specs.declared.entry.Entry.{Entry}
 use Rattle.fe_state.specs.declared.entry.Entry.TheVariants.{Attached, Closed, Settled, Finished}
 use Rattle.fe_state.specs.declared.kept.Kept.{Kept}
 use Rattle.fe_state.specs.declared.request.Request.{Request}
-use Rattle.fe_attachments.specs.AttachmentsState.{holder_of, is_closing}
+use Rattle.fe_service.specs.AttachmentsState.{holder_of, is_closing}
 use Rattle.fe_service.specs.Events.{left}
 use Rattle.fe_mail.specs.Books.{Books, Balances, counting, moving, call_completed, call_repeated, waiter_completed, waiters_withdrawn, mail_refused_by_box, mail_taken, box_dropped}
 use Rattle.fe_mail.specs.Connections.{session_on, mails_on, mails_in, with_mails}

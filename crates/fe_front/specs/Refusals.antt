@@ -2,7 +2,7 @@
 use Rattle.std.specs.Prelude.{ℕ, zero, suc, ◌+◌, ◌||◌, ◌&&◌, Bool, false, not, if◌then◌else◌, nat_lt, is_some, is_none, Result, Ok, Err}
 use Rattle.std.specs.Option.{option_map_or}
 use Rattle.std.specs.FinMap.{get, len}
-use Rattle.fe_attachments.specs.AttachmentsState.{is_closing}
+use Rattle.fe_service.specs.AttachmentsState.{is_closing}
 use Rattle.fe_service.specs.Events.{floor_of}
 use Rattle.fe_service.specs.Service.{WaitingAccesses}
 use Rattle.fe_mail.specs.Connections.{session_on}

@@ -3,7 +3,7 @@ use Rattle.std.specs.Prelude.{ℕ, ◌||◌, Bool, if◌then◌else◌, nat_lt, 
 use Rattle.std.specs.Option.{option_map_or}
 use Rattle.std.specs.FinMap.{insert, remove}
 use Rattle.fe_state.specs.declared.batch.Batch.{Batch}
-use Rattle.fe_attachments.specs.AttachmentsState.{holder_of, count_of}
+use Rattle.fe_service.specs.AttachmentsState.{holder_of, count_of}
 use Rattle.fe_service.specs.Events.{attached, settled, closed, withdrawn, cancelled, held}
 use Rattle.fe_mail.specs.Books.{waiters_withdrawn, mail_boxed, mail_refused_by_box, mail_taken, box_dropped}
 use Rattle.fe_mail.specs.Connections.{first_connection, session_on, mails_on, with_session, with_mails}

@@ -1,5 +1,5 @@
 ghost use Rattle.std.specs.Prelude.{◌≡◌, Some, None, true};
-ghost use Rattle.fe_attachments.specs.AttachmentsState.{count_of};
+ghost use Rattle.fe_service.specs.AttachmentsState.{count_of};
 ghost use Rattle.fe_mail.specs.Connections.{session_on};
 ghost use Rattle.fe_front.specs.Front.{is_connected};
 ghost use Rattle.fe_front.specs.Steps.{withdrawn_from, parted, released, freed, departed, departing, unboxed, mailed};

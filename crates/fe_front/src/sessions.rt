@@ -6,7 +6,7 @@ ghost use Rattle.fe_front.specs.Front.{IsFront, is_connected, is_spent};
 ghost use Rattle.fe_front.specs.Refusals.{own, unclosing, attaching, settling, leaving, cancelling, may_settle, unspent, waits_below};
 ghost use Rattle.fe_front.specs.Steps.{joined, cancelled_from};
 ghost use Rattle.fe_mail.specs.Connections.{session_on};
-ghost use Rattle.fe_attachments.specs.AttachmentsState.{holder_of, is_closing};
+ghost use Rattle.fe_service.specs.AttachmentsState.{holder_of, is_closing};
 ghost use Rattle.fe_state.specs.State.{IsWithinLimits};
 ghost use Rattle.fe_service.specs.Events.{floor_of, IsAttachable, HasRoom};
 

@@ -10,8 +10,8 @@ use Rattle.fe_state.specs.declared.entry.Entry.TheVariants.{Attached, Closed, Se
 use Rattle.fe_state.specs.declared.kept.Kept.{Kept}
 use Rattle.fe_state.specs.declared.request.Request.{Request}
 use Rattle.fe_state.specs.Sessions.{Session}
-use Rattle.fe_attachments.specs.AttachmentsState.{holder_of, is_closing, with_holder, free_attachment}
-use Rattle.fe_attachments.specs.declared.attachment.Attachment.{Attachment}
+use Rattle.fe_service.specs.AttachmentsState.{holder_of, is_closing, with_holder, free_attachment}
+use Rattle.fe_service.specs.declared.attachment.Attachment.{Attachment}
 use Rattle.fe_service.specs.Events.{left, floor_of, AreFreeAttachments}
 use Rattle.fe_mail.specs.Books.{mail_refused_by_box, mail_taken, call_repeated}
 use Rattle.fe_mail.specs.Connections.{first_connection, session_on, mails_on, with_session, with_mails}

@@ -25,7 +25,7 @@ use Rattle.fe_front.specs.Refusals.{attaching, settling, leaving, cancelling, ha
 use Rattle.fe_front.specs.Call.{Called, IsCallRefused, WantsMemory, call_refused_by, kept_at, repeated}
 use Rattle.fe_front.specs.declared.outcome.Outcome.{Outcome}
 use Rattle.fe_front.specs.declared.outcome.Outcome.TheVariants as outcome
-use Rattle.fe_attachments.specs.AttachmentsState.{is_closing}
+use Rattle.fe_service.specs.AttachmentsState.{is_closing}
 use Rattle.fe_front.proofs.Keeping.{Keeps, itself, both, released-keeps, freed-keeps, mailed-keeps}
 use Rattle.fe_front.proofs.Events.{Answers, attach_step, settle_step, bye_step, cancel_step, refusal_told, call_refusal_told}
 use Rattle.fe_front.proofs.Leading.{steps_lead}

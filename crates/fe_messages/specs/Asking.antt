@@ -1,6 +1,6 @@
 -- Which sessions connections ask for by their messages, and which of them they have.
 use Rattle.std.specs.Prelude.{◌≡◌, ℕ, Some}
-use Rattle.fe_attachments.specs.AttachmentsState.{holder_of}
+use Rattle.fe_service.specs.AttachmentsState.{holder_of}
 use Rattle.fe_mail.specs.Connections.{session_on}
 use Rattle.fe_wire.specs.declared.client_message.ClientMessage.{ClientMessage}
 use Rattle.fe_wire.specs.declared.client_message.ClientMessage.TheVariants.{Attach, Call, Cancel, Settle, Bye, Report}

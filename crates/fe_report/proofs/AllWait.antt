@@ -5,8 +5,8 @@ use Rattle.std.specs.Option.{option_map_or, option_and_then}
 use Rattle.std.specs.Cmp.{nat_cmp_total}
 use Rattle.std.specs.FinMap.{get, len, nat_cmp-IsAntisymmetric}
 use Rattle.fe_state.proofs.Maps.{get_retained}
-use Rattle.fe_attachments.specs.AttachmentsState.{count_of}
-use Rattle.fe_attachments.specs.declared.attachment.Attachment.{Attachment}
+use Rattle.fe_service.specs.AttachmentsState.{count_of}
+use Rattle.fe_service.specs.declared.attachment.Attachment.{Attachment}
 use Rattle.fe_service.specs.ServiceState.{IsService}
 use Rattle.fe_front.specs.Front.{FrontState, is_attached}
 use Rattle.fe_report.specs.Report.{idle, do_all_wait, held_attachments}

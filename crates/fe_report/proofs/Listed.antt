@@ -7,7 +7,7 @@ use Rattle.std.specs.declared.cmp.Ordering.TheVariants.{Less, Equal, Greater}
 use Rattle.std.specs.Cmp.{IsTotalOrder}
 use Rattle.std.specs.FinMap.{FinMap, IsAntisymmetric, find, get, entries, from_entries, is_sorted, get-entries, get-from_entries, entries_sorted}
 use Rattle.std.specs.FinMap.Entries.{below_all}
-use Rattle.fe_attachments.proofs.KeyLemmas.{hit, find_below}
+use Rattle.fe_service.proofs.KeyLemmas.{hit, find_below}
 use Rattle.fe_table.proofs.TableLemmas.{first, second}
 
 pub tied : (r : Ordering) → is_eq r ≡ true → r ≡ Equal

@@ -8,7 +8,7 @@ use Rattle.std.specs.BTreeMap.{insert_entry}
 use Rattle.std.specs.FinMap.{FinMap, IsAntisymmetric, find, is_sorted, get, len, empty, entries, entries_sorted, get-entries, get-empty, len-empty, empty_of_len, same_map}
 use Rattle.std.specs.FinMap.Entries.{by_order, put, is_sorted-put, find-put, same_entries}
 use Rattle.fe_report.specs.within.Rows.{ArePart}
-use Rattle.fe_attachments.proofs.KeyLemmas.{hit}
+use Rattle.fe_service.proofs.KeyLemmas.{hit}
 use Rattle.fe_report.proofs.Listed.{not_none, tied}
 
 same_choice : {A : Type 0} (r : Ordering) (a b c d : A) → c ≡ d → match_ordering r a b c ≡ by_order r a b d

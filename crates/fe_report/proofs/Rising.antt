@@ -12,7 +12,7 @@ use Rattle.std.specs.FinMap.{FinMap, IsAntisymmetric, find, get, is_sorted}
 use Rattle.std.specs.FinMap.Entries.{below_all}
 use Rattle.fe_report.specs.within.Rows.{ArePart}
 use Rattle.fe_report.proofs.Listed.{tied, same_value, not_none, found_at}
-use Rattle.fe_attachments.proofs.KeyLemmas.{hit}
+use Rattle.fe_service.proofs.KeyLemmas.{hit}
 
 both : (a b : Bool) → T a → T b → T (a && b)
 both true b p q = q

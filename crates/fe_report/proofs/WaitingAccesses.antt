@@ -8,7 +8,7 @@ use Rattle.std.specs.declared.cmp.Ordering.{Ordering}
 use Rattle.fe_words.specs.declared.op.Op.{Op}
 use Rattle.fe_waits.specs.Pair.{pair_cmp_total, pair_cmp-IsAntisymmetric}
 use Rattle.fe_waits.specs.Waiting.{WaitingAccess}
-use Rattle.fe_attachments.specs.AttachmentsState.{of_session, count_of}
+use Rattle.fe_service.specs.AttachmentsState.{of_session, count_of}
 use Rattle.fe_service.specs.Service.{WaitingAccesses}
 use Rattle.fe_report.specs.Report.{Spot, spot_of, by_word, by_session}
 use Rattle.fe_report.proofs.Listed.{from_listed, there_listed, same_value, not_none}

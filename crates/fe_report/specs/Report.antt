@@ -9,8 +9,8 @@ use Rattle.fe_words.specs.Table.{name_of}
 use Rattle.fe_words.specs.declared.op.Op.{Op}
 use Rattle.fe_waits.specs.Pair.{pair_cmp}
 use Rattle.fe_waits.specs.Waiting.{WaitingAccess}
-use Rattle.fe_attachments.specs.AttachmentsState.{count_of}
-use Rattle.fe_attachments.specs.declared.attachment.Attachment.{Attachment}
+use Rattle.fe_service.specs.AttachmentsState.{count_of}
+use Rattle.fe_service.specs.declared.attachment.Attachment.{Attachment}
 use Rattle.fe_service.specs.Service.{WaitingAccesses}
 use Rattle.fe_front.specs.Front.{FrontState, is_attached}
 

@@ -1,12 +1,12 @@
 -- What an entry of its own and the turns after it leave of a service.
-use Rattle.std.proofs.Common.{◌≡◌, ℕ, inl, inr, Option, Some, None, List, [], ◌∷◌, ◌++◌, refl, sym, ap, subst, ◌∙◌, arith}
+use Rattle.std.proofs.Common.{◌≡◌, ℕ, inl, inr, Option, Some, None, List, [], ◌∷◌, ◌++◌, refl, sym, ap, subst, ◌∙◌}
 use Rattle.std.specs.Prelude.{is_some}
 use Rattle.std.specs.Option.{option_map}
 use Rattle.std.specs.Ordering.{nat_cmp}
 use Rattle.std.specs.FinMap.{FinMap, get, insert}
 use Rattle.fe_state.proofs.Maps.{get_inserted, get_beside, same_or_other}
 use Rattle.fe_state.specs.Sessions.{Session, keeping, put_session}
-use Rattle.fe_state.specs.State.{ServerState, IsLegal, reply, after, after_all, directory_of}
+use Rattle.fe_state.specs.State.{ServerState, after, after_all, directory_of}
 use Rattle.fe_state.specs.OtherWords.{IsOwnWord}
 use Rattle.fe_state.specs.declared.kept.Kept.{Kept}
 use Rattle.fe_state.specs.declared.answer.Answer.{Answer}
@@ -15,7 +15,7 @@ use Rattle.fe_state.specs.declared.entry.Entry.{Entry}
 use Rattle.fe_state.specs.declared.entry.Entry.TheVariants.{Finished}
 use Rattle.fe_service.specs.Service.{WaitingAccesses, AreUsable, IsQuiet, IsTurn, AreTurns, without_turn, without_turns}
 use Rattle.fe_service.specs.ServiceState.{ServiceState, IsService, is_open, service_of}
-use Rattle.fe_service.specs.Events.{IsFree, HasRoom, Completes}
+use Rattle.fe_service.specs.Events.{IsFree, Completes}
 use Rattle.fe_service.specs.within.ServiceInner.{IsQuietAt, TakesTurns}
 use Rattle.fe_service.specs.declared.service_inner.ServiceInner.{ServiceInner}
 use Rattle.fe_service.proofs.Quiet.{own_beside}

@@ -1,3 +1,9 @@
+mod KeptLemmas
+pub mod KeyLemmas
+mod OwnerLemmas
+mod AttachmentLemmas
+pub mod SessionLemmas
+mod RequestLemmas
 pub mod Completing
 pub mod Creating
 pub mod Effects

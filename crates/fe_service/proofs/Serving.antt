@@ -1,18 +1,17 @@
 -- What one turn leaves of the parts of a service, and when a word is at rest.
 use Rattle.std.proofs.Common.{◌≡◌, ℕ, ◌+◌, inl, inr, Some, None, List, [], ◌∷◌, ◌++◌, length, length-append, refl, sym, ap, subst, ◌∙◌, arith}
 use Rattle.std.specs.FinMap.{get, remove, len}
-use Rattle.fe_words.specs.Table.{row}
 use Rattle.fe_words.specs.declared.word.Tag.{Tag}
 use Rattle.fe_waits.specs.Waiting.{WaitingAccess, IsOn}
 use Rattle.fe_waits.proofs.MemberLemmas.{key_cases, none_some, get-remove_here, get-remove_other, len-remove_old, len-positive}
-use Rattle.fe_state.specs.Directory.{word_in, words_in}
+use Rattle.fe_state.specs.Directory.{words_in}
 use Rattle.fe_state.specs.OtherWords.{IsOwnWord}
 use Rattle.fe_state.specs.State.{ServerState, reply, after, after_all, directory_of}
 use Rattle.fe_state.specs.declared.entry.Entry.{Entry}
 use Rattle.fe_service.specs.Service.{WaitingAccesses, AreUsable, request_of, IsTurn, AreTurns, without_turn, without_turns}
-use Rattle.fe_service.specs.within.ServiceInner.{IsQuietAt, WaitAtTag, IsAtRest, TakesTurn, TakesTurns}
+use Rattle.fe_service.specs.within.ServiceInner.{IsQuietAt, WaitAtTag, TakesTurn, TakesTurns}
 use Rattle.fe_service.specs.declared.service_inner.ServiceInner.{ServiceInner}
-use Rattle.fe_service.proofs.Replies.{waits_there, there_waits, other_waits, waits_by_tag, one_tag}
+use Rattle.fe_service.proofs.Replies.{other_waits}
 use Rattle.fe_service.proofs.Lengths.{turns_lengths}
 use Rattle.fe_service.proofs.Turns.{turns_usable, turns_place, turns_then, after_then, without_then, turns_append, without_append}
 use Rattle.fe_state.proofs.Histories.{after-append}

@@ -8,9 +8,9 @@ use Rattle.std.proofs.lemmas.Bool.Decides.{nat_tests}
 use Rattle.fe_waits.specs.Pair.{pair_cmp}
 use Rattle.fe_waits.specs.Waiting.{WaitingAccess}
 use Rattle.fe_waits.proofs.MemberLemmas.{key_cases, none_some, some_same, get-insert_here, get-remove_here, get-remove_other, get-insert_other, get-without_slot}
-use Rattle.fe_attachments.specs.AttachmentsState.{without_session, with_holder, with_closing, is_closing, holder_of, count_of}
-use Rattle.fe_attachments.specs.declared.attachment.Attachment.{Attachment}
-use Rattle.fe_attachments.proofs.SessionLemmas.{room-of_session}
+use Rattle.fe_service.specs.AttachmentsState.{without_session, with_holder, with_closing, is_closing, holder_of, count_of}
+use Rattle.fe_service.specs.declared.attachment.Attachment.{Attachment}
+use Rattle.fe_service.proofs.SessionLemmas.{room-of_session}
 use Rattle.fe_state.proofs.Maps.{get_inserted, get_beside, get_removed, get_left, get_retained, same_or_other}
 use Rattle.fe_state.specs.Sessions.{Session, MayRise, raised, put_session, opened, first_session}
 use Rattle.fe_state.specs.SessionEffect.{IsUsable}

@@ -4,8 +4,8 @@ use Rattle.std.specs.Option.{option_map, option_map_or}
 use Rattle.std.specs.Ordering.{nat_cmp}
 use Rattle.std.specs.FinMap.{FinMap, get, insert, remove, len}
 use Rattle.fe_waits.specs.Waiting.{WaitingAccess}
-use Rattle.fe_attachments.specs.AttachmentsState.{without_session, with_holder, with_closing, is_closing, free_attachment}
-use Rattle.fe_attachments.specs.declared.attachment.Attachment.{Attachment}
+use Rattle.fe_service.specs.AttachmentsState.{without_session, with_holder, with_closing, is_closing, free_attachment}
+use Rattle.fe_service.specs.declared.attachment.Attachment.{Attachment}
 use Rattle.fe_state.specs.Sessions.{Session, MayRise}
 use Rattle.fe_state.specs.SessionEffect.{IsUsable}
 use Rattle.fe_state.specs.State.{after}

@@ -1,3 +1,4 @@
+pub mod AttachmentsState
 pub mod Events
 pub mod Laws
 pub mod Service

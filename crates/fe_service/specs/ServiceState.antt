@@ -11,8 +11,8 @@ use Rattle.fe_state.specs.declared.entry.Entry.{Entry}
 use Rattle.fe_state.specs.contracts.entry.Entry.{the_row as entry_row}
 use Rattle.fe_service.specs.Service.{WaitingAccesses, AreUsable, IsQuiet}
 use Rattle.fe_service.specs.declared.service_inner.ServiceInner.{ServiceInner}
-use Rattle.fe_attachments.specs.declared.attachment.Attachment.{Attachment}
-use Rattle.fe_attachments.specs.contracts.attachment.Attachment.{the_row as attachment_row}
+use Rattle.fe_service.specs.declared.attachment.Attachment.{Attachment}
+use Rattle.fe_service.specs.contracts.attachment.Attachment.{the_row as attachment_row}
 
 -- the state; the attachments, by session; what waits; and the entries made since they were last taken
 pub record ServiceState : Type 0 where

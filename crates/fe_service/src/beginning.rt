@@ -3,7 +3,7 @@ ghost use Rattle.std.specs.FinMap.{get, empty};
 ghost use Rattle.fe_state.specs.Directory.{words_in};
 ghost use Rattle.fe_service.specs.Events.{AreFreeAttachments};
 
-use fe_attachments::Attachments;
+use crate::attachments::Attachments;
 use fe_state::State;
 use std::alloc::AllocError;
 

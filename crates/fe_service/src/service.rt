@@ -6,14 +6,14 @@ ghost use Rattle.fe_state.specs.State.{directory_of, reply, MakesArray};
 ghost use Rattle.fe_state.specs.declared.entry.Entry.{Entry};
 ghost use Rattle.fe_state.specs.declared.entry.Entry.TheVariants.{Finished};
 ghost use Rattle.fe_state.specs.declared.request.Request.TheVariants as requests;
-ghost use Rattle.fe_attachments.specs.AttachmentsState.{count_of, is_closing};
+ghost use Rattle.fe_service.specs.AttachmentsState.{count_of, is_closing};
 ghost use Rattle.fe_service.specs.ServiceState.{IsService};
 ghost use Rattle.fe_service.specs.Events.{IsFree, HasRoom, MaySettle, IsAttachable, Completes, AreFreeAttachments, floor_of, attached, settled, closed, withdrawn, cancelled, held, left, waited};
 ghost use Rattle.fe_state.specs.Limits.{most_batch_entries};
 
+use crate::attachments::Attachments;
 use crate::beginning::{add_arrays, begin_sessions};
 use crate::service_inner::ServiceInner;
-use fe_attachments::Attachments;
 use fe_state::{Answer, Effect, Entries, Entry, Request, State};
 use fe_words::Op;
 use std::alloc::{AllocError, Global};

@@ -5,14 +5,15 @@ ghost use Rattle.fe_waits.specs.Waiting.{IsWord};
 ghost use Rattle.fe_state.specs.State as state_limits;
 ghost use Rattle.fe_state.specs.State.{IsLegal, MakesArray, after, directory_of, effect_in};
 ghost use Rattle.fe_state.specs.declared.entry.Entry.{Entry};
-ghost use Rattle.fe_attachments.specs.AttachmentsState.{waiting_access_of, IsWithinLimits};
+ghost use Rattle.fe_service.specs.AttachmentsState.{waiting_access_of, IsWithinLimits};
 ghost use Rattle.fe_service.specs.Events.{IsAttachable};
 ghost use Rattle.fe_service.specs.Service.{AreUsable, request_of};
 ghost use Rattle.fe_service.specs.ServiceState.{service_of};
 ghost use Rattle.fe_service.specs.within.ServiceInner.{IsQuietAt, WaitAtTag, IsAtRest, TakesTurn, TakesTurns};
 ghost use Rattle.fe_state.specs.Limits.{most_batch_entries, greatest_place};
 
-use fe_attachments::{Attachments, WaitingRequest};
+use crate::attachments::Attachments;
+use crate::waiting_request::WaitingRequest;
 use fe_state::{Effect, Entries, Entry, Request, State};
 
 /// The state, the attachments with what waits, and the entries made since the last cut.

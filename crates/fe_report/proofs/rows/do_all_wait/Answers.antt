@@ -3,7 +3,7 @@ use Rattle.std.specs.FinMap.{get}
 use Rattle.fe_state.specs.Sessions.{Session}
 use Rattle.fe_state.proofs.Listed.{entry_of_key, key_there}
 use Rattle.fe_table.proofs.TableCopyLemmas.{made_all}
-use Rattle.fe_attachments.specs.AttachmentsState.{count_of}
+use Rattle.fe_service.specs.AttachmentsState.{count_of}
 use Rattle.fe_front.specs.Front.{is_attached}
 use Rattle.fe_report.proofs.AllWait.{or_either, or_left, or_right, and_first, and_second, and_both, same_zero, zero_same, attached_there, all_wait}
 use Rattle.fe_report.proofs.Seen.{none_seen, one_more_seen}

@@ -1,7 +1,7 @@
 use Rattle.std.proofs.Common.{◌≡◌, ℕ, true, IsSome}
 use Rattle.std.specs.FinMap.{get}
 use Rattle.fe_table.proofs.TableCopyLemmas.{made}
-use Rattle.fe_attachments.specs.AttachmentsState.{count_of}
+use Rattle.fe_service.specs.AttachmentsState.{count_of}
 use Rattle.fe_front.specs.Front.{is_attached}
 use Rattle.fe_report.proofs.rows.do_all_wait.Given as goal
 

@@ -5,7 +5,7 @@ use Rattle.std.specs.FinMap.{get, find, nat_cmp-IsAntisymmetric}
 use Rattle.fe_state.specs.Sessions.{Session}
 use Rattle.fe_state.proofs.Listed.{entry_of_key, key_there}
 use Rattle.fe_table.proofs.TableCopyLemmas.{made_all}
-use Rattle.fe_attachments.specs.AttachmentsState.{count_of}
+use Rattle.fe_service.specs.AttachmentsState.{count_of}
 use Rattle.fe_report.specs.Report.{by_session}
 use Rattle.fe_report.specs.within.Rows.{ArePart}
 use Rattle.fe_report.proofs.Parts.{no_part, more, still_there, now_there, whole, one_more_at_most}

@@ -4,7 +4,7 @@ use Rattle.std.specs.FinMap.{get, len}
 use Rattle.fe_state.specs.Sessions.{Session}
 use Rattle.fe_state.proofs.Listed.{entry_of_key, key_there}
 use Rattle.fe_table.proofs.TableCopyLemmas.{made_all}
-use Rattle.fe_attachments.specs.AttachmentsState.{free_attachment}
+use Rattle.fe_service.specs.AttachmentsState.{free_attachment}
 use Rattle.fe_service.proofs.Remade.{tied_first, first_len, tied_new, tied_len, tied_next}
 use Rattle.fe_service.proofs.beginning.begin_sessions.Goals as goal
 

@@ -2,7 +2,7 @@ use Rattle.std.proofs.Common.{◌≡◌, ◌≤◌, ℕ}
 use Rattle.std.specs.Option.{option_map}
 use Rattle.std.specs.FinMap.{get, len}
 use Rattle.fe_table.proofs.TableCopyLemmas.{made}
-use Rattle.fe_attachments.specs.AttachmentsState.{free_attachment}
+use Rattle.fe_service.specs.AttachmentsState.{free_attachment}
 use Rattle.fe_service.proofs.beginning.begin_sessions.Given as goal
 
 abbrev pub invariant-loop-k : goal.invariant-loop-k

@@ -1,6 +1,6 @@
 use Rattle.std.proofs.Common.{sym, ap, subst, ◌∙◌}
 use Rattle.fe_mail.specs.Connections.{session_on}
-use Rattle.fe_attachments.specs.AttachmentsState.{holder_of}
+use Rattle.fe_service.specs.AttachmentsState.{holder_of}
 use Rattle.fe_service.specs.Events.{IsAttachable}
 use Rattle.fe_front.specs.Front.{is_connected}
 use Rattle.fe_front.proofs.Attaching.{released-free, released-connected, released-attachable, freed-free, freed-connected, freed-holder, freed-attachable, attaches}

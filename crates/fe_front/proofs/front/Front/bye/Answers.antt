@@ -2,7 +2,7 @@ use Rattle.std.specs.Prelude.{is_some}
 use Rattle.fe_front.specs.Front.{FrontState}
 use Rattle.std.proofs.Common.{◌+◌, length, length-append, sym, ap, subst, ◌∙◌}
 use Rattle.std.specs.FinMap.{get, len}
-use Rattle.fe_attachments.specs.AttachmentsState.{without_session}
+use Rattle.fe_service.specs.AttachmentsState.{without_session}
 use Rattle.fe_mail.specs.Books.{Balances}
 use Rattle.fe_mail.specs.Connections.{mails_in}
 use Rattle.fe_front.proofs.Admitted.{leaves, own_there}

@@ -1,4 +1,4 @@
-use Rattle.fe_attachments.specs.AttachmentsState.{holder_of}
+use Rattle.fe_service.specs.AttachmentsState.{holder_of}
 use Rattle.fe_front.specs.Front.{FrontState, is_connected}
 use Rattle.std.proofs.Common.{Some, length, length-append, sym, ap, subst, ◌∙◌}
 use Rattle.std.specs.FinMap.{len}

@@ -2,7 +2,7 @@ use Rattle.fe_front.specs.Front.{FrontState}
 use Rattle.std.proofs.Common.{length, sym, ap, subst, ◌∙◌}
 use Rattle.std.specs.FinMap.{len}
 use Rattle.std.specs.Prelude.{None}
-use Rattle.fe_attachments.specs.AttachmentsState.{with_holder}
+use Rattle.fe_service.specs.AttachmentsState.{with_holder}
 use Rattle.fe_mail.specs.Books.{Balances}
 use Rattle.fe_mail.specs.Connections.{mails_in, session_on}
 use Rattle.fe_mail.proofs.MailCounts.{mails_in-with_session}

@@ -1,6 +1,6 @@
 use Rattle.std.proofs.Common.{◌+◌, length, sym, ap, subst, ◌∙◌}
 use Rattle.std.specs.FinMap.{len}
-use Rattle.fe_attachments.specs.AttachmentsState.{without_session}
+use Rattle.fe_service.specs.AttachmentsState.{without_session}
 use Rattle.fe_mail.specs.Books.{Balances}
 use Rattle.fe_mail.specs.Connections.{mails_in}
 use Rattle.fe_front.proofs.Agreement.{Agree}

@@ -1,6 +1,6 @@
 use Rattle.std.proofs.Common.{sym, ap, subst, ◌∙◌}
 use Rattle.std.specs.FinMap.{get}
-use Rattle.fe_attachments.specs.AttachmentsState.{with_closing}
+use Rattle.fe_service.specs.AttachmentsState.{with_closing}
 use Rattle.fe_state.specs.Directory.{words_in}
 use Rattle.fe_service.specs.ServiceState.{IsService, service_of}
 use Rattle.fe_service.proofs.Staying.{closed_service}

@@ -1,4 +1,4 @@
-use Rattle.fe_attachments.specs.AttachmentsState.{is_closing}
+use Rattle.fe_service.specs.AttachmentsState.{is_closing}
 use Rattle.std.proofs.Common.{◌≡◌, true, subst, sym, refl, ap, ◌∙◌}
 use Rattle.std.specs.FinMap.{get}
 use Rattle.fe_service.specs.ServiceState.{ServiceState, service_of}

@@ -2,8 +2,8 @@ use Rattle.std.proofs.Common.{◌≡◌, Option, Some, None, false, not, sym, ap
 use Rattle.std.specs.Prelude.{is_some}
 use Rattle.std.specs.Option.{option_map, option_map_or}
 use Rattle.std.specs.FinMap.{get}
-use Rattle.fe_attachments.specs.AttachmentsState.{free_attachment}
-use Rattle.fe_attachments.specs.declared.attachment.Attachment.{Attachment}
+use Rattle.fe_service.specs.AttachmentsState.{free_attachment}
+use Rattle.fe_service.specs.declared.attachment.Attachment.{Attachment}
 use Rattle.fe_state.specs.Sessions.{Session}
 use Rattle.fe_service.proofs.Staying.{none_waiting}
 use Rattle.fe_service.proofs.service.Service.new.Goals as goal

@@ -4,8 +4,8 @@ use Rattle.fe_waits.specs.Waiting.{IsOn}
 use Rattle.fe_waits.proofs.MemberLemmas.{some_same, len-positive}
 use Rattle.fe_state.specs.State.{reply}
 use Rattle.fe_state.specs.declared.entry.Entry.TheVariants.{Finished}
-use Rattle.fe_attachments.specs.AttachmentsState.{key_of, waiting_access_of}
-use Rattle.fe_attachments.specs.declared.waiting_request.WaitingRequest.{WaitingRequest}
+use Rattle.fe_service.specs.AttachmentsState.{key_of, waiting_access_of}
+use Rattle.fe_service.specs.declared.waiting_request.WaitingRequest.{WaitingRequest}
 use Rattle.fe_service.proofs.service_inner.ServiceInner.serve_first.Goals as goal
 
 pub enter-requires-clause-legal : goal.enter-requires-clause-legal

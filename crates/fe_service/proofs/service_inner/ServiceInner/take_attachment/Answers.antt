@@ -2,7 +2,7 @@ use Rattle.std.proofs.Common.{◌≡◌, Some, false, not, sym, ap, ◌∙◌}
 use Rattle.std.specs.Prelude.{is_some, IsSome}
 use Rattle.std.specs.FinMap.{get, insert}
 use Rattle.fe_state.proofs.Maps.{get_inserted}
-use Rattle.fe_attachments.specs.AttachmentsState.{free_attachment, with_holder}
+use Rattle.fe_service.specs.AttachmentsState.{free_attachment, with_holder}
 use Rattle.fe_service.specs.declared.service_inner.ServiceInner.{ServiceInner}
 use Rattle.fe_service.proofs.Attaching.{new_attachment, old_attachment}
 use Rattle.fe_service.proofs.service_inner.ServiceInner.take_attachment.Goals as goal

@@ -1,6 +1,0 @@
-mod KeptLemmas
-pub mod KeyLemmas
-mod OwnerLemmas
-mod AttachmentLemmas
-pub mod SessionLemmas
-mod RequestLemmas

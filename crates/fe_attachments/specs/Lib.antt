@@ -1,2 +1,0 @@
-pub mod AttachmentsState
-pub mod within

@@ -1,0 +1,299 @@
+ghost use Rattle.std.specs.Prelude.{◌≡◌, ◌↔◌, ◌<◌, ◌≤◌, Some, None, IfOk, OnErr, IfSome, IsSome, IsNone};
+ghost use Rattle.std.specs.FinMap as map;
+ghost use Rattle.fe_waits.specs.Waiting.{IsWord, NoneOnWord, NoneOnArray, AreWaitingRequestsOf, AreListedOnce};
+ghost use Rattle.fe_service.specs.AttachmentsState.{free_attachment, with_holder, with_closing, key_of, waiting_access_of, request_of_node, waiting_request_at, count_of, without_session, IsNodeOn, NoneOfSession, IsWithinLimits};
+ghost use Rattle.fe_state.specs.Limits.{most_sessions, most_arrays, window_length};
+
+use crate::attachment::Attachment;
+use crate::occupant::{Occupant, Occupants, occupant_near, slot_of};
+use crate::slots::{all_slots, owner};
+use crate::waiting_request::WaitingRequest;
+use fe_pool::Node;
+use fe_state::SESSIONS;
+use fe_table::Table;
+use fe_waits::Waits;
+use fe_words::Op;
+use std::alloc::{AllocError, Global};
+use std::marker::Model;
+
+/// The number of guesses at the position of a session.
+const GUESSES: usize = 256;
+
+/// The attachments of the sessions, and the requests that wait, each on a word and in its session.
+///
+/// Only `new`, `add_array` and `waiting_requests` take memory. A node, one waiting request, is good until the next change.
+pub struct Attachments {
+    waits: Waits,
+    occupants: Occupants,
+    /// The session that has each slot of the waiting lists.
+    owners: Vec<Option<u64>>,
+    /// The slots that no session has.
+    slots: Vec<u8>,
+    /// The position where a session was found last, in the cell of its number's remainder. Any position is good.
+    guesses: [usize; GUESSES],
+}
+
+impl Drop for Attachments {
+    fn drop(self) {
+        let Attachments {
+            waits,
+            occupants,
+            owners,
+            slots,
+            guesses: _,
+        } = self;
+        drop(waits);
+        drop(occupants);
+        drop(owners);
+        drop(slots);
+    }
+}
+
+impl Model for Attachments {
+    ghost use Rattle.std.specs.Prelude.{vec_capacity};
+    ghost use Rattle.fe_service.specs.AttachmentsState.{AttachmentsState, attachments_code};
+
+    ghost Value = { AttachmentsState };
+
+    ghost coded = { attachments_code };
+
+    ghost use Rattle.fe_service.specs.within.Slots.{AreAttachments, attachments_state_of};
+
+    ghost view = { λ s. attachments_state_of s.waits s.occupants s.owners.items };
+
+    ghost invariant = { λ s. AreAttachments s.waits s.occupants s.owners.items s.slots.items (vec_capacity s.slots) };
+}
+
+impl Attachments {
+    /// No arrays, no attachments, and nothing waits. Allocates all memory but that of arrays; fails only if memory runs out.
+    pub fn new(alloc: Global) -> Result<Attachments, AllocError>
+        ensures arrays { IfOk result (λ attachments. attachments.arrays ≡ map.empty) }
+        ensures attachments { IfOk result (λ attachments. attachments.attachments ≡ map.empty) }
+        ensures waiting { IfOk result (λ attachments. attachments.waiting ≡ map.empty) }
+    {
+        let waits = Waits::new(alloc)?;
+        let occupants = Table::new(alloc)?;
+        let owners = vec![in alloc; None; SESSIONS]?;
+        let slots = all_slots(alloc)?;
+        Ok(Attachments {
+            waits,
+            occupants,
+            owners,
+            slots,
+            guesses: [0; GUESSES],
+        })
+    }
+
+    /// How many requests wait, 0 to `WAITING`.
+    pub fn len(&self) -> u32
+        ensures len { result ≡ map.len self.now.waiting }
+        ensures limits { IsWithinLimits self.now }
+    {
+        self.waits.len()
+    }
+
+    /// How many sessions have an attachment, 0 to `SESSIONS`.
+    pub fn attachment_count(&self) -> usize
+        ensures count { result ≡ map.len self.now.attachments }
+        ensures fits { result ≤ most_sessions }
+    {
+        self.occupants.len()
+    }
+
+    /// The attachment of a session, if it has one.
+    pub fn attachment(&self, session: u64) -> Option<Attachment>
+        ensures { result ≡ map.get self.now.attachments session }
+    {
+        let guess = self.guesses[(session % GUESSES as u64) as usize];
+        let occupant = occupant_near(&self.occupants, guess, session)?;
+        Some(occupant.attachment)
+    }
+
+    /// Looks for a session and returns its position in the order of the numbers. The look-ups of the session that
+    /// follow take one comparison each. For a session without an attachment it returns any position.
+    pub fn aim(&mut self, session: u64) -> usize
+        ensures { self.new ≡ self.old }
+    {
+        let cell = (session % GUESSES as u64) as usize;
+        let guess = self.guesses[cell];
+        let position = self.occupants.aim(session, guess);
+        self.guesses[cell] = position;
+        position
+    }
+
+    /// Begins a session: it has an attachment, and no connection holds it yet.
+    pub fn begin_session(&mut self, session: u64)
+        requires new { map.get self.old.attachments session ≡ None }
+        requires room { map.len self.old.attachments < most_sessions }
+        ensures attachments { self.new.attachments ≡ map.insert self.old.attachments session free_attachment }
+        ensures waiting { self.new.waiting ≡ self.old.waiting }
+        ensures arrays { self.new.arrays ≡ self.old.arrays }
+    {
+        let slot = self.slots.pop().unwrap();
+        self.owners[slot as usize] = Some(session);
+        let attachment = Attachment {
+            holder: None,
+            closing: false,
+        };
+        self.occupants
+            .insert(session, Occupant { slot, attachment });
+    }
+
+    /// Removes the attachment of a session that has no waiting request.
+    pub fn leave(&mut self, session: u64)
+        requires has_attachment { IsSome (map.get self.old.attachments session) }
+        requires idle { NoneOfSession self.old.waiting session }
+        ensures attachments { self.new.attachments ≡ map.remove self.old.attachments session }
+        ensures waiting { self.new.waiting ≡ self.old.waiting }
+        ensures arrays { self.new.arrays ≡ self.old.arrays }
+    {
+        let occupant = self.occupants.remove(session).unwrap();
+        self.owners[occupant.slot as usize] = None;
+        self.slots.push(occupant.slot).unwrap();
+    }
+
+    /// Says which connection holds the session from now on, if one does.
+    pub fn set_holder(&mut self, session: u64, holder: Option<u64>)
+        requires has_attachment { IsSome (map.get self.old.attachments session) }
+        ensures { self.new ≡ record self.old { attachments = with_holder self.old.attachments session holder } }
+    {
+        self.occupants.get_mut(session).attachment.holder = holder;
+    }
+
+    /// Marks the session as closing.
+    pub fn set_closing(&mut self, session: u64)
+        requires has_attachment { IsSome (map.get self.old.attachments session) }
+        ensures { self.new ≡ record self.old { attachments = with_closing self.old.attachments session } }
+    {
+        self.occupants.get_mut(session).attachment.closing = true;
+    }
+
+    /// Adds an array with `length` words, on which nothing waits. Fails only if memory runs out.
+    pub fn add_array(&mut self, array: u64, length: u32) -> Result<(), AllocError>
+        requires new { map.get self.old.arrays array ≡ None }
+        requires room { map.len self.old.arrays < most_arrays }
+        ensures ok { IfOk result (λ _. self.new.arrays ≡ map.insert self.old.arrays array length) }
+        ensures attachments { self.new.attachments ≡ self.old.attachments }
+        ensures waiting { self.new.waiting ≡ self.old.waiting }
+        ensures err { OnErr result (self.new ≡ self.old) }
+    {
+        self.waits.add_array(array, length)
+    }
+
+    /// Drops an array on which nothing waits.
+    pub fn drop_array(&mut self, array: u64)
+        requires unused { NoneOnArray self.old.waiting array }
+        ensures arrays { self.new.arrays ≡ map.remove self.old.arrays array }
+        ensures attachments { self.new.attachments ≡ self.old.attachments }
+        ensures waiting { self.new.waiting ≡ self.old.waiting }
+    {
+        self.waits.drop_array(array);
+    }
+
+    /// Adds a waiting request under a new number of a session, after the others on its word.
+    pub fn add(&mut self, session: u64, number: u64, array: u64, index: u32, op: Op)
+        requires has_attachment { IsSome (map.get self.old.attachments session) }
+        requires new { map.get self.old.waiting (session, number) ≡ None }
+        requires room { count_of self.old.waiting session < window_length }
+        requires word { IsWord self.old.arrays array index }
+        ensures added { self.new.waiting
+            ≡ map.insert self.old.waiting (session, number) (record { array = array; index = index; op = op }) }
+        ensures attachments { self.new.attachments ≡ self.old.attachments }
+        ensures arrays { self.new.arrays ≡ self.old.arrays }
+    {
+        let slot = slot_of(&self.occupants, session).unwrap();
+        self.waits.add(slot, number, array, index, op);
+    }
+
+    /// How many requests of a session wait, 0 to `WINDOW`. It is 0 for a session without an attachment.
+    pub fn count_of(&self, session: u64) -> u32
+        ensures { result ≡ count_of self.now.waiting session }
+    {
+        match slot_of(&self.occupants, session) {
+            Some(slot) => self.waits.count_of(slot),
+            None => 0,
+        }
+    }
+
+    /// A request that waits on the word, if one does.
+    pub fn first_on(&self, array: u64, index: u32) -> Option<Node>
+        requires word { IsWord self.now.arrays array index }
+        ensures on_word { IfSome result (IsNodeOn self.now array index) }
+        ensures none { IsNone result ↔ NoneOnWord self.now.waiting array index }
+    {
+        self.waits.first_on(array, index)
+    }
+
+    /// The request of a node.
+    pub fn waiting_request(&self, node: Node) -> WaitingRequest
+        requires { IsSome (request_of_node self.now node) }
+        ensures waiting_request { request_of_node self.now node ≡ Some result }
+        ensures waiting { map.get self.now.waiting (key_of result) ≡ Some (waiting_access_of result) }
+    {
+        let row = self.waits.row(node);
+        WaitingRequest::of(owner(&self.owners, row.slot), row)
+    }
+
+    /// Takes out the request of a node.
+    pub fn finish(&mut self, node: Node) -> WaitingRequest
+        requires { IsSome (request_of_node self.old node) }
+        ensures waiting_request { request_of_node self.old node ≡ Some result }
+        ensures waiting { map.get self.old.waiting (key_of result) ≡ Some (waiting_access_of result) }
+        ensures removed { self.new.waiting ≡ map.remove self.old.waiting (key_of result) }
+        ensures attachments { self.new.attachments ≡ self.old.attachments }
+        ensures arrays { self.new.arrays ≡ self.old.arrays }
+    {
+        let gone = self.waits.finish(node);
+        WaitingRequest::of(owner(&self.owners, gone.slot), gone)
+    }
+
+    /// The request of a session and a number, if it waits.
+    pub fn find(&self, session: u64, number: u64) -> Option<WaitingRequest>
+        ensures waiting_request { result ≡ waiting_request_at self.now.waiting session number }
+    {
+        let slot = slot_of(&self.occupants, session)?;
+        let row = self.waits.find(slot, number)?;
+        Some(WaitingRequest::of(session, row))
+    }
+
+    /// The waiting requests of a session, at most `WINDOW`, in no particular order: the number of each, the array and
+    /// index of its word, and its operation. Fails only if memory runs out.
+    pub fn waiting_requests(
+        &self,
+        alloc: Global,
+        session: u64,
+    ) -> Result<Vec<(u64, (u64, u32, Op))>, AllocError>
+        ensures lists { IfOk result (λ list. AreWaitingRequestsOf self.now.waiting session list.items) }
+        ensures once { IfOk result (λ list. AreListedOnce list.items) }
+    {
+        match slot_of(&self.occupants, session) {
+            Some(slot) => self.waits.waiting_requests(alloc, slot),
+            None => Ok(Vec::new(alloc)),
+        }
+    }
+
+    /// Takes out the request of a session and a number, if it waits.
+    pub fn cancel(&mut self, session: u64, number: u64) -> Option<WaitingRequest>
+        ensures waiting_request { result ≡ waiting_request_at self.old.waiting session number }
+        ensures removed { self.new.waiting ≡ map.remove self.old.waiting (session, number) }
+        ensures attachments { self.new.attachments ≡ self.old.attachments }
+        ensures arrays { self.new.arrays ≡ self.old.arrays }
+    {
+        let slot = slot_of(&self.occupants, session)?;
+        let row = self.waits.cancel(slot, number)?;
+        Some(WaitingRequest::of(session, row))
+    }
+
+    /// Takes out all requests of a session, and returns how many there were. The session keeps its attachment.
+    pub fn drop_session(&mut self, session: u64) -> u32
+        ensures count { result ≡ count_of self.old.waiting session }
+        ensures removed { self.new.waiting ≡ without_session self.old.waiting session }
+        ensures attachments { self.new.attachments ≡ self.old.attachments }
+        ensures arrays { self.new.arrays ≡ self.old.arrays }
+    {
+        let Some(slot) = slot_of(&self.occupants, session) else {
+            return 0;
+        };
+        self.waits.drop_session(slot)
+    }
+}
