@@ -324,7 +324,7 @@ impl Front {
         ensures front { IsFront self.now }
         ensures limits { states.IsWithinLimits self.now.service.state }
     {
-        let _ = self.service.attachments().len();
+        let _ = self.service.attachments().waiting_count();
         let _ = self.service.pending_count();
         self.service.state()
     }

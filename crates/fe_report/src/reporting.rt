@@ -24,7 +24,7 @@ pub fn report(alloc: Global, front: &Front) -> Result<String, AllocError>
     ensures few { IfOk result (λ text. string_len text ≤ longest_report) }
 {
     let _ = front.state();
-    let count = front.service().attachments().len();
+    let count = front.service().attachments().waiting_count();
     let mut text = String::with_capacity(alloc, OTHER_LINES + WORD_LINE * count as usize)?;
     put_count(&mut text, count)?;
     if count == 0 {

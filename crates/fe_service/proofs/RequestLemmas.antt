@@ -1,10 +1,10 @@
 -- The requests that a call lists, and how many they are, by session against by slot.
 use Rattle.std.proofs.Common.{◌≡◌, ℕ, ◌≤◌, inl, inr, not, List, [], ◌∷◌, Option, Some, None, IsSome, is_some, refl, sym, ap, subst, ◌∙◌, arith, zero, suc}
-use Rattle.std.specs.Prelude.{IfSome, Contains, ◌<◌}
+use Rattle.std.specs.Prelude.{Contains, ◌<◌}
 use Rattle.fe_words.specs.declared.op.Op.{Op}
 use Rattle.std.specs.Option.{option_map}
 use Rattle.std.specs.Ordering.{nat_cmp}
-use Rattle.std.specs.FinMap.{FinMap, empty, get, len, len-empty}
+use Rattle.std.specs.FinMap.{FinMap, empty, get, remove, len, len-empty}
 use Rattle.fe_waits.specs.declared.row.Row.{Row}
 use Rattle.fe_waits.specs.Pair.{pair_cmp}
 use Rattle.fe_waits.specs.Waiting.{WaitingAccess, Waiting, IsWord, IsOn, NoneOnWord, NoneOnArray, row_at, row_of, of_slot, without_slot, access_fields, AreWaitingRequestsOf}
@@ -12,14 +12,22 @@ use Rattle.fe_waits.specs.Waiting as waits
 use Rattle.fe_waits.proofs.MemberLemmas.{none_some, some_same, of_slot-none, without-none}
 use Rattle.fe_service.specs.declared.occupant.Occupant.{Occupant}
 use Rattle.fe_service.specs.declared.waiting_request.WaitingRequest.{WaitingRequest}
-use Rattle.fe_service.specs.AttachmentsState.{key_of, waiting_access_of, request_of_node, waiting_request_at, count_of, without_session, IsNodeOn, IsWithinLimits}
+use Rattle.fe_service.specs.AttachmentsState.{key_of, waiting_access_of, request_of_node, waiting_request_at, count_of, without_session, IsRequestOn, IsWithinLimits}
 use Rattle.fe_service.specs.within.Slots.{owner_at, owner_of, slot_in, by_session, attachments_state_of, request_from, requests_from, AreAttachments}
-use Rattle.fe_service.proofs.OwnerLemmas.{Agree, AreOwned, some_is, none_or_some, owner_is, get-in_slot, get-without_attachment, get-of_owner, len-by_session, owned-kept, by_session-kept}
+use Rattle.fe_service.proofs.OwnerLemmas.{Agree, AreOwned, some_is, none_or_some, owner_is, get-in_slot, get-without_attachment, get-of_owner, len-by_session, owned-kept, by_session-kept, by_session-remove}
 use Rattle.fe_service.proofs.AttachmentLemmas.{len-attachments, occupant_is_attached}
 
 -- the request of a row, for a session
 abbrev pub request_for : ℕ → Row → WaitingRequest
 request_for session row = record { session = session; number = row.number; array = row.array; index = row.index; op = row.op }
+
+-- there is a row where a request waits
+pub waits-row : (members : FinMap pair_cmp WaitingAccess) (slot number : ℕ) → is_some {T = Row} (row_at members slot number) ≡ is_some {T = WaitingAccess} (get members (slot, number))
+waits-row members slot number = by_waiter (get members (slot, number))
+  where
+    by_waiter : (waiter : Option WaitingAccess) → is_some {T = Row} (option_map (λ waiter. record { slot = slot; number = number; array = waiter.array; index = waiter.index; op = waiter.op }) waiter) ≡ is_some {T = WaitingAccess} waiter
+    by_waiter None = refl
+    by_waiter (Some waiter) = refl
 
 module _ (occupants : FinMap nat_cmp Occupant) (owners : List (Option ℕ)) (agree : Agree occupants owners) (members : FinMap pair_cmp WaitingAccess) (owned : AreOwned owners members) where
   pub waiting_request-without_attachment : (session number : ℕ) → slot_in occupants session ≡ None → waiting_request_at (by_session owners members) session number ≡ None
@@ -122,9 +130,20 @@ module _ (w : Waiting) (occupants : FinMap nat_cmp Occupant) (owners : List (Opt
   pub waiting_request-is : (node : ℕ) (row : Row) → row_of w node ≡ Some row → request_of_node (attachments_state_of w occupants owners) node ≡ Some (request_from owners row)
   waiting_request-is node row e = waiting_request-node node ∙ ap (option_map (request_from owners)) e
 
-  pub node-on : (array index : ℕ) (o : Option ℕ) → IfSome o (waits.IsNodeOn w array index) → IfSome o (IsNodeOn (attachments_state_of w occupants owners) array index)
-  node-on array index None on = tt
-  node-on array index (Some node) on = (request_from owners on.0, waiting_request-is node on.0 on.1, on.2)
+  module _ (slots : List ℕ) (capacity : ℕ) (kept : AreAttachments w occupants owners slots capacity) (node : ℕ) (row : Row) (there : row_of w node ≡ Some row) (listed : get w.members (waits.key_of row) ≡ Some (waits.waiting_access_of row)) where
+    pub request-on : (array index session : ℕ) → owner_at owners row.slot ≡ Some session → IsOn (waits.waiting_access_of row) array index → IsRequestOn (attachments_state_of w occupants owners) array index node (request_for session row)
+    request-on array index session owner on =
+        subst (λ session. IsRequestOn (attachments_state_of w occupants owners) array index node (request_for session row)) (owner_is owners row.slot session owner)
+        (record {
+          of_node = waiting_request-is node row there;
+          on_word = on;
+          waits = (by_owner occupants owners kept.agree w.members kept.owned (waits.key_of row) (waits.waiting_access_of row) listed).1;
+        })
+
+    pub node-removed : by_session owners (remove w.members (waits.key_of row)) ≡ remove (by_session owners w.members) (key_of (request_from owners row))
+    node-removed =
+        let owner = (by_owner occupants owners kept.agree w.members kept.owned (waits.key_of row) (waits.waiting_access_of row) listed).0 in
+        by_session-remove occupants owners kept.agree w.members kept.owned (owner_of owners row.slot) row.slot row.number ((kept.agree (owner_of owners row.slot) row.slot).1 owner)
 
 -- ---- the limits
 

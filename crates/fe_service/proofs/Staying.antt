@@ -8,7 +8,7 @@ use Rattle.std.proofs.lemmas.Bool.Decides.{nat_tests}
 use Rattle.fe_waits.specs.Pair.{pair_cmp}
 use Rattle.fe_waits.specs.Waiting.{WaitingAccess}
 use Rattle.fe_waits.proofs.MemberLemmas.{key_cases, none_some, some_same, get-insert_here, get-remove_here, get-remove_other, get-insert_other, get-without_slot}
-use Rattle.fe_service.specs.AttachmentsState.{without_session, with_holder, with_closing, is_closing, holder_of, count_of}
+use Rattle.fe_service.specs.AttachmentsState.{NoneOfSession, without_session, with_holder, with_closing, is_closing, holder_of, count_of}
 use Rattle.fe_service.specs.declared.attachment.Attachment.{Attachment}
 use Rattle.fe_service.proofs.SessionLemmas.{room-of_session}
 use Rattle.fe_state.proofs.Maps.{get_inserted, get_beside, get_removed, get_left, get_retained, same_or_other}
@@ -247,3 +247,22 @@ room_for s session number h free = by_session (get s.state.sessions session) ref
 -- nobody waits where nothing does
 pub none_waiting : {P : Type 0} (m : WaitingAccesses) → m ≡ empty → (key : ℕ × ℕ) (w : WaitingAccess) → get m key ≡ Some w → P
 none_waiting m none key w waits = none_some (sym (get-empty pair_cmp key) ∙ sym (ap (λ m. get m key) none) ∙ waits)
+
+-- a session that is closing has an attachment, and nothing of it waits
+pub closing_attached : (attachments : FinMap nat_cmp Attachment) (session : ℕ) → is_closing attachments session ≡ true → IsSome (get attachments session)
+closing_attached attachments session closing = by_attachment (get attachments session) closing
+  where
+    by_attachment : (here : Option Attachment) → option_map_or (λ attachment. attachment.closing) here false ≡ true → IsSome here
+    by_attachment None closing = closing
+    by_attachment (Some attachment) closing = refl
+
+pub none_closing : (s : ServiceState) (session : ℕ) → IsService s → is_closing s.attachments session ≡ true → NoneOfSession s.waiting session
+none_closing s session h closing number = by_waiter (get s.waiting (session, number)) refl
+  where
+    by_session : {P : Type 0} (here : Option Session) → is_some here ≡ false → IsSomeAnd here (λ x. IsUsable x number) → P
+    by_session None is usable = absurd usable
+    by_session (Some x) is usable = nowhere (sym is)
+
+    by_waiter : (waiter : Option WaitingAccess) → get s.waiting (session, number) ≡ waiter → get s.waiting (session, number) ≡ None
+    by_waiter None is = is
+    by_waiter (Some w) is = by_session (get s.state.sessions session) (h.has_attachment session ∙ closing_shut (get s.attachments session) closing) (h.usable (session, number) w is)

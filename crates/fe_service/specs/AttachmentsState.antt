@@ -77,9 +77,11 @@ waiting_request_at waiting session number =
     (λ waiter. record { session = session; number = number; array = waiter.array; index = waiter.index; op = waiter.op })
     (get waiting (session, number))
 
--- the node represents a request that waits on the word
-abbrev pub IsNodeOn : AttachmentsState → ℕ → ℕ → ℕ → Type 0
-IsNodeOn w array index node = (waiting_request : WaitingRequest) × (request_of_node w node ≡ Some waiting_request) × IsOn (waiting_access_of waiting_request) array index
+-- the node represents the request, which waits on the word
+pub record IsRequestOn (w : AttachmentsState) (array index node : ℕ) (request : WaitingRequest) : Type 0 where
+  pub of_node : request_of_node w node ≡ Some request
+  pub on_word : IsOn (waiting_access_of request) array index
+  pub waits : get w.waiting (key_of request) ≡ Some (waiting_access_of request)
 
 -- no request of the session waits
 abbrev pub NoneOfSession : FinMap pair_cmp WaitingAccess → ℕ → Type 0

@@ -1,8 +1,8 @@
-ghost use Rattle.std.specs.Prelude.{◌≡◌, ◌↔◌, ◌<◌, ◌≤◌, Some, None, IfOk, OnErr, IfSome, IsSome, IsNone};
+ghost use Rattle.std.specs.Prelude.{◌≡◌, ◌↔◌, ◌<◌, ◌≤◌, Some, None, false, IfOk, IfSome, IsSome, IsNone};
 ghost use Rattle.std.specs.FinMap as map;
-ghost use Rattle.fe_waits.specs.Waiting.{IsWord, NoneOnWord, NoneOnArray, AreWaitingRequestsOf, AreListedOnce};
-ghost use Rattle.fe_service.specs.AttachmentsState.{free_attachment, with_holder, with_closing, key_of, waiting_access_of, request_of_node, waiting_request_at, count_of, without_session, IsNodeOn, NoneOfSession, IsWithinLimits};
-ghost use Rattle.fe_state.specs.Limits.{most_sessions, most_arrays, window_length};
+ghost use Rattle.fe_waits.specs.Waiting.{IsWord, NoneOnWord, AreWaitingRequestsOf, AreListedOnce};
+ghost use Rattle.fe_service.specs.AttachmentsState.{free_attachment, is_closing, with_closing, key_of, request_of_node, waiting_request_at, count_of, without_session, IsRequestOn, IsWithinLimits};
+ghost use Rattle.fe_state.specs.Limits.{most_sessions, window_length};
 
 use crate::attachment::Attachment;
 use crate::occupant::{Occupant, Occupants, occupant_near, slot_of};
@@ -21,14 +21,14 @@ const GUESSES: usize = 256;
 
 /// The attachments of the sessions, and the requests that wait, each on a word and in its session.
 ///
-/// Only `new`, `add_array` and `waiting_requests` take memory. A node, one waiting request, is good until the next change.
+/// Only `new` takes memory. A node, one waiting request, is good until the next change.
 pub struct Attachments {
-    waits: Waits,
-    occupants: Occupants,
+    pub(crate) waits: Waits,
+    pub(crate) occupants: Occupants,
     /// The session that has each slot of the waiting lists.
-    owners: Vec<Option<u64>>,
+    pub(crate) owners: Vec<Option<u64>>,
     /// The slots that no session has.
-    slots: Vec<u8>,
+    pub(crate) slots: Vec<u8>,
     /// The position where a session was found last, in the cell of its number's remainder. Any position is good.
     guesses: [usize; GUESSES],
 }
@@ -65,13 +65,13 @@ impl Model for Attachments {
 }
 
 impl Attachments {
-    /// No arrays, no attachments, and nothing waits. Allocates all memory but that of arrays; fails only if memory runs out.
-    pub fn new(alloc: Global) -> Result<Attachments, AllocError>
-        ensures arrays { IfOk result (λ attachments. attachments.arrays ≡ map.empty) }
+    /// No attachments, over lists on which nothing waits. Allocates all its memory; fails only if memory runs out.
+    pub(crate) fn new(alloc: Global, waits: Waits) -> Result<Attachments, AllocError>
+        requires none { waits.members ≡ map.empty }
+        ensures arrays { IfOk result (λ attachments. attachments.arrays ≡ waits.arrays) }
         ensures attachments { IfOk result (λ attachments. attachments.attachments ≡ map.empty) }
         ensures waiting { IfOk result (λ attachments. attachments.waiting ≡ map.empty) }
     {
-        let waits = Waits::new(alloc)?;
         let occupants = Table::new(alloc)?;
         let owners = vec![in alloc; None; SESSIONS]?;
         let slots = all_slots(alloc)?;
@@ -85,8 +85,8 @@ impl Attachments {
     }
 
     /// How many requests wait, 0 to `WAITING`.
-    pub fn len(&self) -> u32
-        ensures len { result ≡ map.len self.now.waiting }
+    pub fn waiting_count(&self) -> u32
+        ensures count { result ≡ map.len self.now.waiting }
         ensures limits { IsWithinLimits self.now }
     {
         self.waits.len()
@@ -111,7 +111,7 @@ impl Attachments {
 
     /// Looks for a session and returns its position in the order of the numbers. The look-ups of the session that
     /// follow take one comparison each. For a session without an attachment it returns any position.
-    pub fn aim(&mut self, session: u64) -> usize
+    pub(crate) fn aim(&mut self, session: u64) -> usize
         ensures { self.new ≡ self.old }
     {
         let cell = (session % GUESSES as u64) as usize;
@@ -122,7 +122,7 @@ impl Attachments {
     }
 
     /// Begins a session: it has an attachment, and no connection holds it yet.
-    pub fn begin_session(&mut self, session: u64)
+    pub(crate) fn begin_session(&mut self, session: u64)
         requires new { map.get self.old.attachments session ≡ None }
         requires room { map.len self.old.attachments < most_sessions }
         ensures attachments { self.new.attachments ≡ map.insert self.old.attachments session free_attachment }
@@ -139,59 +139,31 @@ impl Attachments {
             .insert(session, Occupant { slot, attachment });
     }
 
-    /// Removes the attachment of a session that has no waiting request.
-    pub fn leave(&mut self, session: u64)
-        requires has_attachment { IsSome (map.get self.old.attachments session) }
-        requires idle { NoneOfSession self.old.waiting session }
-        ensures attachments { self.new.attachments ≡ map.remove self.old.attachments session }
+    /// A connection holds a session, which gets an attachment if it has none.
+    pub(crate) fn attach(&mut self, session: u64, conn: u64)
+        requires open { is_closing self.old.attachments session ≡ false }
+        requires room { map.get self.old.attachments session ≡ None → map.len self.old.attachments < most_sessions }
+        ensures attachments { self.new.attachments
+            ≡ map.insert self.old.attachments session (record { holder = Some conn; closing = false }) }
         ensures waiting { self.new.waiting ≡ self.old.waiting }
         ensures arrays { self.new.arrays ≡ self.old.arrays }
     {
-        let occupant = self.occupants.remove(session).unwrap();
-        self.owners[occupant.slot as usize] = None;
-        self.slots.push(occupant.slot).unwrap();
-    }
-
-    /// Says which connection holds the session from now on, if one does.
-    pub fn set_holder(&mut self, session: u64, holder: Option<u64>)
-        requires has_attachment { IsSome (map.get self.old.attachments session) }
-        ensures { self.new ≡ record self.old { attachments = with_holder self.old.attachments session holder } }
-    {
-        self.occupants.get_mut(session).attachment.holder = holder;
+        if self.attachment(session).is_none() {
+            self.begin_session(session);
+        }
+        self.occupants.get_mut(session).attachment.holder = Some(conn);
     }
 
     /// Marks the session as closing.
-    pub fn set_closing(&mut self, session: u64)
+    pub(crate) fn set_closing(&mut self, session: u64)
         requires has_attachment { IsSome (map.get self.old.attachments session) }
         ensures { self.new ≡ record self.old { attachments = with_closing self.old.attachments session } }
     {
         self.occupants.get_mut(session).attachment.closing = true;
     }
 
-    /// Adds an array with `length` words, on which nothing waits. Fails only if memory runs out.
-    pub fn add_array(&mut self, array: u64, length: u32) -> Result<(), AllocError>
-        requires new { map.get self.old.arrays array ≡ None }
-        requires room { map.len self.old.arrays < most_arrays }
-        ensures ok { IfOk result (λ _. self.new.arrays ≡ map.insert self.old.arrays array length) }
-        ensures attachments { self.new.attachments ≡ self.old.attachments }
-        ensures waiting { self.new.waiting ≡ self.old.waiting }
-        ensures err { OnErr result (self.new ≡ self.old) }
-    {
-        self.waits.add_array(array, length)
-    }
-
-    /// Drops an array on which nothing waits.
-    pub fn drop_array(&mut self, array: u64)
-        requires unused { NoneOnArray self.old.waiting array }
-        ensures arrays { self.new.arrays ≡ map.remove self.old.arrays array }
-        ensures attachments { self.new.attachments ≡ self.old.attachments }
-        ensures waiting { self.new.waiting ≡ self.old.waiting }
-    {
-        self.waits.drop_array(array);
-    }
-
     /// Adds a waiting request under a new number of a session, after the others on its word.
-    pub fn add(&mut self, session: u64, number: u64, array: u64, index: u32, op: Op)
+    pub(crate) fn add(&mut self, session: u64, number: u64, array: u64, index: u32, op: Op)
         requires has_attachment { IsSome (map.get self.old.attachments session) }
         requires new { map.get self.old.waiting (session, number) ≡ None }
         requires room { count_of self.old.waiting session < window_length }
@@ -215,36 +187,26 @@ impl Attachments {
         }
     }
 
-    /// A request that waits on the word, if one does.
-    pub fn first_on(&self, array: u64, index: u32) -> Option<Node>
+    /// A request that waits on the word, and its node, if one does.
+    pub(crate) fn first_on(&self, array: u64, index: u32) -> Option<(Node, WaitingRequest)>
         requires word { IsWord self.now.arrays array index }
-        ensures on_word { IfSome result (IsNodeOn self.now array index) }
+        ensures on_word { IfSome result (λ first. IsRequestOn self.now array index first.0 first.1) }
         ensures none { IsNone result ↔ NoneOnWord self.now.waiting array index }
     {
-        self.waits.first_on(array, index)
-    }
-
-    /// The request of a node.
-    pub fn waiting_request(&self, node: Node) -> WaitingRequest
-        requires { IsSome (request_of_node self.now node) }
-        ensures waiting_request { request_of_node self.now node ≡ Some result }
-        ensures waiting { map.get self.now.waiting (key_of result) ≡ Some (waiting_access_of result) }
-    {
+        let node = self.waits.first_on(array, index)?;
         let row = self.waits.row(node);
-        WaitingRequest::of(owner(&self.owners, row.slot), row)
+        Some((node, WaitingRequest::of(owner(&self.owners, row.slot), row)))
     }
 
     /// Takes out the request of a node.
-    pub fn finish(&mut self, node: Node) -> WaitingRequest
+    pub(crate) fn finish(&mut self, node: Node)
         requires { IsSome (request_of_node self.old node) }
-        ensures waiting_request { request_of_node self.old node ≡ Some result }
-        ensures waiting { map.get self.old.waiting (key_of result) ≡ Some (waiting_access_of result) }
-        ensures removed { self.new.waiting ≡ map.remove self.old.waiting (key_of result) }
+        ensures removed { IfSome (request_of_node self.old node)
+            (λ request. self.new.waiting ≡ map.remove self.old.waiting (key_of request)) }
         ensures attachments { self.new.attachments ≡ self.old.attachments }
         ensures arrays { self.new.arrays ≡ self.old.arrays }
     {
-        let gone = self.waits.finish(node);
-        WaitingRequest::of(owner(&self.owners, gone.slot), gone)
+        self.waits.finish(node);
     }
 
     /// The request of a session and a number, if it waits.
@@ -272,20 +234,8 @@ impl Attachments {
         }
     }
 
-    /// Takes out the request of a session and a number, if it waits.
-    pub fn cancel(&mut self, session: u64, number: u64) -> Option<WaitingRequest>
-        ensures waiting_request { result ≡ waiting_request_at self.old.waiting session number }
-        ensures removed { self.new.waiting ≡ map.remove self.old.waiting (session, number) }
-        ensures attachments { self.new.attachments ≡ self.old.attachments }
-        ensures arrays { self.new.arrays ≡ self.old.arrays }
-    {
-        let slot = slot_of(&self.occupants, session)?;
-        let row = self.waits.cancel(slot, number)?;
-        Some(WaitingRequest::of(session, row))
-    }
-
     /// Takes out all requests of a session, and returns how many there were. The session keeps its attachment.
-    pub fn drop_session(&mut self, session: u64) -> u32
+    pub(crate) fn drop_session(&mut self, session: u64) -> u32
         ensures count { result ≡ count_of self.old.waiting session }
         ensures removed { self.new.waiting ≡ without_session self.old.waiting session }
         ensures attachments { self.new.attachments ≡ self.old.attachments }

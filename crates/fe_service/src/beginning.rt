@@ -5,6 +5,7 @@ ghost use Rattle.fe_service.specs.Events.{AreFreeAttachments};
 
 use crate::attachments::Attachments;
 use fe_state::State;
+use fe_waits::Waits;
 use std::alloc::AllocError;
 
 // Gives each session of the state its attachment.
@@ -22,16 +23,15 @@ pub(crate) fn begin_sessions(state: &State, attachments: &mut Attachments)
 }
 
 // Each array of the state comes on the waiting lists, with its length.
-pub(crate) fn add_arrays(state: &State, attachments: &mut Attachments) -> Result<(), AllocError>
-    requires { attachments.old.arrays ≡ empty }
-    ensures arrays { IfOk result (λ _. (id : ℕ) → get attachments.new.arrays id ≡ words_in (get state.now.arrays id)) }
-    ensures waiting { attachments.new.waiting ≡ attachments.old.waiting }
-    ensures attachments { attachments.new.attachments ≡ attachments.old.attachments }
+pub(crate) fn add_arrays(state: &State, waits: &mut Waits) -> Result<(), AllocError>
+    requires { waits.old.arrays ≡ empty }
+    ensures arrays { IfOk result (λ _. (id : ℕ) → get waits.new.arrays id ≡ words_in (get state.now.arrays id)) }
+    ensures members { waits.new.members ≡ waits.old.members }
 {
     let _ = state.place();
     for k in 0..state.array_count() {
         let (id, _, words) = state.array_entry(k).unwrap();
-        attachments.add_array(id, words.len() as u32)?;
+        waits.add_array(id, words.len() as u32)?;
     }
     Ok(())
 }

@@ -70,7 +70,8 @@ impl Service {
         };
         self.inner.enter(entry, Effect::Remove { array });
         let served = self.inner.serve_array(array, length);
-        self.inner.attachments.drop_array(array);
+        let attachments = &mut self.inner.attachments;
+        attachments.waits.drop_array(array);
         1 + served
     }
 
@@ -116,7 +117,8 @@ impl Service {
         ensures err { OnErr result (self.new ≡ self.old) }
     {
         self.inner.limits();
-        self.inner.attachments.add_array(id, length)?;
+        let attachments = &mut self.inner.attachments;
+        attachments.waits.add_array(id, length)?;
         let entry = Entry::Finished {
             session,
             number,
@@ -125,7 +127,7 @@ impl Service {
         };
         let made = entry;
         if let Err(fault) = self.inner.state.advance(made, Effect::Create) {
-            self.inner.attachments.drop_array(id);
+            attachments.waits.drop_array(id);
             return Err(fault);
         }
         self.inner.pending.push(entry);

@@ -13,8 +13,10 @@ ghost use Rattle.fe_state.specs.Limits.{most_batch_entries};
 
 use crate::attachments::Attachments;
 use crate::beginning::{add_arrays, begin_sessions};
+use crate::occupant::slot_of;
 use crate::service_inner::ServiceInner;
 use fe_state::{Answer, Effect, Entries, Entry, Request, State};
+use fe_waits::Waits;
 use fe_words::Op;
 use std::alloc::{AllocError, Global};
 use std::marker::Model;
@@ -57,9 +59,10 @@ impl Service {
         ensures pending { IfOk result (λ service. service.pending ≡ []) }
     {
         let pending = Entries::new(alloc)?;
-        let mut attachments = Attachments::new(alloc)?;
+        let mut waits = Waits::new(alloc)?;
+        add_arrays(&state, &mut waits)?;
+        let mut attachments = Attachments::new(alloc, waits)?;
         begin_sessions(&state, &mut attachments);
-        add_arrays(&state, &mut attachments)?;
         let inner = ServiceInner {
             state,
             attachments,
@@ -122,7 +125,7 @@ impl Service {
     {
         self.inner.limits();
         let floor = self.floor(session);
-        self.inner.take_attachment(session, conn);
+        self.inner.attachments.attach(session, conn);
         self.inner
             .enter(Entry::Attached { session, floor }, Effect::Nothing);
     }
@@ -164,7 +167,11 @@ impl Service {
         ensures waited { result ≡ is_some (get self.old.waiting (session, number)) }
         ensures cancelled { self.new ≡ cancelled self.old session number }
     {
-        self.inner.attachments.cancel(session, number).is_some()
+        let attachments = &mut self.inner.attachments;
+        let Some(slot) = slot_of(&attachments.occupants, session) else {
+            return false;
+        };
+        attachments.waits.cancel(slot, number).is_some()
     }
 
     /// Says which connection holds the session from now on, if one does.
@@ -172,7 +179,8 @@ impl Service {
         requires { IsSome (get self.old.attachments session) }
         ensures { self.new ≡ held self.old session holder }
     {
-        self.inner.attachments.set_holder(session, holder);
+        let attachments = &mut self.inner.attachments;
+        attachments.occupants.get_mut(session).attachment.holder = holder;
     }
 
     /// Removes the attachment of a session that is closing.
@@ -180,7 +188,10 @@ impl Service {
         requires { is_closing self.old.attachments session ≡ true }
         ensures { self.new ≡ left self.old session }
     {
-        self.inner.attachments.leave(session);
+        let attachments = &mut self.inner.attachments;
+        let occupant = attachments.occupants.remove(session).unwrap();
+        attachments.slots.push(occupant.slot).unwrap();
+        attachments.owners[occupant.slot as usize] = None;
     }
 
     /// Completes a request with its reply and its effect, and serves the waiting requests that this lets through. It

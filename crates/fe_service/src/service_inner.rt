@@ -43,23 +43,7 @@ impl ServiceInner {
         ensures attachments { IsWithinLimits self.now.attachments }
     {
         let _ = self.state.place();
-        let _ = self.attachments.len();
-    }
-
-    /// A connection holds a session, which gets an attachment if it has none.
-    pub(crate) fn take_attachment(&mut self, session: u64, conn: u64)
-        requires { IsAttachable (service_of self.old) session }
-        ensures attachments { self.new.attachments.attachments
-            ≡ insert self.old.attachments.attachments session (record { holder = Some conn; closing = false }) }
-        ensures waiting { self.new.attachments.waiting ≡ self.old.attachments.waiting }
-        ensures arrays { self.new.attachments.arrays ≡ self.old.attachments.arrays }
-        ensures state { self.new.state ≡ self.old.state }
-        ensures pending { self.new.pending ≡ self.old.pending }
-    {
-        if self.attachments.attachment(session).is_none() {
-            self.attachments.begin_session(session);
-        }
-        self.attachments.set_holder(session, Some(conn));
+        let _ = self.attachments.waiting_count();
     }
 
     /// Makes a legal entry that needs no memory, with its effect.
@@ -89,15 +73,15 @@ impl ServiceInner {
         ensures still { result ≡ false → self.new ≡ self.old }
         ensures rest { result ≡ false → IsAtRest self.old.state self.old.attachments.waiting array index }
     {
-        let Some(node) = self.attachments.first_on(array, index) else {
+        let Some(first) = self.attachments.first_on(array, index) else {
             return false;
         };
-        let waiting_request = self.attachments.waiting_request(node);
+        let waiting_request = first.1;
         let request = request_of(&waiting_request);
         let Some((answer, effect)) = self.state.look(&request) else {
             return false;
         };
-        self.attachments.finish(node);
+        self.attachments.finish(first.0);
         let entry = Entry::Finished {
             session: waiting_request.session,
             number: waiting_request.number,

@@ -14,10 +14,9 @@ words a = length a.words
 
 pub loop-k-init : goal.loop-k-init
 loop-k-init c = record {
-  tied = tied_first c.args.state.now.arrays words c.args.attachments.now.arrays c.requires;
-  few = first_len c.args.state.now.arrays words c.args.attachments.now.arrays c.requires;
-  waiting = refl;
-  attachments = refl;
+  tied = tied_first c.args.state.now.arrays words c.args.waits.now.arrays c.requires;
+  few = first_len c.args.state.now.arrays words c.args.waits.now.arrays c.requires;
+  members = refl;
 }
 
 pub unwrap-id-requires : goal.unwrap-id-requires
@@ -28,7 +27,7 @@ add_array-requires-clause-new c =
     tied_new
     c.args.state.now.arrays
     words
-    c.loop-k.attachments.arrays
+    c.loop-k.waits.arrays
     c.loop-k.k
     (shown_array c.unwrap-id.result)
     (sym c.array_entry.ensures.entry ∙ ap (option_map shown_array) c.unwrap-id.ensures)
@@ -40,10 +39,9 @@ loop-k-preserved c =
     let here = sym c.array_entry.ensures.entry ∙ ap (option_map shown_array) c.unwrap-id.ensures in
     let added = c.in_ok-add_array.ensures.ok in
     record {
-      tied = λ q. ap (λ m. get m q) added ∙ tied_next c.args.state.now.arrays words c.loop-k.attachments.arrays c.loop-k.k e here c.loop-k.invariant.tied q;
-      few = subst (λ m. len m ≤ c.loop-k.k + 1) (sym added) (tied_len c.args.state.now.arrays words c.loop-k.attachments.arrays c.loop-k.k e here c.loop-k.invariant.tied c.loop-k.invariant.few);
-      waiting = c.in_ok-add_array.ensures.waiting ∙ c.loop-k.invariant.waiting;
-      attachments = c.in_ok-add_array.ensures.attachments ∙ c.loop-k.invariant.attachments;
+      tied = λ q. ap (λ m. get m q) added ∙ tied_next c.args.state.now.arrays words c.loop-k.waits.arrays c.loop-k.k e here c.loop-k.invariant.tied q;
+      few = subst (λ m. len m ≤ c.loop-k.k + 1) (sym added) (tied_len c.args.state.now.arrays words c.loop-k.waits.arrays c.loop-k.k e here c.loop-k.invariant.tied c.loop-k.invariant.few);
+      members = c.in_ok-add_array.ensures.members ∙ c.loop-k.invariant.members;
     }
 
 pub returns-clause-arrays : goal.returns-clause-arrays

@@ -6,8 +6,7 @@ use Rattle.fe_service.proofs.beginning.add_arrays.Given as goal
 
 abbrev pub invariant-loop-k : goal.invariant-loop-k
 invariant-loop-k l = record {
-  tied : (id : ℕ) → get l.attachments.arrays id ≡ words_in (get (made l.state.arrays l.k) id);
-  few : len l.attachments.arrays ≤ l.k;
-  waiting : l.attachments.waiting ≡ l.fn.attachments.waiting;
-  attachments : l.attachments.attachments ≡ l.fn.attachments.attachments;
+  tied : (id : ℕ) → get l.waits.arrays id ≡ words_in (get (made l.state.arrays l.k) id);
+  few : len l.waits.arrays ≤ l.k;
+  members : l.waits.members ≡ l.fn.waits.members;
 }

@@ -3,7 +3,7 @@ use Rattle.std.proofs.Common.{sym, ap, subst, ◌∙◌}
 use Rattle.std.specs.Prelude.{is_some}
 use Rattle.std.specs.FinMap.{get}
 use Rattle.fe_state.specs.Directory.{words_in}
-use Rattle.fe_state.specs.State.{ServerState, IsLegal, after}
+use Rattle.fe_state.specs.State.{IsLegal, after}
 use Rattle.fe_state.specs.declared.entry.Entry.TheVariants.{Attached}
 use Rattle.fe_service.specs.Service.{AreUsable, IsQuiet}
 use Rattle.fe_service.specs.ServiceState.{ServiceState, is_open, service_of}
@@ -14,19 +14,16 @@ use Rattle.fe_service.proofs.service.Service.attach.Goals as goal
 pub enter-requires-clause-legal : goal.enter-requires-clause-legal
 enter-requires-clause-legal c =
     subst
-    (λ (s : ServerState). IsLegal s (Attached c.args.session c.floor-floor.result))
-    (sym c.take_attachment.ensures.state)
-    (subst
     (λ floor. IsLegal c.self.inside.inner.state (Attached c.args.session floor))
     (sym (c.floor-floor.ensures ∙ ap (λ s. floor_of s c.args.session) (sym c.self.view_is)))
-    (attach_legal (service_of c.self.inside.inner) c.args.session c.self.invariant.service (subst (λ (s : ServiceState). IsAttachable s c.args.session) (sym c.self.view_is) c.requires.attachable) (subst HasRoom (sym c.self.view_is) c.requires.room)))
+    (attach_legal (service_of c.self.inside.inner) c.args.session c.self.invariant.service (subst (λ (s : ServiceState). IsAttachable s c.args.session) (sym c.self.view_is) c.requires.attachable) (subst HasRoom (sym c.self.view_is) c.requires.room))
 
 pub invariant_of-self : goal.invariant_of-self
 invariant_of-self c =
     let old = c.self.inside.inner in
-    let state = c.enter.ensures.state ∙ ap (λ s. after s (Attached c.args.session c.floor-floor.result)) c.take_attachment.ensures.state in
-    let attachments = ap (λ s. s.attachments) c.enter.ensures.attachments ∙ c.take_attachment.ensures.attachments in
-    let waiting = ap (λ s. s.waiting) c.enter.ensures.attachments ∙ c.take_attachment.ensures.waiting in
+    let state = c.enter.ensures.state in
+    let attachments = ap (λ s. s.attachments) c.enter.ensures.attachments ∙ c.attach.ensures.attachments in
+    let waiting = ap (λ s. s.waiting) c.enter.ensures.attachments ∙ c.attach.ensures.waiting in
     let service = attached_service (service_of old) c.args.session c.args.conn c.self.invariant.service in
     record {
       service = record {
@@ -36,7 +33,7 @@ invariant_of-self c =
       };
       arrays = λ id.
           ap (λ s. get s.arrays id) c.enter.ensures.attachments
-          ∙ ap (λ m. get m id) c.take_attachment.ensures.arrays
+          ∙ ap (λ m. get m id) c.attach.ensures.arrays
           ∙ c.self.invariant.arrays id
           ∙ sym (ap (λ s. words_in (get s.arrays id)) state);
     }

@@ -1,4 +1,4 @@
-use Rattle.std.proofs.Common.{◌≡◌, inl, inr, sym, ap, subst, ◌∙◌, arith}
+use Rattle.std.proofs.Common.{◌≡◌, inl, inr, refl, sym, ap, subst, ◌∙◌, arith}
 use Rattle.std.specs.Prelude.{is_some}
 use Rattle.std.specs.FinMap.{get, len, remove}
 use Rattle.fe_state.proofs.Maps.{same_or_other, get_removed, get_left}
@@ -8,8 +8,11 @@ use Rattle.fe_state.specs.State.{directory_of}
 use Rattle.fe_state.specs.declared.request.Request.TheVariants.{Remove}
 use Rattle.fe_state.specs.declared.entry.Entry.TheVariants.{Finished}
 use Rattle.fe_service.specs.Service.{IsQuiet}
-use Rattle.fe_service.specs.ServiceState.{ServiceState, IsService}
+use Rattle.fe_service.specs.ServiceState.{ServiceState}
 use Rattle.fe_service.specs.Events.{Completes}
+use Rattle.fe_service.specs.within.Slots.{by_session}
+use Rattle.fe_service.proofs.RequestLemmas.{none-on_array_back}
+use Rattle.fe_service.proofs.Staying.{same_service}
 use Rattle.fe_service.proofs.Effects.{removes}
 use Rattle.fe_service.proofs.Quiet.{none_on_absent}
 use Rattle.fe_service.proofs.Completing.{IsEntered, free_in, completes_in, entered_by, entered_usable, entered_service, entered_completes}
@@ -47,7 +50,8 @@ drop_array-requires c =
     let entered : IsEntered old mid _ = entered_by old mid _ c.enter.ensures.state c.enter.ensures.attachments c.enter.ensures.pending in
     let (es, t, counted) = c.serve_array-served.ensures.served in
     let quiet = all_quiet (goal.at.drop_array-requires c).After-serve_array-served in
-    record { unused = none_on_absent new.state new.attachments.waiting c.args.array quiet (taken_lengths mid new es t c.args.array ∙ removed_absent old mid c.args.session c.args.number c.args.array c.args.answer entered) }
+    let none = none_on_absent new.state new.attachments.waiting c.args.array quiet (taken_lengths mid new es t c.args.array ∙ removed_absent old mid c.args.session c.args.number c.args.array c.args.answer entered) in
+    record { unused = none-on_array_back _ _ c.attachments.invariant.agree _ c.attachments.invariant.owned c.args.array (rw (← c.attachments.view_is) at none) }
 
 pub overflow_add-result : goal.overflow_add-result
 overflow_add-result c =
@@ -66,11 +70,12 @@ invariant_of-self c =
     let quiet = all_quiet (goal.at.invariant_of-self c).After-serve_array-served in
     let service = entered_service old mid new c.args.session c.args.number (Remove c.args.array) c.args.answer es c.self.invariant.service (free_in c.self.view_is c.requires.free) entered t quiet in
     record {
-      service = subst IsService (λ i. record { state = new.state; attachments = sym c.drop_array.ensures.attachments i; waiting = sym c.drop_array.ensures.waiting i; pending = new.pending }) service;
+      service = same_service _ _ refl (ap (λ s. s.attachments) c.attachments.view_is) (ap (by_session c.attachments.inside.owners.items) c.drop_array.ensures.members ∙ ap (λ s. s.waiting) c.attachments.view_is) refl service;
       arrays = λ id.
           elim (same_or_other id c.args.array) as (λ _. get c.drop_array.new.self.arrays id ≡ words_in (get new.state.arrays id)) [
             | inl same ↦
                 ap (λ m. get m id) c.drop_array.ensures.arrays
+                ∙ ap (λ s. get (remove s.arrays c.args.array) id) c.attachments.view_is
                 ∙ ap (get (remove new.attachments.arrays c.args.array)) same
                 ∙ get_removed new.attachments.arrays c.args.array
                 ∙ sym (removed_absent old mid c.args.session c.args.number c.args.array c.args.answer entered)
@@ -78,6 +83,7 @@ invariant_of-self c =
                 ∙ ap (λ id. words_in (get new.state.arrays id)) (sym same)
             | inr other ↦
                 ap (λ m. get m id) c.drop_array.ensures.arrays
+                ∙ ap (λ s. get (remove s.arrays c.args.array) id) c.attachments.view_is
                 ∙ get_left new.attachments.arrays c.args.array id other
                 ∙ ap (λ m. get m id) t.arrays
                 ∙ ap (λ s. get s.arrays id) c.enter.ensures.attachments
@@ -96,10 +102,12 @@ returns c =
     let (es, t, counted) = c.serve_array-served.ensures.served in
     let quiet = all_quiet (goal.at.returns c).After-serve_array-served in
     let completes = completes_in c.self.view_is (entered_completes old mid new _ es entered t quiet) in
+    let attachments = sym (ap (λ s. s.attachments) c.attachments.view_is) in
+    let waiting = sym (ap (by_session c.attachments.inside.owners.items) c.drop_array.ensures.members ∙ ap (λ s. s.waiting) c.attachments.view_is) in
     record {
       completes = (
         es,
-        subst (λ s. Completes c.args.self.now s (Finished c.args.session c.args.number (Remove c.args.array) c.args.answer) es) (λ i. record { state = new.state; attachments = sym c.drop_array.ensures.attachments i; waiting = sym c.drop_array.ensures.waiting i; pending = new.pending }) completes,
+        subst (λ s. Completes c.args.self.now s (Finished c.args.session c.args.number (Remove c.args.array) c.args.answer) es) (λ i. record { state = new.state; attachments = attachments i; waiting = waiting i; pending = new.pending }) completes,
         omega (arith, counted),
       );
     }

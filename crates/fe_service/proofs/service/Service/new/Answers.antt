@@ -14,12 +14,12 @@ open_at_first (Some x) attachment is = sym (ap (λ (o : Option Attachment). opti
 
 pub invariant_of-result : goal.invariant_of-result
 invariant_of-result c =
-    let waiting = c.in_ok-add_arrays.ensures.waiting ∙ c.begin_sessions.ensures.waiting ∙ c.in_ok-attachments.ensures.waiting in
+    let waiting = c.begin_sessions.ensures.waiting ∙ c.in_ok-attachments.ensures.waiting in
     record {
       service = record {
-        usable = λ key w waits. none_waiting c.add_arrays.new.attachments.waiting waiting key w waits;
-        quiet = λ key w waits. none_waiting c.add_arrays.new.attachments.waiting waiting key w waits;
-        has_attachment = λ session. open_at_first (get c.args.state.sessions session) _ (ap (λ m. get m session) c.in_ok-add_arrays.ensures.attachments ∙ c.begin_sessions.ensures.attachments session);
+        usable = λ key w waits. none_waiting c.begin_sessions.new.attachments.waiting waiting key w waits;
+        quiet = λ key w waits. none_waiting c.begin_sessions.new.attachments.waiting waiting key w waits;
+        has_attachment = λ session. open_at_first (get c.args.state.sessions session) _ (c.begin_sessions.ensures.attachments session);
       };
-      arrays = c.in_ok-add_arrays.ensures.arrays;
+      arrays = λ id. ap (λ m. get m id) (c.begin_sessions.ensures.arrays ∙ c.in_ok-attachments.ensures.arrays) ∙ c.in_ok-add_arrays.ensures.arrays id;
     }
