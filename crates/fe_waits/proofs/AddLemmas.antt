@@ -1,5 +1,5 @@
 -- A request is added: the steps of `add`, one after the other.
-use Rattle.std.proofs.Common.{◌≡◌, ◌≢◌, ℕ, ◌<◌, ◌≤◌, ◌+◌, ◌⊎◌, inl, inr, List, [], ◌∷◌, ◌++◌, length, set, slice_get, Option, Some, None, IsSome, is_some, refl, sym, ap, subst, ◌∙◌, arith}
+use Rattle.std.proofs.Common.{◌≡◌, ◌≢◌, ℕ, ◌<◌, ◌≤◌, ◌+◌, inl, inr, List, [], ◌∷◌, ◌++◌, length, set, slice_get, Option, Some, None, IsSome, is_some, refl, sym, ap, subst, ◌∙◌, arith}
 use Rattle.std.specs.Prelude.{IsNone}
 use Rattle.std.specs.Ordering.{nat_cmp}
 use Rattle.std.specs.FinMap.{FinMap, get, insert, len}
@@ -17,9 +17,6 @@ use Rattle.fe_waits.proofs.ListedLemmas.{listed-moved, listed-pushed, row-set_he
 use Rattle.fe_waits.proofs.KeptLemmas.{sum-set, sum-bound}
 use Rattle.fe_waits.proofs.MemberLemmas.{IsNew, none_some, some_same, key_cases, members-row, members-taken, free-or-full, len-insert_new, count-insert, count-insert_other}
 use Rattle.fe_waits.proofs.WordLemmas.{slice_get-set, slice_get-set_other, slice_get-below, slice_get-some, chain_at-with_here, chain_at-with_other}
-
-pub slot_cases : (q k : ℕ) → (q ≡ k) ⊎ (q ≢ k)
-slot_cases q k = cases_eq q k
 
 -- there are two families
 pub session-not_word : OfSession ≢ OfWord

@@ -1,6 +1,6 @@
 -- The collection of all requests along a session's list.
-use Rattle.std.proofs.Common.{◌≡◌, ◌⊎◌, ℕ, ◌<◌, ◌≤◌, ◌+◌, inl, inr, List, [], ◌∷◌, ◌++◌, length, slice_get, slice_index_or, zero, suc, Option, Some, None, IsSome, is_some, refl, sym, ap, subst, ◌∙◌, arith, append_assoc, append-nil, length-append}
-use Rattle.std.specs.Prelude.{Contains, AllPairs, ◌↔◌, ◌≢◌}
+use Rattle.std.proofs.Common.{◌≡◌, ℕ, ◌<◌, ◌≤◌, ◌+◌, inl, inr, List, [], ◌∷◌, ◌++◌, length, slice_get, slice_index_or, zero, suc, Option, Some, None, IsSome, is_some, refl, sym, ap, subst, ◌∙◌, arith, length-append}
+use Rattle.std.specs.Prelude.{Contains, AllPairs, ◌≢◌}
 use Rattle.std.proofs.Common.{get_or}
 use Rattle.std.proofs.lemmas.Grind.{common_steps}
 use Rattle.std.proofs.lemmas.List.Quantifiers.{all_pairs_push}
@@ -11,11 +11,11 @@ use Rattle.std.specs.FinMap.{FinMap, get}
 use Rattle.fe_words.specs.declared.op.Op.{Op}
 use Rattle.fe_pool.specs.declared.chain.Chain.{Chain}
 use Rattle.fe_pool.specs.declared.family.Family.TheVariants.{OfSession}
-use Rattle.fe_pool.specs.Pool.{Contents, first_or, list_of, IsOn, IsNext}
+use Rattle.fe_pool.specs.Pool.{Contents, first_or, list_of, IsNext}
 use Rattle.fe_pool.specs.within.Runs.{IsNodeAmong}
-use Rattle.fe_pool.proofs.AmongLemmas.{among-append_left, among-append_right, among-append_cases, Contains-among, among-Contains}
+use Rattle.fe_pool.proofs.AmongLemmas.{among-append_left, among-append_right, among-append_cases, Contains-among}
 use Rattle.fe_waits.specs.declared.row.Row.{Row}
-use Rattle.fe_waits.specs.Waiting.{WaitingAccess, key_of, waiting_access_of, access_fields, AreWaitingRequestsOf, AreListedOnce}
+use Rattle.fe_waits.specs.Waiting.{WaitingAccess, key_of, access_fields, AreWaitingRequestsOf, AreListedOnce}
 use Rattle.fe_waits.specs.within.Inner.{members_of, row_in, IsKept}
 use Rattle.fe_waits.proofs.MemberLemmas.{none_some, some_same, members-node, members-row}
 use Rattle.fe_waits.proofs.WalkLemmas.{IsWalk, walk-begun, walk-all, walk-has, walk-split, walk-row, walk-next}

@@ -5,8 +5,9 @@ ghost use Rattle.fe_waits.specs.within.Inner.{IsNodeOfSlot};
 
 use crate::chains::Chains;
 use crate::row::Row;
-use crate::word_chains::WordChains;
+use crate::word_chains::{WordChains, chain, set_chain};
 use fe_pool::{Family, Node, Pool};
+use fe_table::Table;
 use fe_words::Op;
 use std::alloc::{AllocError, Global};
 use std::marker::Model;
@@ -65,7 +66,7 @@ impl Waits {
     {
         let pool = Pool::with_nodes(alloc, NODES)?;
         let sessions = Chains::new(alloc, SLOTS)?;
-        let words = WordChains::new(alloc)?;
+        let words = Table::new(alloc)?;
         Ok(Waits {
             pool,
             sessions,
@@ -110,7 +111,7 @@ impl Waits {
         ensures arrays { self.new.arrays ≡ map.remove self.old.arrays array }
         ensures members { self.new.members ≡ self.old.members }
     {
-        self.words.remove(array);
+        let _ = self.words.remove(array);
     }
 
     /// Adds a waiting request with a new slot and number. It goes to the end of its word's list, but no clause
@@ -132,9 +133,9 @@ impl Waits {
             op,
         };
         let node = self.pool.take(row).unwrap();
-        let mut word = self.words.chain(array, index);
+        let mut word = chain(&self.words, array, index);
         self.pool.push_back(Family::OfWord, &mut word, node);
-        self.words.set_chain(array, index, word);
+        set_chain(&mut self.words, array, index, word);
         let mut session = self.sessions.at(slot as usize);
         self.pool.push_back(Family::OfSession, &mut session, node);
         self.sessions.set(slot as usize, session);
@@ -147,7 +148,7 @@ impl Waits {
         ensures on_word { IfSome result (IsNodeOn self.now array index) }
         ensures none { IsNone result ↔ NoneOnWord self.now.members array index }
     {
-        self.words.chain(array, index).first
+        chain(&self.words, array, index).first
     }
 
     /// The request that the node represents.
@@ -168,9 +169,9 @@ impl Waits {
         ensures arrays { self.new.arrays ≡ self.old.arrays }
     {
         let row = *self.pool.get(node);
-        let mut word = self.words.chain(row.array, row.index);
+        let mut word = chain(&self.words, row.array, row.index);
         self.pool.unlink(Family::OfWord, &mut word, node);
-        self.words.set_chain(row.array, row.index, word);
+        set_chain(&mut self.words, row.array, row.index, word);
         let mut session = self.sessions.at(row.slot as usize);
         self.pool.unlink(Family::OfSession, &mut session, node);
         self.sessions.set(row.slot as usize, session);
