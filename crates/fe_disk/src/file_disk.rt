@@ -15,7 +15,7 @@ use std::rt::Files;
 use std::{fs, io};
 
 /// How many zeros are written at a time.
-const PIECE: usize = 4096;
+const ZEROS: usize = 4096;
 
 /// The descriptors below this are the standard streams.
 const STREAMS: i32 = 3;
@@ -246,11 +246,11 @@ fn made<R: Files<File = File>>(rt: &R, path: &str, size: u64) -> io::Result<File
 // Writes this many zeros. A file that only has the length would have holes, and a sync of what is written into one
 // later has to find room for it.
 fn fill(mut file: &File, size: u64) -> io::Result<()> {
-    let zeros = [0; PIECE];
-    for _k in 0..size / PIECE as u64 {
+    let zeros = [0; ZEROS];
+    for _k in 0..size / ZEROS as u64 {
         file.write_all(&zeros)?;
     }
-    file.write_all(&zeros[..(size % PIECE as u64) as usize])
+    file.write_all(&zeros[..(size % ZEROS as u64) as usize])
 }
 
 // Locks the file, so that no other disk has it meanwhile.
