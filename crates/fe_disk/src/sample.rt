@@ -41,8 +41,9 @@ impl Sample {
         ensures gate { (byte : ℕ) → written.now ≡ byte ∷ [] → at + 1 ≡ self.now.at → self.now.length < 32
             → Precedes byte self.now result }
     {
+        let is_in_front = self.length < ROOM && self.at > 0 && self.at - 1 == at;
         match written {
-            [gate] if self.comes_behind(at) => self.with_front(*gate),
+            [gate] if is_in_front => self.with_front(*gate),
             _ if written.len() < LONG => self.beside(at, written),
             _ => Sample::of(at, written),
         }
@@ -56,13 +57,6 @@ impl Sample {
         let mut bytes = [0; ROOM];
         bytes[..length].copy_from_slice(&written[..length]);
         Sample { at, bytes, length }
-    }
-
-    // Whether this offset is the one in front of the sample, and there is room for its byte.
-    fn comes_behind(&self, at: usize) -> bool
-        ensures { IsTrue result ↔ ((at + 1 ≡ self.now.at) × (self.now.length < 32)) }
-    {
-        self.length < ROOM && self.at > 0 && self.at - 1 == at
     }
 
     /// The sample with the byte in front of it.
