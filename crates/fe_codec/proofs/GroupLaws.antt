@@ -57,6 +57,6 @@ puts_one format before out more entries left rest entry len len' old_capacity ca
       fits = λ g. h'.fits (fits, g);
     }
   where
-  done : (r : Result (Unit {0}) AllocError) → OnOk r (more ≡ out ++ entry_spelling format entry) → IsOk r → more ≡ out ++ entry_spelling format entry
-  done (Ok u) ok is_ok = ok
-  done (Err e) ok is_ok = let clash : false ≡ true = is_ok in absurd cc
+    done : (r : Result (Unit {0}) AllocError) → OnOk r (more ≡ out ++ entry_spelling format entry) → IsOk r → more ≡ out ++ entry_spelling format entry
+    done (Ok u) ok is_ok = ok
+    done (Err e) ok is_ok = let clash : false ≡ true = is_ok in absurd cc

@@ -7,7 +7,7 @@ ghost use Rattle.fe_codec.specs.Record.{codes_field, name_field, name_row, array
 ghost use Rattle.fe_state.specs.Limits.{longest_name};
 
 use crate::Format;
-use fe_codes::{answer_code, answer_length, answer_number, op_code, operand_of, tag_code};
+use fe_codes::{answer_fields, op_code, operand_of, tag_code};
 use fe_fields::Fields;
 use fe_state::{Answer, Entry, NAME_BYTES, Name, Request};
 
@@ -115,13 +115,14 @@ pub fn record_of(format: Format, entry: &Entry) -> Record
             request,
             answer,
         } => {
+            let (code, value, length) = answer_fields(*answer);
             let mut record = Record::new();
-            record.put(&request_codes(answer_code(*answer), request));
+            record.put(&request_codes(code, request));
             record.put_u64(*session);
             record.put_u64(*number);
             put_request(&mut record, format, request);
-            record.put_u32(answer_length(*answer));
-            record.put_u64(answer_number(*answer));
+            record.put_u32(length);
+            record.put_u64(value);
             record.put(&[0; 8]);
             record
         }

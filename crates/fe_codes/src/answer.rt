@@ -6,43 +6,25 @@ ghost use Rattle.fe_codes.specs.Reading.{answer_of};
 
 use fe_state::Answer;
 
-/// The code of an answer, 1 to 11.
-pub fn answer_code(answer: Answer) -> u8
-    ensures { result ≡ answer_code answer }
+/// The code of an answer, 1 to 11; the value or the id that it carries, and the length of the array that it names, in words. Each of
+/// these two is 0 if the answer has none.
+pub fn answer_fields(answer: Answer) -> (u8, u64, u32)
+    ensures code { result.0 ≡ answer_code answer }
+    ensures number { result.1 ≡ answer_number answer }
+    ensures length { result.2 ≡ answer_length answer }
 {
     match answer {
-        Answer::Value(_) => 1,
-        Answer::Done => 2,
-        Answer::Array { .. } => 3,
-        Answer::NoArray => 4,
-        Answer::BadIndex => 5,
-        Answer::NameTaken => 6,
-        Answer::ArrayLimit => 7,
-        Answer::WordLimit => 8,
-        Answer::BadName => 9,
-        Answer::BadLength => 10,
-        Answer::NotNow => 11,
-    }
-}
-
-/// The value or the id that the answer carries, 0 if it carries none.
-pub fn answer_number(answer: Answer) -> u64
-    ensures { result ≡ answer_number answer }
-{
-    match answer {
-        Answer::Value(value) => value,
-        Answer::Array { id, .. } => id,
-        _ => 0,
-    }
-}
-
-/// The length of the array that the answer names, in words, 0 if it names none.
-pub fn answer_length(answer: Answer) -> u32
-    ensures { result ≡ answer_length answer }
-{
-    match answer {
-        Answer::Array { length, .. } => length,
-        _ => 0,
+        Answer::Value(value) => (1, value, 0),
+        Answer::Done => (2, 0, 0),
+        Answer::Array { id, length } => (3, id, length),
+        Answer::NoArray => (4, 0, 0),
+        Answer::BadIndex => (5, 0, 0),
+        Answer::NameTaken => (6, 0, 0),
+        Answer::ArrayLimit => (7, 0, 0),
+        Answer::WordLimit => (8, 0, 0),
+        Answer::BadName => (9, 0, 0),
+        Answer::BadLength => (10, 0, 0),
+        Answer::NotNow => (11, 0, 0),
     }
 }
 

@@ -8,7 +8,7 @@ use crate::frame::{Frame, frame_of};
 use crate::kinds;
 use crate::message_frames::message_frame;
 use crate::server_message::ServerMessage;
-use fe_codes::{answer_code, answer_length, answer_number};
+use fe_codes::answer_fields;
 use fe_state::Answer;
 use std::alloc::AllocError;
 
@@ -37,11 +37,12 @@ fn answer_frame(number: u64, answer: Answer) -> Frame
     ensures spelled { result ≡ reply_spelling (ServerMessage.Answer number answer) }
     ensures fits { ReplyFits (ServerMessage.Answer number answer) }
 {
+    let (code, value, length) = answer_fields(answer);
     let mut frame = frame_of(22, kinds::ANSWER);
     frame.put_u64(number);
-    frame.put_u8(answer_code(answer));
-    frame.put_u64(answer_number(answer));
-    frame.put_u32(answer_length(answer));
+    frame.put_u8(code);
+    frame.put_u64(value);
+    frame.put_u32(length);
     frame
 }
 
