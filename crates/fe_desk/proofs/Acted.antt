@@ -1,8 +1,7 @@
 -- What a step does before the boxes are emptied, from the call that it makes.
-use Rattle.std.proofs.Common.{◌≡◌, ℕ, Vec, Global, Bool, true, false, List, [], Result, Ok, Err, refl, sym, ap, subst, ◌∙◌}
-use Rattle.std.specs.Prelude.{None, OnOk, MatchBool, MatchResult, if◌then◌else◌}
+use Rattle.std.proofs.Common.{◌≡◌, ℕ, Vec, Global, true, false, List, [], Result, Ok, Err, refl, sym, ap, subst, ◌∙◌}
+use Rattle.std.specs.Prelude.{OnOk, MatchResult}
 use Rattle.fe_disk.specs.declared.disk.Disk.{Ghosts}
-use Rattle.fe_front.specs.Front.{is_connected}
 use Rattle.fe_keeper.specs.Ends as keeper
 use Rattle.fe_keeper.specs.Keeper.{KeeperState}
 use Rattle.fe_keeper.specs.declared.fault.Fault.{Fault}
@@ -12,18 +11,18 @@ use Rattle.fe_desk.specs.declared.fault.DeskFault.TheVariants as desk
 use Rattle.fe_desk.specs.declared.step.Step.{Step}
 use Rattle.fe_desk.specs.declared.step.Step.TheVariants as step
 use Rattle.fe_desk.specs.DeskRunState.{DeskRunState}
-use Rattle.fe_desk.specs.Storing.{stored, is_making}
-use Rattle.fe_desk.specs.Steps.{find, unmade, Acts, Connects, IsAgain, TakesBytes}
+use Rattle.fe_desk.specs.Storing.{stored}
+use Rattle.fe_desk.specs.Steps.{find, Acts, IsAgain, TakesBytes}
 use Rattle.fe_desk.specs.Messages.{outputs, desk_fault_of}
 use Rattle.fe_desk.specs.Crash.{DeskState, Advances}
 use Rattle.fe_desk.specs.Checks.{Checks}
 use Rattle.fe_desk.specs.Ends.{Lacks, Tears, TearsStep, BreaksOff}
-use Rattle.fe_desk.specs.within.Desk.{IsDesk}
-use Rattle.fe_desk.specs.within.Keeping.{HasStore}
+use Rattle.fe_desk.specs.within.Desk.{IsDesk, IsReady}
+use Rattle.fe_desk.specs.within.Keeping.{Stays}
 use Rattle.fe_desk.specs.within.Goes.{Goes, GoesAct, GoesPiece, Is, IsLacking, IsUnstored, LeavesStream, StopsStream, TakesStream}
 use Rattle.fe_desk.proofs.Advancing.{advances_as, fine_as}
 use Rattle.fe_desk.proofs.Feeding.{same_reads}
-use Rattle.fe_desk.proofs.Goes.{CountsNow, OnlyNow}
+use Rattle.fe_desk.proofs.Goes.{CountsNow, OnlyNow, stays_same}
 use Rattle.fe_desk.proofs.Making.{advances_checked, desk_checked}
 use Rattle.fe_keeper.specs.Ends.{Works}
 
@@ -37,11 +36,12 @@ act_at {D} {k} {x} {y} {q} {a} {b} is h = subst (λ (z : Step). GoesAct k a z q 
 
 module _ {D : Type 0} {k : Ghosts D} {y : Step} {a b : DeskState D} where
   -- the store is not touched
-  pub act_still : OnlyNow k → IsDesk k a → a.keeper.store.has_failed ≡ false → HasStore a b → b.run_state.owes ≡ a.run_state.owes → Acts a.run_state y b.run_state → Checks y a b → GoesAct k a y (Ok tt) b
-  act_still only_now desk works same owes acts checked = record {
-    owes = owes;
-    advances = advances_as k only_now a b desk same;
-    ends = record { acts = acts; checked = checked; fine = fine_as k a b works same };
+  pub act_still : OnlyNow k → IsReady k a → Stays k a b → Acts a.run_state y b.run_state → Checks y a b → GoesAct k a y (Ok tt) b
+  act_still only_now ready same acts checked = record {
+    desk = same.desk ready.desk;
+    owes = same.owes;
+    advances = advances_as k only_now a b ready.desk same.store;
+    ends = record { acts = acts; checked = checked; fine = fine_as k a b ready.works same.store };
   }
 
   -- memory was short, and nothing was done
@@ -56,33 +56,10 @@ module _ {D : Type 0} {k : Ghosts D} {y : Step} {a b : DeskState D} where
         fine = fine;
       }
 
-  pub act_short : OnlyNow k → IsDesk k a → a.keeper.store.has_failed ≡ false → b ≡ a → Lacks false y a b → GoesAct k a y (Err (desk.NoMemory false)) b
-  act_short only_now desk works same lacks =
-      let still : HasStore a b = record { keeper = ap (λ (d : DeskState D). d.keeper) same; groups = ap (λ (d : DeskState D). d.run_state.groups) same; synced = ap (λ (d : DeskState D). d.synced) same } in
-      record {
-        owes = ap (λ (d : DeskState D). d.run_state.owes) same;
-        advances = advances_as k only_now a b desk still;
-        ends = lacking same (fine_as k a b works still) lacks;
-      }
-
--- ---- connections come and go
-
-unmade_stays : (s : DeskRunState) (conn : ℕ) → ((unmade s conn).owes ≡ s.owes) × ((unmade s conn).groups ≡ s.groups)
-unmade_stays s conn = by (is_making s conn)
-  where
-    by : (b : Bool) → ((if b then record s { making = None } else s).owes ≡ s.owes) × ((if b then record s { making = None } else s).groups ≡ s.groups)
-    by true = (refl, refl)
-    by false = (refl, refl)
-
--- a connection that comes does nothing to the mails that are owed, nor to the groups
-pub came_stays : (s t : DeskRunState) (conn : ℕ) → MatchBool (is_connected s.front conn) (t ≡ s) (Connects s conn t) → (t.owes ≡ s.owes) × (t.groups ≡ s.groups)
-came_stays s t conn came = by (is_connected s.front conn) came
-  where
-    by : (b : Bool) → MatchBool b (t ≡ s) (Connects s conn t) → (t.owes ≡ s.owes) × (t.groups ≡ s.groups)
-    by true same = (ap (λ (x : DeskRunState). x.owes) same, ap (λ (x : DeskRunState). x.groups) same)
-    by false comes =
-        let stays = unmade_stays s conn in
-        (ap (λ (x : DeskRunState). x.owes) comes.after ∙ stays.0, ap (λ (x : DeskRunState). x.groups) comes.after ∙ stays.1)
+  pub act_short : OnlyNow k → IsReady k a → b ≡ a → Lacks false y a b → GoesAct k a y (Err (desk.NoMemory false)) b
+  act_short only_now ready same lacks =
+      let still : Stays k a b = stays_same same in
+      record { desk = still.desk ready.desk; owes = still.owes; advances = advances_as k only_now a b ready.desk still.store; ends = lacking same (fine_as k a b ready.works still.store) lacks }
 
 -- ---- bytes
 
@@ -98,13 +75,15 @@ module _ {D : Type 0} {k : Ghosts D} {a b : DeskState D} where
       by q (subst (λ (xs : List ℕ). GoesPiece k (TakesStream a.run_state conn xs) (LeavesStream a.run_state conn xs) (StopsStream a.run_state conn xs) q a b) same h)
     where
       by : (q : Result (Unit {0}) DeskFault) → GoesPiece k (TakesStream a.run_state conn piece.items) (LeavesStream a.run_state conn piece.items) (StopsStream a.run_state conn piece.items) q a b → GoesAct k a (step.Bytes conn piece) q b
-      by (Ok x) h = record { owes = h.owes; advances = h.advances; ends = record { acts = h.ends.1; checked = h.ends.0.grows; fine = h.ends.0.fine } }
+      by (Ok x) h = record { desk = h.desk; owes = h.owes; advances = h.advances; ends = record { acts = h.ends.1; checked = h.ends.0.grows; fine = h.ends.0.fine } }
       by (Err (desk.Store cause)) h = record {
+        desk = h.desk;
         owes = h.owes;
         advances = h.advances;
         ends = (h.ends.0, record { breaks = record { last = h.ends.1.last; stops = h.ends.1.until; tears = h.ends.1.tears }; silent = silent; failed = h.ends.1.failed });
       }
       by (Err (desk.NoMemory false)) h = record {
+        desk = h.desk;
         owes = h.owes;
         advances = h.advances;
         ends = record {
@@ -116,6 +95,7 @@ module _ {D : Type 0} {k : Ghosts D} {a b : DeskState D} where
         };
       }
       by (Err (desk.NoMemory true)) h = record {
+        desk = h.desk;
         owes = h.owes;
         advances = h.advances;
         ends = record {
@@ -135,18 +115,19 @@ module _ {D : Type 0} {k : Ghosts D} {a b : DeskState D} where
     where
       of : (f : Fault) → Goes k (Is (stored a.run_state)) (IsUnstored a) (Is a.run_state) (Err f) a b → GoesAct k a step.Append (Err (desk_fault_of f false)) b
       of Device h = record {
+        desk = h.desk;
         owes = h.owes;
         advances = h.advances;
         ends = (refl, record { breaks = subst (λ (s : DeskRunState). Tears s b) h.ends.until h.ends.tears; silent = ap outputs h.ends.tears.run_state ∙ ap outputs h.ends.until; failed = h.ends.failed });
       }
-      of NoMemory h = record { owes = h.owes; advances = h.advances; ends = lacking h.ends.1.same h.ends.0.fine (h.ends.1.at_hand, h.ends.1.same) }
+      of NoMemory h = record { desk = h.desk; owes = h.owes; advances = h.advances; ends = lacking h.ends.1.same h.ends.0.fine (h.ends.1.at_hand, h.ends.1.same) }
       of Failed h = absurd h.ends
       of (Mismatch place) h = absurd h.ends
       of (Damaged offset) h = absurd h.ends
       of Unformatted h = absurd h.ends
 
       by : (r : Result (Unit {0}) Fault) → IsTold r q → Goes k (Is (stored a.run_state)) (IsUnstored a) (Is a.run_state) r a b → GoesAct k a step.Append q b
-      by (Ok x) written_out h = subst (λ (p : Result (Unit {0}) DeskFault). GoesAct k a step.Append p b) (sym written_out) (record { owes = h.owes; advances = h.advances; ends = record { acts = h.ends.1; checked = h.ends.0.grows; fine = h.ends.0.fine } })
+      by (Ok x) written_out h = subst (λ (p : Result (Unit {0}) DeskFault). GoesAct k a step.Append p b) (sym written_out) (record { desk = h.desk; owes = h.owes; advances = h.advances; ends = record { acts = h.ends.1; checked = h.ends.0.grows; fine = h.ends.0.fine } })
       by (Err f) written_out h = subst (λ (p : Result (Unit {0}) DeskFault). GoesAct k a step.Append p b) (sym written_out) (of f h)
 
 -- ---- checkpoints
@@ -156,22 +137,28 @@ with_keeper d new = record d { keeper = new }
 
 module _ {D : Type 0} {k : Ghosts D} (y : Step) (d : DeskState D) (new : KeeperState D) where
   -- A step makes a call of the keeper that keeps the replica.
-  pub act_check : {T : Type 0} {q : Result (Unit {0}) DeskFault} (r : Result T Fault) (Cause : Fault → Type 0) → CountsNow k → IsDesk k d → keeper.Rests k d.keeper new
-      → d.keeper.store.has_failed ≡ false → Acts d.run_state y d.run_state → OnOk r (Checks y d (with_keeper d new)) → (Cause NoMemory → with_keeper d new ≡ d → Lacks false y d (with_keeper d new)) → ((place : ℕ) → Cause (Mismatch place) → ⊥)
-      → (BreaksOff d (with_keeper d new) → TearsStep y d (with_keeper d new)) → IsTold r q → keeper.Ends k Cause r d.keeper new → IsDesk k (with_keeper d new) × GoesAct k d y q (with_keeper d new)
-  act_check {T} {q} r Cause counts_now desk rests works acts checked lacks mismatch breaks written_out h =
-      (desk_checked k d new counts_now desk works rests.state rests.any_moment rests.honesty, by r checked written_out h)
+  pub act_check : {T : Type 0} {q : Result (Unit {0}) DeskFault} (r : Result T Fault) (Cause : Fault → Type 0) → CountsNow k → IsReady k d → keeper.Rests k d.keeper new
+      → Acts d.run_state y d.run_state → OnOk r (Checks y d (with_keeper d new)) → (Cause NoMemory → with_keeper d new ≡ d → Lacks false y d (with_keeper d new)) → ((place : ℕ) → Cause (Mismatch place) → ⊥)
+      → (BreaksOff d (with_keeper d new) → TearsStep y d (with_keeper d new)) → IsTold r q → keeper.Ends k Cause r d.keeper new → GoesAct k d y q (with_keeper d new)
+  act_check {T} {q} r Cause counts_now ready rests acts checked lacks mismatch breaks written_out h = by r checked written_out h
     where
+      works : d.keeper.store.has_failed ≡ false
+      works = ready.works
+
+      still : IsDesk k (with_keeper d new)
+      still = desk_checked k d new counts_now ready.desk works rests.state rests.any_moment rests.honesty
+
       advances : Advances k d (with_keeper d new)
-      advances = advances_checked k d new desk rests.state rests.any_moment rests.honesty
+      advances = advances_checked k d new ready.desk rests.state rests.any_moment rests.honesty
 
       of : (f : Fault) → keeper.Fails k Cause d.keeper new f → GoesAct k d y (Err (desk_fault_of f false)) (with_keeper d new)
-      of Device h = record { owes = refl; advances = advances; ends = (refl, record { breaks = breaks (record { run_state = refl; synced = refl }); silent = refl; failed = h.1 }) }
+      of Device h = record { desk = still; owes = refl; advances = advances; ends = (refl, record { breaks = breaks (record { run_state = refl; synced = refl }); silent = refl; failed = h.1 }) }
       of Failed h = let had = h.0 in absurd (cc (had, works))
       of NoMemory h =
           let same : new ≡ d.keeper = h.1.same in
           let is : with_keeper d new ≡ d = ap (λ (j : KeeperState D). record d { keeper = j }) same in
           record {
+            desk = still;
             owes = refl;
             advances = advances;
             ends = lacking is (record { before = works; after = ap (λ (j : KeeperState D). j.store.has_failed) same ∙ works; still = ap (λ (j : KeeperState D). k.failures j.store.disk) same }) (lacks h.0 is);
@@ -181,5 +168,5 @@ module _ {D : Type 0} {k : Ghosts D} (y : Step) (d : DeskState D) (new : KeeperS
       of Unformatted h = absurd h
 
       by : (r : Result T Fault) → OnOk r (Checks y d (with_keeper d new)) → IsTold r q → keeper.Ends k Cause r d.keeper new → GoesAct k d y q (with_keeper d new)
-      by (Ok x) checked written_out h = subst (λ (p : Result (Unit {0}) DeskFault). GoesAct k d y p (with_keeper d new)) (sym written_out) (record { owes = refl; advances = advances; ends = record { acts = acts; checked = checked; fine = h } })
+      by (Ok x) checked written_out h = subst (λ (p : Result (Unit {0}) DeskFault). GoesAct k d y p (with_keeper d new)) (sym written_out) (record { desk = still; owes = refl; advances = advances; ends = record { acts = acts; checked = checked; fine = h } })
       by (Err f) checked written_out h = subst (λ (p : Result (Unit {0}) DeskFault). GoesAct k d y p (with_keeper d new)) (sym written_out) (of f h)

@@ -20,8 +20,9 @@ use Rattle.fe_desk.specs.within.Places.{IsFirstAt, Joins}
 use Rattle.fe_desk.specs.Crash.{DeskState}
 use Rattle.fe_desk.specs.Acknowledged.{cut_entries}
 use Rattle.fe_desk.specs.within.Desk.{IsDesk, IsHanded, client_of}
+use Rattle.fe_desk.specs.within.Keeping.{Stays}
 use Rattle.fe_front.proofs.Coming.{dropped-stays}
-use Rattle.fe_desk.proofs.Places.{numbers_changed, found_by_numbers, found_more, found_last, found_there, changed_nowhere, port_changed}
+use Rattle.fe_desk.proofs.Places.{numbers_changed, found_by_numbers, found_more, found_last, found_there, port_changed}
 use Rattle.fe_disk.specs.declared.disk.Disk.{Ghosts}
 
 -- ---- the front and the clients change, and not the store
@@ -56,32 +57,17 @@ moved_desk model s k n f clients making owes desk keeps known = record {
   upheld = λ honest begun from image may. desk.upheld honest begun (record { history = from.history; replica = from.replica }) image may;
 }
 
--- the same of a standing that is equal, and a keeper and a number that are
-pub keeps_desk : {D : Type 0} (model : Ghosts D) (s t : DeskRunState) (k k' : KeeperState D) (n n' : ℕ) (f : FrontState) (clients : List Client) (making : Option ℕ) (owes : Bool)
-    → t ≡ moved s f clients making owes → k' ≡ k → n' ≡ n → IsDesk model (desk_at s k n) → KeepsMade s.front f → AreKnown f clients → IsDesk model (desk_at t k' n')
-keeps_desk {D} model s t k k' n n' f clients making owes run_state keeper synced desk keeps known =
-    subst (λ (x : DeskRunState). IsDesk model (desk_at x k' n')) (sym run_state)
-    (subst (λ (x : KeeperState D). IsDesk model (desk_at (moved s f clients making owes) x n')) (sym keeper)
-    (subst (λ (x : ℕ). IsDesk model (desk_at (moved s f clients making owes) k x)) (sym synced)
-    (moved_desk model s k n f clients making owes desk keeps known)))
-
 -- ---- room is made for nobody
 
-unmade_moved : (s : DeskRunState) (conn : ℕ) (f : FrontState) (clients : List Client)
-    → unmade (moved s f clients s.making s.owes) conn ≡ moved s f clients (unmade s conn).making s.owes
-unmade_moved s conn f clients = by (is_making s conn)
-  where
-    by : (b : Bool) → (if b then moved s f clients None s.owes else moved s f clients s.making s.owes)
-        ≡ moved s f clients (if b then record s { making = None } else s).making s.owes
-    by true = refl
-    by false = refl
+abbrev unmade_for : DeskRunState → ℕ → Option ℕ
+unmade_for s conn = if is_making s conn then None else s.making
 
 unmade_apart : (s : DeskRunState) (conn : ℕ) (f : FrontState) (clients : List Client)
-    → record (unmade s conn) { front = f; clients = clients } ≡ moved s f clients (unmade s conn).making s.owes
+    → record (unmade s conn) { front = f; clients = clients } ≡ moved s f clients (unmade_for s conn) s.owes
 unmade_apart s conn f clients = by (is_making s conn)
   where
     by : (b : Bool) → record (if b then record s { making = None } else s) { front = f; clients = clients }
-        ≡ moved s f clients (if b then record s { making = None } else s).making s.owes
+        ≡ moved s f clients (if b then None else s.making) s.owes
     by true = refl
     by false = refl
 
@@ -109,75 +95,82 @@ came_all f clients conn d known q there = elim (same_or_other q conn) [
 ]
 
 -- it came, and no room is being made for it then
-pub connects : (s mid t : DeskRunState) (conn : ℕ) → Joins s conn mid → t ≡ unmade mid conn → Connects s conn t
-connects s mid t conn joins is = record {
+pub connects : (s : DeskRunState) (f : FrontState) (clients : List Client) (conn : ℕ) → Joins s.front s.clients conn f clients → Connects s conn (moved s f clients (unmade_for s conn) s.owes)
+connects s f clients conn joins = record {
   decoder = joins.decoder;
   begins = joins.begins;
-  after = is ∙ ap (λ (x : DeskRunState). unmade x conn) joins.after ∙ unmade_moved s conn (connected s.front conn) (clients_with s.clients conn joins.decoder)
+  after = ap (λ (g : FrontState). moved s g clients (unmade_for s conn) s.owes) joins.front ∙ ap (λ (cs : List Client). moved s (connected s.front conn) cs (unmade_for s conn) s.owes) joins.clients
       ∙ sym (unmade_apart s conn (connected s.front conn) (clients_with s.clients conn joins.decoder));
 }
 
-pub connects_desk : {D : Type 0} (model : Ghosts D) (s t : DeskRunState) (k k' : KeeperState D) (n n' conn : ℕ)
-    → Connects s conn t → k' ≡ k → n' ≡ n → IsDesk model (desk_at s k n) → IsDesk model (desk_at t k' n')
-connects_desk model s t k k' n n' conn connects keeper synced desk =
-    let f = connected s.front conn in
-    let clients = clients_with s.clients conn connects.decoder in
-    keeps_desk model s t k k' n n' f clients (unmade s conn).making s.owes (connects.after ∙ unmade_apart s conn f clients) keeper synced desk
-    (record { state = refl; pending = refl; out = refl }) (came_all s.front s.clients conn connects.decoder desk.known)
+-- what ties a desk stays
+pub connects_stays : {D : Type 0} (model : Ghosts D) (s : DeskRunState) (k : KeeperState D) (n : ℕ) (f : FrontState) (clients : List Client) (conn : ℕ)
+    → Joins s.front s.clients conn f clients → Stays model (desk_at s k n) (desk_at (moved s f clients (unmade_for s conn) s.owes) k n)
+connects_stays model s k n f clients conn joins =
+    let known : AreKnown s.front s.clients → AreKnown f clients = λ known.
+    subst (λ (g : FrontState). AreKnown g clients) (sym joins.front) (subst (λ (cs : List Client). AreKnown (connected s.front conn) cs) (sym joins.clients) (came_all s.front s.clients conn joins.decoder known)) in
+    record {
+      desk = λ desk. moved_desk model s k n f clients (unmade_for s conn) s.owes desk (record { state = ap (λ (g : FrontState). g.service.state) joins.front; pending = ap (λ (g : FrontState). g.service.pending) joins.front; out = ap (λ (g : FrontState). g.out) joins.front }) (known desk.known);
+      store = record { keeper = refl; groups = refl; synced = refl };
+      owes = refl;
+    }
+
+-- and where it did not come
+pub refused_same : (s : DeskRunState) (f : FrontState) (clients : List Client) → f ≡ s.front → clients ≡ s.clients → record s { front = f; clients = clients } ≡ s
+refused_same s f clients front same = ap (λ (g : FrontState). record s { front = g; clients = clients }) front ∙ ap (λ (cs : List Client). record s { clients = cs }) same
+
+-- whoever room is made for
+pub making_stays : {D : Type 0} (model : Ghosts D) (s : DeskRunState) (k : KeeperState D) (n : ℕ) (making : Option ℕ) → Stays model (desk_at s k n) (desk_at (record s { making = making }) k n)
+making_stays model s k n making = record {
+  desk = λ desk. moved_desk model s k n s.front s.clients making s.owes desk (record { state = refl; pending = refl; out = refl }) desk.known;
+  store = record { keeper = refl; groups = refl; synced = refl };
+  owes = refl;
+}
 
 -- ---- a connection goes
 
-gone_moved : (s : DeskRunState) (conn : ℕ) → gone s conn ≡ moved s (dropped s.front conn) (on_client conn (λ c. record c { left = [] }) s.clients) (unmade s conn).making s.owes
+gone_moved : (s : DeskRunState) (conn : ℕ) → gone s conn ≡ moved s (dropped s.front conn) (on_client conn (λ c. record c { left = [] }) s.clients) (unmade_for s conn) s.owes
 gone_moved s conn = by (is_making s conn)
   where
     by : (b : Bool) → record (with_left (if b then record s { making = None } else s) conn []) { front = dropped s.front conn }
-        ≡ moved s (dropped s.front conn) (on_client conn (λ c. record c { left = [] }) s.clients) (if b then record s { making = None } else s).making s.owes
+        ≡ moved s (dropped s.front conn) (on_client conn (λ c. record c { left = [] }) s.clients) (if b then None else s.making) s.owes
     by true = refl
     by false = refl
 
 -- the front lets it go, its messages are forgotten, and no room is being made for it
-pub goes : (s t : DeskRunState) (f : FrontState) (conn : ℕ) → f ≡ dropped s.front conn → t ≡ unmade (with_left (record s { front = f }) conn []) conn → t ≡ gone s conn
-goes s t f conn front is =
-    let g = dropped s.front conn in
-    let clients = on_client conn (λ c. record c { left = [] }) s.clients in
-    is ∙ ap (λ (x : FrontState). unmade (with_left (record s { front = x }) conn []) conn) front ∙ unmade_moved s conn g clients ∙ sym (gone_moved s conn)
+pub goes : (s : DeskRunState) (f : FrontState) (clients : List Client) (conn : ℕ) → f ≡ dropped s.front conn → clients ≡ on_client conn (λ c. record c { left = [] }) s.clients
+    → moved s f clients (unmade_for s conn) s.owes ≡ gone s conn
+goes s f clients conn front left =
+    ap (λ (g : FrontState). moved s g clients (unmade_for s conn) s.owes) front ∙ ap (λ (cs : List Client). moved s (dropped s.front conn) cs (unmade_for s conn) s.owes) left ∙ sym (gone_moved s conn)
 
-pub gone_desk : {D : Type 0} (model : Ghosts D) (s t : DeskRunState) (k k' : KeeperState D) (n n' conn : ℕ)
-    → t ≡ gone s conn → k' ≡ k → n' ≡ n → IsDesk model (desk_at s k n) → IsDesk model (desk_at t k' n')
-gone_desk model s t k k' n n' conn is keeper synced desk =
-    let f = dropped s.front conn in
-    let clients = on_client conn (λ c. record c { left = [] }) s.clients in
+pub gone_stays : {D : Type 0} (model : Ghosts D) (s : DeskRunState) (k : KeeperState D) (n : ℕ) (f : FrontState) (clients : List Client) (conn : ℕ) → f ≡ dropped s.front conn → clients ≡ on_client conn (λ c. record c { left = [] }) s.clients
+    → Stays model (desk_at s k n) (desk_at (moved s f clients (unmade_for s conn) s.owes) k n)
+gone_stays model s k n f clients conn front left =
+    let cs = on_client conn (λ c. record c { left = [] }) s.clients in
     let keeps = dropped-keeps s.front conn in
     let stays = dropped-stays s.front conn in
-    let known : AreKnown f clients = λ q there. found_by_numbers s.clients clients q (numbers_changed s.clients conn (λ c. record c { left = [] }) (λ c. refl)) ∙ desk.known q (stays.none_comes q there) in
-    keeps_desk model s t k k' n n' f clients (unmade s conn).making s.owes (is ∙ gone_moved s conn) keeper synced desk
-    (record { state = keeps.state; pending = stays.pending; out = keeps.out }) known
+    let known : AreKnown s.front s.clients → AreKnown (dropped s.front conn) cs = λ known q there. found_by_numbers s.clients cs q (numbers_changed s.clients conn (λ c. record c { left = [] }) (λ c. refl)) ∙ known q (stays.none_comes q there) in
+    let is : KeepsMade s.front (dropped s.front conn) = record { state = keeps.state; pending = stays.pending; out = keeps.out } in
+    record {
+      desk = λ desk. moved_desk model s k n f clients (unmade_for s conn) s.owes desk (subst (KeepsMade s.front) (sym front) is)
+          (subst (λ (g : FrontState). AreKnown g clients) (sym front) (subst (AreKnown (dropped s.front conn)) (sym left) (known desk.known)));
+      store = record { keeper = refl; groups = refl; synced = refl };
+      owes = refl;
+    }
 
 -- ---- from the calls on ports
 
--- the messages of a number's port are forgotten
-pub left_forgotten : (s : DeskRunState) (ports : List Port) (conn at : ℕ) (p q : Port) → s.clients ≡ map client_of ports → IsFirstAt (map client_of ports) conn at → p ≡ get_or ports at p
-    → client_of q ≡ record (client_of p) { left = [] } → record s { clients = map client_of (slice_set ports at q) } ≡ with_left s conn []
-left_forgotten s ports conn at p q clients first is to =
-    let change : Client → Client = λ c. record c { left = [] } in
-    ap (λ (cs : List Client). record s { clients = cs }) (port_changed ports conn at p q change first is to ∙ ap (λ (cs : List Client). on_client conn change cs) (sym clients))
-
-pub nothing_forgotten : (s : DeskRunState) (conn : ℕ) → find conn s.clients ≡ None → s ≡ with_left s conn []
-nothing_forgotten s conn none = ap (λ (cs : List Client). record s { clients = cs }) (sym (changed_nowhere s.clients conn (λ c. record c { left = [] }) none))
-
 -- a number's port begins anew
-pub joins_again : (s : DeskRunState) (f : FrontState) (ports : List Port) (conn at : ℕ) (p q : Port) → s.clients ≡ map client_of ports → IsFirstAt (map client_of ports) conn at → p ≡ get_or ports at p
-    → client_of q ≡ record (client_of p) { decoder = q.decoder; left = [] } → BeginsStream q.decoder → f ≡ connected s.front conn
-    → Joins s conn (record s { front = f; clients = map client_of (slice_set ports at q) })
-joins_again s f ports conn at p q clients first is to begins front =
+pub joins_again : (f g : FrontState) (ports : List Port) (conn at : ℕ) (p q : Port) → IsFirstAt (map client_of ports) conn at → p ≡ get_or ports at p
+    → client_of q ≡ record (client_of p) { decoder = q.decoder; left = [] } → BeginsStream q.decoder → g ≡ connected f conn
+    → Joins f (map client_of ports) conn g (map client_of (slice_set ports at q))
+joins_again f g ports conn at p q first is to begins front =
     let change : Client → Client = λ c. record c { decoder = q.decoder; left = [] } in
     let known : is_some (find conn (map client_of ports)) ≡ true = found_there (map client_of ports) conn at first in
-    let those : map client_of (slice_set ports at q) ≡ clients_with (map client_of ports) conn q.decoder =
-    port_changed ports conn at p q change first is to
-    ∙ ap (λ (b : Bool). if b then on_client conn change (map client_of ports) else map client_of ports ++ new_client conn q.decoder ∷ []) (sym known) in
     record {
       decoder = q.decoder;
       begins = begins;
-      after = ap (λ (x : FrontState). record s { front = x; clients = map client_of (slice_set ports at q) }) front
-          ∙ ap (λ (cs : List Client). record s { front = connected s.front conn; clients = cs }) (those ∙ ap (λ (cs : List Client). clients_with cs conn q.decoder) (sym clients));
+      front = front;
+      clients = port_changed ports conn at p q change first is to
+          ∙ ap (λ (b : Bool). if b then on_client conn change (map client_of ports) else map client_of ports ++ new_client conn q.decoder ∷ []) (sym known);
     }

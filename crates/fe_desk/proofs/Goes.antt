@@ -13,14 +13,11 @@ use Rattle.fe_desk.specs.DeskRunState.{DeskRunState}
 use Rattle.fe_desk.specs.Crash.{DeskState, disk_of}
 use Rattle.fe_desk.specs.Ends.{Tears}
 use Rattle.fe_desk.specs.Stopping.{HasCut}
-use Rattle.fe_desk.specs.declared.handed.Handed.{Handed}
-use Rattle.fe_desk.specs.declared.handed.Handed.TheVariants.{Nothing, Cut, Stored}
-use Rattle.fe_desk.specs.Storing.{posted, posted_from}
-use Rattle.fe_desk.specs.within.Keeping.{HasStore}
-use Rattle.fe_desk.specs.within.Desk.{IsDesk}
+use Rattle.fe_desk.specs.within.Keeping.{HasStore, Stays}
+use Rattle.fe_desk.specs.within.Desk.{IsReady}
 use Rattle.fe_desk.specs.within.Goes.{Stores, Faults, Goes, GoesPiece, PieceFaults, IsUnstored, IsShort, Is}
 use Rattle.fe_desk.specs.Messages.{desk_fault_of}
-use Rattle.fe_desk.proofs.Advancing.{advances_as, advances_both, advances_then, advances_after, fine_both, fine_as}
+use Rattle.fe_desk.proofs.Advancing.{store_itself, advances_as, advances_itself, advances_both, advances_then, advances_after, fine_both, fine_as}
 use Rattle.fe_desk.proofs.Growing.{stores_none, stores_both}
 
 -- what a stop since now leaves, a stop now may leave; and what a stop now may leave, a stop since before leaves
@@ -86,11 +83,18 @@ unstored_short {D} {a} {b} h = record { until = ap (λ (d : DeskState D). d.run_
 
 -- ---- calls one after the other
 
+pub stays_itself : {D : Type 0} {k : Ghosts D} {d : DeskState D} → Stays k d d
+stays_itself {D} {k} {d} = record { desk = λ desk. desk; store = store_itself d; owes = refl }
+
+pub stays_same : {D : Type 0} {k : Ghosts D} {a b : DeskState D} → b ≡ a → Stays k a b
+stays_same {D} {k} {a} {b} same = subst (λ (d : DeskState D). Stays k a d) (sym same) stays_itself
+
 module _ {D : Type 0} {k : Ghosts D} where
   -- a call that was done, and one after it
   pub then : {P : DeskRunState → Type 0} {Q : DeskState D → Type 0} {R : DeskRunState → Type 0} {x : Unit {0}} {Done : DeskRunState → Type 0} {Short : DeskState D → Type 0} {Until : DeskRunState → Type 0} {r : Result (Unit {0}) Fault} {a b c : DeskState D}
       → Goes k P Q R (Ok x) a b → Goes k Done Short Until r b c → Goes k Done Short Until r a c
   then {P} {Q} {R} {x} {Done} {Short} {Until} {r} {a} {b} {c} ab bc = record {
+    desk = bc.desk;
     owes = bc.owes ∙ ab.owes;
     advances = advances_both k a b c ab.ends.0.fine.after ab.advances bc.advances;
     ends = ends_then k Done Short Until r a b c ab.ends.0 bc.ends;
@@ -98,39 +102,43 @@ module _ {D : Type 0} {k : Ghosts D} where
 
   -- what does not touch the store
   pub stays : {P : DeskRunState → Type 0} {Q : DeskState D → Type 0} {R : DeskRunState → Type 0} {a b : DeskState D} → OnlyNow k
-      → IsDesk k a → a.keeper.store.has_failed ≡ false → HasStore a b → b.run_state.owes ≡ a.run_state.owes → P b.run_state → Goes k P Q R (Ok tt) a b
-  stays {P} {Q} {R} {a} {b} only_now desk works same owes p = record {
-    owes = owes;
-    advances = advances_as k only_now a b desk same;
-    ends = (stores_still k a b works same, p);
+      → IsReady k a → Stays k a b → P b.run_state → Goes k P Q R (Ok tt) a b
+  stays {P} {Q} {R} {a} {b} only_now ready same p = record {
+    desk = same.desk ready.desk;
+    owes = same.owes;
+    advances = advances_as k only_now a b ready.desk same.store;
+    ends = (stores_still k a b ready.works same.store, p);
   }
 
   -- memory was short for the batch at hand, and nothing was done
-  pub unstored : {Done Until : DeskRunState → Type 0} {fault : Fault} {a b : DeskState D} → OnlyNow k → fault ≡ NoMemory → IsDesk k a → a.keeper.store.has_failed ≡ false
+  pub unstored : {Done Until : DeskRunState → Type 0} {fault : Fault} {a b : DeskState D} → OnlyNow k → fault ≡ NoMemory → IsReady k a
       → HasCut a.run_state → b ≡ a → Goes k Done (IsUnstored a) Until (Err fault) a b
-  unstored {Done} {Until} {fault} {a} {b} only_now is desk works cut same =
-      let still : HasStore a b = record { keeper = ap (λ (d : DeskState D). d.keeper) same; groups = ap (λ (d : DeskState D). d.run_state.groups) same; synced = ap (λ (d : DeskState D). d.synced) same } in
+  unstored {Done} {Until} {fault} {a} {b} only_now is ready cut same =
+      let still : Stays k a b = stays_same same in
       record {
-        owes = ap (λ (d : DeskState D). d.run_state.owes) same;
-        advances = advances_as k only_now a b desk still;
-        ends = subst (Faults k (IsUnstored a) Until a b) (sym is) (stores_still k a b works still, record { at_hand = cut; same = same });
+        desk = still.desk ready.desk;
+        owes = still.owes;
+        advances = advances_as k only_now a b ready.desk still.store;
+        ends = subst (Faults k (IsUnstored a) Until a b) (sym is) (stores_still k a b ready.works still.store, record { at_hand = cut; same = same });
       }
 
   -- what does not touch the store, before a call or after one that was done
   pub before : {Done : DeskRunState → Type 0} {Short : DeskState D → Type 0} {Until : DeskRunState → Type 0} {r : Result (Unit {0}) Fault} {a b c : DeskState D} → a.keeper.store.has_failed ≡ false → HasStore a b → b.run_state.owes ≡ a.run_state.owes
       → Goes k Done Short Until r b c → Goes k Done Short Until r a c
   before {Done} {Short} {Until} {r} {a} {b} {c} works same owes bc = record {
+    desk = bc.desk;
     owes = bc.owes ∙ owes;
     advances = advances_after k a b c same bc.advances;
     ends = ends_then k Done Short Until r a b c (stores_still k a b works same) bc.ends;
   }
 
   pub after : {P : DeskRunState → Type 0} {Q : DeskState D → Type 0} {R : DeskRunState → Type 0} {x y : Unit {0}} {Done : DeskRunState → Type 0} {Short : DeskState D → Type 0} {Until : DeskRunState → Type 0} {a b c : DeskState D}
-      → Goes k P Q R (Ok x) a b → HasStore b c → c.run_state.owes ≡ b.run_state.owes → Done c.run_state → Goes k Done Short Until (Ok y) a c
-  after {P} {Q} {R} {x} {y} {Done} {Short} {Until} {a} {b} {c} ab same owes d = record {
-    owes = owes ∙ ab.owes;
-    advances = advances_then k a b c ab.advances same;
-    ends = (both k a b c ab.ends.0 (stores_still k b c ab.ends.0.fine.after same), d);
+      → Goes k P Q R (Ok x) a b → Stays k b c → Done c.run_state → Goes k Done Short Until (Ok y) a c
+  after {P} {Q} {R} {x} {y} {Done} {Short} {Until} {a} {b} {c} ab same d = record {
+    desk = same.desk ab.desk;
+    owes = same.owes ∙ ab.owes;
+    advances = advances_then k a b c ab.advances same.store;
+    ends = (both k a b c ab.ends.0 (stores_still k b c ab.ends.0.fine.after same.store), d);
   }
 
   -- ---- the same call, said otherwise
@@ -140,8 +148,8 @@ module _ {D : Type 0} {k : Ghosts D} where
   weaker {P} {Q} {R} {Done} {Short} {Until} {r} {a} {b} more short until h = by r h
     where
       by : (r : Result (Unit {0}) Fault) → Goes k P Q R r a b → Goes k Done Short Until r a b
-      by (Ok x) h = record { owes = h.owes; advances = h.advances; ends = (h.ends.0, more h.ends.1) }
-      by (Err f) h = record { owes = h.owes; advances = h.advances; ends = faults_weaker k Q Short R Until a b f short until h.ends }
+      by (Ok x) h = record { desk = h.desk; owes = h.owes; advances = h.advances; ends = (h.ends.0, more h.ends.1) }
+      by (Err f) h = record { desk = h.desk; owes = h.owes; advances = h.advances; ends = faults_weaker k Q Short R Until a b f short until h.ends }
 
   pub when_done : {P : DeskRunState → Type 0} {Q : DeskState D → Type 0} {R : DeskRunState → Type 0} {X : Type 0} {a b : DeskState D} (r : Result (Unit {0}) Fault) → (P b.run_state → X) → Goes k P Q R r a b → OnOk r X
   when_done (Ok x) more h = more h.ends.1
@@ -150,7 +158,7 @@ module _ {D : Type 0} {k : Ghosts D} where
   -- it is done, which comes to this
   pub done : {P : DeskRunState → Type 0} {Q : DeskState D → Type 0} {R : DeskRunState → Type 0} {x y : Unit {0}} {Done : DeskRunState → Type 0} {Short : DeskState D → Type 0} {Until : DeskRunState → Type 0} {a b : DeskState D}
       → (P b.run_state → Done b.run_state) → Goes k P Q R (Ok x) a b → Goes k Done Short Until (Ok y) a b
-  done more h = record { owes = h.owes; advances = h.advances; ends = (h.ends.0, more h.ends.1) }
+  done more h = record { desk = h.desk; owes = h.owes; advances = h.advances; ends = (h.ends.0, more h.ends.1) }
 
   -- it is at fault, which `?` passes on
   pub passed : {P : DeskRunState → Type 0} {Q : DeskState D → Type 0} {R Done : DeskRunState → Type 0} {Short : DeskState D → Type 0} {Until : DeskRunState → Type 0} {fault : Fault} {r : Result (Unit {0}) Fault} {a b : DeskState D}
@@ -159,7 +167,7 @@ module _ {D : Type 0} {k : Ghosts D} where
     where
       by : (r : Result (Unit {0}) Fault) → IsErrAnd r (λ f. f ≡ fault) → Goes k Done Short Until r a b
       by (Ok x) is = absurd is
-      by (Err f) is = record { owes = h.owes; advances = h.advances; ends = faults_weaker k Q Short R Until a b f short until (subst (Faults k Q R a b) (sym is) h.ends) }
+      by (Err f) is = record { desk = h.desk; owes = h.owes; advances = h.advances; ends = faults_weaker k Q Short R Until a b f short until (subst (Faults k Q R a b) (sym is) h.ends) }
 
   -- where it stops for either fault alike
   pub passed_on : {P R Done Until : DeskRunState → Type 0} {fault : Fault} {r : Result (Unit {0}) Fault} {a b : DeskState D}
@@ -173,26 +181,29 @@ module _ {D : Type 0} {k : Ghosts D} where
   -- ---- where a piece is read
 
   pub unread : {Done : DeskRunState → Type 0} {Short : Bool → DeskRunState → Type 0} {Until : DeskRunState → Type 0} {a : DeskState D} → OnlyNow k
-      → IsDesk k a → a.keeper.store.has_failed ≡ false → Done a.run_state → GoesPiece k Done Short Until (Ok tt) a a
-  unread {Done} {Short} {Until} {a} only_now desk works done =
-      let same : HasStore a a = record { keeper = refl; groups = refl; synced = refl } in
-      record { owes = refl; advances = advances_as k only_now a a desk same; ends = (stores_still k a a works same, done) }
+      → IsReady k a → Done a.run_state → GoesPiece k Done Short Until (Ok tt) a a
+  unread {Done} {Short} {Until} {a} only_now ready done = record {
+    desk = ready.desk;
+    owes = refl;
+    advances = advances_itself k only_now a ready.desk;
+    ends = (stores_still k a a ready.works (store_itself a), done);
+  }
 
   pub piece_done : {P : DeskRunState → Type 0} {Q : DeskState D → Type 0} {R : DeskRunState → Type 0} {x y : Unit {0}} {Done : DeskRunState → Type 0} {Short : Bool → DeskRunState → Type 0} {Until : DeskRunState → Type 0} {a b c : DeskState D}
-      → Goes k P Q R (Ok x) a b → HasStore b c → c.run_state.owes ≡ b.run_state.owes → Done c.run_state → GoesPiece k Done Short Until (Ok y) a c
-  piece_done {P} {Q} {R} {x} {y} {Done} {Short} {Until} {a} {b} {c} ab same owes d =
-      let all : Goes k Done (λ e. ⊤) (λ s. ⊤) (Ok tt) a c = after ab same owes d in
-      record { owes = all.owes; advances = all.advances; ends = all.ends }
+      → Goes k P Q R (Ok x) a b → Stays k b c → Done c.run_state → GoesPiece k Done Short Until (Ok y) a c
+  piece_done {P} {Q} {R} {x} {y} {Done} {Short} {Until} {a} {b} {c} ab same d =
+      let all : Goes k Done (λ e. ⊤) (λ s. ⊤) (Ok tt) a c = after ab same d in
+      record { desk = all.desk; owes = all.owes; advances = all.advances; ends = all.ends }
 
   -- memory was short after it was done
   pub piece_short : {P : DeskRunState → Type 0} {Q : DeskState D → Type 0} {R : DeskRunState → Type 0} {x : Unit {0}} {Done : DeskRunState → Type 0} {Short : Bool → DeskRunState → Type 0} {Until : DeskRunState → Type 0} {a b : DeskState D} {fed : Bool}
       → Goes k P Q R (Ok x) a b → Short fed b.run_state → GoesPiece k Done Short Until (Err (desk.NoMemory fed)) a b
-  piece_short h is = record { owes = h.owes; advances = h.advances; ends = (h.ends.0, is) }
+  piece_short h is = record { desk = h.desk; owes = h.owes; advances = h.advances; ends = (h.ends.0, is) }
 
   pub piece_faulty : {P : DeskRunState → Type 0} {Q : DeskState D → Type 0} {R Done : DeskRunState → Type 0} {Short : Bool → DeskRunState → Type 0} {Until : DeskRunState → Type 0} {fault : Fault} {written_out : DeskFault} {a b : DeskState D} (fed : Bool)
       → written_out ≡ desk_fault_of fault fed → (Q b → Short fed b.run_state) → ((last : DeskRunState) → R last → Until last) → Goes k P Q R (Err fault) a b → GoesPiece k Done Short Until (Err written_out) a b
   piece_faulty {P} {Q} {R} {Done} {Short} {Until} {fault} {written_out} {a} {b} fed is short until h =
-      record { owes = h.owes; advances = h.advances; ends = subst (PieceFaults k Short Until a b) (sym is) (faults_given k Q Short R Until a b fault fed short until h.ends) }
+      record { desk = h.desk; owes = h.owes; advances = h.advances; ends = subst (PieceFaults k Short Until a b) (sym is) (faults_given k Q Short R Until a b fault fed short until h.ends) }
 
 -- ---- room that was begun
 
@@ -203,13 +214,3 @@ making_there (Some n) conn b is on = let e : nat_eq n conn ≡ true = sym is ∙
 pub making_not : (m : Option ℕ) (conn : ℕ) (b : Bool) → b ≡ option_eq eqb m (Some conn) → b ≡ false → option_map_or (nat_eq conn) m false ≡ false
 making_not None conn b is off = refl
 making_not (Some n) conn b is off = let e : nat_eq n conn ≡ false = sym is ∙ off in grind (arith, nat_tests)
-
--- ---- what is posted
-
-pub posted_owes : (s : DeskRunState) → (posted s).owes ≡ s.owes
-posted_owes s = by s.handed
-  where
-    by : (h : Handed) → (posted_from h s).owes ≡ s.owes
-    by Nothing = refl
-    by (Cut batch) = refl
-    by (Stored batch) = refl

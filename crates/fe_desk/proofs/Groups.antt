@@ -1,7 +1,6 @@
 -- A batch that is handed to the store, as a group of the history.
 use Rattle.std.proofs.Common.{◌≡◌, ◌⊎◌, ⊎_elim, ℕ, ◌+◌, ◌-◌, ◌<◌, ◌≤◌, Bool, true, false, List, [], ◌∷◌, ◌++◌, length, take, refl, sym, ap, subst, ◌∙◌, arith}
 use Rattle.std.specs.Prelude.{◌↔◌, Option, Some, None, IfSome, is_some, OnOk, IsErr, Result, Ok, Err, is_ok, is_err, if◌then◌else◌, map}
-use Rattle.std.specs.Option.{option_map_or}
 use Rattle.std.proofs.lemmas.List.{append-nil, length-append, map-append, take-append-le, take_all}
 use Rattle.fe_disk.specs.Runs.{LeavesOnly}
 use Rattle.fe_disk.proofs.Moments.{weaker}
@@ -17,7 +16,6 @@ use Rattle.fe_front.specs.Front.{FrontState, out_length, is_connected}
 use Rattle.fe_front.specs.Posting.{IsOut, posted}
 use Rattle.fe_front.proofs.Keeping.{posted_all-keeps}
 use Rattle.fe_front.specs.declared.out.Out.{Out}
-use Rattle.fe_keeper.specs.Keeper.{StoreState, Progress, fits, must_begin, made_room, renewed, finished_by}
 use Rattle.fe_keeper.specs.Stands.{StandsFor, StandsForEither, EachStandsFor}
 use Rattle.fe_keeper.specs.Prefix.{LeavesPrefix}
 use Rattle.fe_desk.specs.declared.handed.Handed.{Handed}
@@ -154,16 +152,6 @@ popped {A} {B} f xs ys zs x n r b is err none many rest = by (is_ok r) (ok_of_no
         ap (λ (k : ℕ). take k ys) front ∙ ap (λ (s : List A). take (length xs) s) is ∙ take-append-le (length xs) xs (x ∷ []) (omega arith) ∙ take_all (length xs) xs (omega arith) in
         ap (λ (s : List A). map f s) (rest ∙ back)
     by false ok is = absurd (cc ok)
-
--- making room and appending fails no store
-pub appends_working : {D : Type 0} (store : StoreState D) (entries : List Entry) → (made_room store entries).has_failed ≡ store.has_failed
-appends_working {D} store entries = by (must_begin store entries) (fits store entries) store.checkpoint
-  where
-    by : (a b : Bool) (p : Option Progress) → (if a then renewed store else (if b then store else option_map_or (finished_by store) p store)).has_failed ≡ store.has_failed
-    by true b p = refl
-    by false true p = refl
-    by false false None = refl
-    by false false (Some p) = refl
 
 -- ---- what images stand for
 

@@ -22,13 +22,13 @@ use Rattle.fe_desk.specs.within.Places.{IsFirstAt}
 use Rattle.fe_desk.specs.Crash.{DeskState}
 use Rattle.fe_desk.specs.declared.port.Port.{Port}
 use Rattle.fe_desk.specs.Acknowledged.{cut_entries}
-use Rattle.fe_desk.specs.within.Keeping.{HasStore}
-use Rattle.fe_desk.specs.within.Desk.{IsAhead, IsDesk, IsHanded, unstored, client_of}
+use Rattle.fe_desk.specs.within.Keeping.{HasStore, Stays}
+use Rattle.fe_desk.specs.within.Desk.{IsAhead, IsDesk, IsReady, IsHanded, unstored, client_of}
 use Rattle.fe_desk.proofs.Places.{numbers, numbers_changed, first_by_numbers, found_first, port_here, port_changed}
 use Rattle.fe_desk.proofs.Reading.{on_client-twice, find-on_client, found-on_client, relieved, none_left, left_among, with_clients, roomy-clients, roomy-keeps, takes_one_of, takes_all-append, on_client-stays}
-use Rattle.fe_desk.proofs.Advancing.{store_itself, desk_as}
+use Rattle.fe_desk.proofs.Advancing.{desk_as}
 use Rattle.fe_desk.specs.within.Goes.{Goes, Is}
-use Rattle.fe_desk.proofs.Goes.{OnlyNow, then, stays, after}
+use Rattle.fe_desk.proofs.Goes.{OnlyNow, then, stays, stays_itself, after}
 
 -- ---- the store side of a desk whose front entries entered
 
@@ -205,7 +205,6 @@ rest_then conn s a u clients taken = subst (λ (cs : List Client). EndsWith (lef
 
 -- messages of the connection whose client is there were taken as far as to a desk
 pub record Going {D : Type 0} (k : Ghosts D) (conn at : ℕ) (old new : DeskState D) : Type 0 where
-  pub desk : IsDesk k new
   pub place : IsFirstAt new.run_state.clients conn at
   pub taken : IsTaken conn old.run_state new.run_state
   pub goes : Goes k (λ s. ⊤) (λ d. ⊤) (λ s. ⊤) (Ok tt) old new
@@ -214,18 +213,17 @@ pub place_as : (clients others : List Client) (conn at : ℕ) → others ≡ cli
 place_as clients others conn at same place = subst (λ (cs : List Client). IsFirstAt cs conn at) (sym same) place
 
 module _ {D : Type 0} {k : Ghosts D} (conn at : ℕ) where
-  pub going_first : (d : DeskState D) → OnlyNow k → IsDesk k d → d.keeper.store.has_failed ≡ false → IsFirstAt d.run_state.clients conn at → Going k conn at d d
-  going_first d only_now desk works place = record { desk = desk; place = place; taken = taken_none conn d.run_state; goes = stays only_now desk works (store_itself d) refl tt }
+  pub going_first : (d : DeskState D) → OnlyNow k → IsReady k d → IsFirstAt d.run_state.clients conn at → Going k conn at d d
+  going_first d only_now ready place = record { place = place; taken = taken_none conn d.run_state; goes = stays only_now ready stays_itself tt }
 
   pub going_on : {Q : DeskState D → Type 0} {R : DeskRunState → Type 0} {x : Unit {0}} (old a r t : DeskState D) → is_some (find conn old.run_state.clients) ≡ true → Going k conn at old a
-      → Goes k (Is (roomy a.run_state conn)) Q R (Ok x) a r → TakesNext r.run_state conn t.run_state → HasStore r t → IsDesk k t → Going k conn at old t
-  going_on old a r t here going room next same desk =
+      → Goes k (Is (roomy a.run_state conn)) Q R (Ok x) a r → TakesNext r.run_state conn t.run_state → Stays k r t → Going k conn at old t
+  going_on old a r t here going room next same =
       let clients : r.run_state.clients ≡ a.run_state.clients = ap (λ (u : DeskRunState). u.clients) room.ends.1 ∙ roomy-keeps a.run_state conn in
       let changed : numbers t.run_state.clients ≡ numbers a.run_state.clients =
       ap (λ (u : DeskRunState). numbers u.clients) next.after ∙ numbers_changed r.run_state.clients conn (relieved next.left) (λ c. refl) ∙ ap numbers clients in
       record {
-        desk = desk;
         place = first_by_numbers a.run_state.clients t.run_state.clients conn at changed going.place;
         taken = taken_next conn old.run_state a.run_state r.run_state t.run_state here room.ends.1 room.owes going.taken next;
-        goes = after (then going.goes room) same (ap (λ (u : DeskRunState). u.owes) next.after) tt;
+        goes = after (then going.goes room) same tt;
       }

@@ -60,31 +60,16 @@ outputs_changed s t conn change keeps stays clients =
 abbrev pub reading : Decoding → List ClientMessage → Client → Client
 reading decoder more c = record c { decoder = decoder; left = more }
 
--- what of a connection that is gone stays
-pub record StaysBehind (s t : DeskRunState) : Type 0 where
-  pub owes : t.owes ≡ s.owes
-  pub outputs_are : outputs t ≡ outputs s
-
-pub frame_stays : (bad : Bool) (s : DeskRunState) (conn : ℕ) → StaysBehind s (after_frame bad s conn)
-frame_stays false s conn = record { owes = refl; outputs_are = refl }
-frame_stays true s conn = by (is_making s conn)
+-- a connection that is gone is written nothing more
+pub gone_outputs : (s : DeskRunState) (conn : ℕ) → outputs (gone s conn) ≡ outputs s
+gone_outputs s conn = by (is_making s conn)
   where
     left : (u : DeskRunState) → outputs (with_left u conn []) ≡ outputs u
     left u = outputs_changed u (with_left u conn []) conn (relieved []) (λ d. refl) (λ d. refl) refl
 
-    of : (u : DeskRunState) → u.owes ≡ s.owes → outputs u ≡ outputs s → StaysBehind s (record (with_left u conn []) { front = (gone s conn).front })
-    of u owes same = record { owes = owes; outputs_are = left u ∙ same }
-
-    by : (b : Bool) → StaysBehind s (record (with_left (if b then record s { making = None } else s) conn []) { front = (gone s conn).front })
-    by true = of (record s { making = None }) refl refl
-    by false = of s refl refl
-
-pub gone_groups : (s : DeskRunState) (conn : ℕ) → (gone s conn).groups ≡ s.groups
-gone_groups s conn = by (is_making s conn)
-  where
-    by : (b : Bool) → (if b then record s { making = None } else s).groups ≡ s.groups
-    by true = refl
-    by false = refl
+    by : (b : Bool) → outputs (record (with_left (if b then record s { making = None } else s) conn []) { front = (gone s conn).front }) ≡ outputs s
+    by true = left (record s { making = None })
+    by false = left s
 
 -- ---- the port of the client
 

@@ -67,9 +67,9 @@ module _ {D : Type 0} (k : Ghosts D) (x : Step) (a : DeskState D) where
       })
 
   -- what it does after them is at fault
-  pub step_fault : {mid b : DeskState D} {fault : DeskFault} (r : Result (Unit {0}) DeskFault) → IsErrAnd r (λ f. f ≡ fault) → a.keeper.store.has_failed ≡ false → mid ≡ discharged_desk a → IsDesk k b
+  pub step_fault : {mid b : DeskState D} {fault : DeskFault} (r : Result (Unit {0}) DeskFault) → IsErrAnd r (λ f. f ≡ fault) → a.keeper.store.has_failed ≡ false → mid ≡ discharged_desk a
       → GoesAct k mid x (Err fault) b → IsStep k a x r b
-  step_fault {mid} {b} {fault} r refused_so works is desk goes = by r refused_so
+  step_fault {mid} {b} {fault} r refused_so works is goes = by r refused_so
     where
       none : b.run_state.owes ≡ false
       none = goes.owes ∙ ap (λ (d : DeskState D). d.run_state.owes) is ∙ owes_discharged a.run_state
@@ -81,7 +81,7 @@ module _ {D : Type 0} (k : Ghosts D) (x : Step) (a : DeskState D) where
         read = fed_discharged fed a.run_state (discharged a.run_state) x b.run_state refl h.read;
         again = λ next t again d. stepped_again a.run_state (discharged a.run_state) b.run_state t x next refl none (λ last. h.again next last again) d;
         silent = λ clear. h.silent ∙ ap outputs (discharged_at a.run_state clear);
-        sound = sound desk (record { before = h.fine.before; after = h.fine.after; still = h.fine.still });
+        sound = sound goes.desk (record { before = h.fine.before; after = h.fine.after; still = h.fine.still });
       }
       of Unwritten h = absurd h
 

@@ -1,6 +1,6 @@
 -- How far a connection's messages were taken where a batch found no memory, or the device failed it.
 use Rattle.std.proofs.Common.{◌≡◌, inl, inr, ℕ, ◌<◌, Bool, true, false, Option, List, [], ◌∷◌, ◌++◌, length, Some, refl, sym, ap, subst, ◌∙◌, arith}
-use Rattle.std.specs.Prelude.{nat_eq, nat_le, if◌then◌else◌}
+use Rattle.std.specs.Prelude.{nat_eq, nat_le, if◌then◌else◌, Result, Ok, Err}
 use Rattle.std.proofs.lemmas.Bool.Decides.{nat_tests}
 use Rattle.fe_state.specs.declared.entry.Entry.{Entry}
 use Rattle.fe_front.specs.Front.{has_room}
@@ -15,8 +15,12 @@ use Rattle.fe_desk.specs.Stopping.{HasCut, MayBegin, StopsMaking, StopsBefore, r
 use Rattle.fe_desk.specs.Crash.{DeskState}
 use Rattle.fe_desk.specs.Ends.{Tears}
 use Rattle.fe_desk.specs.within.Desk.{IsHanded}
+use Rattle.fe_desk.specs.within.Goes.{GoesTo}
+use Rattle.fe_disk.specs.declared.disk.Disk.{Ghosts}
+use Rattle.fe_keeper.specs.declared.fault.Fault.{Fault}
+use Rattle.fe_keeper.specs.declared.fault.Fault.TheVariants.{Device, Failed, NoMemory, Mismatch, Damaged, Unformatted}
 use Rattle.fe_desk.proofs.Making.{begun_by, cleared_pending, roomy_later}
-use Rattle.fe_desk.proofs.Reading.{on_client-twice, on_client-stays, relieved, left_among, with_clients, cleared-clients, begun_room-clients}
+use Rattle.fe_desk.proofs.Reading.{on_client-twice, on_client-stays, relieved, left_among, with_clients, cleared-clients, begun_room-clients, roomy-keeps}
 use Rattle.fe_desk.proofs.Leftovers.{IsTaken}
 
 -- ---- room
@@ -90,6 +94,24 @@ stops-clients : (s t : DeskRunState) (conn : ℕ) (cs : List Client) → StopsMa
 stops-clients s t conn cs (inl still) = inl (still.0, ap (λ (u : DeskRunState). with_clients u cs) still.1)
 stops-clients s t conn cs (inr begins) =
     inr (begins.0, subst (λ (u : DeskRunState). MayBegin u conn (with_clients t cs)) (sym (begun_room-clients s conn cs)) (begins-clients (begun_room s conn) t conn cs begins.1))
+
+stops-keep : (s t : DeskRunState) (conn : ℕ) → StopsMaking s conn t → t.clients ≡ s.clients
+stops-keep s t conn (inl still) = ap (λ (u : DeskRunState). u.clients) still.1
+stops-keep s t conn (inr begins) = by begins.1 ∙ ap (λ (u : DeskRunState). u.clients) (begun_room-clients s conn s.clients)
+  where
+    by : MayBegin (begun_room s conn) conn t → t.clients ≡ (begun_room s conn).clients
+    by (inl is) = ap (λ (u : DeskRunState). u.clients) is
+    by (inr is) = ap (λ (u : DeskRunState). u.clients) (is ∙ room_begun-clients (begun_room s conn) conn (begun_room s conn).clients)
+
+-- whatever comes of the making of room, the clients stay
+pub room_keeps : {D : Type 0} {k : Ghosts D} {a b : DeskState D} (conn : ℕ) (r : Result (Unit {0}) Fault) → GoesTo k (roomy a.run_state conn) (StopsMaking a.run_state conn) r a b → b.run_state.clients ≡ a.run_state.clients
+room_keeps {D} {k} {a} {b} conn (Ok x) h = ap (λ (u : DeskRunState). u.clients) h.ends.1 ∙ roomy-keeps a.run_state conn
+room_keeps {D} {k} {a} {b} conn (Err Device) h = ap (λ (u : DeskRunState). u.clients) h.ends.tears.run_state ∙ stops-keep a.run_state h.ends.last conn h.ends.until
+room_keeps {D} {k} {a} {b} conn (Err NoMemory) h = stops-keep a.run_state b.run_state conn h.ends.1.until
+room_keeps {D} {k} {a} {b} conn (Err Failed) h = absurd h.ends
+room_keeps {D} {k} {a} {b} conn (Err (Mismatch place)) h = absurd h.ends
+room_keeps {D} {k} {a} {b} conn (Err (Damaged offset)) h = absurd h.ends
+room_keeps {D} {k} {a} {b} conn (Err Unformatted) h = absurd h.ends
 
 -- ---- messages
 

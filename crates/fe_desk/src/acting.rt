@@ -9,9 +9,9 @@ ghost use Rattle.fe_front.specs.Noting.{HasItsBox};
 ghost use Rattle.fe_desk.specs.Quiet.{HasNoMail};
 ghost use Rattle.fe_desk.specs.Taken.{IsStep};
 ghost use Rattle.fe_desk.specs.within.WithMail.{HasAllWithMail};
-ghost use Rattle.fe_desk.specs.within.Desk.{desk_of, run_state_of, IsDesk};
+ghost use Rattle.fe_desk.specs.within.Desk.{desk_of, run_state_of, IsDesk, IsReady};
 ghost use Rattle.fe_desk.specs.within.Goes.{Empties, GoesAct, Settles};
-ghost use Rattle.fe_desk.specs.within.Keeping.{HasStore};
+ghost use Rattle.fe_desk.specs.within.Keeping.{OnlyWrites};
 
 use crate::box_emptying::{add_mailed, empty_boxes};
 use crate::desk_inner::DeskInner;
@@ -42,8 +42,11 @@ impl<D: Disk> DeskInner<D> {
         }
         let mut mailed = ConnectionSet::new();
         self.act(step, &mut mailed)?;
+        if step.is_still(quiet) {
+            return Ok(());
+        }
         add_mailed(&self.front, step.posts(quiet), &mut mailed);
-        if self.finish(step.is_still(quiet), &mailed).is_err() {
+        if self.empty(&mailed).is_err() {
             return Err(DeskFault::Unwritten);
         }
         Ok(())
@@ -51,11 +54,9 @@ impl<D: Disk> DeskInner<D> {
 
     /// Writes what an earlier step left unwritten.
     fn settle(&mut self) -> Result<(), AllocError>
-        requires desk { IsDesk D.Disk (desk_of self.old) }
-        ensures desk { IsDesk D.Disk (desk_of self.new) }
+        requires { IsDesk D.Disk (desk_of self.old) }
         ensures settles { Settles result (run_state_of self.old) (run_state_of self.new) }
-        ensures store { HasStore (desk_of self.old) (desk_of self.new) }
-        ensures extends { Extends (outputs (run_state_of self.old)) (outputs (run_state_of self.new)) }
+        ensures writes { OnlyWrites D.Disk (desk_of self.old) (desk_of self.new) }
     {
         if self.owes {
             let mut all = ConnectionSet::new();
@@ -65,30 +66,12 @@ impl<D: Disk> DeskInner<D> {
         Ok(())
     }
 
-    /// Ends a step: every box is emptied. With `still`, there is no mail.
-    fn finish(&mut self, still: bool, mailed: &ConnectionSet) -> Result<(), AllocError>
-        requires desk { IsDesk D.Disk (desk_of self.old) }
-        requires still { still ≡ true → HasNoMail (run_state_of self.old) }
-        requires mailed { HasAllWithMail self.old.front mailed.now }
-        ensures desk { IsDesk D.Disk (desk_of self.new) }
-        ensures empties { Empties result (run_state_of self.old) (run_state_of self.new) }
-        ensures store { HasStore (desk_of self.old) (desk_of self.new) }
-        ensures extends { Extends (outputs (run_state_of self.old)) (outputs (run_state_of self.new)) }
-    {
-        if still {
-            return Ok(());
-        }
-        self.empty(mailed)
-    }
-
     /// Empties every box. Where memory is short, the next step begins with it.
     fn empty(&mut self, mailed: &ConnectionSet) -> Result<(), AllocError>
         requires desk { IsDesk D.Disk (desk_of self.old) }
         requires mailed { HasAllWithMail self.old.front mailed.now }
-        ensures desk { IsDesk D.Disk (desk_of self.new) }
         ensures empties { Empties result (run_state_of self.old) (run_state_of self.new) }
-        ensures store { HasStore (desk_of self.old) (desk_of self.new) }
-        ensures extends { Extends (outputs (run_state_of self.old)) (outputs (run_state_of self.new)) }
+        ensures writes { OnlyWrites D.Disk (desk_of self.old) (desk_of self.new) }
     {
         let outcome = empty_boxes(&mut self.front, &mut self.trace.ports, mailed);
         self.owes = outcome.is_err();
@@ -97,9 +80,7 @@ impl<D: Disk> DeskInner<D> {
 
     /// What a step does before the boxes are emptied. A post adds the connections whose boxes it changed.
     fn act(&mut self, step: &Step, changed: &mut ConnectionSet) -> Result<(), DeskFault>
-        requires desk { IsDesk D.Disk (desk_of self.old) }
-        requires works { self.old.keeper.store.has_failed ≡ false }
-        ensures desk { IsDesk D.Disk (desk_of self.new) }
+        requires { IsReady D.Disk (desk_of self.old) }
         ensures goes { GoesAct D.Disk (desk_of self.old) step.now result (desk_of self.new) }
         ensures changed { step.now ≡ Step.Post
             → (conn : ℕ) → IsTrue (may_have changed.new conn) ⊎ HasItsBox self.old.front self.new.front conn }

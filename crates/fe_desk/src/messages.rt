@@ -1,14 +1,16 @@
 //! The bytes that a desk reads from a connection, and the messages in them.
 
-ghost use Rattle.std.specs.Prelude.{◌≡◌, ◌<◌, false, ◌∷◌, length, IsTrue};
+ghost use Rattle.std.specs.Prelude.{◌≡◌, ◌<◌, ◌∷◌, length, IsTrue};
 ghost use Rattle.fe_front.specs.Front.{has_room};
 ghost use Rattle.fe_desk.specs.Steps.{with_left};
 ghost use Rattle.fe_desk.specs.within.Places.{IsFirstAt};
 ghost use Rattle.fe_desk.specs.Messages.{left_of, outputs, desk_fault_of, TakesNext, EndsWith};
 ghost use Rattle.fe_desk.specs.Stopping.{StopsBefore};
-ghost use Rattle.fe_desk.specs.within.Desk.{client_of, desk_of, run_state_of, IsDesk};
+ghost use Rattle.fe_desk.specs.within.Desk.{client_of, desk_of, run_state_of, IsReady};
 ghost use Rattle.fe_desk.specs.within.Goes.{Goes, GoesPiece, LeavesSome, LeavesStream, StopsStream, TakesLeft, TakesStream};
+ghost use Rattle.fe_desk.specs.within.Keeping.{Stays};
 
+use crate::connections::place_of;
 use crate::desk_inner::DeskInner;
 use crate::fault::DeskFault;
 use crate::port::Port;
@@ -21,15 +23,13 @@ impl<D: Disk> DeskInner<D> {
     /// Takes the bytes of a connection: first the messages of it that are left, then those that the piece completes, if the
     /// connection is still connected.
     pub(crate) fn bytes(&mut self, conn: u64, piece: &[u8]) -> Result<(), DeskFault>
-        requires desk { IsDesk D.Disk (desk_of self.old) }
-        requires works { self.old.keeper.store.has_failed ≡ false }
-        ensures desk { IsDesk D.Disk (desk_of self.new) }
+        requires { IsReady D.Disk (desk_of self.old) }
         ensures outputs { outputs (run_state_of self.new) ≡ outputs (run_state_of self.old) }
         ensures goes { GoesPiece D.Disk (TakesStream (run_state_of self.old) conn piece.now)
             (LeavesStream (run_state_of self.old) conn piece.now) (StopsStream (run_state_of self.old) conn piece.now)
             result (desk_of self.old) (desk_of self.new) }
     {
-        let Some(at) = self.place_of(conn) else {
+        let Some(at) = place_of(&self.trace.ports, conn) else {
             return Ok(());
         };
         if let Err(fault) = self.take_left(at, conn) {
@@ -53,10 +53,8 @@ impl<D: Disk> DeskInner<D> {
 
     /// Takes the messages of a connection that are left, one after the other.
     fn take_left(&mut self, at: usize, conn: u64) -> Result<(), Fault>
-        requires desk { IsDesk D.Disk (desk_of self.old) }
-        requires works { self.old.keeper.store.has_failed ≡ false }
+        requires ready { IsReady D.Disk (desk_of self.old) }
         requires place { IsFirstAt (run_state_of self.old).clients conn at }
-        ensures desk { IsDesk D.Disk (desk_of self.new) }
         ensures place { IsFirstAt (run_state_of self.new).clients conn at }
         ensures clients { (run_state_of self.new).clients
             ≡ (with_left (run_state_of self.old) conn (left_of (run_state_of self.new) conn)).clients }
@@ -74,14 +72,11 @@ impl<D: Disk> DeskInner<D> {
 
     /// Takes the first message of a connection that is left, where there is room.
     fn take_next(&mut self, at: usize, conn: u64)
-        requires desk { IsDesk D.Disk (desk_of self.old) }
         requires room { IsTrue (has_room self.old.front) }
         requires place { IsFirstAt (run_state_of self.old).clients conn at }
         requires some { 0 < length (left_of (run_state_of self.old) conn) }
-        ensures desk { IsDesk D.Disk (desk_of self.new) }
         ensures next { TakesNext (run_state_of self.old) conn (run_state_of self.new) }
-        ensures keeper { self.new.keeper ≡ self.old.keeper }
-        ensures synced { self.new.trace.synced ≡ self.old.trace.synced }
+        ensures stays { Stays D.Disk (desk_of self.old) (desk_of self.new) }
     {
         let message = first_left(&mut self.trace.ports[at]);
         take_message(self.alloc, &mut self.front, conn, message);

@@ -1,6 +1,6 @@
 //! The way of a batch, entries that follow one another, through a desk: it is cut, stored as a group, and posted.
 
-ghost use Rattle.std.specs.Prelude.{◌≡◌, ◌⊎◌, ℕ, false, IsTrue, IfOk, OnOk};
+ghost use Rattle.std.specs.Prelude.{◌≡◌, ◌⊎◌, ℕ, IsTrue, IfOk, OnOk};
 ghost use Rattle.fe_front.specs.Front.{has_room};
 ghost use Rattle.fe_front.specs.ConnectionSet.{may_have};
 ghost use Rattle.fe_front.specs.Noting.{HasItsBox};
@@ -9,8 +9,9 @@ ghost use Rattle.fe_desk.specs.Storing as way;
 ghost use Rattle.fe_desk.specs.Storing.{stored, posted, cleared, made, committed, begun_room, roomy};
 ghost use Rattle.fe_desk.specs.Crash.{with_handed};
 ghost use Rattle.fe_desk.specs.Stopping.{MayBegin, StopsMaking};
-ghost use Rattle.fe_desk.specs.within.Desk.{desk_of, run_state_of, IsDesk};
+ghost use Rattle.fe_desk.specs.within.Desk.{desk_of, run_state_of, IsDesk, IsReady};
 ghost use Rattle.fe_desk.specs.within.Goes.{Goes, GoesTo, Is, IsUnstored, WasBegun};
+ghost use Rattle.fe_desk.specs.within.Keeping.{Stays};
 
 use crate::desk_inner::DeskInner;
 use crate::handed::Handed;
@@ -24,11 +25,8 @@ use std::mem;
 impl<D: Disk> DeskInner<D> {
     /// Cuts what is pending into the batch that is out, if there is something and no batch is out.
     pub(crate) fn cut(&mut self)
-        requires desk { IsDesk D.Disk (desk_of self.old) }
-        ensures desk { IsDesk D.Disk (desk_of self.new) }
         ensures cut { run_state_of self.new ≡ way.cut (run_state_of self.old) }
-        ensures keeper { self.new.keeper ≡ self.old.keeper }
-        ensures trace { self.new.trace ≡ self.old.trace }
+        ensures stays { Stays D.Disk (desk_of self.old) (desk_of self.new) }
     {
         if let Some(batch) = self.front.cut() {
             self.handed = Handed::Cut(batch);
@@ -37,11 +35,8 @@ impl<D: Disk> DeskInner<D> {
 
     /// Stores the batch that is cut, if there is one. The faults are `Device` and `NoMemory`.
     pub(crate) fn store(&mut self) -> Result<(), Fault>
-        requires desk { IsDesk D.Disk (desk_of self.old) }
-        requires works { self.old.keeper.store.has_failed ≡ false }
-        ensures desk { IsDesk D.Disk (desk_of self.new) }
-        ensures clients { (run_state_of self.new).clients ≡ (run_state_of self.old).clients }
-        ensures goes { Goes D.Disk (Is (stored (run_state_of self.old))) (IsUnstored (desk_of self.old))
+        requires { IsReady D.Disk (desk_of self.old) }
+        ensures { Goes D.Disk (Is (stored (run_state_of self.old))) (IsUnstored (desk_of self.old))
             (Is (run_state_of self.old)) result (desk_of self.old) (desk_of self.new) }
     {
         match mem::replace(&mut self.handed, Handed::Nothing) {
@@ -59,11 +54,8 @@ impl<D: Disk> DeskInner<D> {
 
     /// Hands a batch to the store, as a group of the trace. If there is no memory, the group leaves the trace again.
     fn store_batch(&mut self, batch: Batch) -> (Handed, Result<(), Fault>)
-        requires desk { IsDesk D.Disk (with_handed (desk_of self.old) (Cut batch)) }
-        requires works { self.old.keeper.store.has_failed ≡ false }
-        ensures desk { IsDesk D.Disk (with_handed (desk_of self.new) result.0) }
-        ensures clients { (run_state_of self.new).clients ≡ (run_state_of self.old).clients }
-        ensures goes { let old = with_handed (desk_of self.old) (Cut batch) in
+        requires { IsReady D.Disk (with_handed (desk_of self.old) (Cut batch)) }
+        ensures { let old = with_handed (desk_of self.old) (Cut batch) in
             Goes D.Disk (Is (stored old.run_state)) (IsUnstored old) (Is old.run_state) result.1 old
             (with_handed (desk_of self.new) result.0) }
     {
@@ -93,13 +85,11 @@ impl<D: Disk> DeskInner<D> {
     /// Posts the batch that is stored, if there is one, and adds each connection whose box that changed. Room that was begun
     /// is made then.
     pub(crate) fn post(&mut self, changed: &mut ConnectionSet)
-        requires desk { IsDesk D.Disk (desk_of self.old) }
-        ensures desk { IsDesk D.Disk (desk_of self.new) }
+        requires { IsDesk D.Disk (desk_of self.old) }
         ensures posted { run_state_of self.new ≡ posted (run_state_of self.old) }
         ensures changed { (conn : ℕ)
             → IsTrue (may_have changed.new conn) ⊎ HasItsBox self.old.front self.new.front conn }
-        ensures keeper { self.new.keeper ≡ self.old.keeper }
-        ensures trace { self.new.trace ≡ self.old.trace }
+        ensures stays { Stays D.Disk (desk_of self.old) (desk_of self.new) }
     {
         match mem::replace(&mut self.handed, Handed::Nothing) {
             // The batch that was cut is the one that is out.
@@ -113,11 +103,8 @@ impl<D: Disk> DeskInner<D> {
 
     /// Stores the batch that is out, if it is not stored yet, and posts it.
     pub(crate) fn clear(&mut self) -> Result<(), Fault>
-        requires desk { IsDesk D.Disk (desk_of self.old) }
-        requires works { self.old.keeper.store.has_failed ≡ false }
-        ensures desk { IsDesk D.Disk (desk_of self.new) }
-        ensures clients { (run_state_of self.new).clients ≡ (run_state_of self.old).clients }
-        ensures goes { GoesTo D.Disk (cleared (run_state_of self.old)) (Is (run_state_of self.old)) result
+        requires { IsReady D.Disk (desk_of self.old) }
+        ensures { GoesTo D.Disk (cleared (run_state_of self.old)) (Is (run_state_of self.old)) result
             (desk_of self.old) (desk_of self.new) }
     {
         self.store()?;
@@ -127,10 +114,7 @@ impl<D: Disk> DeskInner<D> {
 
     /// Makes room for a message of a connection. If memory is short, the rest of it is done for the connection's next message.
     pub(crate) fn make_room(&mut self, conn: u64) -> Result<(), Fault>
-        requires desk { IsDesk D.Disk (desk_of self.old) }
-        requires works { self.old.keeper.store.has_failed ≡ false }
-        ensures desk { IsDesk D.Disk (desk_of self.new) }
-        ensures clients { (run_state_of self.new).clients ≡ (run_state_of self.old).clients }
+        requires { IsReady D.Disk (desk_of self.old) }
         ensures room { OnOk result (IsTrue (has_room self.new.front)) }
         ensures goes { GoesTo D.Disk (roomy (run_state_of self.old) conn) (StopsMaking (run_state_of self.old) conn)
             result (desk_of self.old) (desk_of self.new) }
@@ -144,11 +128,8 @@ impl<D: Disk> DeskInner<D> {
 
     /// Goes on with the room that was begun for a message of this connection, if it was.
     fn go_on(&mut self, conn: u64) -> Result<(), Fault>
-        requires desk { IsDesk D.Disk (desk_of self.old) }
-        requires works { self.old.keeper.store.has_failed ≡ false }
-        ensures desk { IsDesk D.Disk (desk_of self.new) }
-        ensures clients { (run_state_of self.new).clients ≡ (run_state_of self.old).clients }
-        ensures goes { GoesTo D.Disk (begun_room (run_state_of self.old) conn) (WasBegun (run_state_of self.old) conn)
+        requires { IsReady D.Disk (desk_of self.old) }
+        ensures { GoesTo D.Disk (begun_room (run_state_of self.old) conn) (WasBegun (run_state_of self.old) conn)
             result (desk_of self.old) (desk_of self.new) }
     {
         if self.making == Some(conn) {
@@ -161,11 +142,8 @@ impl<D: Disk> DeskInner<D> {
     /// Stores and posts what is out, and then what is pending. If memory is short after the cut, room is begun for
     /// this connection.
     fn commit(&mut self, conn: u64) -> Result<(), Fault>
-        requires desk { IsDesk D.Disk (desk_of self.old) }
-        requires works { self.old.keeper.store.has_failed ≡ false }
-        ensures desk { IsDesk D.Disk (desk_of self.new) }
-        ensures clients { (run_state_of self.new).clients ≡ (run_state_of self.old).clients }
-        ensures goes { GoesTo D.Disk (made (committed (cleared (run_state_of self.old))))
+        requires { IsReady D.Disk (desk_of self.old) }
+        ensures { GoesTo D.Disk (made (committed (cleared (run_state_of self.old))))
             (MayBegin (run_state_of self.old) conn) result (desk_of self.old) (desk_of self.new) }
     {
         self.clear()?;

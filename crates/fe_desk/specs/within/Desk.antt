@@ -63,3 +63,8 @@ pub record IsDesk {D : Type 0} (model : Ghosts D) (d : DeskState D) : Type 0 whe
   pub all : d.keeper.store.has_failed ≡ false → d.synced ≡ length d.run_state.groups
   pub upheld : model.honest (disk_of d) → (begun : ServerState) → IsFrom begun d → (image : List ℕ) → model.may_leave (disk_of d) image
       → LeavesPrefix begun d.run_state.groups d.synced image
+
+-- a desk whose device works
+pub record IsReady {D : Type 0} (model : Ghosts D) (d : DeskState D) : Type 0 where
+  pub desk : IsDesk model d
+  pub works : d.keeper.store.has_failed ≡ false

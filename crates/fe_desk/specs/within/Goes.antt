@@ -19,6 +19,7 @@ use Rattle.fe_desk.specs.Taking.{TakesAll}
 use Rattle.fe_desk.specs.Steps.{Acts, IsAgain, TakesBytes, find, with_left}
 use Rattle.fe_desk.specs.Messages.{left_of, outputs, ReadsNone, ReadsPiece, TellsFed}
 use Rattle.fe_desk.specs.Stopping.{HasCut, StopsBefore, StopsBehind, StopsShort}
+use Rattle.fe_desk.specs.within.Desk.{IsDesk}
 use Rattle.fe_keeper.specs.Ends.{Works, Breaks}
 
 -- ---- calls that may store batches
@@ -44,9 +45,11 @@ Faults model Short Until old new (Mismatch place) = ⊥
 Faults model Short Until old new (Damaged offset) = ⊥
 Faults model Short Until old new Unformatted = ⊥
 
--- A call goes on with the store, and leaves the mails that are owed as they were. It is done (`Done`), or it has a fault.
+-- A call goes on with the store, and leaves a desk with the mails that are owed as they were. It is done (`Done`), or it has a
+-- fault.
 pub record Goes {D : Type 0} (model : Ghosts D) (Done : DeskRunState → Type 0) (Short : DeskState D → Type 0) (Until : DeskRunState → Type 0)
     (result : Result (Unit {0}) Fault) (old new : DeskState D) : Type 0 where
+  pub desk : IsDesk model new
   pub owes : new.run_state.owes ≡ old.run_state.owes
   pub advances : Advances model old new
   pub ends : MatchResult result (λ _. Stores model old new × Done new.run_state) (Faults model Short Until old new)
@@ -59,6 +62,7 @@ PieceFaults model Short Until old new desk.Unwritten = ⊥
 
 pub record GoesPiece {D : Type 0} (model : Ghosts D) (Done : DeskRunState → Type 0) (Short : Bool → DeskRunState → Type 0) (Until : DeskRunState → Type 0)
     (result : Result (Unit {0}) DeskFault) (old new : DeskState D) : Type 0 where
+  pub desk : IsDesk model new
   pub owes : new.run_state.owes ≡ old.run_state.owes
   pub advances : Advances model old new
   pub ends : MatchResult result (λ _. Stores model old new × Done new.run_state) (PieceFaults model Short Until old new)
@@ -139,8 +143,9 @@ ActEnds model old step new (Err (desk.Store cause)) = (cause ≡ Device) × IsBr
 ActEnds model old step new (Err (desk.NoMemory fed)) = IsLacking model fed old step new
 ActEnds model old step new (Err desk.Unwritten) = ⊥
 
--- A step acts, and leaves the mails that are owed as they were.
+-- A step acts, and leaves a desk with the mails that are owed as they were.
 pub record GoesAct {D : Type 0} (model : Ghosts D) (old : DeskState D) (step : Step) (result : Result (Unit {0}) DeskFault) (new : DeskState D) : Type 0 where
+  pub desk : IsDesk model new
   pub owes : new.run_state.owes ≡ old.run_state.owes
   pub advances : Advances model old new
   pub ends : ActEnds model old step new result

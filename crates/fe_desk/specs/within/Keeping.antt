@@ -5,7 +5,10 @@ use Rattle.fe_front.specs.Front.{FrontState, is_connected}
 use Rattle.fe_desk.specs.Mails.{emptied_box}
 use Rattle.fe_desk.specs.Output.{output_of, Extends}
 use Rattle.fe_desk.specs.Crash.{DeskState}
+use Rattle.fe_desk.specs.Messages.{outputs}
 use Rattle.fe_desk.specs.DeskRunState.{Client, written_out, all_written_out, all_emptied}
+use Rattle.fe_desk.specs.within.Desk.{IsDesk}
+use Rattle.fe_disk.specs.declared.disk.Disk.{Ghosts}
 
 -- the state, what is pending and what is out stay, and no connection comes
 pub record KeepsFront (f g : FrontState) : Type 0 where
@@ -20,6 +23,18 @@ pub record HasStore {D : Type 0} (old new : DeskState D) : Type 0 where
   pub keeper : new.keeper ≡ old.keeper
   pub groups : new.run_state.groups ≡ old.run_state.groups
   pub synced : new.synced ≡ old.synced
+
+-- what was a desk is one still: its store is not touched, and it owes mails where it did before
+pub record Stays {D : Type 0} (model : Ghosts D) (old new : DeskState D) : Type 0 where
+  pub desk : IsDesk model old → IsDesk model new
+  pub store : HasStore old new
+  pub owes : new.run_state.owes ≡ old.run_state.owes
+
+-- a desk is one still: its store is not touched, and what is written goes on from what was
+pub record OnlyWrites {D : Type 0} (model : Ghosts D) (old new : DeskState D) : Type 0 where
+  pub desk : IsDesk model new
+  pub store : HasStore old new
+  pub extends : Extends (outputs old.run_state) (outputs new.run_state)
 
 -- no empty box gets a mail
 pub record KeepsEmpty (f g : FrontState) : Type 0 where

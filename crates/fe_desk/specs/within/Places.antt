@@ -2,8 +2,9 @@
 use Rattle.std.specs.Prelude.{◌≡◌, ◌≢◌, ℕ, ◌<◌, List, length, Option, Some, slice_get}
 use Rattle.std.specs.Option.{option_map}
 use Rattle.fe_wire.specs.Stream.{Decoding}
+use Rattle.fe_front.specs.Front.{FrontState}
 use Rattle.fe_front.specs.Steps.{connected}
-use Rattle.fe_desk.specs.DeskRunState.{Client, DeskRunState}
+use Rattle.fe_desk.specs.DeskRunState.{Client}
 use Rattle.fe_desk.specs.Steps.{BeginsStream, clients_with}
 
 -- the number of the client at an index
@@ -16,8 +17,9 @@ pub record IsFirstAt (clients : List Client) (conn at : ℕ) : Type 0 where
   pub here : client_number_at clients at ≡ Some conn
   pub first : (i : ℕ) → i < at → client_number_at clients i ≢ Some conn
 
--- a connection came, with a stream of its own; nothing else is different
-pub record Joins (s : DeskRunState) (conn : ℕ) (t : DeskRunState) : Type 0 where
+-- a connection came, with a stream of its own
+pub record Joins (f : FrontState) (cs : List Client) (conn : ℕ) (g : FrontState) (ds : List Client) : Type 0 where
   pub decoder : Decoding
   pub begins : BeginsStream decoder
-  pub after : t ≡ record s { front = connected s.front conn; clients = clients_with s.clients conn decoder }
+  pub front : g ≡ connected f conn
+  pub clients : ds ≡ clients_with cs conn decoder

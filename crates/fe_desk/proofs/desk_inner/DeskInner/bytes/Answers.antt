@@ -4,18 +4,17 @@ use Rattle.fe_desk.specs.Messages.{outputs}
 use Rattle.fe_desk.specs.DeskRunState.{Client, DeskRunState}
 use Rattle.fe_desk.specs.Steps.{after_frame}
 use Rattle.fe_desk.specs.declared.fault.DeskFault.TheVariants.{NoMemory}
-use Rattle.fe_desk.specs.within.Desk.{client_of, desk_of, run_state_of, IsDesk}
+use Rattle.fe_desk.specs.within.Desk.{client_of, desk_of, run_state_of}
 use Rattle.fe_desk.specs.within.Goes.{GoesPiece, TakesStream, LeavesStream, StopsStream}
-use Rattle.fe_desk.proofs.Advancing.{store_itself}
-use Rattle.fe_desk.proofs.Goes.{unread, piece_done, piece_short, piece_faulty, then, before}
+use Rattle.fe_desk.proofs.Goes.{stays_itself, unread, piece_done, piece_short, piece_faulty, then, before}
 use Rattle.fe_desk.proofs.Places.{port_changed}
 use Rattle.fe_desk.proofs.Leftovers.{left_here}
-use Rattle.fe_desk.proofs.Pieces.{relieves, has_fed, all_taken, port_same, port_reads, fed_place, desk_reads, reading, gone_groups, frame_stays, stream_unknown, stream_left, stream_off, stream_unread, stream_more, stream_all, fed_outputs, fed_stops, left_outputs}
+use Rattle.fe_desk.proofs.Pieces.{relieves, has_fed, all_taken, port_same, port_reads, fed_place, desk_reads, reading, gone_outputs, stream_unknown, stream_left, stream_off, stream_unread, stream_more, stream_all, fed_outputs, fed_stops, left_outputs}
 use Rattle.fe_desk.proofs.desk_inner.DeskInner.bytes.Goals as goal
 
 pub returns-in_default-clause-goes : goal.returns-in_default-clause-goes
 returns-in_default-clause-goes g c =
-    unread {k = g.D.Disk} g.met.D.Disk.only_now c.requires.desk c.requires.works (stream_unknown (run_state_of c.args.self.now) c.args.conn c.args.piece.now c.in_default.ensures.none)
+    unread {k = g.D.Disk} g.met.D.Disk.only_now c.requires (stream_unknown (run_state_of c.args.self.now) c.args.conn c.args.piece.now c.in_default.ensures.none)
 
 pub returns-in-Err-clause-outputs : goal.returns-in-Err-clause-outputs
 returns-in-Err-clause-outputs g c = left_outputs c.args.conn (run_state_of c.args.self.now) (run_state_of c.take_left.new.self) c.take_left.ensures.clients
@@ -32,7 +31,7 @@ pub returns-then-not-connected-clause-goes : goal.returns-then-not-connected-cla
 returns-then-not-connected-clause-goes g c =
     let is = relieves (run_state_of c.args.self.now) (run_state_of c.take_left.new.self) c.args.conn c.in-Some.at c.in-Some.ensures.place c.take_left.ensures.clients in
     let goes = c.in_default-take_left.ensures.goes in
-    piece_done goes (store_itself _) refl (stream_off c.args.piece.now is goes.ends.1 (sym c.connected.ensures ∙ c.if-not-connected.true))
+    piece_done goes stays_itself (stream_off c.args.piece.now is goes.ends.1 (sym c.connected.ensures ∙ c.if-not-connected.true))
 
 pub feed-requires : goal.feed-requires
 feed-requires g c =
@@ -54,7 +53,6 @@ returns-in_default-feed g c =
     let completes : CompletesMessage is.client.decoder piece =
     subst (λ (d : Decoding). CompletesMessage d piece) (port_reads piece is ports c.in-Some.at p refl c.take_left.ensures.place c.index_mut.ensures.value) c.in_default-feed.ensures.memory in
     record {
-      desk = subst (λ (cs : List Client). IsDesk g.D.Disk (record b { run_state = record b.run_state { clients = cs } })) same c.take_left.ensures.desk;
       outputs = subst (λ (cs : List Client). outputs (record b.run_state { clients = cs }) ≡ outputs s) same (left_outputs conn s b.run_state c.take_left.ensures.clients);
       goes =
           subst
@@ -63,20 +61,22 @@ returns-in_default-feed g c =
           (piece_short goes (stream_unread piece is goes.ends.1 (sym c.connected.ensures ∙ c.if-not-connected.false) completes));
     }
 
-pub take_left-requires-2-clause-desk : goal.take_left-requires-2-clause-desk
-take_left-requires-2-clause-desk g c =
+pub take_left-requires-2-clause-ready : goal.take_left-requires-2-clause-ready
+take_left-requires-2-clause-ready g c =
     let ports = c.take_left.new.self.trace.ports.items in
     let q = c.feed.new.self in
     let change = reading q.decoder (client_of q).left in
-    desk_reads g.D.Disk (desk_of c.take_left.new.self) c.args.conn change (map client_of (slice_set ports c.in-Some.at q)) (λ d. refl)
-    (port_changed ports c.args.conn c.in-Some.at c.index_mut.result.now q change c.take_left.ensures.place c.index_mut.ensures.value c.in-Ok.ensures.client) c.take_left.ensures.desk
+    let goes = c.in_default-take_left.ensures.goes in
+    record {
+      desk =
+          desk_reads g.D.Disk (desk_of c.take_left.new.self) c.args.conn change (map client_of (slice_set ports c.in-Some.at q)) (λ d. refl)
+          (port_changed ports c.args.conn c.in-Some.at c.index_mut.result.now q change c.take_left.ensures.place c.index_mut.ensures.value c.in-Ok.ensures.client) goes.desk;
+      works = goes.ends.0.fine.after;
+    }
 
 pub take_left-requires-2-clause-place : goal.take_left-requires-2-clause-place
 take_left-requires-2-clause-place g c =
     fed_place c.take_left.new.self.trace.ports.items c.args.conn c.in-Some.at c.index_mut.result.now c.feed.new.self c.take_left.ensures.place c.index_mut.ensures.value c.in-Ok.ensures.client
-
-pub take_left-requires-2-clause-works : goal.take_left-requires-2-clause-works
-take_left-requires-2-clause-works g c = c.in_default-take_left.ensures.goes.ends.0.fine.after
 
 pub returns-in-Err-take_left : goal.returns-in-Err-take_left
 returns-in-Err-take_left g c =
@@ -90,7 +90,6 @@ returns-in-Err-take_left g c =
     has_fed c.args.conn c.in-Some.at c.args.piece.now s u c.take_left.new.self.trace.ports.items c.index_mut.result.now c.feed.new.self is goes.ends.1 (sym c.connected.ensures ∙ c.if-not-connected.false) refl
     c.take_left.ensures.place c.index_mut.ensures.value c.in-Ok.ensures.reads c.in-Ok.ensures.client in
     record {
-      desk = c.take_left-2.ensures.desk;
       outputs = left_outputs c.args.conn m n c.take_left-2.ensures.clients ∙ fed_outputs fed;
       goes =
           piece_faulty true c.desk_fault-in-Err-take_left.ensures (λ some. stream_more fed n c.take_left-2.ensures.clients c.take_left-2.ensures.rest some) (λ last stops. inr (fed_stops fed last stops))
@@ -111,14 +110,11 @@ returns-then-bad g c =
     let rest = c.in_default-take_left-2.ensures.goes in
     let bad : c.feed.new.self.decoder.is_bad ≡ true = sym c.in-Ok.ensures.bad ∙ c.if-bad.true in
     let gone : run_state_of c.leave.new.self ≡ after_frame c.feed.new.self.decoder.is_bad n c.args.conn = c.leave.ensures.gone ∙ ap (λ (x : Bool). after_frame x n c.args.conn) (sym bad) in
-    let stays = frame_stays true n c.args.conn in
     record {
-      desk = c.leave.ensures.desk;
-      outputs = ap (λ (t : DeskRunState). outputs t) c.leave.ensures.gone ∙ stays.outputs_are ∙ left_outputs c.args.conn m n c.take_left-2.ensures.clients ∙ fed_outputs fed;
+      outputs = ap (λ (t : DeskRunState). outputs t) c.leave.ensures.gone ∙ gone_outputs n c.args.conn ∙ left_outputs c.args.conn m n c.take_left-2.ensures.clients ∙ fed_outputs fed;
       goes =
           piece_done (then goes (before goes.ends.0.fine.after (record { keeper = refl; groups = refl; synced = refl }) refl rest))
-          (record { keeper = c.leave.ensures.keeper; groups = ap (λ (t : DeskRunState). t.groups) c.leave.ensures.gone ∙ gone_groups n c.args.conn; synced = c.leave.ensures.synced })
-          (ap (λ (t : DeskRunState). t.owes) c.leave.ensures.gone ∙ stays.owes) (stream_all fed n (run_state_of c.leave.new.self) rest.ends.1 gone);
+          c.leave.ensures.stays (stream_all fed n (run_state_of c.leave.new.self) rest.ends.1 gone);
     }
 
 pub returns-else-bad : goal.returns-else-bad
@@ -135,9 +131,8 @@ returns-else-bad g c =
     let rest = c.in_default-take_left-2.ensures.goes in
     let bad : c.feed.new.self.decoder.is_bad ≡ false = sym c.in-Ok.ensures.bad ∙ c.if-bad.false in
     record {
-      desk = c.take_left-2.ensures.desk;
       outputs = left_outputs c.args.conn m n c.take_left-2.ensures.clients ∙ fed_outputs fed;
       goes =
-          piece_done (then goes (before goes.ends.0.fine.after (record { keeper = refl; groups = refl; synced = refl }) refl rest)) (store_itself _) refl
+          piece_done (then goes (before goes.ends.0.fine.after (record { keeper = refl; groups = refl; synced = refl }) refl rest)) stays_itself
           (stream_all fed n n rest.ends.1 (ap (λ (x : Bool). after_frame x n c.args.conn) (sym bad)));
     }

@@ -15,8 +15,6 @@ pub returns : goal.returns
 returns g c =
     let s = run_state_of c.args.self.now in
     record {
-      desk = c.requires.desk;
       settles = sym (discharged_at s c.if-self.false);
-      store = record { keeper = refl; groups = refl; synced = refl };
-      extends = extends_itself (outputs s);
+      writes = record { desk = c.requires; store = record { keeper = refl; groups = refl; synced = refl }; extends = extends_itself (outputs s) };
     }

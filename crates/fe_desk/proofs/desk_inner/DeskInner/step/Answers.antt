@@ -4,8 +4,8 @@ use Rattle.fe_desk.specs.within.Desk.{run_state_of, desk_of}
 use Rattle.fe_desk.specs.Messages.{outputs}
 use Rattle.fe_desk.specs.Quiet.{HasNoMail}
 use Rattle.fe_desk.proofs.Outputs.{extends_itself, extends_both, extends_as, acts_extends}
-use Rattle.fe_desk.proofs.Advancing.{advances_as, advances_itself, advances_after, advances_then}
-use Rattle.fe_desk.proofs.Quiets.{still_quiet_after}
+use Rattle.fe_desk.proofs.Advancing.{store_itself, advances_as, advances_itself, advances_after, advances_then}
+use Rattle.fe_desk.proofs.Quiets.{quiet_emptied, still_quiet_after}
 use Rattle.fe_desk.specs.DeskRunState.{DeskRunState}
 use Rattle.fe_desk.proofs.WithMail.{changed_since}
 use Rattle.fe_desk.proofs.StepParts.{discharged_at, settles_ok, settles_err, empties_ok, empties_err}
@@ -23,18 +23,20 @@ returns-then-has_failed g c = record {
 
 pub returns-then-is_err : goal.returns-then-is_err
 returns-then-is_err g c = record {
-  desk = c.settle.ensures.desk;
+  desk = c.settle.ensures.writes.desk;
   is_step =
-      step_settling g.D.Disk c.args.step.now (desk_of c.args.self.now) (sym c.has_failed.ensures ∙ c.if-has_failed.false) c.settle.ensures.desk c.settle.ensures.store
+      step_settling g.D.Disk c.args.step.now (desk_of c.args.self.now) (sym c.has_failed.ensures ∙ c.if-has_failed.false) c.settle.ensures.writes.desk c.settle.ensures.writes.store
       (settles_err c.settle.result (run_state_of c.args.self.now) (run_state_of c.settle.new.self) (sym c.if-is_err.ensures.value) c.settle.ensures.settles);
   quiet = tt;
-  extends = c.settle.ensures.extends;
+  extends = c.settle.ensures.writes.extends;
   advances =
-      advances_as g.D.Disk g.met.D.Disk.only_now (desk_of c.args.self.now) (desk_of c.settle.new.self) c.requires.desk c.settle.ensures.store;
+      advances_as g.D.Disk g.met.D.Disk.only_now (desk_of c.args.self.now) (desk_of c.settle.new.self) c.requires.desk c.settle.ensures.writes.store;
 }
 
-pub act-requires-clause-works : goal.act-requires-clause-works
-act-requires-clause-works g c = ap (λ (k : _). k.store.has_failed) c.settle.ensures.store.keeper ∙ sym c.has_failed.ensures ∙ c.if-has_failed.false
+pub act-requires : goal.act-requires
+act-requires g c =
+    let settled = c.settle.ensures.writes in
+    record { desk = settled.desk; works = ap (λ (k : _). k.store.has_failed) settled.store.keeper ∙ sym c.has_failed.ensures ∙ c.if-has_failed.false }
 
 pub returns-in_err-act : goal.returns-in_err-act
 returns-in_err-act g c =
@@ -43,12 +45,12 @@ returns-in_err-act g c =
     let new = c.act.new.self in
     let settles = settles_ok c.settle.result (run_state_of c.args.self.now) (run_state_of c.settle.new.self) (sym c.if-is_err.ensures.value) c.settle.ensures.settles in
     record {
-      desk = c.act.ensures.desk;
+      desk = c.in_err-act.ensures.goes.desk;
       is_step =
-          step_fault g.D.Disk c.args.step.now (desk_of old) c.from_residual.result c.from_residual.ensures.1 (sym c.has_failed.ensures ∙ c.if-has_failed.false) (settled (desk_of old) (desk_of mid) settles c.settle.ensures.store) c.act.ensures.desk c.in_err-act.ensures.goes;
+          step_fault g.D.Disk c.args.step.now (desk_of old) c.from_residual.result c.from_residual.ensures.1 (sym c.has_failed.ensures ∙ c.if-has_failed.false) (settled (desk_of old) (desk_of mid) settles c.settle.ensures.writes.store) c.in_err-act.ensures.goes;
       quiet = of_fault (HasNoMail (run_state_of new)) c.from_residual.result _ c.from_residual.ensures.1;
-      extends = extends_both (outputs (run_state_of old)) (outputs (run_state_of mid)) (outputs (run_state_of new)) c.settle.ensures.extends (extends_as (outputs (run_state_of mid)) (outputs (run_state_of new)) (act_silent g.D.Disk c.args.step.now (desk_of mid) c.in_err-act.ensures.goes));
-      advances = advances_after g.D.Disk (desk_of old) (desk_of mid) (desk_of new) c.settle.ensures.store c.in_err-act.ensures.goes.advances;
+      extends = extends_both (outputs (run_state_of old)) (outputs (run_state_of mid)) (outputs (run_state_of new)) c.settle.ensures.writes.extends (extends_as (outputs (run_state_of mid)) (outputs (run_state_of new)) (act_silent g.D.Disk c.args.step.now (desk_of mid) c.in_err-act.ensures.goes));
+      advances = advances_after g.D.Disk (desk_of old) (desk_of mid) (desk_of new) c.settle.ensures.writes.store c.in_err-act.ensures.goes.advances;
     }
 
 -- where no box had a mail, the settling changed nothing
@@ -60,33 +62,49 @@ add_mailed-requires g c = λ posts.
     let same : run_state_of c.settle.new.self ≡ run_state_of c.args.self.now = settles ∙ discharged_at (run_state_of c.args.self.now) quiet.owes in
     changed_since c.settle.new.self.front c.act.new.self.front c.act.new.changed (λ conn. ap (λ (s : DeskRunState). mails_on s.front.connections conn) same ∙ quiet.boxes conn) (c.act.ensures.changed e.1)
 
-pub finish-requires-clause-still : goal.finish-requires-clause-still
-finish-requires-clause-still g c = λ still.
-    let e = c.is_still.ensures still in
-    let settles = settles_ok c.settle.result (run_state_of c.args.self.now) (run_state_of c.settle.new.self) (sym c.if-is_err.ensures.value) c.settle.ensures.settles in
-    still_quiet_after (run_state_of c.args.self.now) (run_state_of c.settle.new.self) (run_state_of c.act.new.self) c.args.step.now settles e.1 (c.requires.quiet e.0) c.in_ok-act.ensures.goes.ends.acts
+pub returns-then-is_still : goal.returns-then-is_still
+returns-then-is_still g c =
+    let old = c.args.self.now in
+    let mid = c.settle.new.self in
+    let last = c.act.new.self in
+    let goes = c.in_ok-act.ensures.goes in
+    let settles = settles_ok c.settle.result (run_state_of old) (run_state_of mid) (sym c.if-is_err.ensures.value) c.settle.ensures.settles in
+    let e = c.is_still.ensures c.if-is_still.true in
+    let quiet = still_quiet_after (run_state_of old) (run_state_of mid) (run_state_of last) c.args.step.now settles e.1 (c.requires.quiet e.0) goes.ends.acts in
+    record {
+      desk = goes.desk;
+      is_step =
+          step_whole g.D.Disk c.args.step.now (desk_of old) (sym c.has_failed.ensures ∙ c.if-has_failed.false) settles c.settle.ensures.writes.store goes (store_itself (desk_of last))
+          (record { after = quiet_emptied (run_state_of last) quiet; quiet = quiet }) goes.desk;
+      quiet = quiet;
+      extends = extends_both (outputs (run_state_of old)) (outputs (run_state_of mid)) (outputs (run_state_of last)) c.settle.ensures.writes.extends (acts_extends (run_state_of mid) c.args.step.now (run_state_of last) goes.ends.acts);
+      advances = advances_after g.D.Disk (desk_of old) (desk_of mid) (desk_of last) c.settle.ensures.writes.store goes.advances;
+    }
+
+pub empty-requires-clause-desk : goal.empty-requires-clause-desk
+empty-requires-clause-desk g c = c.in_ok-act.ensures.goes.desk
 
 pub returns-then-is_err-2 : goal.returns-then-is_err-2
 returns-then-is_err-2 g c =
     let old = c.args.self.now in
     let mid = c.settle.new.self in
     let last = c.act.new.self in
-    let new = c.finish.new.self in
+    let new = c.empty.new.self in
     let goes = c.in_ok-act.ensures.goes in
     let settles = settles_ok c.settle.result (run_state_of c.args.self.now) (run_state_of c.settle.new.self) (sym c.if-is_err.ensures.value) c.settle.ensures.settles in
     record {
-      desk = c.finish.ensures.desk;
+      desk = c.empty.ensures.writes.desk;
       is_step =
-          step_owing g.D.Disk c.args.step.now (desk_of old) (sym c.has_failed.ensures ∙ c.if-has_failed.false) settles c.settle.ensures.store goes c.finish.ensures.store
-          (empties_err c.finish.result (run_state_of last) (run_state_of new) (sym c.if-is_err-2.ensures.value) c.finish.ensures.empties) c.finish.ensures.desk;
+          step_owing g.D.Disk c.args.step.now (desk_of old) (sym c.has_failed.ensures ∙ c.if-has_failed.false) settles c.settle.ensures.writes.store goes c.empty.ensures.writes.store
+          (empties_err c.empty.result (run_state_of last) (run_state_of new) (sym c.if-is_err-2.ensures.value) c.empty.ensures.empties) c.empty.ensures.writes.desk;
       quiet = tt;
       extends =
           extends_both (outputs (run_state_of old)) (outputs (run_state_of last)) (outputs (run_state_of new))
-          (extends_both (outputs (run_state_of old)) (outputs (run_state_of mid)) (outputs (run_state_of last)) c.settle.ensures.extends (acts_extends (run_state_of mid) c.args.step.now (run_state_of last) goes.ends.acts))
-          c.finish.ensures.extends;
+          (extends_both (outputs (run_state_of old)) (outputs (run_state_of mid)) (outputs (run_state_of last)) c.settle.ensures.writes.extends (acts_extends (run_state_of mid) c.args.step.now (run_state_of last) goes.ends.acts))
+          c.empty.ensures.writes.extends;
       advances =
           advances_then g.D.Disk (desk_of old) (desk_of last) (desk_of new)
-          (advances_after g.D.Disk (desk_of old) (desk_of mid) (desk_of last) c.settle.ensures.store goes.advances) c.finish.ensures.store;
+          (advances_after g.D.Disk (desk_of old) (desk_of mid) (desk_of last) c.settle.ensures.writes.store goes.advances) c.empty.ensures.writes.store;
     }
 
 pub returns : goal.returns
@@ -94,19 +112,19 @@ returns g c =
     let old = c.args.self.now in
     let mid = c.settle.new.self in
     let last = c.act.new.self in
-    let new = c.finish.new.self in
+    let new = c.empty.new.self in
     let goes = c.in_ok-act.ensures.goes in
     let settles = settles_ok c.settle.result (run_state_of c.args.self.now) (run_state_of c.settle.new.self) (sym c.if-is_err.ensures.value) c.settle.ensures.settles in
-    let empty = empties_ok c.finish.result (run_state_of last) (run_state_of new) (sym c.if-is_err-2.ensures.value) c.finish.ensures.empties in
+    let empty = empties_ok c.empty.result (run_state_of last) (run_state_of new) (sym c.if-is_err-2.ensures.value) c.empty.ensures.empties in
     record {
-      desk = c.finish.ensures.desk;
-      is_step = step_whole g.D.Disk c.args.step.now (desk_of old) (sym c.has_failed.ensures ∙ c.if-has_failed.false) settles c.settle.ensures.store goes c.finish.ensures.store empty c.finish.ensures.desk;
+      desk = c.empty.ensures.writes.desk;
+      is_step = step_whole g.D.Disk c.args.step.now (desk_of old) (sym c.has_failed.ensures ∙ c.if-has_failed.false) settles c.settle.ensures.writes.store goes c.empty.ensures.writes.store empty c.empty.ensures.writes.desk;
       quiet = empty.quiet;
       extends =
           extends_both (outputs (run_state_of old)) (outputs (run_state_of last)) (outputs (run_state_of new))
-          (extends_both (outputs (run_state_of old)) (outputs (run_state_of mid)) (outputs (run_state_of last)) c.settle.ensures.extends (acts_extends (run_state_of mid) c.args.step.now (run_state_of last) goes.ends.acts))
-          c.finish.ensures.extends;
+          (extends_both (outputs (run_state_of old)) (outputs (run_state_of mid)) (outputs (run_state_of last)) c.settle.ensures.writes.extends (acts_extends (run_state_of mid) c.args.step.now (run_state_of last) goes.ends.acts))
+          c.empty.ensures.writes.extends;
       advances =
           advances_then g.D.Disk (desk_of old) (desk_of last) (desk_of new)
-          (advances_after g.D.Disk (desk_of old) (desk_of mid) (desk_of last) c.settle.ensures.store goes.advances) c.finish.ensures.store;
+          (advances_after g.D.Disk (desk_of old) (desk_of mid) (desk_of last) c.settle.ensures.writes.store goes.advances) c.empty.ensures.writes.store;
     }

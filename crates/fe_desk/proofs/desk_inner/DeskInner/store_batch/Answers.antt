@@ -1,9 +1,8 @@
-use Rattle.std.proofs.Common.{◌≡◌, inl, inr, false, ◌∷◌, [], ◌++◌, length, refl, sym, ap, subst, ◌∙◌, arith}
+use Rattle.std.proofs.Common.{◌≡◌, inl, inr, ◌∷◌, [], ◌++◌, length, refl, sym, ap, subst, ◌∙◌, arith}
 use Rattle.std.specs.Prelude.{map}
 use Rattle.std.proofs.lemmas.List.{length-map}
 use Rattle.fe_state.specs.State.{after_all}
 use Rattle.fe_state.specs.declared.batch.Batch.{Batch}
-use Rattle.fe_keeper.specs.Keeper.{StoreState}
 use Rattle.fe_keeper.specs.declared.fault.Fault.{Fault}
 use Rattle.fe_keeper.specs.declared.fault.Fault.TheVariants.{Device}
 use Rattle.fe_desk.specs.declared.handed.Handed.TheVariants.{Cut, Stored}
@@ -12,57 +11,50 @@ use Rattle.fe_desk.specs.Crash.{with_handed}
 use Rattle.fe_desk.specs.within.Goes.{Faults, Is, IsUnstored}
 use Rattle.fe_desk.proofs.Goes.{unstored}
 use Rattle.fe_desk.specs.within.Desk.{desk_of, run_state_of, IsAhead}
-use Rattle.fe_desk.proofs.Advancing.{desk_as}
 use Rattle.fe_desk.proofs.Growing.{stores_one, handed_back}
-use Rattle.fe_desk.proofs.Groups.{legal_both, tied_stored, tied_cut, pushed, unpushed, popped, appends_working, advances_group, begins_there, no_mismatch, desk_stored, desk_torn}
+use Rattle.fe_desk.proofs.Groups.{legal_both, tied_stored, tied_cut, pushed, unpushed, popped, advances_group, begins_there, no_mismatch, desk_stored, desk_torn}
 use Rattle.fe_desk.proofs.Failing.{short_given, device_fault, only_device}
 use Rattle.fe_keeper.specs.Ends.{ForBatch}
 use Rattle.fe_desk.proofs.desk_inner.DeskInner.store_batch.Goals as goal
 
-pub returns-in_default-clause-goes : goal.returns-in_default-clause-goes
-returns-in_default-clause-goes g c =
-    unstored {k = g.D.Disk} g.met.D.Disk.only_now refl c.requires.desk c.requires.works
+pub returns-in_default : goal.returns-in_default
+returns-in_default g c =
+    unstored {k = g.D.Disk} g.met.D.Disk.only_now refl c.requires
     (record { batch = c.args.batch; handed = refl }) refl
 
-pub returns-then-is_err-clause-goes : goal.returns-then-is_err-clause-goes
-returns-then-is_err-clause-goes g c =
+pub returns-then-is_err : goal.returns-then-is_err
+returns-then-is_err g c =
     let old = c.args.self.now in
-    unstored {k = g.D.Disk} g.met.D.Disk.only_now refl c.requires.desk c.requires.works
+    unstored {k = g.D.Disk} g.met.D.Disk.only_now refl c.requires
     (record { batch = c.args.batch; handed = refl })
     (handed_back (with_handed (desk_of old) (Cut c.args.batch)) c.args.batch c.args.batch _ _ refl
     (unpushed (λ g. g.items) old.trace.groups.items c.push.new.self.items _ c.push.result c.is_err.result c.push.ensures.items c.is_err.ensures.value c.if-is_err.true) refl)
 
-pub returns-in-Ok-append-clause-desk : goal.returns-in-Ok-append-clause-desk
-returns-in-Ok-append-clause-desk g c =
+pub returns-in-Ok-append : goal.returns-in-Ok-append
+returns-in-Ok-append g c =
     let old = c.args.self.now in
     let batch = c.args.batch in
     let new = c.append.new.self in
-    let back : c.in-Ok-append.batch ≡ batch = c.in-Ok-append.ensures.returned in
-    let replica : new.state ≡ after_all old.keeper.state batch.entries = c.in-Ok-append.ensures.appended.state in
-    let next : new.state ≡ after_all old.keeper.state c.in-Ok-append.batch.entries = replica ∙ ap (λ (b : Batch). after_all old.keeper.state b.entries) (sym back) in
-    let tied = subst (λ (b : Batch). IsAhead (handing (run_state_of old) (Cut b)) old.keeper.state) (sym back) c.requires.desk.tied in
-    let works : new.store.has_failed ≡ false =
-    ap (λ (s : StoreState g.row.D.Denot). s.has_failed) c.in-Ok-append.ensures.appended.store ∙ appends_working old.keeper.store batch.entries ∙ c.requires.works in
-    desk_stored g.D.Disk _
-    (tied_stored (run_state_of old) (map (λ g. g.items) c.push.new.self.items) old.keeper.state new.state c.in-Ok-append.batch next tied)
-    c.requires.desk.known (c.len.ensures ∙ omega (arith, c.push.new.self.ok.0, length-map c.push.new.self.items (λ g. g.items))) (λ honest. c.append.ensures.durable honest works)
-
-pub returns-in-Ok-append-clause-goes : goal.returns-in-Ok-append-clause-goes
-returns-in-Ok-append-clause-goes g c =
-    let old = c.args.self.now in
-    let batch = c.args.batch in
+    let desk = c.requires.desk in
     let e = c.in-Ok-append.ensures in
-    let replica : c.append.new.self.state ≡ after_all old.keeper.state batch.entries = e.appended.state in
+    let back : c.in-Ok-append.batch ≡ batch = e.returned in
+    let replica : new.state ≡ after_all old.keeper.state batch.entries = e.appended.state in
+    let next : new.state ≡ after_all old.keeper.state c.in-Ok-append.batch.entries = replica ∙ ap (λ (b : Batch). after_all old.keeper.state b.entries) (sym back) in
+    let tied = subst (λ (b : Batch). IsAhead (handing (run_state_of old) (Cut b)) old.keeper.state) (sym back) desk.tied in
     let stored : c.len.result ≡ length (map (λ g. g.items) c.push.new.self.items) =
     c.len.ensures ∙ omega (arith, c.push.new.self.ok.0, length-map c.push.new.self.items (λ g. g.items)) in
     let groups : map (λ g. g.items) c.push.new.self.items ≡ map (λ g. g.items) old.trace.groups.items ++ batch.entries ∷ [] =
     pushed (λ g. g.items) old.trace.groups.items c.push.new.self.items c.in-Ok.group batch.entries c.push.result c.is_err.result c.push.ensures.items c.is_err.ensures.value c.if-is_err.false
     (c.in-Ok.ensures ∙ c.as_slice.ensures.entries) in
     record {
+      desk =
+          desk_stored g.D.Disk _
+          (tied_stored (run_state_of old) (map (λ g. g.items) c.push.new.self.items) old.keeper.state new.state c.in-Ok-append.batch next tied)
+          desk.known stored (λ honest. c.append.ensures.durable honest e.ends.after);
       owes = refl;
       advances =
           advances_group g.D.Disk (with_handed (desk_of old) (Cut batch)) _ batch.entries groups
-          (c.requires.desk.all c.requires.works) c.requires.desk.tied.handed.1 (legal_both old.keeper.state batch.entries old.front.service.pending c.requires.desk.tied.legal).0
+          (desk.all c.requires.works) desk.tied.handed.1 (legal_both old.keeper.state batch.entries old.front.service.pending desk.tied.legal).0
           (inr (stored, replica)) c.append.ensures.any_moment c.append.ensures.honesty;
       ends = (
         record { fine = record { before = e.ends.before; after = e.ends.after; still = e.ends.still }; grows = stores_one (with_handed (desk_of old) (Cut batch)) _ batch.entries groups e.appended.state e.appended.store },
@@ -75,21 +67,12 @@ returns-in-NoMemory g c =
     let old = c.args.self.now in
     let batch = c.args.batch in
     let new = c.append.new.self in
-    let back : c.in-Err.batch ≡ batch = c.in-Err.ensures.returned in
     let kept : new ≡ old.keeper = (short_given g.D.Disk (ForBatch old.keeper batch.first batch.entries) c.in-Err.fault old.keeper new c.in-NoMemory.is c.in-Err.ensures.ends).1.same in
-    let replica : new.state ≡ old.keeper.state = c.in-Err.ensures.err in
     let groups : map (λ g. g.items) c.pop.new.self.items ≡ map (λ g. g.items) old.trace.groups.items =
     popped (λ g. g.items) old.trace.groups.items c.push.new.self.items c.pop.new.self.items _ _ c.push.result c.is_err.result c.push.ensures.items c.is_err.ensures.value c.if-is_err.false
     c.push.new.self.ok.0 c.pop.ensures.rest in
-    record {
-      desk =
-          desk_as g.D.Disk (with_handed (desk_of old) (Cut batch)) _ c.requires.desk (record { keeper = kept; groups = groups; synced = refl })
-          (tied_cut (run_state_of old) (map (λ g. g.items) c.pop.new.self.items) old.keeper.state new.state batch c.in-Err.batch back replica c.requires.desk.tied) c.requires.desk.known;
-      clients = refl;
-      goes =
-          unstored {k = g.D.Disk} g.met.D.Disk.only_now c.in-NoMemory.is c.requires.desk c.requires.works
-          (record { batch = batch; handed = refl }) (handed_back (with_handed (desk_of old) (Cut batch)) c.in-Err.batch batch _ _ back groups kept);
-    }
+    unstored {k = g.D.Disk} g.met.D.Disk.only_now c.in-NoMemory.is c.requires
+    (record { batch = batch; handed = refl }) (handed_back (with_handed (desk_of old) (Cut batch)) c.in-Err.batch batch _ _ c.in-Err.ensures.returned groups kept)
 
 pub returns-in_default-fault : goal.returns-in_default-fault
 returns-in_default-fault g c =
@@ -115,25 +98,22 @@ returns-in_default-fault g c =
           desk_torn g.D.Disk g.met.D.Disk.counts_now (with_handed (desk_of old) (Cut batch)) _ batch.entries c.requires.works
           groups all refl replica breaks.failed c.append.ensures.any_moment c.append.ensures.honesty
           (tied_cut (run_state_of old) (map (λ g. g.items) c.push.new.self.items) old.keeper.state new.state batch c.in-Err.batch back replica tied) c.requires.desk.known;
-      clients = refl;
-      goes = record {
-        owes = refl;
-        advances =
-            advances_group g.D.Disk (with_handed (desk_of old) (Cut batch)) _ batch.entries groups all tied.handed.1 legal
-            (inl (refl, replica)) c.append.ensures.any_moment c.append.ensures.honesty;
-        ends =
-            subst
-            (Faults g.D.Disk (IsUnstored (with_handed (desk_of old) (Cut batch))) (Is (handing (run_state_of old) (Cut batch))) (with_handed (desk_of old) (Cut batch))
-            (with_handed (desk_of (record old { keeper = new; trace = record old.trace { groups = c.push.new.self } })) (Cut c.in-Err.batch))) (sym device)
-            (record {
-              last = handing (run_state_of old) (Cut batch);
-              until = refl;
-              tears = record {
-                at_hand = record { batch = batch; handed = refl };
-                run_state = ap (λ (b : Batch). record (handing (run_state_of old) (Cut b)) { groups = map (λ g. g.items) c.push.new.self.items }) back ∙ ap (λ gs. record (handing (run_state_of old) (Cut batch)) { groups = gs }) groups;
-                synced = all;
-              };
-              failed = record { before = breaks.before; failed = breaks.failed; rises = breaks.rises };
-            });
-      };
+      owes = refl;
+      advances =
+          advances_group g.D.Disk (with_handed (desk_of old) (Cut batch)) _ batch.entries groups all tied.handed.1 legal
+          (inl (refl, replica)) c.append.ensures.any_moment c.append.ensures.honesty;
+      ends =
+          subst
+          (Faults g.D.Disk (IsUnstored (with_handed (desk_of old) (Cut batch))) (Is (handing (run_state_of old) (Cut batch))) (with_handed (desk_of old) (Cut batch))
+          (with_handed (desk_of (record old { keeper = new; trace = record old.trace { groups = c.push.new.self } })) (Cut c.in-Err.batch))) (sym device)
+          (record {
+            last = handing (run_state_of old) (Cut batch);
+            until = refl;
+            tears = record {
+              at_hand = record { batch = batch; handed = refl };
+              run_state = ap (λ (b : Batch). record (handing (run_state_of old) (Cut b)) { groups = map (λ g. g.items) c.push.new.self.items }) back ∙ ap (λ gs. record (handing (run_state_of old) (Cut batch)) { groups = gs }) groups;
+              synced = all;
+            };
+            failed = record { before = breaks.before; failed = breaks.failed; rises = breaks.rises };
+          });
     }

@@ -1,45 +1,47 @@
-use Rattle.std.proofs.Common.{◌<◌, length, map, refl, sym, ap, subst, List, arith}
+use Rattle.std.proofs.Common.{◌<◌, length, map, refl, sym, subst, List, arith}
 use Rattle.std.proofs.lemmas.List.{length-map}
-use Rattle.fe_desk.specs.DeskRunState.{Client, DeskRunState}
+use Rattle.fe_desk.specs.DeskRunState.{Client}
 use Rattle.fe_desk.specs.within.Desk.{client_of, desk_of, run_state_of}
 use Rattle.fe_desk.proofs.Places.{found_there}
 use Rattle.fe_desk.specs.Steps.{find}
 use Rattle.fe_desk.proofs.Reading.{left_among}
 use Rattle.fe_desk.proofs.Leftovers.{going_first, going_on, taken_still, taken_all, clients_then, rest_then, place_as, some_left, none_left_here, fewer_left}
-use Rattle.fe_desk.proofs.Stops.{first_stops, first_tears, roomy_stops}
+use Rattle.fe_desk.proofs.Stops.{first_stops, first_tears, room_keeps, roomy_stops}
 use Rattle.fe_desk.proofs.Goes.{then, passed, done}
 use Rattle.fe_desk.proofs.desk_inner.DeskInner.take_left.Goals as goal
 
 pub loop-self-init : goal.loop-self-init
 loop-self-init g c =
-    going_first {k = g.D.Disk} c.args.conn c.args.at (desk_of c.args.self.now) g.met.D.Disk.only_now c.requires.desk c.requires.works c.requires.place
+    going_first {k = g.D.Disk} c.args.conn c.args.at (desk_of c.args.self.now) g.met.D.Disk.only_now c.requires.ready c.requires.place
 
 pub index-requires : goal.index-requires
 index-requires g c = omega (arith, c.loop-self.invariant.place.within, length-map c.loop-self.self.trace.ports.items client_of)
 
-pub make_room-requires-clause-desk : goal.make_room-requires-clause-desk
-make_room-requires-clause-desk g c = c.loop-self.invariant.desk
-
-pub make_room-requires-clause-works : goal.make_room-requires-clause-works
-make_room-requires-clause-works g c = c.loop-self.invariant.goes.ends.0.fine.after
+pub make_room-requires : goal.make_room-requires
+make_room-requires g c =
+    let goes = c.loop-self.invariant.goes in
+    record { desk = goes.desk; works = goes.ends.0.fine.after }
 
 pub returns-in_err-make_room-clause-clients : goal.returns-in_err-make_room-clause-clients
 returns-in_err-make_room-clause-clients g c =
-    clients_then c.args.conn (run_state_of c.args.self.now) (run_state_of c.loop-self.self) (run_state_of c.make_room.new.self) c.make_room.ensures.clients c.loop-self.invariant.taken
+    clients_then c.args.conn (run_state_of c.args.self.now) (run_state_of c.loop-self.self) (run_state_of c.make_room.new.self) (room_keeps c.args.conn _ c.in_err-make_room.ensures.goes) c.loop-self.invariant.taken
 
 pub returns-in_err-make_room-clause-place : goal.returns-in_err-make_room-clause-place
-returns-in_err-make_room-clause-place g c = place_as _ _ c.args.conn c.args.at c.make_room.ensures.clients c.loop-self.invariant.place
+returns-in_err-make_room-clause-place g c = place_as _ _ c.args.conn c.args.at (room_keeps c.args.conn _ c.in_err-make_room.ensures.goes) c.loop-self.invariant.place
+
+pub take_next-requires-clause-place : goal.take_next-requires-clause-place
+take_next-requires-clause-place g c = place_as _ _ c.args.conn c.args.at (room_keeps c.args.conn _ c.in_ok-make_room.ensures.goes) c.loop-self.invariant.place
 
 pub take_next-requires-clause-some : goal.take_next-requires-clause-some
 take_next-requires-clause-some g c =
     let ports = c.loop-self.self.trace.ports.items in
     let some = some_left ports c.args.conn c.args.at c.index.result.now _ c.loop-self.invariant.place c.index.ensures c.has_left.ensures c.loop-self-test.true in
-    subst (λ (cs : List Client). 0 < length (left_among (find c.args.conn cs))) (sym c.make_room.ensures.clients) some
+    subst (λ (cs : List Client). 0 < length (left_among (find c.args.conn cs))) (sym (room_keeps c.args.conn _ c.in_ok-make_room.ensures.goes)) some
 
 pub loop-self-smaller : goal.loop-self-smaller
 loop-self-smaller g c =
     fewer_left (run_state_of c.loop-self.self) (run_state_of c.make_room.new.self) (run_state_of c.take_next.new.self) c.args.conn
-    c.make_room.ensures.clients (found_there (map client_of c.loop-self.self.trace.ports.items) c.args.conn c.args.at c.loop-self.invariant.place)
+    (room_keeps c.args.conn _ c.in_ok-make_room.ensures.goes) (found_there (map client_of c.loop-self.self.trace.ports.items) c.args.conn c.args.at c.loop-self.invariant.place)
     c.take_next.ensures.next
 
 pub loop-self-preserved : goal.loop-self-preserved
@@ -47,8 +49,7 @@ loop-self-preserved g c =
     going_on c.args.conn c.args.at (desk_of c.args.self.now) (desk_of c.loop-self.self) (desk_of c.make_room.new.self) (desk_of c.take_next.new.self)
     (found_there (map client_of c.args.self.now.trace.ports.items) c.args.conn c.args.at c.requires.place) c.loop-self.invariant
     c.in_ok-make_room.ensures.goes
-    c.take_next.ensures.next (record { keeper = c.take_next.ensures.keeper; groups = ap (λ (u : DeskRunState). u.groups) c.take_next.ensures.next.after; synced = c.take_next.ensures.synced })
-    c.take_next.ensures.desk
+    c.take_next.ensures.next c.take_next.ensures.stays
 
 pub returns-clause-clients : goal.returns-clause-clients
 returns-clause-clients g c =
@@ -56,7 +57,7 @@ returns-clause-clients g c =
 
 pub returns-in_err-make_room-clause-rest : goal.returns-in_err-make_room-clause-rest
 returns-in_err-make_room-clause-rest g c =
-    rest_then c.args.conn (run_state_of c.args.self.now) (run_state_of c.loop-self.self) (run_state_of c.make_room.new.self) c.make_room.ensures.clients c.loop-self.invariant.taken
+    rest_then c.args.conn (run_state_of c.args.self.now) (run_state_of c.loop-self.self) (run_state_of c.make_room.new.self) (room_keeps c.args.conn _ c.in_err-make_room.ensures.goes) c.loop-self.invariant.taken
 
 pub returns-clause-rest : goal.returns-clause-rest
 returns-clause-rest g c = c.loop-self.invariant.taken.rest
@@ -67,14 +68,14 @@ returns-in_err-make_room-clause-goes g c =
     let a = desk_of c.loop-self.self in
     let u = desk_of c.make_room.new.self in
     let going = c.loop-self.invariant in
-    let clients = c.make_room.ensures.clients in
+    let clients = room_keeps c.args.conn _ c.in_err-make_room.ensures.goes in
     let some = some_left c.loop-self.self.trace.ports.items c.args.conn c.args.at c.index.result.now _ going.place c.index.ensures c.has_left.ensures c.loop-self-test.true in
     then going.goes
     (passed c.from_residual.ensures.1
     (λ short. record {
       stops = first_stops c.args.conn old.run_state a.run_state u.run_state some clients short.until short.at_hand going.taken;
       still = subst (λ (cs : List Client). 0 < length (left_among (find c.args.conn cs))) (sym clients) some;
-      again = taken_still c.args.conn old.run_state a.run_state u.run_state some (roomy_stops a.run_state u.run_state c.args.conn going.desk.tied.handed short.until) clients going.taken;
+      again = taken_still c.args.conn old.run_state a.run_state u.run_state some (roomy_stops a.run_state u.run_state c.args.conn going.goes.desk.tied.handed short.until) clients going.taken;
     })
     (λ last stops tears. first_tears c.args.conn old.run_state a.run_state last u some clients stops going.taken tears) c.in_err-make_room.ensures.goes)
 

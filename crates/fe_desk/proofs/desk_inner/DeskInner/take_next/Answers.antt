@@ -11,15 +11,20 @@ first_left-message-requires g c =
     let ports = c.args.self.now.trace.ports.items in
     subst (λ (ms : List ClientMessage). 0 < length ms) (left_here ports c.args.conn c.args.at c.index_mut.result.now c.requires.place c.index_mut.ensures.value) c.requires.some
 
-pub returns-clause-desk : goal.returns-clause-desk
-returns-clause-desk g c =
+pub returns-clause-stays : goal.returns-clause-stays
+returns-clause-stays g c =
     let ports = c.args.self.now.trace.ports.items in
     let q = c.first_left-message.new.port in
     let taken = c.take_message.ensures.taken in
-    desk_enters g.D.Disk (desk_of c.args.self.now) _ taken.0 c.args.conn (relieved (client_of q).left)
-    (record { keeper = refl; groups = refl; synced = refl }) refl taken.2
-    (port_changed ports c.args.conn c.args.at c.index_mut.result.now q (relieved (client_of q).left) c.requires.place c.index_mut.ensures.value c.first_left-message.ensures.client)
-    (λ d. refl) c.requires.desk
+    record {
+      desk = λ desk.
+          desk_enters g.D.Disk (desk_of c.args.self.now) _ taken.0 c.args.conn (relieved (client_of q).left)
+          (record { keeper = refl; groups = refl; synced = refl }) refl taken.2
+          (port_changed ports c.args.conn c.args.at c.index_mut.result.now q (relieved (client_of q).left) c.requires.place c.index_mut.ensures.value c.first_left-message.ensures.client)
+          (λ d. refl) desk;
+      store = record { keeper = refl; groups = refl; synced = refl };
+      owes = refl;
+    }
 
 pub returns-clause-next : goal.returns-clause-next
 returns-clause-next g c =
