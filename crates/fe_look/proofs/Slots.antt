@@ -114,3 +114,24 @@ module _ (seen start parts copy fields : List ℕ) (slot : ℕ) (has : HasParts 
         elsewhere = torn_again (header_of slot) 2101248 start parts copy (torn_wider (header_of slot) 2101248 (image_of slot) 2097152 start parts (omega arith) (omega arith) has.elsewhere)
             (torn_wider (header_of slot) 2101248 (header_of slot) 4096 parts copy (omega arith) (omega arith) torn);
       }
+
+-- The same, where the code writes: the fields to an offset of its own name, and then the gate before the image.
+pub header_put : (seen start parts put fields : List ℕ) (slot at image : ℕ) → slot < 2 → length parts ≡ 4202496 → length fields ≡ 20 → at ≡ header_of slot → image ≡ image_of slot → put ≡ after_write parts at fields → HasParts seen slot start parts
+    → IsSlotCopy seen slot fields start (set put (image - 1) 1)
+header_put seen start parts put fields slot at image is_slot room long at_is image_is is has =
+    let gate = gate_of slot in
+    let copy = set put gate 1 in
+    let there : image - 1 ≡ gate = omega (arith, image_is) in
+    let written : put ≡ after_write parts (header_of slot) fields = subst (λ (k : ℕ). put ≡ after_write parts k fields) at_is is in
+    let fits : header_of slot + length fields ≤ length parts = omega (arith, room, long, is_slot) in
+    let torn : IsTorn (header_of slot) 20 parts put =
+    subst (λ (n : ℕ). IsTorn (header_of slot) n parts put) long (subst (λ (l : List ℕ). IsTorn (header_of slot) (length fields) parts l) (sym written) (IsTorn-after_write parts (header_of slot) fields fits)) in
+    let whole = torn.whole in
+    let fields_are : bytes_at put (header_of slot) 20 ≡ fields =
+    subst (λ (n : ℕ). bytes_at put (header_of slot) n ≡ fields) long (subst (λ (l : List ℕ). bytes_at l (header_of slot) (length fields) ≡ fields) (sym written) (bytes_at-after_write parts (header_of slot) fields fits)) in
+    subst (λ (k : ℕ). IsSlotCopy seen slot fields start (set put k 1)) (sym there)
+    (slot_copied seen start parts copy fields slot has
+    (torn_again (header_of slot) 4096 parts put copy (torn_wider (header_of slot) 4096 (header_of slot) 20 parts put (omega arith) (omega arith) torn)
+    (torn_wider (header_of slot) 4096 gate 1 put copy (omega arith) (omega arith) (set_torn put gate 1)))
+    (bytes_at_elsewhere gate 1 put copy (set_torn put gate 1) (header_of slot) 20 (inl (omega arith)) ∙ fields_are)
+    (get_or-set_same put gate 1 0 (omega (arith, whole, room, is_slot))))

@@ -4,11 +4,6 @@ use Rattle.std.specs.Prelude.{◌≡◌, ◌+◌, ◌<◌, ℕ, List, [], ◌∷
 use Rattle.fe_disk.specs.Disk.{IsTorn, bytes_at}
 use Rattle.fe_journal.specs.Layout.{area_bytes, header_of, gate_of, image_of, area_of, number_at, IsGateOpen, IsGateShut}
 
--- the length after a gate, if the gate is open
-abbrev pub IsLengthAfter : List ℕ → ℕ → Option ℕ → Type 0
-IsLengthAfter bytes gate None = IsGateShut bytes gate
-IsLengthAfter bytes gate (Some n) = IsGateOpen bytes gate × (number_at bytes (gate + 1) 4 ≡ n)
-
 -- From the gate at `at` in an area on, each gate is open and has the next of these lengths after it, until one at `end` that is not open.
 abbrev pub GatesEnd : List ℕ → ℕ → ℕ → List ℕ → ℕ → Type 0
 GatesEnd bytes area at [] end = (at ≡ end) × IsGateShut bytes (area + at)

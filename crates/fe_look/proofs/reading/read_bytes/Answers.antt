@@ -8,7 +8,7 @@ use Rattle.fe_look.proofs.reading.read_bytes.Goals as goal
 pub loop-k-preserved : goal.loop-k-preserved
 loop-k-preserved g c =
     let seen = g.D.Disk.seen c.args.disk.now in
-    let told = λ (honest : g.D.Disk.honest c.args.disk.now). subst (λ (l : List ℕ). TellsReading l c.in_ok-bytes.field-0) (c.loop-k.invariant.reads honest).same (c.in_ok-bytes.ensures.tells (c.loop-k.invariant.kept.honesty.1 honest)) in
+    let told = λ (honest : g.D.Disk.honest c.args.disk.now). subst (λ (l : List ℕ). TellsReading l c.in_ok-bytes.field-0) (c.loop-k.invariant.kept.reads honest).same (c.in_ok-bytes.ensures.tells (c.loop-k.invariant.kept.honesty.1 honest)) in
     record {
       never = λ honest is_formatted. elim c.match-branch-2.branch [
         | in-Overtaken w ↦ subst (λ (r : Reading). TellsReading seen r) w.in-Overtaken.is (told honest)
@@ -18,7 +18,6 @@ loop-k-preserved g c =
         | in-Overtaken w ↦ absurd (subst (λ (r : Reading). TellsReading seen r) w.in-Overtaken.is (told honest))
         | in-Unformatted w ↦ subst (λ (r : Reading). TellsReading seen r) w.in-Unformatted.is (told honest)
       ];
-      reads = search rules;
       still = search rules;
       kept = search rules;
     }

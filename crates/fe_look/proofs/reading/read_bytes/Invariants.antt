@@ -1,6 +1,5 @@
 use Rattle.std.proofs.Common.{◌<◌, ◌≡◌, true}
 use Rattle.fe_journal.specs.Damage.{IsUnformatted}
-use Rattle.fe_journal.specs.Steps.{OnlyReads}
 use Rattle.fe_look.specs.Calls.{KeepsDisk}
 use Rattle.fe_look.proofs.reading.read_bytes.Given as goal
 
@@ -8,7 +7,6 @@ abbrev pub invariant-loop-k : goal.invariant-loop-k
 invariant-loop-k g l = record {
   never : g.D.Disk.honest l.fn.disk → l.is_formatted ≡ true → ⊥;
   tells : g.D.Disk.honest l.fn.disk → 0 < l._k → IsUnformatted (g.D.Disk.seen l.fn.disk);
-  reads : g.D.Disk.honest l.fn.disk → OnlyReads g.D.Disk l.fn.disk l.disk;
   still : g.D.Disk.failures l.disk ≡ g.D.Disk.failures l.fn.disk;
   kept : KeepsDisk g.D.Disk l.fn.disk l.disk;
 }

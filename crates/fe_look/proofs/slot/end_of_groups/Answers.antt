@@ -1,27 +1,33 @@
-use Rattle.std.proofs.Common.{rules, ℕ, ◌+◌, List, [], ◌∷◌, Option, subst, refl}
-use Rattle.fe_look.specs.Slot.{IsLengthAfter}
+use Rattle.std.proofs.Common.{rules, ◌≡◌, ◌+◌, ℕ, List, [], ◌∷◌, sym, ◌∙◌, subst, refl}
+use Rattle.std.specs.Prelude.{slice_index}
+use Rattle.fe_journal.specs.Layout.{number_at, IsGateShut}
 use Rattle.fe_look.proofs.slot.end_of_groups.Goals as goal
 
-pub returns-in_default-clause-ends : goal.returns-in_default-clause-ends
-returns-in_default-clause-ends g c = λ honest.
-    let kept = c.loop-at.invariant.kept.honesty.1 honest in
-    let same = (c.loop-at.invariant.reads honest).same in
-    let read = subst (λ (l : List ℕ). IsLengthAfter l (c.args.area + c.loop-at.at) c.in_ok-length.field-0) same (c.in_ok-length.ensures.length kept) in
-    let shut = subst (λ (o : Option ℕ). IsLengthAfter (g.D.Disk.seen c.args.disk.now) (c.args.area + c.loop-at.at) o) c.in_default.is read in
+pub returns-then-branch-ne1-clause-ends : goal.returns-then-branch-ne1-clause-ends
+returns-then-branch-ne1-clause-ends g c = λ honest.
+    let seen = g.D.Disk.seen c.args.disk.now in
+    let gate = c.args.area + c.loop-at.at in
+    let same = (c.loop-at.invariant.kept.reads honest).same in
+    let byte = subst (λ (l : List ℕ). c.in_ok-read_byte.field-0 ≡ slice_index l gate) same (c.in_ok-read_byte.ensures.byte (c.loop-at.invariant.kept.honesty.1 honest)) in
+    let shut : IsGateShut seen gate = λ is_open. absurd (search (rules, byte, is_open)) in
     c.loop-at.invariant.leads honest [] c.loop-at.at (refl, shut)
 
 pub loop-at-preserved : goal.loop-at-preserved
 loop-at-preserved g c = record {
   leads = λ honest ns end gates.
-      let kept = c.loop-at.invariant.kept.honesty.1 honest in
-      let same = (c.loop-at.invariant.reads honest).same in
-      let read = subst (λ (l : List ℕ). IsLengthAfter l (c.args.area + c.loop-at.at) c.in_ok-length.field-0) same (c.in_ok-length.ensures.length kept) in
-      let after = subst (λ (o : Option ℕ). IsLengthAfter (g.D.Disk.seen c.args.disk.now) (c.args.area + c.loop-at.at) o) c.in-Some.is read in
-      c.loop-at.invariant.leads honest (c.in-Some.length ∷ ns) end (after.0, after.1, gates);
-  reads = search rules;
+      let seen = g.D.Disk.seen c.args.disk.now in
+      let gate = c.args.area + c.loop-at.at in
+      let honest_1 = c.loop-at.invariant.kept.honesty.1 honest in
+      let same = (c.loop-at.invariant.kept.reads honest).same in
+      let byte = subst (λ (l : List ℕ). c.in_ok-read_byte.field-0 ≡ slice_index l gate) same (c.in_ok-read_byte.ensures.byte honest_1) in
+      let same_1 = (c.in_ok-read_byte.ensures.device.kept.reads honest_1).same ∙ same in
+      let number = subst (λ (l : List ℕ). c.in_ok-at.field-0 ≡ number_at l (gate + 1) 4) same_1 (c.in_ok-at.ensures.number (c.in_ok-read_byte.ensures.device.kept.honesty.1 honest_1)) in
+      let is_open : slice_index seen gate ≡ 1 = search (rules, byte) in
+      c.loop-at.invariant.leads honest (c.in_ok-at.field-0 ∷ ns) end (is_open, sym number, gates);
   still = search rules;
   works = λ later rises.
-      let fault = c.in_ok-length.ensures.device.fault in
+      let byte = c.in_ok-read_byte.ensures.device.fault in
+      let number = c.in_ok-at.ensures.device.fault in
       absurd (search rules);
   kept = search rules;
 }

@@ -1,6 +1,5 @@
 use Rattle.std.proofs.Common.{◌-◌, ◌<◌, ◌≡◌, ℕ, List}
 use Rattle.fe_disk.specs.Disk.{Rises}
-use Rattle.fe_journal.specs.Steps.{OnlyReads}
 use Rattle.fe_look.specs.Calls.{KeepsDisk}
 use Rattle.fe_look.specs.Slot.{EndsAt, GatesEnd}
 use Rattle.fe_look.proofs.slot.end_of_groups.Given as goal
@@ -8,7 +7,6 @@ use Rattle.fe_look.proofs.slot.end_of_groups.Given as goal
 abbrev pub invariant-loop-at : goal.invariant-loop-at
 invariant-loop-at g l = record {
   leads : g.D.Disk.honest l.fn.disk → (ns : List ℕ) (end : ℕ) → GatesEnd (g.D.Disk.seen l.fn.disk) l.area l.at ns end → EndsAt (g.D.Disk.seen l.fn.disk) l.area end;
-  reads : g.D.Disk.honest l.fn.disk → OnlyReads g.D.Disk l.fn.disk l.disk;
   still : g.D.Disk.failures l.disk ≡ g.D.Disk.failures l.fn.disk;
   works : 0 < l.at → Rises (g.D.Disk.failures l.fn.disk) (g.D.Disk.failures l.disk) → ⊥;
   kept : KeepsDisk g.D.Disk l.fn.disk l.disk;
