@@ -26,6 +26,7 @@ pub use groups::Groups;
 pub use journal::Journal;
 pub use laws::{held_or_refused, layout_is, one_contents};
 pub use layout::{
-    AREA_BYTES, DEVICE_BYTES, HEADER_BYTES, LONGEST_PAYLOAD, SLICE_BYTES, header_of, image_of,
+    AREA_BYTES, DEVICE_BYTES, HEADER_BYTES, LONGEST_PAYLOAD, SLICE_BYTES, area_of, header_of,
+    image_of,
 };
 pub use opening::Found;

@@ -3,7 +3,6 @@
 
 mod fault;
 mod header;
-mod laws;
 mod looking;
 mod parts;
 mod reading;
@@ -11,5 +10,4 @@ mod slot;
 mod state_text;
 
 pub use fault::LookFault;
-pub use laws::layout_is;
 pub use looking::{look, look_at, look_copy};

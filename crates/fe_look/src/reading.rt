@@ -18,7 +18,7 @@ use fe_store::OpenFault;
 use std::alloc::{AllocError, Global};
 
 /// The most readings of a store: one more each time that a checkpoint begins.
-const TRIES: u64 = 100;
+const MOST_READINGS: u64 = 100;
 
 /// What one reading of a store found.
 #[derive(Drop)]
@@ -68,7 +68,7 @@ fn read_bytes<D: Disk>(alloc: Global, disk: &mut D) -> Result<Vec<u8>, OpenFault
     ensures kept { KeepsDisk D.Disk disk.old disk.new }
 {
     let mut is_formatted = false;
-    for _k in 0..TRIES {
+    for _k in 0..MOST_READINGS {
         match read_once(alloc, disk)? {
             Reading::Whole(bytes) => return Ok(bytes),
             Reading::Overtaken => is_formatted = true,

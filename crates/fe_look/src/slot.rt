@@ -10,10 +10,7 @@ ghost use Rattle.fe_look.specs.HeaderBytes.{IsHeaderOf};
 use crate::header::{HeaderBytes, read_header};
 use crate::parts::{read_byte, read_number, read_part};
 use fe_disk::{DeviceFault, Disk};
-use fe_journal::{AREA_BYTES, DEVICE_BYTES, header_of, image_of};
-
-/// Where a slot's journal area begins in it. The area ends the slot (`docs/formats.md`, "Device").
-const AREA_BEGIN: usize = DEVICE_BYTES / 2 - AREA_BYTES;
+use fe_journal::{AREA_BYTES, area_of, header_of, image_of};
 
 /// Reads a slot into bytes that are zero, with the groups whose gates were open. It is there whole if its header is the same
 /// still, and else a checkpoint began in it.
@@ -51,7 +48,7 @@ fn read_parts<D: Disk>(disk: &mut D, bytes: &mut [u8], slot: usize) -> Result<()
     ensures device { OnlyAsks D.Disk result disk.old disk.new }
 {
     let image = image_of(slot);
-    let area = header_of(slot) + AREA_BEGIN;
+    let area = area_of(slot);
     read_part(disk, bytes, image, area - image)?;
     let end = end_of_groups(disk, area)?;
     read_part(disk, bytes, area, AREA_BYTES)?;
