@@ -17,7 +17,7 @@ use Rattle.fe_service.specs.Events.{MaySettle, IsFree, floor_of}
 use Rattle.fe_mail.specs.Connections.{session_on}
 use Rattle.fe_mail.specs.declared.refusal.Refusal.{Refusal}
 use Rattle.fe_mail.specs.declared.refusal.Refusal.TheVariants.{NotAttached, Closing, BelowFloor, BeyondWindow, StillWaiting, Spent}
-use Rattle.fe_front.specs.Front.{FrontState, is_spent}
+use Rattle.fe_front.specs.Front.{FrontState, IsFront, is_spent}
 use Rattle.fe_front.specs.Refusals.{and_then, own, unclosing, unspent, in_window, addressed, may_settle, settling, leaving, waits_below}
 use Rattle.fe_front.specs.Call.{kept_at, request_at}
 use Rattle.fe_front.proofs.Agreement.{Agree}
@@ -142,7 +142,7 @@ window_tests false true s session e = (refl, refl, ok_same s session e)
 window_tests false false s session e = err_ok BeyondWindow session e
 window_tests true b s session e = err_ok BelowFloor session e
 
-pub addresses : (f : FrontState) (conn session number : ℕ) → addressed f conn number ≡ Ok session → Owns f conn session × InWindow f session number
+addresses : (f : FrontState) (conn session number : ℕ) → addressed f conn number ≡ Ok session → Owns f conn session × InWindow f session number
 addresses f conn session number e =
     let (s, mine, rest) = both_passed (own f conn) (in_window f number) session e in
     let (not_below, within, same) = window_tests (nat_lt number (floor_of f.service s)) (nat_lt number (floor_of f.service s + 32)) s session rest in
@@ -165,7 +165,7 @@ nothing_at f session number e = by (kept_at f session number) refl e
     by None is e = (is, waits (get f.service.waiting (session, number)) refl e)
     by (Some k) is e = some_none _ e
 
-pub free_number : (f : FrontState) (session number : ℕ) → IsSome (get f.service.state.sessions session) → InWindow f session number → request_at f session number ≡ None → IsFree f.service session number
+free_number : (f : FrontState) (session number : ℕ) → IsSome (get f.service.state.sessions session) → InWindow f session number → request_at f session number ≡ None → IsFree f.service session number
 free_number f session number there w e = record { usable = by (get f.service.state.sessions session) refl there; new = (nothing_at f session number e).1 }
   where
     by : (o : Option Session) → get f.service.state.sessions session ≡ o → IsSome o → IsSomeAnd o (λ x. IsUsable x number)
@@ -177,3 +177,9 @@ free_number f session number there w e = record { usable = by (get f.service.sta
         let at : floor_of f.service session ≡ x.floor = ap (λ (o : Option Session). option_map_or (λ x. x.floor) o 1) is in
         let unkept : get x.kept number ≡ None = sym (ap (λ o. kept_in o number) is) ∙ (nothing_at f session number e).0 in
         record { in_window = record { not_below = omega (arith, at, w.least); not_beyond = omega (arith, at, w.most) }; not_kept = unkept }
+
+-- a number in the window of a connection's session is free where it belongs to no request
+pub free_within : (f : FrontState) (conn session number : ℕ) → IsFront f → addressed f conn number ≡ Ok session → request_at f session number ≡ None → IsFree f.service session number
+free_within f conn session number front e new =
+    let (mine, window) = addresses f conn session number e in
+    free_number f session number (own_there f conn session front.service front.tied.agree mine) window new

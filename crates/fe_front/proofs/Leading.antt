@@ -25,7 +25,7 @@ use Rattle.fe_mail.specs.declared.mail.Mail.TheVariants as mail
 use Rattle.fe_state.specs.declared.kept.Kept.{Kept}
 use Rattle.fe_front.specs.declared.outcome.Outcome.{Outcome}
 use Rattle.fe_front.specs.declared.outcome.Outcome.TheVariants as outcome
-use Rattle.fe_front.proofs.Admitted.{leaves, settles, own_there, may_settle_to, addresses, free_number}
+use Rattle.fe_front.proofs.Admitted.{leaves, settles, own_there, may_settle_to, free_within}
 use Rattle.fe_front.proofs.Counts.{waiting-served}
 use Rattle.fe_front.proofs.Keeping.{released-keeps, freed-keeps, mailed-keeps, dropped-keeps, posted_all-keeps}
 use Rattle.fe_front.proofs.Attaching.{attaches, left_of}
@@ -85,8 +85,7 @@ complete_leads : (f f' : FrontState) (conn session number : ℕ) (request : Requ
     → Completed f session number request n es f' → Leads f es f'
 complete_leads f f' conn session number request n es front e r =
     let own = Finished session number request r.answer in
-    let (mine, window) = addresses f conn session number e in
-    let free = free_number f session number (own_there f conn session front.service front.tied.agree mine) window r.new in
+    let free = free_within f conn session number front e r.new in
     let legal : IsLegal f.service.state own = record { has_place = place_left f r.unspent; allowed = free.usable; answered = r.answered } in
     let serves = r.completes.serves in
     let few = waiting-served (after f.service.state own) f.service.waiting r.served serves.turns in

@@ -155,30 +155,6 @@ impl Front {
         self.books.call_waits();
     }
 
-    /// Begins a request under a number of the window that belongs to no request yet.
-    fn begin(&mut self, session: u64, number: u64, request: Request) -> Result<Outcome, Refusal>
-        requires free { IsFree self.old.service session number }
-        requires new { request_at self.old session number ≡ None }
-        requires unspent { is_spent self.old ≡ false }
-        requires room { HasRoom self.old.service }
-        ensures called { (conn : ℕ)
-            → IfOk result
-            (λ outcome. (entries : List Entry)
-            × Called self.old conn session number request outcome entries self.new) }
-        ensures refusal { IfErr result (λ refusal. refusal ≡ Refusal.NoMemory) }
-        ensures memory { OnErr result ((answer : _) × (reply self.old.service.state request ≡ Some answer)
-            × MakesArray (Finished session number request answer)) }
-        ensures err { OnErr result (self.new ≡ self.old) }
-    {
-        match self.service.state().look(&request) {
-            Some((answer, effect)) => self.complete(session, number, request, answer, effect),
-            None => {
-                self.wait(session, number, request);
-                Ok(Outcome::Waits)
-            }
-        }
-    }
-
     /// Makes a call, or says why it is refused. The number has to be in the window, and new or of the same request. A
     /// refusal is not booked yet.
     pub(crate) fn try_call(
@@ -234,9 +210,16 @@ impl Front {
             }
             None => {
                 if self.is_spent() {
-                    Err(Refusal::Spent)
-                } else {
-                    self.begin(session, number, request)
+                    return Err(Refusal::Spent);
+                }
+                match self.service.state().look(&request) {
+                    Some((answer, effect)) => self.complete(
+                        session, number, request, answer, effect,
+                    ),
+                    None => {
+                        self.wait(session, number, request);
+                        Ok(Outcome::Waits)
+                    }
                 }
             }
         }
