@@ -1,8 +1,9 @@
 -- What opening reads of the slots of a store.
 use Rattle.std.proofs.Common.{◌≡◌, ◌⊎◌, ◌↔◌, OnOk, ℕ, ◌+◌, ◌<◌, ◌≤◌, List, length, Option, Some, None, Result, Ok, Err, inl, inr, ⊎_elim, sym, ◌∙◌, subst, refl, arith}
 use Rattle.std.proofs.lemmas.Bool.{cases_lt}
-use Rattle.fe_disk.specs.Disk.{Rises, bytes_at}
-use Rattle.fe_disk.proofs.Moments.{joined, weaker}
+use Rattle.fe_disk.specs.Disk.{AddsNone, Rises, bytes_at}
+use Rattle.fe_disk.specs.Runs.{HasElapsed}
+use Rattle.fe_disk.proofs.Moments.{started, goes_on, joined, weaker}
 use Rattle.fe_journal.specs.Layout.{header_of, area_of, area_bytes, device_bytes, number_at}
 use Rattle.fe_format.specs.Layout.{IsImageLength}
 use Rattle.fe_journal.specs.Groups.{GroupFits, end_of_groups}
@@ -18,6 +19,12 @@ use Rattle.fe_journal.specs.declared.fault.StoreFault.TheVariants.{Unformatted, 
 use Rattle.fe_journal.proofs.Bytes.{SameBytes, same_back, same_part, same_byte, same_number_at, known_same}
 use Rattle.fe_journal.proofs.Frames.{stand_same}
 use Rattle.fe_disk.specs.declared.disk.Disk.{Ghosts}
+
+-- a call that changes nothing only reads
+pub call_reads : {D : Type 0} (model : Ghosts D) (old new : D) → ((image : List ℕ) → model.left_since old (model.moment old) image → model.may_leave old image)
+    → model.seen new ≡ model.seen old → AddsNone (model.may_leave old) (model.may_leave new) → HasElapsed model old new → OnlyReads model old new
+call_reads model old new only_now same adds_none time =
+    record { same = same; adds_none = adds_none; run = goes_on model old old new (model.may_leave old) (started model old (model.may_leave old) only_now) time adds_none }
 
 -- two calls that only read are one
 pub reads_again : {D : Type 0} (model : Ghosts D) (old mid new : D)

@@ -1,7 +1,7 @@
 // The two orders of writing that every crash promise rests on. A gate is a byte that makes what it guards count, if it
 // is 1 (`docs/store.md`, "Gates").
-ghost use Rattle.std.specs.Prelude.{◌≡◌, ◌+◌, ◌≤◌, [], ◌∷◌, length, OnOk};
-ghost use Rattle.fe_disk.specs.Disk.{IsTorn, LeavesJust, after_write};
+ghost use Rattle.std.specs.Prelude.{◌≡◌, ◌+◌, ◌≤◌, length, OnOk};
+ghost use Rattle.fe_disk.specs.Disk.{IsTorn, LeavesJust};
 ghost use Rattle.fe_disk.specs.Runs.{LeavesOnly, Asks, AsksAtMost};
 ghost use Rattle.fe_journal.specs.Layout.{IsGateShut};
 ghost use Rattle.fe_journal.specs.Steps.{after_commit, IsLeftInCommit, IsLeftInShutting, Shuts};
@@ -29,20 +29,6 @@ pub fn commit<D: Disk>(
 {
     disk.write_at(at, bytes)?;
     disk.sync()?;
-    open_gate(disk, gate)
-}
-
-// Opens a gate, once all that was written is synced. Two device calls.
-fn open_gate<D: Disk>(disk: &mut D, gate: usize) -> Result<(), DeviceFault>
-    requires gate_fits { gate + 1 ≤ D.size disk.old }
-    requires settled { D.honest disk.old → LeavesJust (D.seen disk.old) (D.may_leave disk.old) }
-    ensures any_moment { D.honest disk.old
-        → LeavesOnly D.Disk disk.old disk.new (IsTorn gate 1 (D.seen disk.old)) }
-    ensures opened { D.honest disk.old → OnOk result (D.seen disk.new ≡ after_write (D.seen disk.old) gate (1 ∷ [])) }
-    ensures durable { D.honest disk.old → OnOk result (LeavesJust (D.seen disk.new) (D.may_leave disk.new)) }
-
-    ensures device { Asks D.Disk 0 1 1 result disk.old disk.new }
-{
     disk.write_at(gate, &[1])?;
     disk.sync()
 }

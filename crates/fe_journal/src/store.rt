@@ -1,12 +1,12 @@
 // A store as opening reads it from its device (`docs/store.md`, "Opening a store").
-ghost use Rattle.std.specs.Prelude.{◌≡◌, ◌⊎◌, ◌+◌, ◌≤◌, ◌<◌, length, Some, IfSome, IfOk, IfErr, IsErrOf, OnOk, vec_len};
+ghost use Rattle.std.specs.Prelude.{◌≡◌, ◌⊎◌, ◌+◌, ◌≤◌, ◌<◌, length, Some, IfOk, IfErr, IsErrOf, OnOk, vec_len};
 ghost use Rattle.fe_disk.specs.Disk.{LeavesJust, bytes_at};
 ghost use Rattle.fe_disk.specs.Runs.{Asks, Runs};
-ghost use Rattle.fe_journal.specs.Layout.{device_bytes, header_bytes, area_bytes, header_of};
+ghost use Rattle.fe_journal.specs.Layout.{device_bytes, header_bytes, header_of};
 ghost use Rattle.fe_format.specs.Layout.{IsImageLength};
 ghost use Rattle.fe_journal.specs.Damage.{TellsFound};
 ghost use Rattle.fe_journal.specs.Found.{AsksToOpen, ReadsInPart};
-ghost use Rattle.fe_journal.specs.Reading.{IsHeader, HeaderFault, GroupFault, GroupsEndAt};
+ghost use Rattle.fe_journal.specs.Reading.{IsHeader, HeaderFault, GroupsEndAt};
 ghost use Rattle.fe_journal.specs.Steps.{OnlyReads};
 ghost use Rattle.fe_journal.specs.Store.{CountsAs, IsSlotRead, AreParts, IsReadable, IsStore, IsWholeStore};
 ghost use Rattle.fe_journal.specs.declared.fault.StoreFault.TheVariants.{Device, NoMemory};
@@ -51,21 +51,6 @@ pub fn read_store<D: Disk>(alloc: Global, disk: &mut D) -> Result<Store, StoreFa
     if disk.size() != DEVICE_BYTES {
         return Err(StoreFault::Unformatted);
     }
-    read_synced(alloc, disk)
-}
-
-// Reads a store from a device of its size, on which all that was written is synced.
-fn read_synced<D: Disk>(alloc: Global, disk: &mut D) -> Result<Store, StoreFault>
-    requires device { D.size disk.old ≡ device_bytes }
-    requires settled { D.honest disk.old → LeavesJust (D.seen disk.old) (D.may_leave disk.old) }
-    ensures store { D.honest disk.old → IfOk result (IsStore (D.seen disk.old)) }
-    ensures faults { D.honest disk.old → IfErr result (λ fault. TellsFound fault (D.seen disk.old)) }
-    ensures memory { IsErrOf result NoMemory → ReadsInPart (D.calls disk.old) (D.calls disk.new) }
-    ensures whole { IfOk result IsWholeStore }
-    ensures reads { D.honest disk.old → OnlyReads D.Disk disk.old disk.new }
-
-    ensures device { Runs D.Disk 4 0 0 Device result disk.old disk.new }
-{
     let (slot, header) = read_sound(disk)?;
     let buffer = vec![in alloc; 0; AREA_BYTES]?;
     let parts = read_slot(alloc, disk, slot, &header)?;
@@ -77,7 +62,8 @@ fn read_synced<D: Disk>(alloc: Global, disk: &mut D) -> Result<Store, StoreFault
     })
 }
 
-// The slot that counts, and its header, if that allows the slot to be read.
+// The slot that counts, and its header, which was tested. Allocates nothing, so an unformatted store is reported as
+// such even if there is no memory.
 fn read_sound<D: Disk>(disk: &mut D) -> Result<(usize, Header), StoreFault>
     requires device { D.size disk.old ≡ device_bytes }
     ensures counts { D.honest disk.old → IfOk result (λ found. CountsAs (D.seen disk.old) (Some found)) }
@@ -87,7 +73,10 @@ fn read_sound<D: Disk>(disk: &mut D) -> Result<(usize, Header), StoreFault>
 
     ensures device { Runs D.Disk 2 0 0 Device result disk.old disk.new }
 {
-    let Some((slot, header)) = read_counting(disk)? else {
+    let mut bytes = [0; HEADER_BYTES];
+    let first = read_header(disk, 0, &mut bytes)?;
+    let second = read_header(disk, 1, &mut bytes)?;
+    let Some((slot, header)) = counting(first, second) else {
         return Err(StoreFault::Unformatted);
     };
     check_header(slot, &header)?;
@@ -113,23 +102,7 @@ fn read_header<D: Disk>(
     Ok(header_in(bytes))
 }
 
-// The slot that counts, and its header. Allocates nothing, so an unformatted store is reported as such even if there is
-// no memory.
-fn read_counting<D: Disk>(disk: &mut D) -> Result<Option<(usize, Header)>, DeviceFault>
-    requires device { D.size disk.old ≡ device_bytes }
-    ensures counts { D.honest disk.old → IfOk result (CountsAs (D.seen disk.old)) }
-    ensures is_slot { IfOk result (λ found. IfSome found (λ s. s.0 < 2)) }
-    ensures reads { D.honest disk.old → OnlyReads D.Disk disk.old disk.new }
-
-    ensures device { Asks D.Disk 2 0 0 result disk.old disk.new }
-{
-    let mut bytes = [0; HEADER_BYTES];
-    let first = read_header(disk, 0, &mut bytes)?;
-    let second = read_header(disk, 1, &mut bytes)?;
-    Ok(counting(first, second))
-}
-
-// Checks the generation and the image's length.
+// Tests the generation and the image's length.
 fn check_header(slot: usize, header: &Header) -> Result<(), StoreFault>
     requires { slot < 2 }
     ensures ok { OnOk result ((1 ≤ header.now.generation) × IsImageLength header.now.format header.now.image_length) }
@@ -169,23 +142,7 @@ fn read_bytes<D: Disk>(
     Ok(bytes)
 }
 
-// Where the groups of a slot's journal area end. Checks the length of each.
-fn groups_end(slot: usize, area: &[u8], format: Format) -> Result<usize, StoreFault>
-    requires is_slot { slot < 2 }
-    requires area { length area.now ≡ area_bytes }
-    ensures ends { IfOk result (GroupsEndAt format area.now) }
-    ensures within { IfOk result (λ at. at < area_bytes) }
-    ensures fault { IfErr result (GroupFault slot format area.now) }
-{
-    match scan(area, format) {
-        Ok(used) => Ok(used),
-        Err(at) => Err(StoreFault::Damaged {
-            offset: area_of(slot) + at,
-        }),
-    }
-}
-
-// Reads the journal area and the image of a slot.
+// The journal area and the image. The length of each group is tested.
 fn read_slot<D: Disk>(
     alloc: Global,
     disk: &mut D,
@@ -208,6 +165,10 @@ fn read_slot<D: Disk>(
 {
     let area = read_bytes(alloc, disk, area_of(slot), AREA_BYTES)?;
     let image = read_bytes(alloc, disk, image_of(slot), header.image_length as usize)?;
-    let used = groups_end(slot, &area, header.format)?;
-    Ok(SlotParts { area, used, image })
+    match scan(&area, header.format) {
+        Ok(used) => Ok(SlotParts { area, used, image }),
+        Err(at) => Err(StoreFault::Damaged {
+            offset: area_of(slot) + at,
+        }),
+    }
 }

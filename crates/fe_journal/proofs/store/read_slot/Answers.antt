@@ -1,20 +1,22 @@
-use Rattle.std.proofs.Common.{◌≡◌, ℕ, length, ◌∙◌, ap}
+use Rattle.std.proofs.Common.{◌≡◌, ℕ, ◌+◌, length, ◌∙◌, ap}
 use Rattle.std.proofs.lemmas.Result.{err_from_is_err_and}
 use Rattle.fe_disk.specs.Disk.{bytes_at}
 use Rattle.fe_journal.specs.Layout.{area_of}
+use Rattle.fe_journal.specs.Reading.{GroupFault}
+use Rattle.fe_journal.specs.declared.fault.StoreFault.TheVariants.{Damaged}
 use Rattle.fe_journal.proofs.Readings.{group_tells, sound_by, nothing_told}
 use Rattle.fe_journal.proofs.store.read_slot.Goals as goal
 
-pub returns-in_err-used-clause-faults : goal.returns-in_err-used-clause-faults
-returns-in_err-used-clause-faults g c = λ honest counts.
+pub returns-in-Err-clause-faults : goal.returns-in-Err-clause-faults
+returns-in-Err-clause-faults g c = λ honest counts.
     let disk = c.args.disk.now in
     let seen = g.D.Disk.seen disk in
     let sized : length seen ≡ g.D.Disk.size disk = (g.met.D.Disk.seen_is_image disk honest).whole in
     let at : c.area_of.result ≡ area_of c.args.slot = c.area_of.ensures in
     let area : c.deref.result.now ≡ bytes_at seen (area_of c.args.slot) 1048576 = c.deref.ensures.value ∙ c.in_ok-area.ensures.bytes honest ∙ ap (λ (k : ℕ). bytes_at seen k 1048576) at in
-    let told = group_tells seen c.args.slot c.args.header.now c.deref.result.now c.in_err-used.field-0.0 (sized ∙ c.requires.device) c.requires.is_slot area c.requires.numbered c.requires.length counts c.in_err-used.ensures.fault in
-    let p = err_from_is_err_and c.from_residual-in_err-used.result c.from_residual-in_err-used.ensures.1 in
-    rw (p.1, p.2) told
+    let offset = c.area_of-in-Err.result + c.in-Err.at in
+    let odd : GroupFault c.args.slot c.args.header.now.format c.deref.result.now (Damaged offset) = (c.in-Err.at, c.in-Err.ensures.odd_within, c.in-Err.ensures.odd, ap (λ (k : ℕ). k + c.in-Err.at) c.area_of-in-Err.ensures) in
+    group_tells seen c.args.slot c.args.header.now c.deref.result.now (Damaged offset) (sized ∙ c.requires.device) c.requires.is_slot area c.requires.numbered c.requires.length counts odd
 
 pub returns-in_err-area-clause-faults : goal.returns-in_err-area-clause-faults
 returns-in_err-area-clause-faults g c = λ honest counts.
