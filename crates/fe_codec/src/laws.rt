@@ -1,4 +1,5 @@
-//! Laws of the grammar, which hold of entries, groups and states apart from any code.
+//! Facts about how entries, groups of entries and states are written as bytes (`docs/formats.md`, "Entry record" and "Image"). Each
+//! function states one, and does nothing. The bytes of an entry are its record, those of a state its image.
 
 ghost use Rattle.std.specs.Prelude.{◌≡◌, ◌+◌, ◌^◌};
 ghost use Rattle.fe_codec.specs.Laws.{EntryHasOneSpelling, GroupHasOneSpelling, ImageIsSpelled, SpellingIsRead, ImageHasOneSpelling};
@@ -10,32 +11,33 @@ ghost use Rattle.fe_codec.specs.declared.sessions.TheConstants.{FLOOR_LIMIT, KEP
 ghost use Rattle.fe_codec.specs.declared.entries.TheConstants.{NUMBER_LIMIT};
 ghost use Rattle.fe_codec.specs.declared.record.TheConstants.{RECORD_BYTES};
 
-/// No record begins another, and no two entries have one record.
+/// No record is the front of a longer one, and different entries have different records.
 pub fn one_entry_spelling()
     ensures { EntryHasOneSpelling }
 {}
 
-/// No two groups of entries have one spelling.
+/// Different groups of entries have different bytes.
 pub fn one_group_spelling()
     ensures { GroupHasOneSpelling }
 {}
 
-/// Bytes that the rule of images takes for a state's are that state's spelling.
+/// Bytes that the rules of `docs/formats.md` read as a state are that state's image.
 pub fn images_are_spelled()
     ensures { ImageIsSpelled }
 {}
 
-/// The rule of images takes the spelling of a state for that state.
+/// The same rules read the image of a state as that state.
 pub fn spelled_images_are_read()
     ensures { SpellingIsRead }
 {}
 
-/// No two states have one image.
+/// Different states have different images.
 pub fn one_image_spelling()
     ensures { ImageHasOneSpelling }
 {}
 
-/// The constants are the definitions' limits: those of an image's fields, each 1 above the greatest value, and the longest record.
+/// The constants of the code are the limits in the definitions: each limit of a field is 1 above the greatest value, and
+/// the longest record is one of format 2.
 pub fn limits_are()
     ensures place { PLACE_LIMIT ≡ greatest_place + 1 }
     ensures arrays { ARRAY_LIMIT ≡ most_arrays + 1 }

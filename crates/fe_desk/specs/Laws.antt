@@ -1,4 +1,5 @@
--- Laws of histories over any number of stops, cited by public functions.
+-- A law of histories over any number of stops, kills and power losses alike. A history from a state is groups of entries,
+-- each group stored at once, that are legal one after the other from that state on (`docs/model.md`).
 use Rattle.std.specs.Prelude.{◌≡◌, ℕ, ◌≤◌, List, [], ◌∷◌, ◌++◌, length, take}
 use Rattle.fe_state.specs.State.{ServerState}
 use Rattle.fe_state.specs.History.{IsHistory, after_groups}
@@ -10,8 +11,8 @@ pub record Life : Type 0 where
   pub synced : ℕ
   pub kept : ℕ
 
--- Lives one after the other, from a state on to the state that the last stop left: each is a history from the state that the stop
--- before it left, and each stop keeps at least what was stored.
+-- Lives one after the other, from a state on to the state that the last stop left: the groups of each are a history from the state that
+-- the stop before it left, and each stop keeps at least the groups that were stored for sure.
 abbrev pub AreLives : ServerState → List Life → ServerState → Type 0
 AreLives begun [] s = s ≡ begun
 AreLives begun (life ∷ lives) s =
@@ -22,10 +23,12 @@ abbrev pub kept_groups : List Life → List (List Entry)
 kept_groups [] = []
 kept_groups (life ∷ lives) = take life.kept life.groups ++ kept_groups lives
 
--- The groups that each stop kept and those that come after the last are one history, which leads to the same state.
+-- The groups that the stops kept, and then the next ones, are one history from the first state. It leads where the next groups lead
+-- from the state that the last stop left.
 pub record AreOne (begun : ServerState) (lives : List Life) (s : ServerState) (next : List (List Entry)) : Type 0 where
   pub history : IsHistory begun (kept_groups lives ++ next)
   pub leads : after_groups begun (kept_groups lives ++ next) ≡ after_groups s next
 
+-- the law: lives that lead to a state, and then any history from that state, are one history
 abbrev pub LivesJoin : Type 0
 LivesJoin = (begun s : ServerState) (lives : List Life) (next : List (List Entry)) → AreLives begun lives s → IsHistory s next → AreOne begun lives s next

@@ -8,7 +8,9 @@ use fe_keeper::Fault;
 use fe_shared::{Uncut, Unposted};
 use std::marker::Model;
 
-/// Why the committing side goes no further: a fault, or a value that only a failure makes. Contracts see the side's end.
+/// Why the committing side, the thread that stores, ends before the hall is stopped. A batch of entries is cut from the front, stored,
+/// noted in the history and posted to the connections (`ARCHITECTURE.md`, "Threads"); one of these failed. `Strange` is an end that
+/// shows a mistake of the program, and `Spent` one because a book of the hall is full. Contracts see the end alone.
 #[derive(Drop)]
 pub(crate) struct Break {
     end: CommitEnd,
@@ -23,7 +25,7 @@ impl Model for Break {
 }
 
 impl Break {
-    /// The keeper refused a batch, or a device call failed.
+    /// The batch was not stored: a device call failed, memory was short, or the keeper found that the batch does not follow its state.
     pub(crate) fn of_store(fault: Fault) -> Break
         ensures end { result ≡ end_of fault }
         ensures unstopped { result ≢ Ends.Stopped }
@@ -35,7 +37,7 @@ impl Break {
         Break { end }
     }
 
-    /// No batch was cut.
+    /// No batch could be cut.
     pub(crate) fn of_cut(_why: Uncut) -> Break
         ensures { result ≡ Ends.Strange }
     {
@@ -44,7 +46,7 @@ impl Break {
         }
     }
 
-    /// A batch was not noted in the history.
+    /// The batch could not be noted in the history.
     pub(crate) fn of_note(_why: Unnoted) -> Break
         ensures { result ≡ Ends.Strange }
     {
@@ -53,7 +55,7 @@ impl Break {
         }
     }
 
-    /// A batch was not posted.
+    /// The batch could not be posted.
     pub(crate) fn of_post(why: Unposted) -> Break
         ensures end { result ≡ end_of_post why }
         ensures unstopped { result ≢ Ends.Stopped }
@@ -65,7 +67,7 @@ impl Break {
         Break { end }
     }
 
-    /// The end of the side.
+    /// How the side ends.
     pub(crate) fn end(&self) -> CommitEnd
         ensures { result ≡ self.now }
     {

@@ -1,10 +1,10 @@
--- What a copy of a store in memory says of the store.
+-- When a copy of a store shows the same as the store. A store has two slots, and one of them counts (`docs/store.md`, "Two slots").
 use Rattle.std.specs.Prelude.{◌≡◌, ◌↔◌, ℕ, List, length}
 use Rattle.fe_journal.specs.Contents.{Contents, Holds}
 use Rattle.fe_journal.specs.Damage.{IsUnformatted, IsDamagedAt}
 
--- A copy of a store says the same as the store: both have the same size and contents; if no slot of one is valid, none of the
--- other is; and the same is wrong first, at the same offset, in the slots that count. Their other bytes may differ.
+-- A store and its copy show the same: both have the same size; the slots that count hold the same state and groups; if one has no
+-- valid slot, neither has the other; and the first damage is at the same offset. Bytes that show nothing of these may differ.
 pub record IsCopyOf (image copy : List ℕ) : Type 0 where
   pub whole : length copy ≡ length image
   pub holds : (c : Contents) → Holds c image ↔ Holds c copy

@@ -1,4 +1,5 @@
--- What an entry, a step of the history, requires of the sessions, and the sessions after it.
+-- What an entry, a step of the history, requires of the sessions, and the sessions after it. The floor of a session is the least request
+-- number that it may still use, and its window the 32 numbers from there on. The answer to a used number is kept (`docs/model.md`).
 use Rattle.std.specs.Prelude.{◌≡◌, ℕ, ◌<◌, Option, None, IsSome, IsSomeAnd, MatchOption}
 use Rattle.std.specs.Option.{option_map}
 use Rattle.std.specs.Ordering.{nat_cmp}
@@ -8,11 +9,11 @@ use Rattle.fe_state.specs.declared.entry.Entry.{Entry}
 use Rattle.fe_state.specs.declared.entry.Entry.TheVariants.{Attached, Closed, Settled, Finished}
 use Rattle.fe_state.specs.Limits.{most_sessions}
 
--- a session may be attached with its own floor, or begin with floor 1 while there are fewer than the most
+-- a session that exists may be attached again with the floor that it has; a new one begins with floor 1, while fewer than the most exist
 abbrev pub MayAttach : FinMap nat_cmp Session → ℕ → Option Session → Type 0
 MayAttach sessions floor here = MatchOption here ((floor ≡ 1) × (len sessions < most_sessions)) (λ s. floor ≡ s.floor)
 
--- a number is usable if it is in the window and nothing is kept for it
+-- a number is usable if it is in the window and no answer is kept for it
 pub record IsUsable (s : Session) (number : ℕ) : Type 0 where
   pub in_window : IsInWindow s.floor number
   pub not_kept : get s.kept number ≡ None
@@ -24,7 +25,8 @@ SessionsAllow sessions (Closed session) = IsSome (get sessions session)
 SessionsAllow sessions (Settled session floor) = IsSomeAnd (get sessions session) (λ x. MayRise x.floor floor)
 SessionsAllow sessions (Finished session number request answer) = IsSomeAnd (get sessions session) (λ x. IsUsable x number)
 
--- the sessions after an entry at this place
+-- The sessions after an entry; its place is its number in the history. A new session begins with floor 1, and one that exists stays as it
+-- is. A raised floor drops the answers below it. If the session does not exist, nothing changes.
 abbrev pub sessions_after : FinMap nat_cmp Session → ℕ → Entry → FinMap nat_cmp Session
 sessions_after sessions place (Attached session floor) = opened sessions session
 sessions_after sessions place (Closed session) = remove sessions session
