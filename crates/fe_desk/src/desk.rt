@@ -1,7 +1,6 @@
-ghost use Rattle.std.specs.Prelude.{◌≡◌, ◌≤◌, ℕ, Bool, false, List, [], length};
+ghost use Rattle.std.specs.Prelude.{◌≡◌, ◌≤◌, ℕ, Bool, false, List, length, IfOk, IfErr};
 ghost use Rattle.fe_state.specs.State.{ServerState, IsWithinLimits};
 ghost use Rattle.fe_journal.specs.Layout.{device_bytes};
-ghost use Rattle.fe_front.specs.Front.{IsFirst};
 ghost use Rattle.fe_keeper.specs.Stands.{EachStandsFor};
 ghost use Rattle.fe_keeper.specs.Prefix.{LeavesPrefix};
 ghost use Rattle.fe_desk.specs.Output.{Extends};
@@ -12,6 +11,7 @@ ghost use Rattle.fe_desk.specs.Anew.{desk_anew};
 ghost use Rattle.fe_desk.specs.Taken.{IsStep};
 ghost use Rattle.fe_desk.specs.Acknowledged.{IsAcknowledged, StepAsksFor};
 ghost use Rattle.fe_desk.specs.Traces.{IsTraceOf};
+ghost use Rattle.fe_desk.specs.declared.fault.DeskFault.TheVariants.{NoMemory};
 
 use crate::desk_inner::DeskInner;
 use crate::fault::DeskFault;
@@ -62,28 +62,36 @@ impl<D: Disk> Model for Desk<D> {
 }
 
 impl<D: Disk> Desk<D> {
-    /// A desk with no connection over a front and a keeper of one state.
-    pub(crate) fn over(alloc: Global, front: Front, keeper: Keeper<D>) -> Desk<D>
-        requires first { IsFirst keeper.state front }
-        requires stands { D.honest keeper.store.disk → EachStandsFor D.Disk keeper.store.disk keeper.state }
-        ensures first { IsFirstRunState keeper.state result.run_state }
-        ensures acknowledged { (asked : ℕ → ℕ → Bool) → IsAcknowledged keeper.state asked result }
-        ensures keeper { result.keeper ≡ keeper }
-        ensures synced { result.synced ≡ 0 }
+    /// A desk over a keeper, with no connection.
+    pub(crate) fn over(alloc: Global, keeper: Keeper<D>) -> Result<Desk<D>, (DeskFault, D)>
+        requires { keeper.store.has_failed ≡ false }
+        ensures first { IfOk result (λ desk. IsFirstRunState keeper.state desk.run_state) }
+        ensures acknowledged { (asked : ℕ → ℕ → Bool) → IfOk result (λ desk. IsAcknowledged keeper.state asked desk) }
+        ensures keeper { IfOk result (λ desk. desk.keeper ≡ keeper) }
+        ensures synced { IfOk result (λ desk. desk.synced ≡ 0) }
+        ensures fault { IfErr result (λ e. e.0 ≡ NoMemory false) }
+        ensures disk { IfErr result (λ e. e.1 ≡ keeper.store.disk) }
     {
-        let inner = DeskInner {
-            front,
-            keeper,
-            trace: Trace::new(alloc),
-            handed: Handed::Nothing,
-            making: None,
-            owes: false,
-            alloc,
+        let Ok(state) = keeper.state().copy() else {
+            return Err((DeskFault::NoMemory { fed: false }, keeper.into_disk()));
         };
-        Desk {
-            inner,
+        let Ok(front) = Front::new(alloc, state) else {
+            return Err((DeskFault::NoMemory { fed: false }, keeper.into_disk()));
+        };
+        let trace = Trace::new(alloc);
+        let desk = Desk {
+            inner: DeskInner {
+                front,
+                keeper,
+                trace,
+                handed: Handed::Nothing,
+                making: None,
+                owes: false,
+                alloc,
+            },
             quiet: false,
-        }
+        };
+        Ok(desk)
     }
 
     /// Takes a step. At its end all mails are written.

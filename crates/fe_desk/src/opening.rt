@@ -19,7 +19,6 @@ use crate::desk::Desk;
 use crate::fault::DeskFault;
 use crate::messages::desk_fault;
 use fe_disk::Disk;
-use fe_front::Front;
 use fe_keeper::Keeper;
 use std::alloc::Global;
 
@@ -49,7 +48,7 @@ impl<D: Disk> Desk<D> {
         ensures sized { IfOk result (λ desk. D.size disk ≡ device_bytes) }
     {
         match Keeper::open(alloc, disk) {
-            Ok(keeper) => desk_over(alloc, keeper),
+            Ok(keeper) => Desk::over(alloc, keeper),
             Err((fault, disk)) => Err((desk_fault(fault, false), disk)),
         }
     }
@@ -75,27 +74,8 @@ impl<D: Disk> Desk<D> {
         ensures size { D.size (disk_after result) ≡ D.size disk }
     {
         match Keeper::format(alloc, disk) {
-            Ok(keeper) => desk_over(alloc, keeper),
+            Ok(keeper) => Desk::over(alloc, keeper),
             Err((fault, disk)) => Err((desk_fault(fault, false), disk)),
         }
-    }
-}
-
-/// A desk over a keeper, with no connection.
-fn desk_over<D: Disk>(alloc: Global, keeper: Keeper<D>) -> Result<Desk<D>, (DeskFault, D)>
-    requires works { keeper.store.has_failed ≡ false }
-    ensures first { IfOk result (λ desk. IsFirstRunState keeper.state desk.run_state) }
-    ensures acknowledged { (asked : ℕ → ℕ → Bool) → IfOk result (λ desk. IsAcknowledged keeper.state asked desk) }
-    ensures keeper { IfOk result (λ desk. desk.keeper ≡ keeper) }
-    ensures synced { IfOk result (λ desk. desk.synced ≡ 0) }
-    ensures fault { IfErr result (λ e. e.0 ≡ NoMemory false) }
-    ensures disk { IfErr result (λ e. e.1 ≡ keeper.store.disk) }
-{
-    let Ok(state) = keeper.state().copy() else {
-        return Err((DeskFault::NoMemory { fed: false }, keeper.into_disk()));
-    };
-    match Front::new(alloc, state) {
-        Ok(front) => Ok(Desk::over(alloc, front, keeper)),
-        Err(_) => Err((DeskFault::NoMemory { fed: false }, keeper.into_disk())),
     }
 }

@@ -16,31 +16,31 @@ pub returns-in-Ok-clause-opened : goal.returns-in-Ok-clause-opened
 returns-in-Ok-clause-opened g c = λ honest.
     let k = c.in-Ok.keeper in
     let seen = g.D.Disk.seen c.args.disk in
-    IfOk-weaker c.desk_over.result (λ desk. desk.keeper ≡ k) (λ desk. StandsFor seen desk.keeper.state)
-    (λ desk is. subst (λ (x : KeeperState g.row.D.Denot). StandsFor seen x.state) (sym is) (c.in-Ok.ensures.opened honest).state) c.desk_over.ensures.keeper
+    IfOk-weaker c.over.result (λ desk. desk.keeper ≡ k) (λ desk. StandsFor seen desk.keeper.state)
+    (λ desk is. subst (λ (x : KeeperState g.row.D.Denot). StandsFor seen x.state) (sym is) (c.in-Ok.ensures.opened honest).state) c.over.ensures.keeper
 
 pub returns-in-Ok-clause-stands : goal.returns-in-Ok-clause-stands
 returns-in-Ok-clause-stands g c = λ honest.
     let k = c.in-Ok.keeper in
-    IfOk-weaker c.desk_over.result (λ desk. desk.keeper ≡ k) (λ desk. EachStandsFor g.D.Disk (disk_of desk) desk.keeper.state)
-    (λ desk is. subst (λ (x : KeeperState g.row.D.Denot). EachStandsFor g.D.Disk x.store.disk x.state) (sym is) (c.in-Ok.ensures.opened honest).durable) c.desk_over.ensures.keeper
+    IfOk-weaker c.over.result (λ desk. desk.keeper ≡ k) (λ desk. EachStandsFor g.D.Disk (disk_of desk) desk.keeper.state)
+    (λ desk is. subst (λ (x : KeeperState g.row.D.Denot). EachStandsFor g.D.Disk x.store.disk x.state) (sym is) (c.in-Ok.ensures.opened honest).durable) c.over.ensures.keeper
 
 pub returns-in-Ok-clause-reads : goal.returns-in-Ok-clause-reads
 returns-in-Ok-clause-reads g c = λ honest.
     let k = c.in-Ok.keeper in
-    subst (λ d. OnlyReads g.D.Disk c.args.disk d) (sym (disk_is c.desk_over.result k c.desk_over.ensures.keeper c.desk_over.ensures.disk))
+    subst (λ d. OnlyReads g.D.Disk c.args.disk d) (sym (disk_is c.over.result k c.over.ensures.keeper c.over.ensures.disk))
     (c.in-Ok.ensures.reads honest)
 
 pub returns-in-Ok-clause-device : goal.returns-in-Ok-clause-device
 returns-in-Ok-clause-device g c =
-    asks_over c.desk_over.result c.in-Ok.keeper c.desk_over.ensures.keeper c.desk_over.ensures.fault c.desk_over.ensures.disk c.in-Ok.ensures.device
+    asks_over c.over.result c.in-Ok.keeper c.over.ensures.keeper c.over.ensures.fault c.over.ensures.disk c.in-Ok.ensures.device
 
 pub returns-in-Err-clause-device : goal.returns-in-Err-clause-device
 returns-in-Err-clause-device g c = asks_refused c.in-Err.fault c.desk_fault.result c.desk_fault.ensures c.in-Err.ensures.device
 
 pub returns-in-Ok-clause-refused : goal.returns-in-Ok-clause-refused
 returns-in-Ok-clause-refused g c = λ honest s stands.
-    IfErr-weaker c.desk_over.result (λ e. e.0 ≡ NoMemory false) (λ e. (e.0 ≡ Store keeper.Device) ⊎ (e.0 ≡ NoMemory false)) (λ e is. inr is) c.desk_over.ensures.fault
+    IfErr-weaker c.over.result (λ e. e.0 ≡ NoMemory false) (λ e. (e.0 ≡ Store keeper.Device) ⊎ (e.0 ≡ NoMemory false)) (λ e is. inr is) c.over.ensures.fault
 
 pub returns-in-Err-clause-refused : goal.returns-in-Err-clause-refused
 returns-in-Err-clause-refused g c = λ honest s stands.
@@ -48,7 +48,7 @@ returns-in-Err-clause-refused g c = λ honest s stands.
 
 pub returns-in-Ok-clause-says : goal.returns-in-Ok-clause-says
 returns-in-Ok-clause-says g c = λ honest.
-    short_opening g.D.Disk (g.D.Disk.calls c.args.disk) c.desk_over.result (g.D.Disk.seen c.args.disk) c.in-Ok.keeper.state (c.in-Ok.ensures.opened honest).state c.desk_over.ensures.fault
+    short_opening g.D.Disk (g.D.Disk.calls c.args.disk) c.over.result (g.D.Disk.seen c.args.disk) c.in-Ok.keeper.state (c.in-Ok.ensures.opened honest).state c.over.ensures.fault
 
 pub returns-in-Ok-clause-unformatted : goal.returns-in-Ok-clause-unformatted
 returns-in-Ok-clause-unformatted g c = λ honest odd. absurd (c.in-Ok.ensures.unformatted honest odd)
