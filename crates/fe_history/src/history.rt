@@ -337,22 +337,14 @@ impl<M: Tally> History<M> {
         let _ = &self.seen;
         let (conn, message) = took.into_parts();
         if let ClientMessage::Attach { session } = message {
-            self.ask(history_words, conn, session);
+            let wish = Wish { conn, session };
+            let mut offer: Offer<Act, u64, Law, Nothing> = self
+                .seen
+                .plain::<Nothing, Wish, Asking>(&wish);
+            let _ = history_words
+                .stores
+                .load::<Asking, Nothing>(&mut self.seen, &mut offer);
         }
-    }
-
-    /// Adds that a connection asks for a session.
-    fn ask(&mut self, history_words: &HistoryWords<M>, conn: u64, session: u64)
-        ensures asked { WasAppended self.old (act.Asked conn session) self.new }
-        ensures legal { IsLegal self.new }
-    {
-        let wish = Wish { conn, session };
-        let mut offer: Offer<Act, u64, Law, Nothing> = self
-            .seen
-            .plain::<Nothing, Wish, Asking>(&wish);
-        let _ = history_words
-            .stores
-            .load::<Asking, Nothing>(&mut self.seen, &mut offer);
     }
 
     /// Adds a cut of all that is pending in a front, if the history has this many cuts so far. Returns whether it did.
