@@ -1,7 +1,6 @@
 -- What a whole run of a desk returns: the desk is opened over a store, and takes steps.
 use Rattle.std.specs.Prelude.{◌≡◌, ◌≢◌, ◌⊎◌, ◌↔◌, ⊤, ℕ, zero, suc, false, List, [], ◌∷◌, ◌++◌, map, take, slice_get, Option, Some, None, Result, Ok, Err}
 use Rattle.fe_disk.specs.Disk.{Rises, MakesAtMost}
-use Rattle.fe_disk.specs.declared.calls.Calls.{Calls}
 use Rattle.fe_state.specs.State.{ServerState}
 use Rattle.fe_state.specs.History.{IsHistory}
 use Rattle.fe_journal.specs.Damage.{IsUnformatted}

@@ -1,4 +1,4 @@
-use Rattle.std.proofs.Common.{◌≡◌, false, true≢false, None, refl, sym, ap, map, rules}
+use Rattle.std.proofs.Common.{false, true≢false, None, refl, sym, ap, map, rules}
 use Rattle.fe_front.specs.Front.{IsFirst}
 use Rattle.fe_desk.specs.declared.handed.Handed.TheVariants.{Nothing}
 use Rattle.fe_desk.specs.declared.desk_inner.DeskInner.{DeskInner}
