@@ -1,5 +1,5 @@
 -- Payloads that are gone through record by record.
-use Rattle.std.proofs.Common.{◌≡◌, ℕ, ◌+◌, ◌*◌, ◌<◌, ◌≤◌, List, [], ◌∷◌, ◌++◌, length, refl, sym, ap, subst, ◌∙◌, append_assoc, arith}
+use Rattle.std.proofs.Common.{◌≡◌, ℕ, ◌+◌, ◌*◌, ◌≤◌, List, [], ◌∷◌, ◌++◌, length, refl, sym, ap, subst, ◌∙◌, append_assoc, arith}
 use Rattle.std.proofs.lemmas.Grind.{flat_map-append}
 use Rattle.std.proofs.lemmas.List.{append-nil, length-append}
 use Rattle.std.proofs.Math.Nat.{add-mul}
@@ -13,7 +13,7 @@ use Rattle.fe_format.specs.declared.format.Format.TheVariants.{One, Two}
 use Rattle.fe_codec.proofs.Elements.{all_push}
 use Rattle.fe_codec.proofs.RecordLaws.{one_record_first, length-entry_spelling}
 use Rattle.fe_codec.proofs.GroupLaws.{one_group}
-use Rattle.fe_replica.specs.Replaying.{Replays, IsFirstBad, NoneFollows, Steps, MakesNext, MakesArrayIn}
+use Rattle.fe_replica.specs.Replaying.{Replays, IsFirstBad, NoneFollows, Steps}
 use Rattle.fe_replica.proofs.Following.{after_then, legal_then}
 
 -- ---- in the midst of a payload

@@ -1,7 +1,7 @@
 //! Taking a batch: entries that are to be stored at once. An entry's place is the number of entries before it.
 
-ghost use Rattle.std.specs.Prelude.{◌≡◌, ℕ, ◌+◌, ◌<◌, ◌≤◌, length, Err, OnOk, OnErr};
-ghost use Rattle.fe_state.specs.State.{IsLegal, MakesArray, after, after_all};
+ghost use Rattle.std.specs.Prelude.{◌≡◌, ℕ, ◌≤◌, length, Err, OnOk, OnErr};
+ghost use Rattle.fe_state.specs.State.{after_all};
 ghost use Rattle.fe_state.specs.UndoLog.{empty_log, rewound, IsLogOf};
 ghost use Rattle.fe_replica.specs.Taking.{Continues, IsMismatch, IsIllegalAt, AreTaken, MakesSomeArray};
 ghost use Rattle.fe_replica.specs.declared.taking.Refused.TheVariants.{Mismatch, NoMemory};
@@ -61,32 +61,14 @@ fn take_each(state: &mut State, log: &mut UndoLog, entries: &[Entry]) -> Result<
     ensures memory { result ≡ Err NoMemory → MakesSomeArray entries.now }
 {
     for entry in entries {
-        take_one(state, log, entry)?;
+        let Ok(effect) = state.examine(entry) else {
+            return Err(Refused::Mismatch {
+                place: state.place(),
+            });
+        };
+        let Ok(()) = state.apply(*entry, effect, log) else {
+            return Err(Refused::NoMemory);
+        };
     }
     Ok(())
-}
-
-/// Carries out an entry that is legal.
-fn take_one(state: &mut State, log: &mut UndoLog, entry: &Entry) -> Result<(), Refused>
-    requires room { length log.old.undos < log.old.room }
-    ensures legal { OnOk result (IsLegal state.old entry.now) }
-    ensures ok { OnOk result (state.new ≡ after state.old entry.now) }
-    ensures err { OnErr result ((state.new ≡ state.old) × (log.new ≡ log.old)) }
-    ensures length { OnOk result (length log.new.undos ≡ length log.old.undos + 1) }
-    ensures room { log.new.room ≡ log.old.room }
-    ensures log { IsLogOf log.old state.old → IsLogOf log.new state.new }
-    ensures beginning { rewound log.new state.new ≡ rewound log.old state.old }
-    ensures place { (place : ℕ) → result ≡ Err (Mismatch place) → place ≡ state.old.place }
-    ensures illegal { (place : ℕ) → result ≡ Err (Mismatch place) → IsLegal state.old entry.now → ⊥ }
-    ensures memory { result ≡ Err NoMemory → MakesArray entry.now }
-{
-    let Ok(effect) = state.examine(entry) else {
-        return Err(Refused::Mismatch {
-            place: state.place(),
-        });
-    };
-    match state.apply(*entry, effect, log) {
-        Ok(()) => Ok(()),
-        Err(_) => Err(Refused::NoMemory),
-    }
 }
