@@ -1,12 +1,10 @@
-ghost use Rattle.std.specs.Prelude.{◌≡◌, ℕ, ◌++◌, List, Err, IfSome, IsSome, IfOk, OnOk, OnErr};
-ghost use Rattle.fe_codec.specs.Record.{entry_spelling, FitsRecord};
-ghost use Rattle.fe_state.specs.declared.entry.Entry.{Entry as Step};
+ghost use Rattle.std.specs.Prelude.{◌≡◌, ℕ, Err, IfOk, OnOk, OnErr};
 ghost use Rattle.fe_replica.specs.Replaying.{Replays, IsFirstBad, MakesArrayIn, NoneFollows, Steps, MakesNext};
 ghost use Rattle.fe_replica.specs.declared.replaying.ReplayFault.TheVariants.{Damaged, NoMemory};
 ghost use Rattle.fe_replica.specs.declared.replaying.Fault.TheVariants as fault;
 
 use fe_codec::{Format, read_entry};
-use fe_state::{Entry, State};
+use fe_state::State;
 
 /// Why a stored group was not replayed to its end.
 #[derive(Clone, Copy, PartialEq, Eq)]
@@ -55,7 +53,10 @@ fn replay_one<'a>(format: Format, bytes: &'a [u8], state: &mut State) -> Result<
     ensures memory { result ≡ Err fault.NoMemory → MakesNext format bytes.now state.old }
     ensures err { OnErr result (state.new ≡ state.old) }
 {
-    let Some((entry, behind)) = next_entry(format, bytes) else {
+    let Some((record, behind)) = bytes.split_at_checked(format.record_bytes()) else {
+        return Err(Fault::Bad);
+    };
+    let Some(entry) = read_entry(format, record) else {
         return Err(Fault::Bad);
     };
     let Ok(effect) = state.examine(&entry) else {
@@ -65,15 +66,4 @@ fn replay_one<'a>(format: Format, bytes: &'a [u8], state: &mut State) -> Result<
         Ok(()) => Ok(behind),
         Err(_) => Err(Fault::NoMemory),
     }
-}
-
-/// The entry whose record comes first, and the bytes after the record.
-fn next_entry(format: Format, bytes: &[u8]) -> Option<(Entry, &[u8])>
-    ensures found { IfSome result (λ x. FitsRecord format x.0 × (bytes.now ≡ entry_spelling format x.0 ++ x.1.now)) }
-    ensures only { (entry : Step) (more : List ℕ) → FitsRecord format entry
-        → bytes.now ≡ entry_spelling format entry ++ more → IsSome result }
-{
-    let (cells, behind) = bytes.split_at_checked(format.record_bytes())?;
-    let entry = read_entry(format, cells)?;
-    Some((entry, behind))
 }
