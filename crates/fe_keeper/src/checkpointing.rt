@@ -58,44 +58,6 @@ impl<D: Disk> KeeperStore<D> {
         Ok(more)
     }
 
-    /// Writes the slices that are left.
-    fn write_rest(&mut self) -> Result<(), JournalFault>
-        requires ready { HasCheckpoint self.old }
-        ensures stays { StaysSound self.old self.new }
-        ensures carries { D.honest self.old.journal.disk → (s : ServerState) → Upholds D.Disk self.old s
-            → Carries D.Disk result self.old self.new s }
-        ensures value { OnOk result (finished (store_of self.new)
-            ≡ record (finished (store_of self.old)) { disk = self.new.journal.disk }) }
-        ensures ready { OnOk result (HasCheckpoint self.new) }
-        ensures whole { OnOk result (has_slices (store_of self.new).checkpoint ≡ false) }
-        ensures ends { StoreEnds D.Disk result self.old.journal self.new.journal }
-        ensures calls { MakesAtMost 0 (slices_left (store_of self.old).checkpoint) 0 (D.calls self.old.journal.disk)
-            (D.calls self.new.journal.disk) }
-    {
-        while self.step()? {}
-        Ok(())
-    }
-
-    /// Lets the slot begun count, whose image is whole: writes the catch-up, and opens the gate.
-    fn open_slot(&mut self) -> Result<(), JournalFault>
-        requires ready { HasCheckpoint self.old }
-        requires whole { has_slices (store_of self.old).checkpoint ≡ false }
-        ensures stays { StaysSound self.old self.new }
-        ensures carries { D.honest self.old.journal.disk → (s : ServerState) → Upholds D.Disk self.old s
-            → Carries D.Disk result self.old self.new s }
-        ensures value { OnOk result (store_of self.new
-            ≡ record (finished (store_of self.old)) { disk = self.new.journal.disk }) }
-        ensures ends { StoreEnds D.Disk result self.old.journal self.new.journal }
-        ensures calls { MakesAtMost 0 2 2 (D.calls self.old.journal.disk) (D.calls self.new.journal.disk) }
-    {
-        let Some(checkpoint) = &self.checkpoint else {
-            unreachable!()
-        };
-        self.journal.slot_finish(&checkpoint.catch_up)?;
-        self.checkpoint = None;
-        Ok(())
-    }
-
     /// Finishes the checkpoint under way: writes the slices left and the catch-up, and opens the gate.
     pub(crate) fn finish(&mut self) -> Result<(), JournalFault>
         requires ready { HasCheckpoint self.old }
@@ -108,8 +70,13 @@ impl<D: Disk> KeeperStore<D> {
         ensures calls { MakesAtMost 0 (slices_left (store_of self.old).checkpoint + 2) 2
             (D.calls self.old.journal.disk) (D.calls self.new.journal.disk) }
     {
-        self.write_rest()?;
-        self.open_slot()
+        while self.step()? {}
+        let Some(checkpoint) = &self.checkpoint else {
+            unreachable!()
+        };
+        self.journal.slot_finish(&checkpoint.catch_up)?;
+        self.checkpoint = None;
+        Ok(())
     }
 
     /// Begins and finishes a checkpoint to which no entry has come.

@@ -1,15 +1,14 @@
 //! Reads the state that a slot stands for: the state of its image, with the groups after it replayed. A slot is one of
 //! the two halves of a store; its generation tells which of them counts (`docs/store.md`).
 
-ghost use Rattle.std.specs.Prelude.{◌≡◌, ◌+◌, ◌<◌, ◌≤◌, ℕ, List, ◌∷◌, length, true, Ok, IsOk, IfOk, IfErr, OnOk, IsErrOf};
+ghost use Rattle.std.specs.Prelude.{◌≡◌, ◌+◌, ◌<◌, ℕ, List, Ok, IsOk, IfOk, IfErr, OnOk, IsErrOf};
 ghost use Rattle.fe_state.specs.State.{ServerState};
 ghost use Rattle.fe_codec.specs.FirstFault.{header_at, image_at};
 ghost use Rattle.fe_journal.specs.Contents.{Contents};
 ghost use Rattle.fe_journal.specs.Cursor.{Lists};
-ghost use Rattle.fe_journal.specs.Layout.{area_bytes};
 ghost use Rattle.fe_keeper.specs.Stands.{Stands, greatest_generation};
 ghost use Rattle.fe_keeper.specs.Opened.{IsSlotFault, IsListing, IsBase, ReplaysAll, IsRecovered, ArePartsOf};
-ghost use Rattle.fe_keeper.specs.within.Replaying.{IsNext, CanGoOn};
+ghost use Rattle.fe_keeper.specs.within.Replaying.{CanGoOn};
 ghost use Rattle.fe_keeper.specs.Damage.{IsBadFrom, IsWrongIn};
 ghost use Rattle.fe_keeper.specs.declared.fault.Fault.TheVariants.{NoMemory, Damaged};
 
@@ -108,37 +107,16 @@ fn replay_all(format: Format, groups: &mut Groups, state: &mut State) -> Result<
         → IsBadFrom format payloads state.old (groups.old.start + groups.old.at) offset }
     ensures faults { IfErr result IsSlotFault }
 {
-    while replay_next(format, groups, state)? {}
-    Ok(())
-}
-
-/// Replays the next group. Returns whether there was one.
-fn replay_next(format: Format, groups: &mut Groups, state: &mut State) -> Result<bool, Fault>
-    requires listing { IsListing groups.old }
-    ensures next { (payloads : List (List ℕ)) → Lists groups.old payloads
-        → IfOk result (IsNext format payloads groups.new state.old state.new) }
-    ensures place { (payload : List ℕ) (rest : List (List ℕ)) → Lists groups.old (payload ∷ rest)
-        → OnOk result (groups.new ≡ record groups.old { at = groups.old.at + (5 + length payload) }) }
-    ensures on { IfOk result (λ more. more ≡ true → (groups.old.at < groups.new.at) × (groups.new.at ≤ area_bytes)) }
-    ensures refused { (payloads : List (List ℕ)) → Lists groups.old payloads → CanGoOn format payloads state.old
-        → IfErr result (λ fault. fault ≡ NoMemory) }
-    ensures damaged { (offset : ℕ) (payloads : List (List ℕ)) → IsErrOf result (Damaged offset)
-        → Lists groups.old payloads
-        → IsBadFrom format payloads state.old (groups.old.start + groups.old.at) offset }
-    ensures faults { IfErr result IsSlotFault }
-{
-    let Some(payload) = groups.payload() else {
-        return Ok(false);
-    };
-    match replay(format, payload, state) {
-        Ok(()) => {}
-        Err(ReplayFault::NoMemory) => return Err(Fault::NoMemory),
-        Err(ReplayFault::Damaged { offset }) => {
-            return Err(Fault::Damaged {
-                offset: groups.offset() + offset,
-            });
+    while let Some(payload) = groups.payload() {
+        match replay(format, payload, state) {
+            Ok(()) => groups.skip(),
+            Err(ReplayFault::NoMemory) => return Err(Fault::NoMemory),
+            Err(ReplayFault::Damaged { offset }) => {
+                return Err(Fault::Damaged {
+                    offset: groups.offset() + offset,
+                });
+            }
         }
     }
-    groups.skip();
-    Ok(true)
+    Ok(())
 }

@@ -1,17 +1,53 @@
-use Rattle.std.proofs.Common.{rules}
-use Rattle.fe_keeper.proofs.Ends.{then_carries, then_ends}
+use Rattle.std.proofs.Common.{rules, sym, ◌∙◌}
+use Rattle.fe_disk.proofs.Moments.{joined}
+use Rattle.fe_keeper.specs.Stands.{StandsFor}
+use Rattle.fe_keeper.proofs.Finishing.{finish_moments, finish_upheld}
+use Rattle.fe_keeper.proofs.Rests.{moments_more, one_more}
 use Rattle.fe_keeper.proofs.keeper_store.KeeperStore.finish.Goals as goal
 
-pub returns-in_err-write_rest-clause-carries : goal.returns-in_err-write_rest-clause-carries
-returns-in_err-write_rest-clause-carries g c = λ honest s upholds. record { any_moment = (c.write_rest.ensures.carries honest s upholds).any_moment; upheld = search rules }
+pub returns-in_err-step-clause-carries : goal.returns-in_err-step-clause-carries
+returns-in_err-step-clause-carries g c = λ honest s upholds. record {
+  any_moment =
+      moments_more g.D.Disk c.step.result c.args.self.now c.loop.self c.step.new.self c.loop.invariant c.step.ensures.carries honest s upholds;
+  upheld = search rules;
+}
+
+pub loop-preserved : goal.loop-preserved
+loop-preserved g c =
+    one_more g.D.Disk c.in_ok-step.field-0 c.args.self.now c.loop.self c.step.new.self c.loop.invariant
+    c.step.ensures.stays c.in_ok-step.ensures.stepped.ready c.in_ok-step.ensures.carries c.in_ok-step.ensures.stepped.value c.in_ok-step.ensures.ends c.step.ensures.calls c.step.ensures.rests
+
+pub returns-in_err-slot_finish-clause-carries : goal.returns-in_err-slot_finish-clause-carries
+returns-in_err-slot_finish-clause-carries g c = λ honest s upholds.
+    let now = c.loop.invariant in
+    let stepped = c.in_ok-step.ensures.stepped in
+    let honest_1 = now.honesty.1 honest in
+    let honest_2 = c.in_ok-step.ensures.ends.honesty.1 honest_1 in
+    let upheld = (c.in_ok-step.ensures.carries honest_1 s (now.goes_on honest s upholds).upheld).upheld in
+    let run = moments_more g.D.Disk c.step.result c.args.self.now c.loop.self c.step.new.self now c.step.ensures.carries honest s upholds in
+    record {
+      any_moment =
+          joined g.D.Disk c.args.self.now.journal.disk c.step.new.self.journal.disk c.slot_finish.new.self.disk (λ image. StandsFor image s) run
+          (finish_moments g.D.Disk c.step.new.self s c.in-Some.checkpoint c.deref.result.now c.deref.ensures.value c.in-Some.is stepped.ready.sound (sym stepped.more_is ∙ c.if-branch.false)
+          c.slot_finish.new.self.disk upheld (λ k d keeps. c.slot_finish.ensures.any_moment honest_2 k d keeps));
+      upheld = search rules;
+    }
 
 pub returns-clause-carries : goal.returns-clause-carries
 returns-clause-carries g c = λ honest s upholds.
-    let rest = c.in_ok-write_rest.ensures.carries honest s upholds in
-    then_carries g.D.Disk c.open_slot.result c.args.self.now c.write_rest.new.self c.open_slot.new.self s rest.any_moment
-    (c.open_slot.ensures.carries (c.write_rest.ensures.ends.honesty.1 honest) s rest.upheld)
-
-pub returns-clause-ends : goal.returns-clause-ends
-returns-clause-ends g c =
-    let first = c.in_ok-write_rest.ensures.ends in
-    then_ends g.D.Disk c.open_slot.result c.args.self.now.journal c.write_rest.new.self.journal c.open_slot.new.self.journal first.outcome first.honesty c.open_slot.ensures.ends
+    let now = c.loop.invariant in
+    let stepped = c.in_ok-step.ensures.stepped in
+    let none = sym stepped.more_is ∙ c.if-branch.false in
+    let honest_1 = now.honesty.1 honest in
+    let honest_2 = c.in_ok-step.ensures.ends.honesty.1 honest_1 in
+    let upheld = (c.in_ok-step.ensures.carries honest_1 s (now.goes_on honest s upholds).upheld).upheld in
+    let run = moments_more g.D.Disk c.step.result c.args.self.now c.loop.self c.step.new.self now c.step.ensures.carries honest s upholds in
+    record {
+      any_moment =
+          joined g.D.Disk c.args.self.now.journal.disk c.step.new.self.journal.disk c.slot_finish.new.self.disk (λ image. StandsFor image s) run
+          (finish_moments g.D.Disk c.step.new.self s c.in-Some.checkpoint c.deref.result.now c.deref.ensures.value c.in-Some.is stepped.ready.sound none
+          c.slot_finish.new.self.disk upheld (λ k d keeps. c.slot_finish.ensures.any_moment honest_2 k d keeps));
+      upheld =
+          finish_upheld g.D.Disk c.step.new.self s c.in-Some.checkpoint c.deref.result.now c.deref.ensures.value c.in-Some.is stepped.ready.sound none
+          c.slot_finish.new.self upheld (λ k d keeps. c.in_ok-slot_finish.ensures.finished honest_2 k d keeps);
+    }
