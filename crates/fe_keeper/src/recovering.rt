@@ -45,30 +45,7 @@ pub(crate) fn recovered(
     ensures memory { IsErrOf result NoMemory → IsOk (header_at image.now) }
     ensures faults { IfErr result IsSlotFault }
 {
-    let mut state = base_of(alloc, format, generation, slot, image)?;
-    replay_all(format, groups, &mut state)?;
-    Ok(state)
-}
-
-/// The state of the image. It is a fault if the image is wrong, or its place too small for the slot's generation.
-fn base_of(
-    alloc: Global,
-    format: Format,
-    generation: u64,
-    slot: usize,
-    image: &[u8],
-) -> Result<State, Fault>
-    requires is_slot { slot < 2 }
-    ensures base { IfOk result (IsBase format generation image.now) }
-    ensures exact { IfOk result (λ state. image_at format image.now ≡ Ok state) }
-    ensures refused { (s : ServerState) → IsBase format generation image.now s
-        → IfErr result (λ fault. fault ≡ NoMemory) }
-    ensures damaged { (offset at : ℕ) (payloads : List (List ℕ)) → IsErrOf result (Damaged offset)
-        → IsWrongIn slot format generation image.now payloads at offset }
-    ensures memory { IsErrOf result NoMemory → IsOk (header_at image.now) }
-    ensures faults { IfErr result IsSlotFault }
-{
-    let state = match read_image(alloc, format, image) {
+    let mut state = match read_image(alloc, format, image) {
         Ok(state) => state,
         Err(ImageFault::NoMemory) => return Err(Fault::NoMemory),
         Err(ImageFault::Damaged { offset }) => {
@@ -82,6 +59,7 @@ fn base_of(
             offset: header_of(slot) + 8,
         });
     }
+    replay_all(format, groups, &mut state)?;
     Ok(state)
 }
 
