@@ -1,4 +1,5 @@
 -- What the events of a conversation do to its input, its connection and its output, whose bytes may be known.
+-- See `docs/formats.md`, "What a client has to know".
 use Rattle.std.specs.Prelude.{◌≡◌, ◌⊎◌, ℕ, List, [], ◌∷◌, ◌++◌, Option, None, Some, IfSome}
 use Rattle.std.proofs.Common.{sym, subst, inl, inr, ◌∙◌}
 use Rattle.std.specs.Io.KnownBytes.{Appends, Consumes, IsAtEnd}

@@ -1,4 +1,5 @@
 -- What a call that appends bytes to a vector leaves, whether it finds memory or not.
+-- See `docs/model.md`, "Records, groups and images".
 use Rattle.std.specs.Prelude.{◌≡◌, ℕ, ◌+◌, ◌<◌, ◌≤◌, Bool, true, false, List, ◌++◌, length, take}
 
 -- If it succeeds, the text comes after what was there. If it fails, there was no room for the text. In both cases what

@@ -1,4 +1,4 @@
--- That a step of reading returns what the rule of images (`FirstFault.antt`) gives.
+-- That a step of reading returns what the rule of images (`FirstFault.antt`) gives (`docs/model.md`, "Records, groups and images").
 use Rattle.std.specs.Prelude.{◌≡◌, ℕ, Result, Ok, Err}
 use Rattle.fe_codec.specs.declared.fault.Fault.{Fault}
 use Rattle.fe_codec.specs.declared.fault.Fault.TheVariants.{Left, NoMemory}

@@ -1,4 +1,4 @@
--- Laws of the grammar of records, groups and images, cited by public functions.
+-- Laws of the grammar of records, groups and images, cited by public functions (`docs/model.md`, "Records, groups and images").
 use Rattle.std.specs.Prelude.{◌≡◌, ℕ, List, ◌++◌, Ok}
 use Rattle.fe_state.specs.declared.entry.Entry.{Entry}
 use Rattle.fe_codec.specs.Record.{entry_spelling, group_spelling, FitsRecord, FitsGroup}

@@ -1,4 +1,4 @@
--- What loading a part of an image, the bytes of a server state, leaves as it was.
+-- What loading a part of an image, the bytes of a server state, leaves as it was (`docs/model.md`, "Records, groups and images").
 use Rattle.std.specs.Prelude.{◌≡◌, ℕ, Option, None, IsSome, true}
 use Rattle.std.specs.Ordering.{nat_cmp}
 use Rattle.std.specs.FinMap.{FinMap, get, len}

@@ -1,4 +1,4 @@
--- What a record, the bytes of an entry, holds. Its unused bytes are looked at last.
+-- What a record, the bytes of an entry, holds. Its unused bytes are looked at last (`docs/model.md`, "Records, groups and images").
 use Rattle.std.specs.Prelude.{ℕ, ◌+◌, ◌^◌, Bool, true, ◌&&◌, List, length, take, drop, slice_index, Option, Some, None, nat_le, nat_lt, ◌==◌, if◌then◌else◌}
 use Rattle.std.specs.Str.{bytes_eq}
 use Rattle.std.specs.Int.{Width, w32, w64, byte_len, from_be_bytes}

@@ -1,4 +1,4 @@
--- Steps that may give no value, one after another. A `do` block over options uses this operator.
+-- Steps that may give no value, one after another. A `do` block over options uses this operator (`docs/formats.md`, "Codes").
 use Rattle.std.specs.Prelude.{Option, option_and_then}
 
 infixl 10 ◌>>=◌

@@ -1,4 +1,4 @@
--- Laws of the codes, cited by public functions.
+-- Laws of the codes, cited by public functions (`docs/formats.md`, "Codes").
 use Rattle.std.specs.Prelude.{◌≡◌, ◌↔◌, ℕ, Some}
 use Rattle.fe_words.specs.declared.word.Tag.{Tag}
 use Rattle.fe_words.specs.declared.op.Op.{Op}

@@ -1,4 +1,4 @@
--- What a code is read as: the tag, the operation or the answer that has it, or None if there is none.
+-- What a code is read as: the tag, the operation or the answer that has it, or None if there is none (`docs/formats.md`, "Codes").
 use Rattle.std.specs.Prelude.{ℕ, Option, Some, None, ◌==◌, if◌then◌else◌}
 use Rattle.fe_words.specs.declared.word.Tag.{Tag}
 use Rattle.fe_words.specs.declared.word.Tag.TheVariants.{Full, Empty}

@@ -1,4 +1,5 @@
 -- What the answers stand on that a desk writes, whatever its steps answer: the groups of entries that are stored.
+-- See `docs/model.md`, "The desk".
 use Rattle.std.specs.Prelude.{◌≡◌, ℕ, ◌+◌, Bool, true, false, List, [], ◌∷◌, ◌++◌, length, take, is_some, Some, IfSome, Contains, Result}
 use Rattle.std.specs.List.{flat_map, AllByRecursion}
 use Rattle.fe_state.specs.State.{ServerState, IsWithinLimits, after_all}

@@ -1,4 +1,4 @@
--- A desk whose trace, the record of what was stored and written, begins anew.
+-- A desk whose trace, the record of what was stored and written, begins anew (`docs/model.md`, "The desk").
 use Rattle.std.specs.Prelude.{[], map}
 use Rattle.fe_desk.specs.Crash.{DeskState}
 use Rattle.fe_desk.specs.DeskRunState.{Client, DeskRunState}

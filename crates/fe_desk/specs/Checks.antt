@@ -1,4 +1,4 @@
--- What the steps of a desk do to its store.
+-- What the steps of a desk do to its store (`docs/model.md`, "The desk").
 use Rattle.std.specs.Prelude.{◌≡◌, List, [], ◌∷◌, ◌++◌, length, MatchBool}
 use Rattle.fe_codec.specs.Image.{image_spelling}
 use Rattle.fe_format.specs.declared.format.Format.TheVariants.{Two}

@@ -1,4 +1,5 @@
 -- What a stop leaves of a desk's store. A desk is the front, its connections' streams and the keeper of a store, in one thread.
+-- See `docs/model.md`, "The desk".
 use Rattle.std.specs.Prelude.{◌≡◌, ◌↔◌, ℕ, ◌≤◌, false, List, ◌++◌, take}
 use Rattle.fe_disk.specs.Runs.{LeavesOnly}
 use Rattle.fe_state.specs.State.{ServerState}

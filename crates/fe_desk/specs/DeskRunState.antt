@@ -1,5 +1,5 @@
 -- Where a run of the desk stands, apart from the store: the front, what each connection number was written, the batch on
--- its way to the store, and the groups that were handed to it.
+-- its way to the store, and the groups that were handed to it (`docs/model.md`, "The desk").
 use Rattle.std.specs.Prelude.{◌≡◌, ℕ, Bool, false, List, [], ◌∷◌, ◌++◌, Option, None, if◌then◌else◌}
 use Rattle.std.specs.Option.{option_map_or}
 use Rattle.fe_state.specs.State.{ServerState}

@@ -1,4 +1,4 @@
--- How a step of a desk ends for which memory is short, or in which the device fails.
+-- How a step of a desk ends for which memory is short, or in which the device fails (`docs/model.md`, "The desk").
 use Rattle.std.specs.Prelude.{◌≡◌, ◌⊎◌, ℕ, Bool, true, false, [], ◌∷◌, ◌++◌, List, length, IsTrue}
 use Rattle.fe_front.specs.Front.{is_connected}
 use Rattle.fe_keeper.specs.Keeper.{can_begin}

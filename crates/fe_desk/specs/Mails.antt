@@ -1,4 +1,4 @@
--- Taking the mails of a connection out of its box.
+-- Taking the mails of a connection out of its box (`docs/model.md`, "The desk").
 use Rattle.std.specs.Prelude.{ℕ, zero, suc, length}
 use Rattle.fe_mail.specs.Connections.{mails_on}
 use Rattle.fe_front.specs.Front.{FrontState}

@@ -1,4 +1,5 @@
 -- The messages of a client that a step may leave, what it writes to no client before its end, and what it says of its bytes.
+-- See `docs/model.md`, "The desk".
 use Rattle.std.specs.Prelude.{◌≡◌, ◌≢◌, ℕ, ◌<◌, Bool, true, false, List, [], ◌∷◌, ◌++◌, length, map, Option, Some}
 use Rattle.std.specs.Option.{option_map, option_map_or}
 use Rattle.fe_state.specs.declared.entry.Entry.{Entry}

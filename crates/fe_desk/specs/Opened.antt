@@ -1,4 +1,4 @@
--- What opening a desk returns.
+-- What opening a desk returns (`docs/model.md`, "The desk").
 use Rattle.std.specs.Prelude.{◌≡◌, ◌⊎◌, ℕ, false, List, Result, Ok, Err}
 use Rattle.fe_disk.specs.declared.calls.Calls.{Calls}
 use Rattle.fe_keeper.specs.declared.fault.Fault.TheVariants as keeper

@@ -1,4 +1,4 @@
--- How what is written to connections grows.
+-- How what is written to connections grows (`docs/model.md`, "The desk").
 use Rattle.std.specs.Prelude.{◌≡◌, ℕ, List, [], ◌∷◌, ◌++◌}
 use Rattle.fe_desk.specs.DeskRunState.{Client}
 

@@ -1,4 +1,4 @@
--- A desk with nothing to write to its clients.
+-- A desk with nothing to write to its clients (`docs/model.md`, "The desk").
 use Rattle.std.specs.Prelude.{◌≡◌, ⊤, ℕ, Bool, true, false, List, [], ◌∷◌, None}
 use Rattle.fe_mail.specs.Connections.{mails_on}
 use Rattle.fe_desk.specs.declared.step.Step.{Step}

@@ -1,4 +1,4 @@
--- What a whole run of a desk returns: the desk is opened over a store, and takes steps.
+-- What a whole run of a desk returns: the desk is opened over a store, and takes steps (`docs/model.md`, "The desk").
 use Rattle.std.specs.Prelude.{◌≡◌, ◌≢◌, ◌⊎◌, ◌↔◌, ⊤, ℕ, zero, suc, false, List, [], ◌∷◌, ◌++◌, map, take, slice_get, Option, Some, None, Result, Ok, Err}
 use Rattle.fe_disk.specs.Disk.{Rises, MakesAtMost}
 use Rattle.fe_state.specs.State.{ServerState}

@@ -1,4 +1,5 @@
 -- What each step of a desk (a front, its connections' streams and a store's keeper, in one thread) does.
+-- See `docs/model.md`, "The desk".
 use Rattle.std.specs.Prelude.{◌≡◌, ℕ, Bool, true, false, nat_eq, List, [], ◌∷◌, ◌++◌, Option, Some, None, if◌then◌else◌, is_some, MatchBool}
 use Rattle.fe_wire.specs.Stream.{Decoding, HasRead, HasReadFrom}
 use Rattle.fe_wire.specs.declared.client_message.ClientMessage.{ClientMessage}

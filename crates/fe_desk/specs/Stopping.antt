@@ -1,4 +1,5 @@
 -- How far a piece of a connection's stream comes if memory is short for a batch, or the device fails to store it.
+-- See `docs/model.md`, "The desk".
 use Rattle.std.specs.Prelude.{◌≡◌, ◌⊎◌, ℕ, Bool, true, false, List, [], ◌∷◌, ◌++◌, Some}
 use Rattle.fe_state.specs.declared.batch.Batch.{Batch}
 use Rattle.fe_front.specs.Front.{is_connected, has_room}

@@ -1,4 +1,5 @@
 -- The way of a batch, entries that follow one another, through a desk: it is cut, stored as a group, and posted.
+-- See `docs/model.md`, "The desk".
 use Rattle.std.specs.Prelude.{ℕ, Bool, false, nat_eq, [], ◌∷◌, ◌++◌, Option, None, if◌then◌else◌}
 use Rattle.std.specs.Option.{option_map_or}
 use Rattle.fe_state.specs.declared.batch.Batch.{Batch}

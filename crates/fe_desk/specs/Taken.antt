@@ -1,4 +1,4 @@
--- What a step of a desk answers, and what it did; and steps, one after another.
+-- What a step of a desk answers, and what it did; and steps, one after another (`docs/model.md`, "The desk").
 use Rattle.std.specs.Prelude.{◌≡◌, ℕ, Bool, false, List, [], ◌∷◌, length, Result, Ok, Err, MatchBool}
 use Rattle.fe_mail.specs.Connections.{mails_on}
 use Rattle.fe_keeper.specs.declared.fault.Fault.TheVariants as keeper

@@ -1,4 +1,4 @@
--- Taking the messages of a connection, with room made for each if there is none.
+-- Taking the messages of a connection, with room made for each if there is none (`docs/model.md`, "The desk").
 use Rattle.std.specs.Prelude.{◌≡◌, ℕ, List, [], ◌∷◌}
 use Rattle.fe_state.specs.declared.entry.Entry.{Entry}
 use Rattle.fe_wire.specs.declared.client_message.ClientMessage.{ClientMessage}

@@ -1,4 +1,4 @@
--- What the trace of a desk, the record of what it stored and wrote, shows.
+-- What the trace of a desk, the record of what it stored and wrote, shows (`docs/model.md`, "The desk").
 use Rattle.std.specs.Prelude.{◌≡◌, ℕ, List, map}
 use Rattle.fe_state.specs.declared.entry.Entry.{Entry}
 use Rattle.fe_desk.specs.Messages.{outputs}

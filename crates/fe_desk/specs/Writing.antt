@@ -1,4 +1,4 @@
--- Writing the mails of a desk's clients as far as memory goes.
+-- Writing the mails of a desk's clients as far as memory goes (`docs/model.md`, "The desk").
 use Rattle.std.specs.Prelude.{◌≡◌, ◌≢◌, ◌⊎◌, ◌+◌, true, List, [], ◌∷◌, ◌++◌, length, Some, None}
 use Rattle.std.specs.Option.{option_map_or}
 use Rattle.fe_mail.specs.Connections.{mails_on}

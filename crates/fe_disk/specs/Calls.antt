@@ -1,4 +1,4 @@
--- How many reads, writes and syncs a device was asked for.
+-- How many reads, writes and syncs a device was asked for (`docs/model.md`, "The disk").
 use Rattle.fe_disk.specs.declared.calls.Calls.{Calls}
 
 -- no calls

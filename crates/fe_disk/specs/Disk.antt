@@ -1,4 +1,5 @@
 -- What the calls of a disk do to its bytes, and what a stop leaves of them. An image is the list of all bytes of a disk.
+-- See `docs/model.md`, "The disk".
 use Rattle.std.specs.Prelude.{◌≡◌, ◌⊎◌, ℕ, ◌+◌, ◌-◌, ◌^◌, ◌<◌, ◌≤◌, List, ◌++◌, length, take, drop, slice_index}
 use Rattle.fe_disk.specs.declared.calls.Calls.{Calls}
 

@@ -1,4 +1,4 @@
--- What contracts see of a `Fuse`, the policy that fails every call of a disk from some call on.
+-- What contracts see of a `Fuse`, the policy that fails every call of a disk from some call on (`docs/model.md`, "The disk").
 use Rattle.std.specs.Prelude.{ℕ, ◌-◌}
 use Rattle.fe_disk.specs.declared.fuse.Fuse.{Fuse}
 

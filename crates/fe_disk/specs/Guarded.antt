@@ -1,4 +1,5 @@
 -- What contracts see of a `Guarded` disk, whose policy lets some calls through to another disk and fails the others.
+-- See `docs/model.md`, "The disk".
 use Rattle.std.specs.Prelude.{◌≡◌, ◌↔◌, ℕ, ◌-◌, ◌^◌, ◌<◌, Result, IsErr}
 use Rattle.fe_disk.specs.Disk.{Rises}
 use Rattle.fe_disk.specs.declared.guarded.Guarded.{Guarded}

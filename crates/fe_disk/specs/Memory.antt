@@ -1,5 +1,5 @@
 -- What a `MemoryDisk` is, and which images its record of writes and syncs says that a stop may leave. An image is the
--- list of all bytes of a disk.
+-- list of all bytes of a disk (`docs/model.md`, "The disk").
 use Rattle.std.specs.Prelude.{◌≡◌, ◌⊎◌, ℕ, ◌+◌, ◌-◌, ◌^◌, ◌<◌, ◌≤◌, min, List, [], ◌∷◌, length, slice_index}
 use Rattle.fe_disk.specs.Disk.{IsImage, bytes_at, after_write}
 use Rattle.fe_disk.specs.Calls.{none}

@@ -1,4 +1,4 @@
--- How a call of a disk ends: what it counts, and when it fails.
+-- How a call of a disk ends: what it counts, and when it fails (`docs/model.md`, "The disk").
 use Rattle.std.specs.Prelude.{◌≡◌, ◌↔◌, ℕ, ◌+◌, ◌≤◌, Result, IsErr, OnOk}
 use Rattle.fe_disk.specs.Disk.{Rises, MakesAtMost, MakesJust}
 use Rattle.fe_disk.specs.declared.calls.Calls.{Calls}

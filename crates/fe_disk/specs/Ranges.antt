@@ -1,4 +1,4 @@
--- The ranges that were written since the last sync, as a stop goes through them.
+-- The ranges that were written since the last sync, as a stop goes through them (`docs/model.md`, "The disk").
 use Rattle.std.specs.Prelude.{ℕ, ◌+◌, ◌≤◌, List, [], ◌∷◌, length, replicate}
 use Rattle.fe_disk.specs.Disk.{after_write}
 use Rattle.fe_disk.specs.declared.memory_disk.Torn.{Torn}

@@ -1,4 +1,5 @@
 -- The writes and syncs that a `MemoryDisk` stores as `Call`, and of which contracts speak as `DiskEvent`.
+-- See `docs/model.md`, "The disk".
 use Rattle.std.specs.Prelude.{List, map, reverse}
 use Rattle.fe_disk.specs.Memory.{DiskEvent, Write, Sync}
 use Rattle.fe_disk.specs.declared.record.Call.{Call}

@@ -1,5 +1,6 @@
 -- The two formats of a store: the sizes in which they differ, and the lengths that they allow. A slot, half of a store,
 -- has an image of the server's state, and groups: records of entries, stored at once. A group's payload is its records.
+-- See `docs/model.md`, "The two formats".
 use Rattle.std.specs.Prelude.{◌≡◌, ℕ, ◌%◌, ◌≤◌}
 use Rattle.fe_format.specs.declared.format.Format.{Format}
 use Rattle.fe_format.specs.declared.format.Format.TheVariants.{One, Two}

@@ -1,5 +1,6 @@
 -- What happened in a hall, a front that many threads share, in one order: batches were cut and stored, connections asked for
 -- sessions, and answers were issued (taken out of their boxes for clients). A receipt is the record of an issued answer.
+-- See `docs/model.md`, "The hall".
 use Rattle.std.specs.Prelude.{◌≡◌, ℕ, ◌+◌, ◌<◌, Bool, List, [], ◌∷◌, ◌++◌, length, map, slice_get, Some, IfSome, MatchBool}
 use Rattle.std.specs.List.{flat_map}
 use mathlib.Core.List.{IsPrefix}

@@ -1,4 +1,5 @@
 -- Receipts of answers that were taken for clients. One is strange if what is kept or what was sent speaks against it.
+-- See `docs/model.md`, "The hall".
 use Rattle.std.specs.Prelude.{◌≡◌, ℕ, ◌<◌, ◌≤◌, List, length, take, slice_get, Option, Some, None, All, Any}
 use Rattle.std.specs.FinMap.{get}
 use Rattle.fe_state.specs.Sessions.{kept_in}

@@ -1,5 +1,5 @@
 -- The rule of a hall's history, and what the steps say that add to it. The history exists in proofs alone, except for
--- two words that count the batches that were stored and cut.
+-- two words that count the batches that were stored and cut (`docs/model.md`, "The hall").
 use Rattle.std.specs.Prelude.{ℕ, ◌≡◌, ◌<◌, ◌==◌, true, List, [], ◌∷◌, ◌++◌, length, MatchBool}
 use mathlib.Core.List.{IsPrefix}
 use Rattle.logbook.specs.Pages.{Cell, Step, View, Book, Named}

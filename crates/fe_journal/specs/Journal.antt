@@ -1,5 +1,6 @@
 -- A journal as its callers see it, and what it says of the images that its disk may leave. A draft is the other slot
 -- while it is made (a checkpoint). A catch-up is the group that goes into it for what was appended meanwhile.
+-- See `docs/model.md`, "The journal".
 use Rattle.std.specs.Prelude.{◌≡◌, ◌↔◌, ◌+◌, ◌≤◌, ℕ, Bool, List, [], ◌∷◌, ◌++◌, length, Option, Some, None, IsSome, Result, IsTrue, IsErrOf, OnOk, OnErr, false, true}
 use Rattle.fe_disk.specs.Disk.{bytes_at, LeavesJust, Rises, MakesAtMost}
 use Rattle.fe_disk.specs.declared.calls.Calls.{Calls}

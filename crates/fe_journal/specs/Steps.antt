@@ -1,4 +1,5 @@
 -- What single steps of the journal write on a disk, byte by byte. A commit writes bytes and then opens a gate.
+-- See `docs/model.md`, "The journal".
 use Rattle.std.specs.Prelude.{◌≡◌, ◌⊎◌, ℕ, ◌+◌, List, [], ◌∷◌, ◌++◌, length}
 use Rattle.byteorder.specs.Endian.{big_bytes}
 use Rattle.fe_disk.specs.Disk.{IsTorn, AddsNone, MakesJust, bytes_at, after_write}

@@ -1,4 +1,5 @@
 -- How a call of a keeper ends, and what it leaves. A keeper has a replica of the server's state, and the store that follows it.
+-- See `docs/model.md`, "The keeper".
 use Rattle.std.specs.Prelude.{◌≡◌, ◌⊎◌, ◌↔◌, ℕ, ◌+◌, true, false, IsTrue, List, MatchBool, Result, Ok, Err, MatchResult}
 use Rattle.fe_disk.specs.Disk.{Rises, MakesAtMost}
 use Rattle.fe_disk.specs.Runs.{LeavesOnly}

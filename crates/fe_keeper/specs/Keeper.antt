@@ -1,5 +1,6 @@
 -- A keeper as its callers see it, and what its calls leave of it. A checkpoint is an image of the state that is
 -- written, slice by slice, into the slot that does not count; then that slot counts. A place is a number of entries.
+-- See `docs/model.md`, "The keeper".
 use Rattle.std.specs.Prelude.{ℕ, zero, suc, ◌+◌, ◌-◌, ◌*◌, ◌/◌, Bool, true, false, ◌&&◌, nat_le, if◌then◌else◌, List, length, Option, Some, None, is_none, not}
 use Rattle.std.specs.Option.{option_map_or}
 use Rattle.std.specs.List.{list_all}

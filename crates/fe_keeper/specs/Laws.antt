@@ -1,4 +1,4 @@
--- Laws of what images stand for, and of histories over stops, cited by public functions.
+-- Laws of what images stand for, and of histories over stops, cited by public functions (`docs/model.md`, "The keeper").
 use Rattle.std.specs.Prelude.{◌≡◌, ℕ, ◌≤◌, List, ◌++◌, length, take}
 use Rattle.fe_state.specs.State.{ServerState}
 use Rattle.fe_state.specs.History.{IsHistory, after_groups}

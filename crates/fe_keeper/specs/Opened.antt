@@ -1,4 +1,4 @@
--- What opening a store returns: a keeper, whose replica is the state that the store stands for.
+-- What opening a store returns: a keeper, whose replica is the state that the store stands for (`docs/model.md`, "The keeper").
 use Rattle.std.specs.Prelude.{◌≡◌, ◌⊎◌, ℕ, ◌≤◌, List, [], ◌∷◌, None, false, Result, Ok, Err}
 use Rattle.fe_state.specs.State.{ServerState}
 use Rattle.fe_codec.specs.Image.{image_spelling, FitsImage}

@@ -1,4 +1,4 @@
--- What a stop may leave of a history: the state after whole groups from its front.
+-- What a stop may leave of a history: the state after whole groups from its front (`docs/model.md`, "The keeper").
 use Rattle.std.specs.Prelude.{◌≡◌, ℕ, ◌≤◌, List, length, take}
 use Rattle.fe_state.specs.State.{ServerState}
 use Rattle.fe_state.specs.History.{after_groups}

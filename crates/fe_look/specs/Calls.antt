@@ -1,4 +1,4 @@
--- What reading does to a disk.
+-- What reading does to a disk (`docs/store.md`, "A copy while the store is written").
 use Rattle.std.specs.Prelude.{◌≡◌, ◌↔◌, Result, IsErr, OnOk}
 use Rattle.fe_disk.specs.Disk.{Rises}
 use Rattle.fe_disk.specs.declared.disk.Disk.{Ghosts}

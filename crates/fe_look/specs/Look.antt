@@ -1,4 +1,4 @@
--- The text of a state, as `femem look` prints it.
+-- The text of a state, as `femem look` prints it (`docs/store.md`, "A copy while the store is written").
 use Rattle.std.specs.Prelude.{◌++◌, ℕ, List, Option, codes, length, take}
 use Rattle.std.specs.Fmt.{decimal}
 use Rattle.std.specs.FinMap.{entries, len}

@@ -1,4 +1,4 @@
--- What one reading of a store says, over a disk that nobody else writes.
+-- What one reading of a store says, over a disk that nobody else writes (`docs/store.md`, "A copy while the store is written").
 use Rattle.std.specs.Prelude.{◌≡◌, ◌⊎◌, ℕ, List}
 use Rattle.fe_journal.specs.Damage.{IsUnformatted}
 use Rattle.fe_store.specs.declared.fault.OpenFault.{OpenFault}

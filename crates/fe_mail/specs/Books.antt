@@ -1,5 +1,6 @@
 -- The books: how many calls and mails there were, and how each ended. A call is a client's request, a mail a message
 -- from the server to a connection, which waits in the connection's box until it is taken.
+-- See `docs/model.md`, "Mails, connections and books".
 use Rattle.std.specs.Prelude.{◌≡◌, ℕ, ◌+◌, ◌-◌, ◌≤◌, Bool, true, false, refl, min, nat_lt, if◌then◌else◌}
 use Rattle.std.specs.Coded.{Coded, code_by, coded×, coded_ℕ, coded_bool}
 use Rattle.fe_mail.specs.Limits.{most_booked}

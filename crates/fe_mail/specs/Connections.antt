@@ -1,4 +1,5 @@
 -- The connections, each with its session and its box of mails; and the number of mails in all boxes.
+-- See `docs/model.md`, "Mails, connections and books".
 use Rattle.std.specs.Prelude.{ℕ, List, [], length, Option, None, option_and_then}
 use Rattle.std.specs.Option.{option_map_or}
 use Rattle.std.specs.Ordering.{nat_cmp}

@@ -1,4 +1,5 @@
 -- The session that an entry of the history belongs to, and the mail for an entry, the message that a connection gets for it.
+-- See `docs/model.md`, "Mails, connections and books".
 use Rattle.std.specs.Prelude.{ℕ}
 use Rattle.fe_state.specs.declared.entry.Entry.{Entry}
 use Rattle.fe_state.specs.declared.entry.Entry.TheVariants.{Attached, Closed, Settled, Finished}

@@ -1,4 +1,5 @@
 -- The contents of a pool's vector, one column for each field of a node. No public clause cites this module.
+-- See `docs/model.md`, "Waiting requests".
 use Rattle.std.specs.Prelude.{◌≡◌, ℕ, zero, suc, List, [], ◌∷◌, ◌++◌, Option, Some, None, IsSome, refl, slice_index_or}
 use Rattle.std.specs.Coded.{Coded, code_by, coded×, coded_ℕ, coded_list, coded_option}
 use Rattle.fe_pool.specs.declared.family.Family.{Family}

@@ -1,5 +1,5 @@
 -- A pool as contracts see it: a fixed number of nodes, each free or taken. A taken node holds an item and is on at most
--- one list of each of two families, the lists of words and those of sessions.
+-- one list of each of two families, the lists of words and those of sessions (`docs/model.md`, "Waiting requests").
 use Rattle.std.specs.Prelude.{◌≡◌, ◌≢◌, ◌==◌, ◌↔◌, ℕ, ◌<◌, ◌^◌, List, [], ◌∷◌, ◌++◌, length, filter, not, Option, Some, None, IsSome, refl, slice_index_or, AllPairs, Contains}
 use Rattle.std.specs.List.{last_or}
 use Rattle.std.specs.Coded.{Coded, code_by, coded×, coded_ℕ, coded_list, coded_option}

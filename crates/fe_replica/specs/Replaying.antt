@@ -1,4 +1,5 @@
 -- What the payload of a stored group (the records of its entries) does to a state, and where it does not fit one.
+-- See `docs/model.md`, "The replica".
 use Rattle.std.specs.Prelude.{◌≡◌, ℕ, ◌≤◌, List, ◌++◌, length}
 use Rattle.fe_state.specs.State.{ServerState, IsLegal, MakesArray, after, after_all}
 use Rattle.fe_state.specs.History.{AreLegal}

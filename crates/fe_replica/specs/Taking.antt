@@ -1,5 +1,5 @@
 -- Which batches (entries to be stored at once) continue a history, and the first place at which one does not. A place
--- is the number of entries before an entry.
+-- is the number of entries before an entry (`docs/model.md`, "The replica").
 use Rattle.std.specs.Prelude.{◌≡◌, ◌≢◌, ℕ, ◌+◌, ◌≤◌, List, [], ◌∷◌, ◌++◌, length, Contains}
 use Rattle.fe_state.specs.State.{ServerState, IsLegal, MakesArray, after_all}
 use Rattle.fe_state.specs.History.{AreLegal}

@@ -41,7 +41,10 @@ pub(crate) fn rows_by_word(alloc: Global, front: &Front) -> Result<Vec<(Spot, Op
     ensures few { IfOk result (λ rows. vec_len rows ≤ most_waiting) }
 {
     let state = front.state();
-    let mut rows = Vec::with_capacity(alloc, front.service().attachments().waiting_count() as usize)?;
+    let mut rows = Vec::with_capacity(
+        alloc,
+        front.service().attachments().waiting_count() as usize,
+    )?;
     for k in 0..state.session_count() {
         let session = state.session_at(k).unwrap();
         add_session(alloc, front, &mut rows, session)?;

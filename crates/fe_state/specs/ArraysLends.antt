@@ -1,4 +1,4 @@
--- What the arrays are once a `&mut` to one of them has ended.
+-- What the arrays are once a `&mut` to one of them has ended (`docs/model.md`, "The state of the server").
 use Rattle.std.specs.Prelude.{ℕ}
 use Rattle.std.specs.Borrow.{Fml, MutBor, Lends}
 use Rattle.std.specs.FinMap.{FinMap, insert}

@@ -1,4 +1,5 @@
 -- What a request changed in the directory (the arrays by id, and the next id), and the directory before the change.
+-- See `docs/model.md`, "The state of the server".
 use Rattle.std.specs.Prelude.{◌≡◌, ℕ, ◌+◌, ◌-◌, ◌≤◌, ◌<◌, length, None, IsSome}
 use Rattle.std.specs.FinMap.{get, insert, remove, len}
 use Rattle.fe_state.specs.Directory.{Directory, IsArray, named, word_in, word_count}

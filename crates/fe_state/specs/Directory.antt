@@ -1,4 +1,5 @@
 -- The directory: the arrays by id, and the id that the next one gets. The answer to a request in it.
+-- See `docs/model.md`, "The state of the server".
 use Rattle.std.specs.Prelude.{◌≡◌, ℕ, Bool, ◌+◌, ◌≤◌, ◌<◌, refl, not, ◌&&◌, nat_le, nat_lt, if◌then◌else◌, List, length, find, slice_get, Option, Some, None, is_some, IsTrue}
 use Rattle.std.specs.Option.{option_map}
 use Rattle.std.specs.Ordering.{nat_cmp}

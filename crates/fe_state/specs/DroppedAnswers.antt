@@ -1,4 +1,5 @@
 -- Answers that sessions dropped when they were settled or closed, and how they are kept again when that is undone.
+-- See `docs/model.md`, "The state of the server".
 use Rattle.std.specs.Prelude.{◌≡◌, ℕ, ◌+◌, ◌≤◌, ◌<◌, List, [], ◌∷◌, ◌++◌, length, take, reverse, slice_index_or, Option, None, Some}
 use Rattle.std.specs.Ordering.{nat_cmp}
 use Rattle.std.specs.FinMap.{FinMap, get, insert, len}

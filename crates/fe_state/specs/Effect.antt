@@ -1,4 +1,5 @@
 -- What a request changes in the directory once it is answered, and the directory after it.
+-- See `docs/model.md`, "The state of the server".
 use Rattle.std.specs.Prelude.{ℕ, ◌+◌, List, slice_set, replicate, Option, Some, None, option_and_then}
 use Rattle.std.specs.Ordering.{nat_cmp}
 use Rattle.std.specs.FinMap.{FinMap, get, insert, remove}

@@ -1,4 +1,5 @@
 -- Worked examples of the definitions of answers, effects and entries, computed by the checker.
+-- See `docs/model.md`, "The state of the server".
 use Rattle.std.specs.Prelude.{◌≡◌, List, [], ◌∷◌, Some, None, true, false, codes}
 use Rattle.std.specs.FinMap.{empty, get, insert, len}
 use Rattle.fe_words.specs.Table.{word}

@@ -1,4 +1,5 @@
 -- What the older of the two store formats, format 1, has room for: names of at most 16 bytes, and no request that must not wait.
+-- See `docs/model.md`, "The state of the server".
 use Rattle.std.specs.Prelude.{ℕ, Bool, true, false, not, ◌&&◌, nat_le, List, length}
 use Rattle.fe_state.specs.declared.answer.Answer.{Answer}
 use Rattle.fe_state.specs.declared.answer.Answer.TheVariants.{NotNow}

@@ -1,4 +1,5 @@
 -- Histories: groups of entries (steps of the server's state), each entry legal after those before it.
+-- See `docs/model.md`, "The state of the server".
 use Rattle.std.specs.Prelude.{◌≡◌, ◌<◌, ℕ, List, [], ◌∷◌, ◌++◌, length, flat_map, Contains}
 use Rattle.fe_state.specs.State.{ServerState, IsLegal, IsWithinLimits, after, after_all}
 use Rattle.fe_state.specs.declared.answer.Answer.{Answer}

@@ -1,4 +1,4 @@
--- The ids that entries give to the arrays that they make: none is ever given again.
+-- The ids that entries give to the arrays that they make: none is ever given again (`docs/model.md`, "The state of the server").
 use Rattle.std.specs.Prelude.{ℕ, ◌≤◌, ◌<◌, List, All, Option, Some, None, filter_map}
 use Rattle.std.specs.List.Sorted.{IsStrictlyIncreasing}
 use Rattle.fe_state.specs.History.{AreLegal}

@@ -1,4 +1,4 @@
--- The answers that a session keeps, as an iterator over them gives them.
+-- The answers that a session keeps, as an iterator over them gives them (`docs/model.md`, "The state of the server").
 use Rattle.std.specs.Prelude.{ℕ, nat_le}
 use Rattle.std.specs.Ordering.{nat_cmp}
 use Rattle.std.specs.FinMap.{FinMap, retain_keys}

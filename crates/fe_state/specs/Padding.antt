@@ -1,4 +1,4 @@
--- A name's bytes in a row of fixed length, with zeros after them.
+-- A name's bytes in a row of fixed length, with zeros after them (`docs/model.md`, "The state of the server").
 use Rattle.std.specs.Prelude.{◌≡◌, ℕ, ◌≤◌, ◌-◌, ◌++◌, List, length, take, drop, replicate}
 use Rattle.std.proofs.Common.{arith, sym, ap, ◌∙◌, take-append-drop, length-take-le}
 use Rattle.fe_state.specs.Limits.{longest_name}

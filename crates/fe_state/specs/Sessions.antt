@@ -1,5 +1,5 @@
 -- Sessions. A client numbers its requests in a session, so that one it repeats takes effect once. A session has a
--- floor, its least usable number, and the answers kept for its numbers.
+-- floor, its least usable number, and the answers kept for its numbers (`docs/model.md`, "The state of the server").
 use Rattle.std.specs.Prelude.{ℕ, ◌+◌, ◌≤◌, ◌<◌, nat_le, refl, Option, Some, None, if◌then◌else◌}
 use Rattle.std.specs.Ordering.{nat_cmp}
 use Rattle.std.specs.Coded.{Coded, code_by, coded×, coded_ℕ}

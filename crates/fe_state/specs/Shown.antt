@@ -1,4 +1,4 @@
--- What a state shows of its arrays and sessions, as entries of its maps.
+-- What a state shows of its arrays and sessions, as entries of its maps (`docs/model.md`, "The state of the server").
 use Rattle.std.specs.Prelude.{ℕ, List}
 use Rattle.std.specs.Borrow.{Bor}
 use Rattle.std.specs.Ordering.{nat_cmp}

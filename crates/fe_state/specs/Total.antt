@@ -1,4 +1,4 @@
--- A sum over the values of a finite map.
+-- A sum over the values of a finite map (`docs/model.md`, "The state of the server").
 use Rattle.std.specs.Prelude.{ℕ, sum_by}
 use Rattle.std.specs.Ordering.{nat_cmp}
 use Rattle.std.specs.FinMap.{FinMap, entries}

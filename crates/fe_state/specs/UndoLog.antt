@@ -1,4 +1,5 @@
 -- Undo logs: what each entry (a step of the history) that was applied changed, and the states before these entries.
+-- See `docs/model.md`, "The state of the server".
 use Rattle.std.specs.Prelude.{◌≡◌, ℕ, ◌-◌, ◌*◌, ◌≤◌, refl, List, [], ◌∷◌, ◌++◌, length, min, sum_by, drop, reverse, IsSome, IsSomeAnd}
 use Rattle.std.specs.Option.{option_map}
 use Rattle.std.specs.Ordering.{nat_cmp}

@@ -1,4 +1,4 @@
--- What opening a store returns. An image is the list of all bytes of a disk.
+-- What opening a store returns. An image is the list of all bytes of a disk (`docs/store.md`, "The file").
 use Rattle.std.specs.Prelude.{◌≡◌, ◌⊎◌, ℕ, Bool, true, List, Result, Ok, Err}
 use Rattle.fe_state.specs.State.{ServerState, first_state}
 use Rattle.fe_journal.specs.Damage.{IsUnformatted}

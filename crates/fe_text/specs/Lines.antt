@@ -1,4 +1,4 @@
--- The lines of an input, and what a read takes from it.
+-- The lines of an input, and what a read takes from it (`docs/model.md`, "Schedules").
 use Rattle.std.specs.Prelude.{◌≡◌, ℕ, ◌<◌, ◌≤◌, List, [], ◌∷◌, length, take, Option, None, Some, false, ◌==◌, if◌then◌else◌}
 use Rattle.std.specs.Io.KnownBytes.{Keeps, Consumes, IsAtEnd}
 

@@ -1,4 +1,4 @@
--- The operation table: what each operation does to a tagged word, and what it answers.
+-- The operation table: what each operation does to a tagged word, and what it answers (`docs/model.md`, "Words").
 use Rattle.std.specs.Prelude.{◌≡◌, ◌↔◌, ℕ, ◌+◌, ◌%◌, ◌^◌, List, Option, Some, None, IsNone, codes}
 use Rattle.fe_words.specs.declared.op.Op.{Op}
 use Rattle.fe_words.specs.declared.op.Op.TheVariants.{ReadFe, ReadFf, ReadXx, WriteEf, WriteFf, WriteXf, Purge, IntFetchAdd}

@@ -1,5 +1,5 @@
 -- How a call goes: one relation for each kind of call, by cases of what it answers. `model` is `D.Disk`, the members of the disk model.
--- Calls go one after the other by `then` (`proofs/Goes`).
+-- Calls go one after the other by `then` (`proofs/Goes`) (`docs/model.md`, "The desk").
 use Rattle.std.specs.Prelude.{◌≡◌, ◌⊎◌, ℕ, ◌<◌, Bool, true, List, [], length, if◌then◌else◌, Result, Ok, Err, MatchBool, MatchResult}
 use Rattle.std.specs.declared.alloc.AllocError.{AllocError}
 use Rattle.fe_disk.specs.declared.disk.Disk.{Ghosts}

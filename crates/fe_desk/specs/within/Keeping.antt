@@ -1,4 +1,4 @@
--- What stays of a desk while mails are taken and connections go.
+-- What stays of a desk while mails are taken and connections go (`docs/model.md`, "The desk").
 use Rattle.std.specs.Prelude.{◌≡◌, ℕ, true, List, [], ◌++◌, map}
 use Rattle.fe_mail.specs.Connections.{mails_on}
 use Rattle.fe_front.specs.Front.{FrontState, is_connected}

@@ -1,4 +1,5 @@
 -- Which index the client of a connection number has among the clients, and what a connection changes when it comes.
+-- See `docs/model.md`, "The desk".
 use Rattle.std.specs.Prelude.{◌≡◌, ◌≢◌, ℕ, ◌<◌, List, length, Option, Some, slice_get}
 use Rattle.std.specs.Option.{option_map}
 use Rattle.fe_wire.specs.Stream.{Decoding}

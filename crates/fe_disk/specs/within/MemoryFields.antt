@@ -1,4 +1,4 @@
--- How the fields of a `MemoryDisk` give what callers see.
+-- How the fields of a `MemoryDisk` give what callers see (`docs/model.md`, "The disk").
 use Rattle.std.specs.Prelude.{length}
 use Rattle.fe_disk.specs.Disk.{IsImage}
 use Rattle.fe_disk.specs.Memory.{MemoryState}

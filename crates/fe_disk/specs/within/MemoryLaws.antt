@@ -1,4 +1,4 @@
--- The laws of the trait, for a `MemoryDisk`.
+-- The laws of the trait, for a `MemoryDisk` (`docs/model.md`, "The disk").
 use Rattle.std.specs.Prelude.{ℕ, ◌<◌, ◌≤◌, List, [], ◌∷◌, length}
 use Rattle.std.proofs.Common.{inl, inr, refl, arith}
 use Rattle.fe_disk.specs.Disk.{IsImage}

@@ -1,4 +1,5 @@
 -- What a `Sample` says of the bytes of a file: it has some bytes that were written there, and their offset.
+-- See `docs/model.md`, "The disk".
 use Rattle.std.specs.Prelude.{◌≡◌, ◌⊎◌, ℕ, ◌+◌, ◌≤◌, List, ◌∷◌, length, take, min}
 use Rattle.fe_disk.specs.Disk.{bytes_at, after_write}
 use Rattle.fe_disk.specs.declared.sample.Sample.{Sample}

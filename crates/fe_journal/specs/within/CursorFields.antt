@@ -1,4 +1,4 @@
--- How the fields of `Groups` give what its callers see.
+-- How the fields of `Groups` give what its callers see (`docs/model.md`, "The journal").
 use Rattle.std.specs.Prelude.{◌≡◌, ◌<◌, ◌≤◌, length}
 use Rattle.fe_journal.specs.Cursor.{Cursor}
 use Rattle.fe_journal.specs.Layout.{area_bytes, device_bytes}

@@ -1,4 +1,4 @@
--- How the fields of a `Journal` give what its callers see, and what holds of them.
+-- How the fields of a `Journal` give what its callers see, and what holds of them (`docs/model.md`, "The journal").
 use Rattle.std.specs.Prelude.{◌≡◌, ◌≤◌, ◌<◌, ℕ, vec_len}
 use Rattle.std.specs.Option.{ForSome}
 use Rattle.fe_journal.specs.Journal.{JournalState}

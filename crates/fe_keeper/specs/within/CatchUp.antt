@@ -1,4 +1,4 @@
--- What a checkpoint under way catches up with: the entries that came since it was begun.
+-- What a checkpoint under way catches up with: the entries that came since it was begun (`docs/model.md`, "The keeper").
 use Rattle.std.specs.Prelude.{◌≡◌, ℕ, ◌+◌, ◌*◌, ◌≤◌, List, ◌++◌, length, Option, Some, None, vec_len, vec_capacity}
 use Rattle.fe_state.specs.declared.entry.Entry.{Entry}
 use Rattle.std.specs.List.{AllByRecursion}

@@ -1,4 +1,4 @@
--- How a call of a store, the bytes side of a keeper, ends, and what it keeps.
+-- How a call of a store, the bytes side of a keeper, ends, and what it keeps (`docs/model.md`, "The keeper").
 use Rattle.std.specs.Prelude.{◌≡◌, ◌↔◌, ℕ, ◌+◌, Bool, true, false, IsTrue, List, Result, MatchResult, OnOk}
 use Rattle.fe_disk.specs.Disk.{Rises, MakesAtMost}
 use Rattle.fe_disk.specs.Runs.{LeavesOnly}

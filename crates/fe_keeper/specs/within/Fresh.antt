@@ -1,4 +1,5 @@
 -- A checkpoint, an image to be written into the other slot, that has all its memory and is not begun.
+-- See `docs/model.md`, "The keeper".
 use Rattle.std.specs.Prelude.{◌≡◌, ℕ, ◌≤◌, [], Option, vec_len, vec_capacity}
 use Rattle.std.specs.Option.{option_map_or}
 use Rattle.fe_state.specs.State.{ServerState}

@@ -1,4 +1,4 @@
--- What the calls of a store, the bytes side of a keeper, require.
+-- What the calls of a store, the bytes side of a keeper, require (`docs/model.md`, "The keeper").
 use Rattle.std.specs.Prelude.{◌≡◌, ◌+◌, ◌≤◌, false, IsTrue, IsSome, IfSome, is_some, List, length, Option, vec_len}
 use Rattle.std.specs.List.{AllByRecursion}
 use Rattle.fe_state.specs.Limits.{most_batch_entries, greatest_place}

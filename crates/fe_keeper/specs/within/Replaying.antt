@@ -1,4 +1,4 @@
--- Replaying the groups of a slot, one after the other: their entries are carried out on a state.
+-- Replaying the groups of a slot, one after the other: their entries are carried out on a state (`docs/model.md`, "The keeper").
 use Rattle.std.specs.Prelude.{◌≡◌, ℕ, Bool, true, false, List, [], ◌∷◌}
 use Rattle.fe_state.specs.State.{ServerState}
 use Rattle.fe_state.specs.History.{IsHistory}

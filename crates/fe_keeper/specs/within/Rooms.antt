@@ -1,4 +1,4 @@
--- The memory that a keeper has from the beginning.
+-- The memory that a keeper has from the beginning (`docs/model.md`, "The keeper").
 use Rattle.std.specs.Prelude.{◌≡◌, ◌≤◌, vec_capacity}
 use Rattle.fe_state.specs.UndoLog.{empty_log}
 use Rattle.fe_state.specs.Limits.{most_batch_entries}

@@ -1,4 +1,4 @@
--- A checkpoint, and the slot that the journal began for it, as slices of its image are written.
+-- A checkpoint, and the slot that the journal began for it, as slices of its image are written (`docs/model.md`, "The keeper").
 use Rattle.std.specs.Prelude.{◌≡◌, ℕ, ◌+◌, List, Some, vec_len}
 use Rattle.fe_state.specs.State.{ServerState}
 use Rattle.fe_format.specs.declared.format.Format.TheVariants.{Two}

@@ -1,4 +1,4 @@
--- A batch that was taken by the replica and is not stored yet.
+-- A batch that was taken by the replica and is not stored yet (`docs/model.md`, "The keeper").
 use Rattle.std.specs.Prelude.{◌≡◌, ◌≤◌, List, length, IfSome, Option}
 use Rattle.fe_state.specs.State.{ServerState, after_all}
 use Rattle.fe_state.specs.Limits.{most_batch_entries}

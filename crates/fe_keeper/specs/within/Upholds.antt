@@ -1,5 +1,5 @@
 -- How a keeper's store, its bytes side, stands to a state and to the images that its disk may leave. It upholds a state
--- if these images stand for it.
+-- if these images stand for it (`docs/model.md`, "The keeper").
 use Rattle.std.specs.Prelude.{◌≡◌, ◌⊎◌, ℕ, ◌+◌, ◌-◌, ◌*◌, ◌≤◌, List, take, Option, Some, None, vec_len, vec_capacity}
 use Rattle.fe_state.specs.State.{ServerState, after_all}
 use Rattle.fe_state.specs.History.{AreLegal}

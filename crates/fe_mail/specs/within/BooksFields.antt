@@ -1,4 +1,4 @@
--- The fields of `Books` as callers see them.
+-- The fields of `Books` as callers see them (`docs/model.md`, "Mails, connections and books").
 use Rattle.fe_mail.specs.Books.{Books}
 use Rattle.fe_mail.specs.declared.books.Books.TheInside.{Inside}
 

@@ -1,4 +1,5 @@
 -- How a node in the vector, a `Cell`, appears in the columns. No public clause cites this module.
+-- See `docs/model.md`, "Waiting requests".
 use Rattle.std.specs.Prelude.{ℕ, List, map, Option, Some, None}
 use Rattle.fe_pool.specs.Columns.{Link, Columns}
 use Rattle.fe_pool.specs.declared.family.Family.{Family}

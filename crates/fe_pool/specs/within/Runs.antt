@@ -1,5 +1,5 @@
 -- How the neighbours of the nodes represent the lists, and how all lists are read from them. No public clause cites
--- this module.
+-- this module (`docs/model.md`, "Waiting requests").
 use Rattle.std.specs.Prelude.{◌≡◌, ℕ, zero, suc, ◌<◌, ◌^◌, ◌⊎◌, List, [], ◌∷◌, length, map, Option, Some, None, slice_index_or, slice_set}
 use Rattle.std.specs.List.{range_with_len}
 use Rattle.fe_pool.specs.declared.neighbours.Neighbours.{Neighbours}

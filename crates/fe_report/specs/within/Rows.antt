@@ -1,4 +1,4 @@
--- How the rows of a report are found. No public clause cites this module.
+-- How the rows of a report are found. No public clause cites this module (`docs/model.md`, "The report").
 use Rattle.std.specs.Prelude.{◌≡◌, ℕ, List, ◌++◌, map, Some, T}
 use Rattle.std.specs.declared.cmp.Ordering.{Ordering}
 use Rattle.std.specs.FinMap.{FinMap, find, get, is_sorted}

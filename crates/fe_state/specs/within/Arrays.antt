@@ -1,4 +1,4 @@
--- The ids of the arrays, in order of creation, beside the arrays by id.
+-- The ids of the arrays, in order of creation, beside the arrays by id (`docs/model.md`, "The state of the server").
 use Rattle.std.specs.Prelude.{◌≡◌, ℕ, ◌+◌, ◌≤◌}
 use Rattle.std.specs.FinMap.{FinMap, keys}
 use Rattle.std.specs.Ordering.{nat_cmp}

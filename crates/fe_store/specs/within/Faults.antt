@@ -1,4 +1,4 @@
--- Which fault is reported when a store is not opened.
+-- Which fault is reported when a store is not opened (`docs/store.md`, "The file").
 use Rattle.std.specs.Prelude.{◌≡◌}
 use Rattle.fe_disk.specs.declared.file_fault.FileFault.{FileFault}
 use Rattle.fe_disk.specs.declared.file_fault.FileFault.TheVariants as file
