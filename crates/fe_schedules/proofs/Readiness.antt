@@ -29,7 +29,8 @@ use Rattle.fe_schedules.specs.declared.fault.MachineFault.TheVariants as machine
 use Rattle.fe_desk.specs.Quiet.{AreWritten}
 use Rattle.fe_schedules.specs.Ready.{IsReady}
 use Rattle.fe_schedules.specs.Schedule.{Stage, LeavesStored}
-use Rattle.fe_schedules.specs.Runs.{IsRun, IsAt, last_of, last_disk}
+use Rattle.fe_schedules.specs.Runs.{IsMachine, IsRun, IsAt, last_of, last_disk}
+use Rattle.fe_schedules.specs.declared.machine.Machine.{Machine}
 use Rattle.fe_schedules.specs.declared.run.Run.{Run}
 use Rattle.fe_disk.specs.declared.disk.Disk.{Ghosts}
 use Rattle.fe_keeper.specs.Ends.{Works}
@@ -101,11 +102,14 @@ all_stored d begun ready from =
     let synced = ready.synced in
     from.replica ∙ ap (λ (gs : List (List Entry)). after_groups begun gs) (take_all d.synced d.run_state.groups (omega (arith, synced)))
 
+-- the disk of a machine is that of its desk
+pub disk_is : (m : Machine) → IsMachine m → last_disk m ≡ disk_of m.desk
+disk_is m is = ap (λ (o : Option MemoryState). last_of o (disk_of m.desk)) is.lost
+
 -- a stop leaves what a run has stored
 pub leaves_at : (r : Run) (here : Stage) → IsRun r → IsAt r here → LeavesStored (last_disk r.machine) here
 leaves_at r here run at =
-    let d = r.machine.desk in
-    let disk : last_disk r.machine ≡ disk_of d = ap (λ (o : Option MemoryState). last_of o (disk_of d)) run.machine.lost in
+    let disk = disk_is r.machine run.machine in
     λ image may. subst (λ (s : ServerState). StandsFor image s) (sym at.stored) (run.machine.ready.stands image (subst (λ (m : MemoryState). LeavesNow m image) disk may))
 
 -- ---- a stop

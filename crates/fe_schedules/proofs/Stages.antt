@@ -102,21 +102,22 @@ counted r w n at same is = record {
 }
 
 -- a line of bytes that say one ran
-pub some_ran : (r w s : Run) (n : ℕ) (bytes : List ℕ) (l : Line) → w ≡ record r { begun = w.begun } → w.begun.items ≡ [] → n ≡ r.lines + 1 → SaysLine bytes (Some l) → IsRun (record w { lines = n }) → RanLine (record w { lines = n }) l s
-    → s.lines ≡ n → s.begun ≡ w.begun → RanBytes r bytes s
-some_ran r w s n bytes l same none count said run ran lines begun = record {
+pub some_ran : (r w s : Run) (n : ℕ) (bytes : List ℕ) (l : Line) → w ≡ record r { begun = w.begun } → w.begun.items ≡ [] → n ≡ r.lines + 1 → SaysLine bytes (Some l) → IsRun (record w { lines = n }) → RanLine (record w { lines = n }) l s → RanBytes r bytes s
+some_ran r w s n bytes l same none count said run ran = record {
+  run = ran.run;
   more = ran.prints.more;
   runs = λ at is.
       let x = line_ran l (record w { lines = n }) s run ran at (counted r w n at same is) in
       (x.next, x.is, says bytes l at x.next ran.prints.more said.0 said.1 x.runs);
   text = ran.prints.is ∙ ap (λ (x : Run). string_bytes x.text ++ ran.prints.more) same;
-  begun = ap (λ v. v.items) begun ∙ none;
-  lines = lines ∙ count;
+  begun = ap (λ v. v.items) ran.begun ∙ none;
+  lines = ran.lines ∙ count;
 }
 
 -- an empty one
-pub none_ran : (r w : Run) (n : ℕ) (bytes : List ℕ) → w ≡ record r { begun = w.begun } → w.begun.items ≡ [] → n ≡ r.lines + 1 → bytes ≡ [] → RanBytes r bytes (record w { lines = n })
-none_ran r w n bytes same none count empty = record {
+pub none_ran : (r w : Run) (n : ℕ) (bytes : List ℕ) → w ≡ record r { begun = w.begun } → w.begun.items ≡ [] → n ≡ r.lines + 1 → bytes ≡ [] → IsRun (record w { lines = n }) → RanBytes r bytes (record w { lines = n })
+none_ran r w n bytes same none count empty run = record {
+  run = run;
   more = [];
   runs = λ at is. (at, counted r w n at same is, nothing_says bytes at empty);
   text = ap (λ (x : Run). string_bytes x.text) same ∙ sym (append-nil (string_bytes r.text));

@@ -18,7 +18,7 @@ use Rattle.fe_schedules.specs.declared.fault.MachineFault.{MachineFault}
 use Rattle.fe_schedules.specs.declared.fault.MachineFault.TheVariants as machine
 use Rattle.fe_text.specs.Lines.{lines_of, HasNoFeed}
 use Rattle.fe_schedules.specs.Schedule.{Stage, IsStart, Prints, RunsAll, RunsUntil, IsOfStore}
-use Rattle.fe_schedules.specs.Runs.{IsAt, SoFar, Whole, Ended}
+use Rattle.fe_schedules.specs.Runs.{IsRun, IsAt, SoFar, Whole, Ended}
 use Rattle.fe_schedules.specs.declared.fault.ScheduleFault.{ScheduleFault}
 use Rattle.fe_schedules.specs.declared.run.Run.{Run}
 use Rattle.fe_schedules.proofs.Taking.{until, unread_left, all_ran, known, known_all}
@@ -85,8 +85,9 @@ pub finished : (o i : Option (List ℕ)) (read : List ℕ) (before after : Optio
 finished o i read before after disk c e w = all_ran o read before after disk (known_all o i read c e) w
 
 -- a run at its start has read nothing
-pub begins : (now : Option (List ℕ)) (r : Run) (at : Stage) → IsStart at → IsAt r at → r.lines ≡ 0 → r.begun.items ≡ [] → string_bytes r.text ≡ [] → SoFar [] now now r
-begins now r at start is lines begun text = record {
+pub begins : (now : Option (List ℕ)) (r : Run) (at : Stage) → IsRun r → IsStart at → IsAt r at → r.lines ≡ 0 → r.begun.items ≡ [] → string_bytes r.text ≡ [] → SoFar [] now now r
+begins now r at run start is lines begun text = record {
+  run = run;
   lines = [];
   splits = λ others. ap (λ (b : List ℕ). lines_of (b ++ others)) (sym begun);
   no_feed = subst HasNoFeed (sym begun) tt;

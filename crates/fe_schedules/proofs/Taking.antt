@@ -58,6 +58,7 @@ took_line read before now r s bytes so none ran =
     let line : List ℕ = r.begun.items ++ bytes in
     let step = ran.runs so.here so.is in
     record {
+      run = ran.run;
       lines = so.lines ++ line ∷ [];
       splits = λ others.
           line_ends read bytes r.begun.items others so.lines so.splits so.no_feed none ∙ sym (append_assoc so.lines (line ∷ []) (lines_of others))
@@ -150,10 +151,11 @@ front_fails writer end read before now r bytes kept so none is same others =
 
 -- ---- a front of a line is kept
 
-pub took_front : (read : List ℕ) (before now : Option (List ℕ)) (r s : Run) (bytes : List ℕ) → SoFar read before now r → HasNoFeed bytes → s ≡ record r { begun = s.begun } → s.begun.items ≡ r.begun.items ++ bytes → SoFar (read ++ bytes) before now s
-took_front read before now r s bytes so none same begun =
+pub took_front : (read : List ℕ) (before now : Option (List ℕ)) (r s : Run) (bytes : List ℕ) → SoFar read before now r → HasNoFeed bytes → s ≡ record r { begun = s.begun } → IsRun s → s.begun.items ≡ r.begun.items ++ bytes → SoFar (read ++ bytes) before now s
+took_front read before now r s bytes so none same run begun =
     let text : string_bytes r.text ≡ string_bytes s.text = ap (λ (x : Run). string_bytes x.text) (sym same) in
     record {
+      run = run;
       lines = so.lines;
       splits = λ others. ap lines_of (append_assoc read bytes others) ∙ so.splits (bytes ++ others) ∙ ap (λ (x : List ℕ). so.lines ++ lines_of x) (sym (append_assoc r.begun.items bytes others) ∙ ap (λ (b : List ℕ). b ++ others) (sym begun));
       no_feed = subst HasNoFeed (sym begun) (both_no_feed r.begun.items bytes so.no_feed none);
@@ -172,6 +174,7 @@ took_front read before now r s bytes so none same begun =
 -- all that was kept is written
 pub wrote : (read : List ℕ) (before now after : Option (List ℕ)) (r s : Run) → SoFar read before now r → Appends now after (string_bytes r.text) → s ≡ record r { text = s.text } → string_bytes s.text ≡ [] → SoFar read before after s
 wrote read before now after r s so appends same empty = record {
+  run = subst IsRun (sym same) (record { machine = so.run.machine; none = so.run.none; few = so.run.few; room = so.run.room; count = so.run.count });
   lines = so.lines;
   splits = λ others. so.splits others ∙ ap (λ (x : Run). so.lines ++ lines_of (x.begun.items ++ others)) (sym same);
   no_feed = subst (λ (x : Run). HasNoFeed x.begun.items) (sym same) so.no_feed;
@@ -245,14 +248,14 @@ write_whole_fails writer f fails input before now after kept disk count w append
 -- ---- the end of the input
 
 -- no line has begun
-pub ends_between : (read : List ℕ) (before now : Option (List ℕ)) (r : Run) → IsRun r → SoFar read before now r → r.begun.items ≡ [] → Whole read before now (string_bytes r.text) (last_disk r.machine)
-ends_between read before now r run so none = record {
+pub ends_between : (read : List ℕ) (before now : Option (List ℕ)) (r : Run) → SoFar read before now r → r.begun.items ≡ [] → Whole read before now (string_bytes r.text) (last_disk r.machine)
+ends_between read before now r so none = record {
   lines = so.lines;
   all = ap lines_of (sym (append-nil read)) ∙ so.splits [] ∙ ap (λ (b : List ℕ). so.lines ++ lines_of (b ++ [])) none ∙ append-nil so.lines;
   text = so.text;
   prints = record { start = so.start; starts = so.starts; end = so.here; runs = so.runs };
   written = so.written;
-  leaves = leaves_at r so.here run so.is;
+  leaves = leaves_at r so.here so.run so.is;
 }
 
 -- the lines with the last one
@@ -261,9 +264,8 @@ last_line read [] lines splits none some = absurd (some refl)
 last_line read (x ∷ xs) lines splits none some =
     ap lines_of (sym (append-nil read)) ∙ splits [] ∙ ap (λ (b : List ℕ). lines ++ lines_of b) (append-nil (x ∷ xs)) ∙ ap (λ (ls : List (List ℕ)). lines ++ ls) (unfed x xs none) ∙ ap (λ (b : List ℕ). lines ++ b ∷ []) (sym (append-nil (x ∷ xs)))
 
-pub ends_within : (read : List ℕ) (before now : Option (List ℕ)) (r s : Run) → SoFar read before now r → r.begun.items ≢ [] → IsRun s × RanBytes r (r.begun.items ++ []) s → Whole read before now (string_bytes s.text) (last_disk s.machine)
-ends_within read before now r s so some ended =
-    let ran = ended.1 in
+pub ends_within : (read : List ℕ) (before now : Option (List ℕ)) (r s : Run) → SoFar read before now r → r.begun.items ≢ [] → RanBytes r (r.begun.items ++ []) s → Whole read before now (string_bytes s.text) (last_disk s.machine)
+ends_within read before now r s so some ran =
     let line : List ℕ = r.begun.items ++ [] in
     let step = ran.runs so.here so.is in
     record {
@@ -272,7 +274,7 @@ ends_within read before now r s so some ended =
       text = so.text;
       prints = record { start = so.start; starts = so.starts; end = step.0; runs = with_line so.lines line so.start so.here step.0 so.text (string_bytes r.text) ran.more (string_bytes s.text) so.runs step.2 ran.text };
       written = so.written;
-      leaves = leaves_at s step.0 ended.0 step.1;
+      leaves = leaves_at s step.0 ran.run step.1;
     }
 
 pub last_fails : (writer : StreamFault → Type 0) (end : ScheduleFault) (read : List ℕ) (before now : Option (List ℕ)) (r : Run) (kept : List ℕ) → SoFar read before now r → r.begun.items ≢ [] → IsFaultOf (r.lines + 1) (r.begun.items ++ []) end → kept ≡ string_bytes r.text → Ended writer end read before now kept

@@ -1,6 +1,7 @@
 -- A desk (the front, its connections' streams and a store's keeper, in one thread) over a store in memory, between two steps.
 use Rattle.std.specs.Prelude.{◌≡◌, false, List, [], ◌∷◌, length}
 use Rattle.fe_disk.specs.Memory.{MemoryState, IsHonest}
+use Rattle.fe_journal.specs.Layout.{device_bytes}
 use Rattle.fe_state.specs.State.{ServerState}
 use Rattle.fe_keeper.specs.Stands.{EachStandsFor}
 use Rattle.fe_desk.specs.Crash.{DeskState, IsFrom, disk_of}
@@ -9,6 +10,12 @@ use Rattle.fe_desk.specs.Quiet.{AreWritten}
 use Rattle.fe_desk.specs.Steps.{DeskRun}
 use Rattle.fe_schedules.specs.MemoryModel.{memory_model}
 use Rattle.fe_desk.specs.declared.step.Step.{Step}
+
+-- the disk has a store's size, does what its model says, and no call of it failed
+pub record HoldsStore (disk : MemoryState) : Type 0 where
+  pub size : length disk.image ≡ device_bytes
+  pub honest : IsHonest disk
+  pub calm : disk.failures ≡ 0
 
 -- The store works, no call of its disk failed, and it is that of a run from some state; each image that a stop may leave stands
 -- for what the keeper has; all groups are stored, and all mails are written.

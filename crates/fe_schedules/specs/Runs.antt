@@ -1,5 +1,5 @@
 -- What is always true of a run, and what its parts do.
-use Rattle.std.specs.Prelude.{◌≡◌, ◌≢◌, ℕ, ◌+◌, ◌-◌, ◌^◌, ◌<◌, ◌≤◌, List, [], ◌++◌, length, map, Option, None, Some, string_bytes, vec_capacity}
+use Rattle.std.specs.Prelude.{◌≡◌, ◌≢◌, ℕ, ◌+◌, ◌-◌, ◌^◌, ◌<◌, ◌≤◌, List, [], ◌++◌, length, Option, None, Some, string_bytes, vec_capacity}
 use Rattle.std.specs.Io.KnownBytes.{Appends}
 use Rattle.fe_disk.specs.Memory.{MemoryState}
 use Rattle.fe_desk.specs.Crash.{DeskState, IsFrom, disk_of}
@@ -7,12 +7,11 @@ use Rattle.fe_desk.specs.Anew.{desk_anew}
 use Rattle.fe_desk.specs.Messages.{outputs}
 use Rattle.fe_desk.specs.DeskRunState.{DeskRunState, IsFirstRunState}
 use Rattle.fe_desk.specs.declared.step.Step.{Step}
-use Rattle.fe_wire.specs.declared.server_message.ServerMessage.{ServerMessage}
 use Rattle.fe_schedules.specs.Ready.{IsReady, Moves}
 use Rattle.fe_text.specs.Line.{parsed}
 use Rattle.fe_text.specs.Lines.{lines_of, HasNoFeed}
 use Rattle.fe_schedules.specs.Schedule.{Stage, AreStepsOf, holds_after, endings, RunsBytes, Prints, RunsLines, IsStart, EndsWithin, LeavesStored}
-use Rattle.fe_schedules.specs.PrintedReply.{IsPrinted, AreRepliesIn, printed_to}
+use Rattle.fe_schedules.specs.PrintedReply.{IsPrinted}
 use Rattle.fe_text.specs.declared.fault.StreamFault.{StreamFault}
 use Rattle.fe_schedules.specs.declared.fault.ScheduleFault.{ScheduleFault}
 use Rattle.fe_schedules.specs.declared.fault.ScheduleFault.TheVariants as fault
@@ -21,15 +20,8 @@ use Rattle.fe_text.specs.declared.line.Line.{Line}
 use Rattle.fe_text.specs.declared.line.Line.TheVariants as line
 use Rattle.fe_schedules.specs.declared.machine.Machine.{Machine}
 use Rattle.fe_schedules.specs.declared.run.Run.{Run}
-use Rattle.fe_schedules.specs.declared.printed_reply.PrintedReply.{PrintedReply}
 
 -- ---- how replies are printed
-
--- `after` is `before` and the printed replies that the bytes written to the connection spell
-pub record HasMoreReplies (conn : ℕ) (written : List ℕ) (before after : List PrintedReply) : Type 0 where
-  pub replies : List ServerMessage
-  pub are : AreRepliesIn written replies
-  pub is : after ≡ before ++ map (printed_to conn) replies
 
 -- `after` is `before` and the desk's replies, printed
 pub record PrintsMore (s : DeskRunState) (before after : List ℕ) : Type 0 where
@@ -52,13 +44,25 @@ pub record IsMachine (m : Machine) : Type 0 where
   pub ready : IsReady m.desk
   pub lost : m.lost ≡ None
 
+-- the machine took these steps, and is ready for the next
+pub record TakesSteps (m : Machine) (steps : List Step) (n : Machine) : Type 0 where
+  pub machine : IsMachine n
+  pub moves : Moves m.desk steps n.desk
+
+-- the desk's replies are printed, and its trace begins anew
+pub record PrintsTrace (m n : Machine) (before after : List ℕ) : Type 0 where
+  pub machine : IsMachine n
+  pub desk : n.desk ≡ desk_anew m.desk
+  pub text : PrintsMore m.desk.run_state before after
+
 -- The steps of a line begin at the desk `e`: at `d`, or after `Stop` at a fresh desk over what was stored.
 abbrev pub BeginsAt : Line → DeskState MemoryState → DeskState MemoryState → Type 0
 BeginsAt line.Stop d e = IsFirstRunState d.keeper.state e.run_state × IsFrom d.keeper.state e
 BeginsAt other d e = e ≡ d
 
--- the machine took the steps of a line
+-- the machine took the steps of a line, and is ready for the next
 pub record ActsOn (m : Machine) (l : Line) (n : Machine) : Type 0 where
+  pub machine : IsMachine n
   pub mid : DeskState MemoryState
   pub begins : BeginsAt l m.desk mid
   pub steps : List Step
@@ -77,6 +81,9 @@ pub record IsRun (r : Run) : Type 0 where
 
 -- a line does what it says, and then what is pending is stored and posted; the replies are printed, and the trace begins anew
 pub record RanLine (r : Run) (l : Line) (s : Run) : Type 0 where
+  pub run : IsRun s
+  pub lines : s.lines ≡ r.lines
+  pub begun : s.begun ≡ r.begun
   pub mid : DeskState MemoryState
   pub begins : BeginsAt l r.machine.desk mid
   pub steps : List Step
@@ -98,6 +105,7 @@ pub record IsAt (r : Run) (s : Stage) : Type 0 where
 
 -- The line of these bytes ran, at whatever stage the run was.
 pub record RanBytes (r : Run) (bytes : List ℕ) (s : Run) : Type 0 where
+  pub run : IsRun s
   pub more : List ℕ
   pub runs : (at : Stage) → IsAt r at → (next : Stage) × IsAt s next × RunsBytes at bytes next more
   pub text : string_bytes s.text ≡ string_bytes r.text ++ more
@@ -129,6 +137,7 @@ IsFaultOf number bytes fault.Input = number ≡ 2 ^ 64 - 1
 
 -- The complete lines among these bytes ran, and the run has the unfinished one. What they print was written, except the run's text.
 pub record SoFar (read : List ℕ) (before now : Option (List ℕ)) (r : Run) : Type 0 where
+  pub run : IsRun r
   pub lines : List (List ℕ)
   pub splits : (others : List ℕ) → lines_of (read ++ others) ≡ lines ++ lines_of (r.begun.items ++ others)
   pub no_feed : HasNoFeed r.begun.items

@@ -11,7 +11,6 @@ mod printed_reply;
 mod reading;
 mod run;
 mod schedule;
-mod serving;
 mod streams;
 
 pub use counted_reader::CountedReader;

@@ -1,25 +1,22 @@
 //! What a schedule runs on: a desk over a store in memory. It keeps what a line does only until that is printed.
 
-ghost use Rattle.std.specs.Prelude.{◌≡◌, [], ◌∷◌, length, string_bytes, OnOk, IfOk, IfErr};
-ghost use Rattle.fe_disk.specs.Memory.{IsHonest};
-ghost use Rattle.fe_journal.specs.Layout.{device_bytes};
+ghost use Rattle.std.specs.Prelude.{◌≡◌, [], ◌∷◌, string_bytes, OnOk, IfOk, IfErr};
 ghost use Rattle.fe_wire.specs.Spelling.{Fits};
 ghost use Rattle.fe_desk.specs.DeskRunState.{IsFirstRunState};
-ghost use Rattle.fe_desk.specs.Anew.{desk_anew};
 ghost use Rattle.fe_state.specs.State.{first_state};
 ghost use Rattle.fe_text.specs.Line.{LineFits};
 ghost use Rattle.fe_schedules.specs.Fault.{TellsDisk};
-ghost use Rattle.fe_schedules.specs.Ready.{Moves};
+ghost use Rattle.fe_schedules.specs.Ready.{HoldsStore};
 ghost use Rattle.fe_schedules.specs.Schedule.{endings};
-ghost use Rattle.fe_schedules.specs.Runs.{IsMachine, ActsOn, PrintsMore, last_disk};
+ghost use Rattle.fe_schedules.specs.Runs.{IsMachine, ActsOn, TakesSteps, PrintsTrace, last_disk};
 
 use crate::fault::MachineFault;
-use crate::printed_reply::{PrintedReply, print_replies, sort};
+use crate::printed_reply::{PrintedReply, print_replies};
 use crate::reading::read_all;
-use crate::serving::{new_desk, stopped, take};
 use fe_desk::{Desk, Step};
-use fe_disk::MemoryDisk;
+use fe_disk::{MemoryDisk, Torn};
 use fe_journal::DEVICE_BYTES;
+use fe_keeper::images_stand_for_one;
 use fe_text::Line;
 use fe_wire::{ClientMessage, put_message};
 use std::alloc::{AllocError, Global};
@@ -39,21 +36,21 @@ pub(crate) struct Machine {
 impl Machine {
     /// A machine with a new store on the disk and no connection.
     pub fn new(alloc: Global, disk: MemoryDisk) -> Result<Machine, (MachineFault, MemoryDisk)>
-        requires size { length disk.image ≡ device_bytes }
-        requires honest { IsHonest disk }
-        requires calm { disk.failures ≡ 0 }
+        requires { HoldsStore disk }
         ensures machine { IfOk result IsMachine }
         ensures first { IfOk result (λ machine. IsFirstRunState first_state machine.desk.run_state) }
         ensures state { IfOk result (λ machine. machine.desk.keeper.state ≡ first_state) }
         ensures fault { IfErr result (λ e. TellsDisk e.1 e.0) }
     {
-        let desk = new_desk(alloc, disk)?;
-        Ok(Machine {
-            desk,
-            lost: None,
-            frame: Vec::new(alloc),
-            alloc,
-        })
+        match Desk::format(alloc, disk) {
+            Ok(desk) => Ok(Machine {
+                desk,
+                lost: None,
+                frame: Vec::new(alloc),
+                alloc,
+            }),
+            Err((fault, disk)) => Err((MachineFault::of_desk(fault), disk)),
+        }
     }
 
     /// The disk of a store that could not be opened, or else that of the desk.
@@ -74,16 +71,19 @@ impl Machine {
     pub fn act(&mut self, line: &Line) -> Result<(), MachineFault>
         requires machine { IsMachine self.old }
         requires fits { LineFits line.now }
-        ensures machine { OnOk result (IsMachine self.new) }
         ensures acts { OnOk result (ActsOn self.old line.now self.new) }
         ensures fault { IfErr result (TellsDisk (last_disk self.new)) }
     {
         match line {
             Line::Message { conn, message } => self.receive(*conn, message),
-            Line::Gone { conn } => self.drop_connection(*conn),
+            Line::Gone { conn } => self.step(&Step::Gone { conn: *conn }),
             Line::Hold | Line::Flush => Ok(()),
             Line::Stop => self.stop(),
-            Line::Check => self.check(),
+            // A whole checkpoint is made, where there is something that the last one does not hold.
+            Line::Check => {
+                self.step(&Step::CheckBegin)?;
+                self.step(&Step::CheckFinish)
+            }
         }
     }
 
@@ -91,7 +91,6 @@ impl Machine {
     fn receive(&mut self, conn: u64, message: &ClientMessage) -> Result<(), MachineFault>
         requires machine { IsMachine self.old }
         requires fits { Fits message.now }
-        ensures machine { OnOk result (IsMachine self.new) }
         ensures acts { OnOk result (ActsOn self.old (Line.Message conn message.now) self.new) }
         ensures fault { IfErr result (TellsDisk (last_disk self.new)) }
     {
@@ -107,21 +106,10 @@ impl Machine {
         outcome
     }
 
-    /// The connection goes.
-    fn drop_connection(&mut self, conn: u64) -> Result<(), MachineFault>
-        requires { IsMachine self.old }
-        ensures machine { OnOk result (IsMachine self.new) }
-        ensures acts { OnOk result (ActsOn self.old (Line.Gone conn) self.new) }
-        ensures fault { IfErr result (TellsDisk (last_disk self.new)) }
-    {
-        self.step(&Step::Gone { conn })
-    }
-
     /// Stores and posts what is pending, unless on hold.
     pub fn commit(&mut self, is_holding: bool) -> Result<(), MachineFault>
         requires { IsMachine self.old }
-        ensures machine { OnOk result (IsMachine self.new) }
-        ensures moved { OnOk result (Moves self.old.desk (endings is_holding) self.new.desk) }
+        ensures moved { OnOk result (TakesSteps self.old (endings is_holding) self.new) }
         ensures fault { IfErr result (TellsDisk (last_disk self.new)) }
     {
         if is_holding {
@@ -132,39 +120,32 @@ impl Machine {
         self.step(&Step::Post)
     }
 
-    /// Makes a whole checkpoint, where there is something that the last one does not hold.
-    fn check(&mut self) -> Result<(), MachineFault>
-        requires { IsMachine self.old }
-        ensures machine { OnOk result (IsMachine self.new) }
-        ensures acts { OnOk result (ActsOn self.old Line.Check self.new) }
-        ensures fault { IfErr result (TellsDisk (last_disk self.new)) }
-    {
-        self.step(&Step::CheckBegin)?;
-        self.step(&Step::CheckFinish)
-    }
-
     /// Stops, and opens the store again as it was at its last sync. No connection is there then, and nothing waits.
     fn stop(&mut self) -> Result<(), MachineFault>
         requires { IsMachine self.old }
-        ensures machine { OnOk result (IsMachine self.new) }
         // All that was stored is there, and nothing else.
-        ensures kept { OnOk result (self.new.desk.keeper.state ≡ self.old.desk.keeper.state) }
         ensures acts { OnOk result (ActsOn self.old Line.Stop self.new) }
         ensures fault { IfErr result (TellsDisk (last_disk self.new)) }
     {
-        // A desk of its own is there until the store is opened.
+        images_stand_for_one();
+        // A machine of its own is there until the store is opened.
         let disk = MemoryDisk::new(self.alloc, DEVICE_BYTES)?;
-        let between = match new_desk(self.alloc, disk) {
-            Ok(desk) => desk,
+        let between = match Machine::new(self.alloc, disk) {
+            Ok(machine) => machine,
             Err((fault, disk)) => return Err(self.lose(fault, disk)),
         };
-        let desk = mem::replace(&mut self.desk, between);
-        let opened = match stopped(self.alloc, desk) {
-            Ok(desk) => desk,
-            Err((fault, disk)) => return Err(self.lose(fault, disk)),
+        let disk = mem::replace(self, between).into_disk();
+        let Ok(left) = disk.stopped(Torn::Lost) else {
+            return Err(self.lose(MachineFault::Memory, disk));
         };
-        drop(mem::replace(&mut self.desk, opened));
-        Ok(())
+        drop(disk);
+        match Desk::open(self.alloc, left) {
+            Ok(desk) => {
+                drop(mem::replace(&mut self.desk, desk));
+                Ok(())
+            }
+            Err((fault, left)) => Err(self.lose(MachineFault::of_desk(fault), left)),
+        }
     }
 
     /// Keeps the disk of a store that could not be opened, and says why it could not.
@@ -183,18 +164,17 @@ impl Machine {
         printed_replies: &mut Vec<PrintedReply>,
     ) -> Result<(), AllocError>
         requires { IsMachine self.old }
-        ensures machine { OnOk result (IsMachine self.new) }
-        ensures desk { OnOk result (self.new.desk ≡ desk_anew self.old.desk) }
+        ensures printed { OnOk result
+            (PrintsTrace self.old self.new (string_bytes text.old) (string_bytes text.new)) }
         ensures disk { last_disk self.new ≡ last_disk self.old }
-        ensures text { OnOk result
-            (PrintsMore self.old.desk.run_state (string_bytes text.old) (string_bytes text.new)) }
     {
         read_all(
             self.alloc,
             self.desk.trace().ports.as_slice(),
             printed_replies,
         )?;
-        sort(printed_replies)?;
+        // Replies under one number keep their order.
+        printed_replies.sort_by_key(|one| one.key())?;
         print_replies(text, printed_replies.as_slice())?;
         self.desk.clear_trace();
         Ok(())
@@ -203,10 +183,12 @@ impl Machine {
     /// Takes a step.
     fn step(&mut self, step: &Step) -> Result<(), MachineFault>
         requires { IsMachine self.old }
-        ensures machine { OnOk result (IsMachine self.new) }
-        ensures moved { OnOk result (Moves self.old.desk (step.now ∷ []) self.new.desk) }
+        ensures moved { OnOk result (TakesSteps self.old (step.now ∷ []) self.new) }
         ensures fault { IfErr result (TellsDisk (last_disk self.new)) }
     {
-        take(&mut self.desk, step)
+        match self.desk.step(step) {
+            Ok(()) => Ok(()),
+            Err(fault) => Err(MachineFault::of_desk(fault)),
+        }
     }
 }

@@ -2,7 +2,7 @@
 
 ghost use Rattle.std.specs.Prelude.{◌≡◌, ◌++◌, string_bytes, OnOk};
 ghost use Rattle.std.specs.List.{flat_map};
-ghost use Rattle.fe_schedules.specs.PrintedReply.{key_of, printed_text, IsSorting};
+ghost use Rattle.fe_schedules.specs.PrintedReply.{key_of, printed_text};
 
 use fe_text::print_reply;
 use fe_wire::ServerMessage;
@@ -17,7 +17,7 @@ pub(crate) struct PrintedReply {
 
 impl PrintedReply {
     /// What is printed is sorted by: the connection, and then the number of the reply.
-    fn key(&self) -> (u64, u64)
+    pub fn key(&self) -> (u64, u64)
         ensures { result ≡ key_of self.now }
     {
         let number = match &self.reply {
@@ -28,13 +28,6 @@ impl PrintedReply {
         };
         (self.conn, number)
     }
-}
-
-/// Sorts replies by connection and then by number. Replies under one number keep their order.
-pub(crate) fn sort(printed_replies: &mut Vec<PrintedReply>) -> Result<(), AllocError>
-    ensures { OnOk result (IsSorting printed_replies.old.items printed_replies.new.items) }
-{
-    printed_replies.sort_by_key(|one| one.key())
 }
 
 /// Prints the replies in order.

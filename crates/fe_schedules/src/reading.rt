@@ -7,7 +7,6 @@ ghost use Rattle.fe_wire.specs.Spelling.{reply_spelling, ReplyFits};
 ghost use Rattle.fe_wire.specs.declared.server_message.ServerMessage.{ServerMessage as Reply};
 ghost use Rattle.fe_desk.specs.Frames.{AreReplies};
 ghost use Rattle.fe_schedules.specs.within.Frames.{frame_at};
-ghost use Rattle.fe_schedules.specs.Runs.{HasMoreReplies};
 ghost use Rattle.fe_schedules.specs.PrintedReply.{ArePrintedReplies, printed_to};
 
 use crate::printed_reply::PrintedReply;
@@ -69,19 +68,7 @@ fn read_replies(
     Ok(())
 }
 
-/// Reads what a port was written as replies.
-fn read_port(
-    alloc: Global,
-    port: &Port,
-    printed_replies: &mut Vec<PrintedReply>,
-) -> Result<(), AllocError>
-    ensures { OnOk result
-        (HasMoreReplies port.now.conn port.now.written printed_replies.old.items printed_replies.new.items) }
-{
-    read_replies(alloc, port.conn, port.written.as_slice(), printed_replies)
-}
-
-/// Reads what all ports were written.
+/// Reads what all ports were written as replies.
 pub(crate) fn read_all(
     alloc: Global,
     ports: &[Port],
@@ -91,7 +78,7 @@ pub(crate) fn read_all(
 {
     printed_replies.clear();
     for port in ports {
-        read_port(alloc, port, printed_replies)?;
+        read_replies(alloc, port.conn, port.written.as_slice(), printed_replies)?;
     }
     Ok(())
 }

@@ -1,13 +1,11 @@
 //! A run of a schedule: its lines as they come in pieces, and what they print.
 
-ghost use Rattle.std.specs.Prelude.{◌≡◌, ◌+◌, ◌++◌, ℕ, List, Option, [], ◌∷◌, length, string_bytes, IfOk, IfErr, IfSome, OnOk, OnErr, MatchResult};
-ghost use Rattle.fe_disk.specs.Memory.{IsHonest};
-ghost use Rattle.fe_journal.specs.Layout.{device_bytes};
+ghost use Rattle.std.specs.Prelude.{◌≡◌, ◌+◌, ◌++◌, ℕ, List, Option, [], ◌∷◌, string_bytes, IfOk, IfErr, IfSome, OnOk, OnErr, MatchResult};
 ghost use Rattle.fe_text.specs.Line.{LineFits};
 ghost use Rattle.fe_text.specs.Lines.{HasNoFeed};
 ghost use Rattle.fe_schedules.specs.Fault.{TellsDisk, TellsOfDisk, TellsDiskOrWriter};
-ghost use Rattle.fe_schedules.specs.Schedule.{IsStart, Stage};
-ghost use Rattle.fe_schedules.specs.Runs.{IsRun, IsAt, RanLine, RanBytes, SaysLine, IsStray, IsFaultOf, IsTooLong, SoFar, Whole, Ended, EndedIn, last_disk};
+ghost use Rattle.fe_schedules.specs.Ready.{HoldsStore};
+ghost use Rattle.fe_schedules.specs.Runs.{IsRun, RanLine, RanBytes, SaysLine, IsStray, IsFaultOf, IsTooLong, SoFar, Whole, Ended, EndedIn, last_disk};
 
 use crate::fault::{MachineFault, ScheduleFault};
 use crate::line::{holds_after, line_in};
@@ -43,13 +41,8 @@ pub(crate) struct Run {
 impl Run {
     /// A run before its first line, over a new store on the disk.
     pub fn new(alloc: Global, disk: MemoryDisk) -> Result<Run, (MachineFault, MemoryDisk)>
-        requires size { length disk.image ≡ device_bytes }
-        requires honest { IsHonest disk }
-        requires calm { disk.failures ≡ 0 }
-        ensures run { IfOk result IsRun }
-        ensures start { IfOk result (λ run. (at : Stage) × IsStart at × IsAt run at) }
-        ensures lines { IfOk result (λ run. run.lines ≡ 0) }
-        ensures begun { IfOk result (λ run. run.begun.items ≡ []) }
+        requires { HoldsStore disk }
+        ensures begins { IfOk result (λ run. (now : Option (List ℕ)) → SoFar [] now now run) }
         ensures text { IfOk result (λ run. string_bytes run.text ≡ []) }
         ensures fault { IfErr result (λ e. TellsDisk e.1 e.0) }
     {
@@ -79,7 +72,6 @@ impl Run {
     /// Runs each line that this piece ends, and writes what they print.
     pub fn take_piece<W: Sink>(&mut self, piece: &[u8], writer: &mut W) -> Result<(), ScheduleFault>
         requires { IsRun self.old }
-        ensures run { OnOk result (IsRun self.new) }
         ensures none_kept { string_bytes self.new.text ≡ [] }
         ensures disk { IfErr result (TellsDiskOrWriter (last_disk self.new.machine) (W.has_failed writer.new)) }
         ensures taken { (read : List ℕ) (before : Option (List ℕ)) → SoFar read before (W.contents writer.old) self.old
@@ -108,7 +100,6 @@ impl Run {
 
     fn run_lines<W: Sink>(&mut self, piece: &[u8], writer: &mut W) -> Result<(), ScheduleFault>
         requires { IsRun self.old }
-        ensures run { OnOk result (IsRun self.new) }
         ensures disk { IfErr result (TellsDiskOrWriter (last_disk self.new.machine) (W.has_failed writer.new)) }
         ensures taken { (read : List ℕ) (before : Option (List ℕ)) → SoFar read before (W.contents writer.old) self.old
             → MatchResult result (λ _. SoFar (read ++ piece.now) before (W.contents writer.new) self.new)
@@ -176,7 +167,6 @@ impl Run {
     /// Runs the line that ends with these bytes.
     fn end_line(&mut self, bytes: &[u8]) -> Result<(), ScheduleFault>
         requires { IsRun self.old }
-        ensures run { OnOk result (IsRun self.new) }
         ensures ran { OnOk result (RanBytes self.old (self.old.begun.items ++ bytes.now) self.new) }
         ensures text { OnErr result (string_bytes self.new.text ≡ string_bytes self.old.text) }
         ensures disk { IfErr result (TellsOfDisk (last_disk self.new.machine)) }
@@ -222,10 +212,7 @@ impl Run {
     fn run_line(&mut self, line: &Line) -> Result<(), MachineFault>
         requires run { IsRun self.old }
         requires fits { LineFits line.now }
-        ensures run { OnOk result (IsRun self.new) }
         ensures ran { OnOk result (RanLine self.old line.now self.new) }
-        ensures lines { self.new.lines ≡ self.old.lines }
-        ensures begun { self.new.begun ≡ self.old.begun }
         ensures fault { IfErr result (TellsDisk (last_disk self.new.machine)) }
         ensures text { OnErr result (string_bytes self.new.text ≡ string_bytes self.old.text) }
     {

@@ -3,7 +3,7 @@
 ghost use Rattle.std.specs.Prelude.{◌≡◌, ◌<◌, [], length, string_bytes, IfErr, OnOk};
 ghost use Rattle.fe_schedules.specs.Schedule.{RunsAll, RunsUntil, ReaderFails};
 ghost use Rattle.fe_schedules.specs.Fault.{TellsDiskOrWriter};
-ghost use Rattle.fe_schedules.specs.Runs.{IsRun, SoFar, last_disk};
+ghost use Rattle.fe_schedules.specs.Runs.{SoFar, last_disk};
 ghost use Rattle.fe_disk.specs.Memory.{IsHonest};
 ghost use Rattle.fe_journal.specs.Layout.{device_bytes};
 
@@ -63,7 +63,6 @@ fn run_all<R: Source, W: Sink>(
     reader: &mut R,
     writer: &mut W,
 ) -> Result<(), ScheduleFault>
-    requires run { IsRun run.old }
     requires begins { SoFar [] (W.contents writer.old) (W.contents writer.old) run.old }
     requires none_kept { string_bytes run.old.text ≡ [] }
     requires room { 0 < length piece.old }

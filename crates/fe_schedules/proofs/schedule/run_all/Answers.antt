@@ -2,7 +2,7 @@ use Rattle.std.proofs.Common.{◌≡◌, ℕ, ◌<◌, List, [], ◌++◌, Optio
 use Rattle.std.specs.Io.KnownBytes.{Consumes}
 use Rattle.fe_text.specs.Lines.{ReadsSome}
 use Rattle.fe_schedules.specs.Schedule.{ReaderFails, IsReadMore}
-use Rattle.fe_schedules.specs.Runs.{IsRun, SoFar, Whole, Ended, last_disk}
+use Rattle.fe_schedules.specs.Runs.{SoFar, Whole, Ended, last_disk}
 use Rattle.fe_text.specs.declared.fault.StreamFault.TheVariants as stream
 use Rattle.fe_schedules.specs.Fault.{of_stream}
 use Rattle.fe_schedules.specs.declared.run.Run.{Run}
@@ -79,7 +79,6 @@ loop-turn-preserved g c =
           let is : c.in_ok-read_piece.field-0 ≡ Some w.in-Some.count = search rules in
           let reads = subst (λ (n : Option ℕ). ReadsSome mid new c.read_piece.new.piece n) is c.in_ok-read_piece.ensures.reads in
           record {
-            run = subst IsRun (sym w.run-is) w.in_ok-take_piece-in-Some.ensures.run;
             room = room;
             none_kept = subst (λ (r : Run). string_bytes r.text ≡ []) (sym w.run-is) w.take_piece.ensures.none_kept;
             reads = reads_on;
@@ -94,7 +93,6 @@ loop-turn-preserved g c =
           let is : c.in_ok-read_piece.field-0 ≡ None = search rules in
           let keeps = subst (λ (n : Option ℕ). ReadsSome mid new c.read_piece.new.piece n) is c.in_ok-read_piece.ensures.reads in
           record {
-            run = subst IsRun (sym w.run-is) c.loop-turn.invariant.run;
             room = room;
             none_kept = subst (λ (r : Run). string_bytes r.text ≡ []) (sym w.run-is) c.loop-turn.invariant.none_kept;
             reads = reads_on;

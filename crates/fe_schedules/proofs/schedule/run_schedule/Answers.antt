@@ -1,7 +1,7 @@
 use Rattle.std.proofs.Common.{◌≡◌, refl, ap, inl}
 use Rattle.fe_schedules.specs.Fault.{of_machine, of_stream}
 use Rattle.fe_schedules.specs.Schedule.{ReaderFails}
-use Rattle.fe_schedules.proofs.Starting.{nothing_read, of_store, begins}
+use Rattle.fe_schedules.proofs.Starting.{nothing_read, of_store}
 use Rattle.fe_schedules.proofs.schedule.run_schedule.Goals as goal
 
 pub returns-in-Err-clause-fault : goal.returns-in-Err-clause-fault
@@ -21,6 +21,4 @@ returns-in-Err-new-clause-fault g c =
     (g.R.Source.remaining r) (g.W.Sink.contents c.args.writer.now) (of_store end) refl)
 
 pub run_all-ended-requires-clause-begins : goal.run_all-ended-requires-clause-begins
-run_all-ended-requires-clause-begins g c =
-    let e = c.in-Ok-new.ensures in
-    begins (g.W.Sink.contents c.args.writer.now) c.in-Ok-new.run' e.start.0 e.start.1 e.start.2 e.lines e.begun e.text
+run_all-ended-requires-clause-begins g c = c.in-Ok-new.ensures.begins (g.W.Sink.contents c.args.writer.now)

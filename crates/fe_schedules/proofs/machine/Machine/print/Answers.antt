@@ -1,7 +1,8 @@
-use Rattle.std.proofs.Common.{List, ◌++◌, string_bytes, refl, sym, ap, ◌∙◌, subst}
+use Rattle.std.proofs.Common.{List, ◌++◌, string_bytes, refl, sym, ap, ◌∙◌, subst, rules}
+use Rattle.std.proofs.lemmas.List.Sorted.{answers_always}
 use Rattle.std.specs.List.{flat_map}
 use Rattle.fe_schedules.specs.Ready.{IsReady}
-use Rattle.fe_schedules.specs.PrintedReply.{printed_text}
+use Rattle.fe_schedules.specs.PrintedReply.{key_of, printed_text, IsSorting}
 use Rattle.fe_schedules.specs.declared.printed_reply.PrintedReply.{PrintedReply}
 use Rattle.fe_schedules.proofs.Outputs.{trace_replies}
 use Rattle.fe_schedules.proofs.Readiness.{ready_anew}
@@ -10,17 +11,22 @@ use Rattle.fe_schedules.proofs.machine.Machine.print.Goals as goal
 pub clear_trace-requires : goal.clear_trace-requires
 clear_trace-requires c = λ honest. c.requires.ready.stands
 
-pub returns-clause-machine : goal.returns-clause-machine
-returns-clause-machine c =
-    record { ready = subst IsReady (sym c.clear_trace.ensures) (ready_anew c.args.self.now.desk c.requires.ready); lost = c.requires.lost }
-
-pub returns-clause-text : goal.returns-clause-text
-returns-clause-text c =
+pub returns-clause-printed : goal.returns-clause-printed
+returns-clause-printed c =
     let d = c.args.self.now.desk in
-    let order = c.sort.new.printed_replies.items in
+    let order = c.sort_by_key.new.self.items in
     let printed_replies = trace_replies c.as_slice.result.now c.trace.result.now d.run_state d.synced c.read_all.new.printed_replies.items c.as_slice.ensures.value c.trace.ensures c.in_ok-read_all.ensures in
+    let sorting : IsSorting c.read_all.new.printed_replies.items order = record {
+      same = c.sort_by_key.ensures.permutation;
+      ascends = c.in_ok-sort_by_key.ensures.sorted key_of (answers_always _ _ _ (λ f a r g h. search rules));
+      stable = c.sort_by_key.ensures.stable key_of (answers_always _ _ _ (λ f a r g h. search rules));
+    } in
     record {
-      more = flat_map printed_text order;
-      prints = record { printed_replies = c.read_all.new.printed_replies.items; order = order; are = printed_replies; sorts = c.in_ok-sort.ensures; is = refl };
-      is = c.in_ok-print_replies.ensures ∙ ap (λ (ts : List PrintedReply). string_bytes c.args.text.now ++ flat_map printed_text ts) c.as_slice-2.ensures.value;
+      machine = record { ready = subst IsReady (sym c.clear_trace.ensures) (ready_anew d c.requires.ready); lost = c.requires.lost };
+      desk = c.clear_trace.ensures;
+      text = record {
+        more = flat_map printed_text order;
+        prints = record { printed_replies = c.read_all.new.printed_replies.items; order = order; are = printed_replies; sorts = sorting; is = refl };
+        is = c.in_ok-print_replies.ensures ∙ ap (λ (ts : List PrintedReply). string_bytes c.args.text.now ++ flat_map printed_text ts) c.as_slice-2.ensures.value;
+      };
     }

@@ -17,7 +17,7 @@ returns-in_ok-run_line-in-Some-clause-ran c =
     let count : w.lines + 1 ≡ r.lines + 1 = ap (λ (x : Run). x.lines + 1) e.same in
     let said = subst (λ (o : Option Line). SaysLine bytes o) c.in-Some.is e.said in
     let run : IsRun (record w { lines = w.lines + 1 }) = search rules in
-    some_ran r w c.run_line.new.self (w.lines + 1) bytes c.in-Some.line e.same e.begun count said run c.in_ok-run_line-in-Some.ensures.ran c.run_line.ensures.lines c.run_line.ensures.begun
+    some_ran r w c.run_line.new.self (w.lines + 1) bytes c.in-Some.line e.same e.begun count said run c.in_ok-run_line-in-Some.ensures.ran
 
 pub returns-in-None-clause-ran : goal.returns-in-None-clause-ran
 returns-in-None-clause-ran c =
@@ -26,7 +26,8 @@ returns-in-None-clause-ran c =
     let e = c.in_ok-line.ensures in
     let bytes = r.begun.items ++ c.args.bytes.now in
     let count : w.lines + 1 ≡ r.lines + 1 = ap (λ (x : Run). x.lines + 1) e.same in
-    none_ran r w (w.lines + 1) bytes e.same e.begun count (subst (λ (o : Option Line). SaysLine bytes o) c.in-None.is e.said)
+    let run : IsRun (record w { lines = w.lines + 1 }) = search rules in
+    none_ran r w (w.lines + 1) bytes e.same e.begun count (subst (λ (o : Option Line). SaysLine bytes o) c.in-None.is e.said) run
 
 pub returns-in_err-line-clause-err : goal.returns-in_err-line-clause-err
 returns-in_err-line-clause-err c =

@@ -1,6 +1,6 @@
 use Rattle.std.proofs.Common.{◌≡◌, List, ℕ, [], ◌∷◌, ◌++◌, sym, ap, subst, ◌∙◌, append_assoc, string_bytes}
-use Rattle.fe_schedules.specs.Runs.{SoFar, Ended}
-use Rattle.fe_text.proofs.Results.{match_of, then_ok, err_then, failed}
+use Rattle.fe_schedules.specs.Runs.{IsRun, SoFar, Ended}
+use Rattle.fe_text.proofs.Results.{match_of, then_ok, ok_both, err_then, failed}
 use Rattle.fe_schedules.proofs.Taking.{regrouped, taken_more, none_taken, took_front, front_fails}
 use Rattle.fe_schedules.proofs.run.Run.run_lines.Goals as goal
 
@@ -42,7 +42,8 @@ returns-clause-taken g c = λ read before so.
     let all : List ℕ = read ++ c.args.piece.now in
     let left : List ℕ = string_bytes c.begin_line.new.self.text in
     match_of c.begin_line.result (SoFar all before now c.begin_line.new.self) (λ end. (others : List ℕ) → Ended (g.W.Sink.has_failed c.loop-line.writer) end (all ++ others) before now left)
-    (then_ok c.begin_line.result (λ begun. subst (λ (x : List ℕ). SoFar x before now c.begin_line.new.self) whole (took_front (read ++ t.taken) before now c.loop-line.self c.begin_line.new.self rest mid none c.begin_line.ensures.same begun)) c.begin_line.ensures.begun)
+    (then_ok c.begin_line.result (λ both. subst (λ (x : List ℕ). SoFar x before now c.begin_line.new.self) whole (took_front (read ++ t.taken) before now c.loop-line.self c.begin_line.new.self rest mid none c.begin_line.ensures.same both.0 both.1))
+    (ok_both c.begin_line.result (IsRun c.begin_line.new.self) (c.begin_line.new.self.begun.items ≡ c.loop-line.self.begun.items ++ rest) c.begin_line.ensures.run c.begin_line.ensures.begun))
     (err_then c.begin_line.result
     (λ end long others. subst (λ (x : List ℕ). Ended (g.W.Sink.has_failed c.loop-line.writer) end (x ++ others) before now (string_bytes c.begin_line.new.self.text)) whole
     (front_fails (g.W.Sink.has_failed c.loop-line.writer) end (read ++ t.taken) before now c.loop-line.self rest (string_bytes c.begin_line.new.self.text) mid none long kept others)) c.begin_line.ensures.err)

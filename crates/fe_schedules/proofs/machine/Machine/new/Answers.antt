@@ -1,13 +1,13 @@
-use Rattle.std.proofs.Common.{◌∙◌}
+use Rattle.std.proofs.Common.{◌∙◌, refl}
 use Rattle.fe_state.specs.State.{first_state}
 use Rattle.fe_schedules.proofs.Readiness.{ready_first, format_tells}
-use Rattle.fe_schedules.proofs.serving.new_desk.Goals as goal
+use Rattle.fe_schedules.proofs.machine.Machine.new.Goals as goal
 
-pub returns-in-Ok-clause-ready : goal.returns-in-Ok-clause-ready
-returns-in-Ok-clause-ready c =
+pub returns-in-Ok-clause-machine : goal.returns-in-Ok-clause-machine
+returns-in-Ok-clause-machine c =
     let d = c.in-Ok.ensures in
     let honest = c.requires.honest in
-    ready_first c.in-Ok.desk first_state (d.honesty.1 honest) d.works (d.still ∙ c.requires.calm) d.first.0 d.first.1 d.first.2 (d.formatted honest)
+    record { ready = ready_first c.in-Ok.desk first_state (d.honesty.1 honest) d.works (d.still ∙ c.requires.calm) d.first.0 d.first.1 d.first.2 (d.formatted honest); lost = refl }
 
 pub returns-in-Err-clause-fault : goal.returns-in-Err-clause-fault
 returns-in-Err-clause-fault c = let e = c.in-Err.ensures in format_tells c.args.disk c.in-Err.disk c.in-Err.fault c.of_desk.result c.requires.calm c.of_desk.ensures e.faults e.device e.calm
