@@ -1,4 +1,4 @@
--- What the counts of a reader and of a writer say.
+-- What the counts of a reader and of a writer say (`docs/model.md`, "Schedules").
 use Rattle.std.specs.Prelude.{◌≡◌, ◌⊎◌, ℕ, ◌-◌, ◌^◌, ◌≤◌, min, true}
 use Rattle.fe_schedules.specs.declared.counted_reader.CountedReader.{CountedReader}
 use Rattle.fe_schedules.specs.declared.counted_writer.CountedWriter.{CountedWriter}

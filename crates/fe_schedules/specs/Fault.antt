@@ -1,4 +1,4 @@
--- Which fault of a part, a desk or a stream, ends a schedule with which fault.
+-- Which fault of a part, a desk or a stream, ends a schedule with which fault (`docs/model.md`, "Schedules").
 use Rattle.std.specs.Prelude.{◌≡◌, ◌⊎◌, ◌<◌, Option, None, Some}
 use Rattle.fe_disk.specs.Memory.{MemoryState}
 use Rattle.fe_keeper.specs.declared.fault.Fault.TheVariants as store

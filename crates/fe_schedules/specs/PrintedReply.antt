@@ -1,4 +1,4 @@
--- The replies to connections, and the order in which they are printed.
+-- The replies to connections, and the order in which they are printed (`docs/model.md`, "Schedules").
 use Rattle.std.specs.Prelude.{◌≡◌, ℕ, List, [], ◌∷◌, ◌++◌, map, Some}
 use Rattle.std.specs.List.{flat_map, AllByRecursion}
 use Rattle.std.specs.List.Sorted.{IsPermutation, IsSortedByKey, IsStableByKey}

@@ -1,4 +1,5 @@
 -- A desk (the front, its connections' streams and a store's keeper, in one thread) over a store in memory, between two steps.
+-- See `docs/model.md`, "Schedules".
 use Rattle.std.specs.Prelude.{◌≡◌, false, List, [], ◌∷◌, length}
 use Rattle.fe_disk.specs.Memory.{MemoryState, IsHonest}
 use Rattle.fe_journal.specs.Layout.{device_bytes}

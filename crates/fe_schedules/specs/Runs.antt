@@ -1,4 +1,4 @@
--- What is always true of a run, and what its parts do.
+-- What is always true of a run, and what its parts do (`docs/model.md`, "Schedules").
 use Rattle.std.specs.Prelude.{◌≡◌, ◌≢◌, ℕ, ◌+◌, ◌-◌, ◌^◌, ◌<◌, ◌≤◌, List, [], ◌++◌, length, Option, None, Some, string_bytes, vec_capacity}
 use Rattle.std.specs.Io.KnownBytes.{Appends}
 use Rattle.fe_disk.specs.Memory.{MemoryState}
