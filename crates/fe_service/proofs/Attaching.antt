@@ -1,6 +1,6 @@
 -- An attachment that is taken, and that a session that begins is legal.
 use Rattle.std.proofs.Common.{◌≡◌, ◌≢◌, ◌⊎◌, ℕ, ◌≤◌, ◌<◌, inl, inr, Option, Some, None, true, false, not, refl, sym, ap, ◌∙◌, arith}
-use Rattle.std.specs.Prelude.{is_some, MatchOption}
+use Rattle.std.specs.Prelude.{is_some, IsSomeAnd, MatchOption}
 use Rattle.std.specs.Option.{option_map_or}
 use Rattle.std.specs.Ordering.{nat_cmp}
 use Rattle.std.specs.Cmp.{nat_cmp_total}
@@ -15,29 +15,24 @@ use Rattle.fe_service.specs.Events.{HasRoom, IsAttachable, floor_of}
 use Rattle.fe_service.specs.ServiceState.{ServiceState, IsService, is_open}
 use Rattle.fe_service.proofs.Sizes.{len_within}
 
-insert_twice : {X : Type 0} (m : FinMap nat_cmp X) (k : ℕ) (a b : X) → insert (insert m k a) k b ≡ insert m k b
-insert_twice {X} m k a b = same_map nat_cmp_total nat_cmp-IsAntisymmetric _ _ (λ q. by_key q (same_or_other q k))
-  where
-    by_key : (q : ℕ) → (q ≡ k) ⊎ (q ≢ k) → get (insert (insert m k a) k b) q ≡ get (insert m k b) q
-    by_key q (inl same) = ap (get (insert (insert m k a) k b)) same ∙ get_inserted (insert m k a) k b ∙ sym (get_inserted m k b) ∙ ap (get (insert m k b)) (sym same)
-    by_key q (inr other) = get_beside (insert m k a) k b q other ∙ get_beside m k a q other ∙ sym (get_beside m k b q other)
-
--- an attachment that nobody had, and one that was there
-pub new_attachment : (attachments : FinMap nat_cmp Attachment) (session conn : ℕ) → with_holder (insert attachments session free_attachment) session (Some conn) ≡ insert attachments session (record { holder = Some conn; closing = false })
-new_attachment attachments session conn =
-    let shut : is_closing (insert attachments session free_attachment) session ≡ false = ap (λ (o : Option Attachment). option_map_or (λ attachment. attachment.closing) o false) (get_inserted attachments session free_attachment) in
-    ap (λ closing. insert (insert attachments session free_attachment) session (record { holder = Some conn; closing = closing })) shut ∙ insert_twice attachments session free_attachment (record { holder = Some conn; closing = false })
-
+-- the holder of an attachment that was there
 pub old_attachment : (attachments : FinMap nat_cmp Attachment) (session conn : ℕ) → is_closing attachments session ≡ false → with_holder attachments session (Some conn) ≡ insert attachments session (record { holder = Some conn; closing = false })
 old_attachment attachments session conn shut = ap (λ closing. insert attachments session (record { holder = Some conn; closing = closing })) shut
 
 -- there are no more sessions in the state than attachments
-open_there : (attachments : FinMap nat_cmp Attachment) (session : ℕ) → is_open attachments session ≡ true → is_some (get attachments session) ≡ true
+pub open_there : (attachments : FinMap nat_cmp Attachment) (session : ℕ) → is_open attachments session ≡ true → is_some (get attachments session) ≡ true
 open_there attachments session is = by_attachment (get attachments session) refl is
   where
     by_attachment : (here : Option Attachment) → get attachments session ≡ here → option_map_or (λ attachment. not attachment.closing) here false ≡ true → is_some (get attachments session) ≡ true
     by_attachment None is e = cc
     by_attachment (Some attachment) is e = ap is_some is
+
+pub usable_there : (s : ServiceState) (session : ℕ) (P : Session → Type 0) → IsService s → IsSomeAnd (get s.state.sessions session) P → is_some (get s.attachments session) ≡ true
+usable_there s session P h usable = open_there s.attachments session (sym (h.has_attachment session) ∙ by_session (get s.state.sessions session) usable)
+  where
+    by_session : (here : Option Session) → IsSomeAnd here P → is_some here ≡ true
+    by_session None usable = absurd usable
+    by_session (Some x) usable = refl
 
 pub few_sessions : (s : ServiceState) → IsService s → len s.state.sessions ≤ len s.attachments
 few_sessions s h = len_within (len s.state.sessions) s.state.sessions s.attachments refl (λ k there. open_there s.attachments k (sym (h.has_attachment k) ∙ there))

@@ -133,7 +133,3 @@ module _ (occupants : FinMap nat_cmp Occupant) (session : ℕ) where
     attachments-closing =
         attachments-insert (record { slot = occupant.slot; attachment = record { holder = occupant.attachment.holder; closing = true } })
         ∙ ap (λ holder. insert (attachments_of occupants) session (record { holder = holder; closing = true })) (sym (ap (option_and_then (λ attachment. attachment.holder)) attachment_there))
-
--- a change of the occupants alone, which leaves each slot, changes the attachments alone
-pub state-with_others : (waits : Waiting) (occupants occupants' : FinMap nat_cmp Occupant) (owners : List (Option ℕ)) (attachments : FinMap nat_cmp Attachment) → attachments_of occupants' ≡ attachments → attachments_state_of waits occupants' owners ≡ record (attachments_state_of waits occupants owners) { attachments = attachments }
-state-with_others waits occupants occupants' owners attachments e = ap (λ s. record (attachments_state_of waits occupants owners) { attachments = s }) e

@@ -140,10 +140,11 @@ module _ (w : Waiting) (occupants : FinMap nat_cmp Occupant) (owners : List (Opt
           waits = (by_owner occupants owners kept.agree w.members kept.owned (waits.key_of row) (waits.waiting_access_of row) listed).1;
         })
 
-    pub node-removed : by_session owners (remove w.members (waits.key_of row)) ≡ remove (by_session owners w.members) (key_of (request_from owners row))
-    node-removed =
+    pub node-removed : (request : WaitingRequest) → request_of_node (attachments_state_of w occupants owners) node ≡ Some request → by_session owners (remove w.members (waits.key_of row)) ≡ remove (by_session owners w.members) (key_of request)
+    node-removed request is =
         let owner = (by_owner occupants owners kept.agree w.members kept.owned (waits.key_of row) (waits.waiting_access_of row) listed).0 in
         by_session-remove occupants owners kept.agree w.members kept.owned (owner_of owners row.slot) row.slot row.number ((kept.agree (owner_of owners row.slot) row.slot).1 owner)
+        ∙ ap (λ (t : WaitingRequest). remove (by_session owners w.members) (key_of t)) (some_same (sym (waiting_request-is node row there) ∙ is))
 
 -- ---- the limits
 

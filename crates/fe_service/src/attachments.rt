@@ -1,7 +1,7 @@
 ghost use Rattle.std.specs.Prelude.{◌≡◌, ◌↔◌, ◌<◌, ◌≤◌, Some, None, false, IfOk, IfSome, IsSome, IsNone};
 ghost use Rattle.std.specs.FinMap as map;
 ghost use Rattle.fe_waits.specs.Waiting.{IsWord, NoneOnWord, AreWaitingRequestsOf, AreListedOnce};
-ghost use Rattle.fe_service.specs.AttachmentsState.{free_attachment, is_closing, with_closing, key_of, request_of_node, waiting_request_at, count_of, without_session, IsRequestOn, IsWithinLimits};
+ghost use Rattle.fe_service.specs.AttachmentsState.{is_closing, waiting_request_at, count_of, without_session, IsRequestOn, IsWithinLimits};
 ghost use Rattle.fe_state.specs.Limits.{most_sessions, window_length};
 
 use crate::attachment::Attachment;
@@ -121,18 +121,19 @@ impl Attachments {
         position
     }
 
-    /// Begins a session: it has an attachment, and no connection holds it yet.
-    pub(crate) fn begin_session(&mut self, session: u64)
+    /// Begins a session: it has an attachment, which the connection holds, if one does.
+    pub(crate) fn begin_session(&mut self, session: u64, holder: Option<u64>)
         requires new { map.get self.old.attachments session ≡ None }
         requires room { map.len self.old.attachments < most_sessions }
-        ensures attachments { self.new.attachments ≡ map.insert self.old.attachments session free_attachment }
+        ensures attachments { self.new.attachments
+            ≡ map.insert self.old.attachments session (record { holder = holder; closing = false }) }
         ensures waiting { self.new.waiting ≡ self.old.waiting }
         ensures arrays { self.new.arrays ≡ self.old.arrays }
     {
         let slot = self.slots.pop().unwrap();
         self.owners[slot as usize] = Some(session);
         let attachment = Attachment {
-            holder: None,
+            holder,
             closing: false,
         };
         self.occupants
@@ -149,32 +150,10 @@ impl Attachments {
         ensures arrays { self.new.arrays ≡ self.old.arrays }
     {
         if self.attachment(session).is_none() {
-            self.begin_session(session);
+            self.begin_session(session, Some(conn));
+        } else {
+            self.occupants.get_mut(session).attachment.holder = Some(conn);
         }
-        self.occupants.get_mut(session).attachment.holder = Some(conn);
-    }
-
-    /// Marks the session as closing.
-    pub(crate) fn set_closing(&mut self, session: u64)
-        requires has_attachment { IsSome (map.get self.old.attachments session) }
-        ensures { self.new ≡ record self.old { attachments = with_closing self.old.attachments session } }
-    {
-        self.occupants.get_mut(session).attachment.closing = true;
-    }
-
-    /// Adds a waiting request under a new number of a session, after the others on its word.
-    pub(crate) fn add(&mut self, session: u64, number: u64, array: u64, index: u32, op: Op)
-        requires has_attachment { IsSome (map.get self.old.attachments session) }
-        requires new { map.get self.old.waiting (session, number) ≡ None }
-        requires room { count_of self.old.waiting session < window_length }
-        requires word { IsWord self.old.arrays array index }
-        ensures added { self.new.waiting
-            ≡ map.insert self.old.waiting (session, number) (record { array = array; index = index; op = op }) }
-        ensures attachments { self.new.attachments ≡ self.old.attachments }
-        ensures arrays { self.new.arrays ≡ self.old.arrays }
-    {
-        let slot = slot_of(&self.occupants, session).unwrap();
-        self.waits.add(slot, number, array, index, op);
     }
 
     /// How many requests of a session wait, 0 to `WINDOW`. It is 0 for a session without an attachment.
@@ -196,17 +175,6 @@ impl Attachments {
         let node = self.waits.first_on(array, index)?;
         let row = self.waits.row(node);
         Some((node, WaitingRequest::of(owner(&self.owners, row.slot), row)))
-    }
-
-    /// Takes out the request of a node.
-    pub(crate) fn finish(&mut self, node: Node)
-        requires { IsSome (request_of_node self.old node) }
-        ensures removed { IfSome (request_of_node self.old node)
-            (λ request. self.new.waiting ≡ map.remove self.old.waiting (key_of request)) }
-        ensures attachments { self.new.attachments ≡ self.old.attachments }
-        ensures arrays { self.new.arrays ≡ self.old.arrays }
-    {
-        self.waits.finish(node);
     }
 
     /// The request of a session and a number, if it waits.

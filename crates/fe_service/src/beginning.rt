@@ -18,7 +18,7 @@ pub(crate) fn begin_sessions(state: &State, attachments: &mut Attachments)
     let _ = state.place();
     for k in 0..state.session_count() {
         let session = state.session_at(k).unwrap();
-        attachments.begin_session(session);
+        attachments.begin_session(session, None);
     }
 }
 

@@ -149,7 +149,8 @@ impl Service {
         ensures closed { self.new ≡ closed self.old session }
     {
         let count = self.inner.attachments.drop_session(session);
-        self.inner.attachments.set_closing(session);
+        let attachments = &mut self.inner.attachments;
+        attachments.occupants.get_mut(session).attachment.closing = true;
         self.inner.enter(Entry::Closed { session }, Effect::Nothing);
         count
     }
@@ -244,9 +245,9 @@ impl Service {
         requires waits { reply self.old.state (requests.Access array index op false) ≡ None }
         ensures { self.new ≡ waited self.old session number (record { array = array; index = index; op = op }) }
     {
-        self.inner
-            .attachments
-            .add(session, number, array, index, op);
+        let attachments = &mut self.inner.attachments;
+        let slot = slot_of(&attachments.occupants, session).unwrap();
+        attachments.waits.add(slot, number, array, index, op);
     }
 
     /// Takes the entries that were made, and goes on with an empty list.

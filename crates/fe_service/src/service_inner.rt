@@ -81,7 +81,8 @@ impl ServiceInner {
         let Some((answer, effect)) = self.state.look(&request) else {
             return false;
         };
-        self.attachments.finish(first.0);
+        let attachments = &mut self.attachments;
+        attachments.waits.finish(first.0);
         let entry = Entry::Finished {
             session: waiting_request.session,
             number: waiting_request.number,

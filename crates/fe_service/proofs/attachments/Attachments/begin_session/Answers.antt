@@ -1,5 +1,4 @@
-use Rattle.std.proofs.Common.{refl, ap, ◌∙◌, arith}
-use Rattle.fe_service.specs.AttachmentsState.{free_attachment}
+use Rattle.std.proofs.Common.{false, refl, ap, ◌∙◌, arith}
 use Rattle.fe_service.specs.within.Slots.{attachments_of}
 use Rattle.fe_service.proofs.KeptLemmas.{begin_session-below, kept-begin_session, waiting-begin_session}
 use Rattle.fe_service.proofs.AttachmentLemmas.{no_occupant, len-attachments, attachments-insert}
@@ -16,7 +15,7 @@ index_mut-requires c =
     let popped = rw c.unwrap-slot.ensures at c.pop.ensures.items in
     omega (
       arith,
-      begin_session-below _ _ _ _ _ c.self.invariant c.args.session c.unwrap-slot.result _ (record { slot = c.unwrap-slot.result; attachment = free_attachment }) (no_occupant _ _ asked.new) popped refl,
+      begin_session-below _ _ _ _ _ c.self.invariant c.args.session c.unwrap-slot.result _ (record { slot = c.unwrap-slot.result; attachment = record { holder = c.args.holder; closing = false } }) (no_occupant _ _ asked.new) popped refl,
       c.self.inside.owners.ok.0,
     )
 
@@ -30,7 +29,7 @@ invariant_of-self c =
     let asked = rw (← c.self.view_is) at c.requires in
     let popped = rw c.unwrap-slot.ensures at c.pop.ensures.items in
     rw (c.insert.ensures.inserted, c.pop.ensures.capacity)
-    (kept-begin_session _ _ _ _ _ c.self.invariant c.args.session c.unwrap-slot.result _ (record { slot = c.unwrap-slot.result; attachment = free_attachment }) (no_occupant _ _ asked.new) popped refl)
+    (kept-begin_session _ _ _ _ _ c.self.invariant c.args.session c.unwrap-slot.result _ (record { slot = c.unwrap-slot.result; attachment = record { holder = c.args.holder; closing = false } }) (no_occupant _ _ asked.new) popped refl)
 
 pub returns-clause-attachments : goal.returns-clause-attachments
 returns-clause-attachments c = rw (← c.self.view_is) (ap attachments_of c.insert.ensures.inserted ∙ attachments-insert _ _ _)
@@ -40,4 +39,4 @@ returns-clause-waiting c =
     let asked = rw (← c.self.view_is) at c.requires in
     let popped = rw c.unwrap-slot.ensures at c.pop.ensures.items in
     rw (← c.self.view_is)
-    (waiting-begin_session _ _ _ _ _ c.self.invariant c.args.session c.unwrap-slot.result _ (record { slot = c.unwrap-slot.result; attachment = free_attachment }) (no_occupant _ _ asked.new) popped refl)
+    (waiting-begin_session _ _ _ _ _ c.self.invariant c.args.session c.unwrap-slot.result _ (record { slot = c.unwrap-slot.result; attachment = record { holder = c.args.holder; closing = false } }) (no_occupant _ _ asked.new) popped refl)
