@@ -1,13 +1,11 @@
 -- An attachment that is taken, and that a session that begins is legal.
-use Rattle.std.proofs.Common.{◌≡◌, ◌≢◌, ◌⊎◌, ℕ, ◌≤◌, ◌<◌, inl, inr, Option, Some, None, true, false, not, refl, sym, ap, ◌∙◌, arith}
+use Rattle.std.proofs.Common.{◌≡◌, ℕ, ◌≤◌, ◌<◌, Option, Some, None, true, false, not, refl, sym, ap, ◌∙◌, arith}
 use Rattle.std.specs.Prelude.{is_some, IsSomeAnd, MatchOption}
 use Rattle.std.specs.Option.{option_map_or}
 use Rattle.std.specs.Ordering.{nat_cmp}
-use Rattle.std.specs.Cmp.{nat_cmp_total}
-use Rattle.std.specs.FinMap.{FinMap, get, insert, len, same_map, nat_cmp-IsAntisymmetric}
-use Rattle.fe_service.specs.AttachmentsState.{free_attachment, with_holder, is_closing}
+use Rattle.std.specs.FinMap.{FinMap, get, insert, len}
+use Rattle.fe_service.specs.AttachmentsState.{with_holder, is_closing}
 use Rattle.fe_service.specs.declared.attachment.Attachment.{Attachment}
-use Rattle.fe_state.proofs.Maps.{get_inserted, get_beside, same_or_other}
 use Rattle.fe_state.specs.Sessions.{Session}
 use Rattle.fe_state.specs.State.{IsLegal}
 use Rattle.fe_state.specs.declared.entry.Entry.TheVariants.{Attached}

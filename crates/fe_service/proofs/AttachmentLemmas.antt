@@ -1,5 +1,5 @@
 -- The attachments and the slots of the occupants, where an occupant comes, goes or changes.
-use Rattle.std.proofs.Common.{◌≡◌, ◌≢◌, ℕ, ◌+◌, ◌-◌, inl, inr, true, false, cond, List, Option, Some, None, IsSome, is_some, refl, sym, ap, ◌∙◌}
+use Rattle.std.proofs.Common.{◌≡◌, ◌≢◌, ℕ, ◌+◌, ◌-◌, inl, inr, true, false, cond, Option, Some, None, IsSome, is_some, refl, sym, ap, ◌∙◌}
 use Rattle.std.specs.Option.{option_map, option_map_or, option_and_then}
 use Rattle.std.specs.Ordering.{nat_cmp}
 use Rattle.std.specs.Cmp.{nat_cmp_total}
@@ -9,9 +9,8 @@ use Rattle.fe_waits.proofs.MemberLemmas.{none_some}
 use Rattle.fe_waits.proofs.WordLemmas.{get-insert_here, get-insert_other, get-remove_here, get-remove_other}
 use Rattle.fe_service.specs.declared.occupant.Occupant.{Occupant}
 use Rattle.fe_service.specs.declared.attachment.Attachment.{Attachment}
-use Rattle.fe_waits.specs.Waiting.{Waiting}
 use Rattle.fe_service.specs.AttachmentsState.{with_holder, with_closing}
-use Rattle.fe_service.specs.within.Slots.{slot_in, attachments_of, attachments_state_of}
+use Rattle.fe_service.specs.within.Slots.{slot_in, attachments_of}
 use Rattle.fe_service.proofs.KeyLemmas.{get-rekeyed, len-rekeyed}
 
 abbrev attachment_of : Occupant → Attachment

@@ -72,24 +72,3 @@ waits_by_tag (WriteXf operand) tag old new e = some_none e
 waits_by_tag Purge tag old new e = some_none e
 waits_by_tag (IntFetchAdd operand) Full old new e = some_none e
 waits_by_tag (IntFetchAdd operand) Empty old new e = refl
-
--- and on no word with the other tag
-pub one_tag : (op : Op) (one other : Tag) (old new : ℕ) → row op one old ≡ None → row op other new ≡ None → one ≡ other
-one_tag ReadFe Full other old new e k = some_none e
-one_tag ReadFe Empty Full old new e k = some_none k
-one_tag ReadFe Empty Empty old new e k = refl
-one_tag ReadFf Full other old new e k = some_none e
-one_tag ReadFf Empty Full old new e k = some_none k
-one_tag ReadFf Empty Empty old new e k = refl
-one_tag ReadXx one other old new e k = some_none e
-one_tag (WriteEf operand) Full Full old new e k = refl
-one_tag (WriteEf operand) Full Empty old new e k = some_none k
-one_tag (WriteEf operand) Empty other old new e k = some_none e
-one_tag (WriteFf operand) Full other old new e k = some_none e
-one_tag (WriteFf operand) Empty Full old new e k = some_none k
-one_tag (WriteFf operand) Empty Empty old new e k = refl
-one_tag (WriteXf operand) one other old new e k = some_none e
-one_tag Purge one other old new e k = some_none e
-one_tag (IntFetchAdd operand) Full other old new e k = some_none e
-one_tag (IntFetchAdd operand) Empty Full old new e k = some_none k
-one_tag (IntFetchAdd operand) Empty Empty old new e k = refl
