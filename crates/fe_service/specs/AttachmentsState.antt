@@ -1,5 +1,5 @@
 -- What a contract sees of the attachments: the sessions that have one, and the requests that wait, by session and
--- number. An attachment says which connection has the session, and whether the session is closing.
+-- number. An attachment says which connection has the session, and whether the session is closing (`docs/model.md`, "The service").
 use Rattle.std.specs.Prelude.{◌≡◌, ◌==◌, ℕ, ◌≤◌, List, Bool, true, false, not, Option, Some, None, IsSome, refl, slice_index_or}
 use Rattle.std.specs.Option.{option_map, option_map_or, option_and_then}
 use Rattle.std.specs.Ordering.{nat_cmp}

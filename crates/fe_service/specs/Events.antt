@@ -1,4 +1,5 @@
 -- What the events of the front leave of a service: the state, the sessions' attachments, and what waits.
+-- See `docs/model.md`, "The service".
 use Rattle.std.specs.Prelude.{◌≡◌, ℕ, ◌+◌, ◌<◌, ◌≤◌, List, [], ◌∷◌, ◌++◌, length, false, Option, Some, None, IsSomeAnd}
 use Rattle.std.specs.Option.{option_map, option_map_or}
 use Rattle.std.specs.Ordering.{nat_cmp}

@@ -1,4 +1,4 @@
--- A law of the service of waiting requests, cited by a public function.
+-- A law of the service of waiting requests, cited by a public function (`docs/model.md`, "The service").
 use Rattle.std.specs.Prelude.{◌+◌, ◌≤◌, List, length}
 use Rattle.fe_state.specs.State.{ServerState}
 use Rattle.fe_state.specs.History.{AreLegal}

@@ -1,4 +1,4 @@
--- The service of waiting requests as its callers see it, and what is always true of it.
+-- The service of waiting requests as its callers see it, and what is always true of it (`docs/model.md`, "The service").
 use Rattle.std.specs.Prelude.{◌≡◌, ℕ, Bool, false, not, List, is_some, refl}
 use Rattle.std.specs.Option.{option_map_or}
 use Rattle.std.specs.Ordering.{nat_cmp}

@@ -1,4 +1,5 @@
 -- The order of pairs of numbers: by the first number, then by the second. Pairs can so be keys of a finite map.
+-- See `docs/model.md`, "Waiting requests".
 use Rattle.std.specs.Prelude.{◌≡◌, ℕ}
 use Rattle.std.specs.Ordering.{nat_cmp, ordering_then}
 use Rattle.std.specs.declared.cmp.Ordering.{Ordering}

@@ -1,5 +1,5 @@
 -- The waiting lists as contracts see them: the waiting requests, by slot and number. A slot, 0 to 63, stands for a
--- session here; the number is the request's in its session.
+-- session here; the number is the request's in its session (`docs/model.md`, "Waiting requests").
 use Rattle.std.specs.Prelude.{AllPairs, ◌≡◌, ◌≢◌, ◌↔◌, ◌==◌, ℕ, ◌<◌, ◌≤◌, Contains, List, not, Option, Some, None, refl, slice_index_or}
 use Rattle.std.specs.Option.{option_map}
 use Rattle.std.specs.Ordering.{nat_cmp}

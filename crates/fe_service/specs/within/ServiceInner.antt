@@ -1,4 +1,4 @@
--- How the parts of a service change while it serves. No public clause cites this module.
+-- How the parts of a service change while it serves. No public clause cites this module (`docs/model.md`, "The service").
 use Rattle.std.specs.Prelude.{◌≡◌, ℕ, ◌⊎◌, List, [], ◌∷◌, ◌++◌, Some, None}
 use Rattle.std.specs.FinMap.{get}
 use Rattle.fe_words.specs.Table.{row}

@@ -1,4 +1,5 @@
 -- Which slot of the waiting lists (`fe_waits`) each session has. No public clause cites this module.
+-- See `docs/model.md`, "The service".
 use Rattle.std.specs.Prelude.{◌≡◌, ◌↔◌, ℕ, ◌+◌, ◌<◌, ◌≤◌, List, [], ◌∷◌, ◌++◌, zero, suc, map, length, Option, Some, None, IsSome, slice_get, slice_index_or, unwrap_or}
 use Rattle.std.specs.Option.{option_map}
 use Rattle.std.specs.Ordering.{nat_cmp}

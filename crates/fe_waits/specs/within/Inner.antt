@@ -1,4 +1,5 @@
 -- How the pool of nodes and the chains (the ends of its lists) hold the waiting requests. No public clause cites this module.
+-- See `docs/model.md`, "Waiting requests".
 use Rattle.std.specs.Prelude.{◌≡◌, ℕ, ◌≤◌, List, [], ◌∷◌, length, sum_by, Option, Some, None, slice_index_or, slice_get, Contains}
 use Rattle.std.specs.Ordering.{nat_cmp}
 use Rattle.std.specs.FinMap.{FinMap, insert, empty, len}

@@ -1,4 +1,5 @@
 -- The chains (ends of lists of waiting requests) of the words of each added array. No public clause cites this module.
+-- See `docs/model.md`, "Waiting requests".
 use Rattle.std.specs.Prelude.{ℕ, List, [], map, length, Option, slice_get, slice_set, unwrap_or}
 use Rattle.std.specs.Option.{option_and_then}
 use Rattle.std.specs.Ordering.{nat_cmp}
