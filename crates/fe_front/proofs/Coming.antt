@@ -1,7 +1,7 @@
 -- No connection comes but where one connects: whoever is connected after any other event was connected before it. And what
 -- is pending stays where mails are made, connections go and entries are posted.
 use Rattle.std.proofs.Common.{◌≡◌, ℕ, ◌+◌, Bool, true, false, true≢false, inl, inr, List, [], ◌∷◌, ◌++◌, Option, Some, None, is_some, refl, sym, ap, ◌∙◌}
-use Rattle.std.specs.Prelude.{nat_lt, length, drop, if◌then◌else◌}
+use Rattle.std.specs.Prelude.{nat_lt, length, if◌then◌else◌}
 use Rattle.std.specs.Option.{option_map_or}
 use Rattle.std.specs.Ordering.{nat_cmp}
 use Rattle.std.specs.FinMap.{FinMap, get, remove}
@@ -12,16 +12,16 @@ use Rattle.fe_state.specs.declared.entry.Entry.TheVariants.{Attached, Closed, Se
 use Rattle.fe_state.specs.declared.kept.Kept.{Kept}
 use Rattle.fe_service.specs.AttachmentsState.{holder_of, is_closing}
 use Rattle.fe_service.specs.Events.{left}
-use Rattle.fe_mail.specs.Books.{mail_refused_by_box, mail_taken, call_repeated}
-use Rattle.fe_mail.specs.Connections.{session_on, mails_on, with_mails}
+use Rattle.fe_mail.specs.Books.{mail_refused_by_box, call_repeated}
+use Rattle.fe_mail.specs.Connections.{session_on, mails_on}
 use Rattle.fe_mail.specs.Mail.{session_of, mail_of}
 use Rattle.fe_mail.specs.declared.connection.Connection.{Connection}
 use Rattle.fe_mail.specs.declared.mail.Mail.{Mail}
 use Rattle.fe_mail.specs.declared.mail.Mail.TheVariants as mail
 use Rattle.fe_mail.proofs.Lookups.{is_some-with_session, is_some-with_mails}
 use Rattle.fe_front.specs.Front.{FrontState, is_connected}
-use Rattle.fe_front.specs.Call.{kept_at, repeated, call_refused_by}
-use Rattle.fe_front.specs.Steps.{parted, released, freed, departed, withdrawn_from, unboxed, dropped, boxed, overflowed, mailed, attached_to, settled_to, closed_by, cancelled_from, cancelled_by, taken, has_no_cut, cut}
+use Rattle.fe_front.specs.Call.{kept_at, repeated}
+use Rattle.fe_front.specs.Steps.{parted, released, freed, departed, withdrawn_from, unboxed, dropped, boxed, overflowed, mailed, attached_to, cancelled_from, cancelled_by, has_no_cut, cut}
 use Rattle.fe_front.specs.Posting.{delivered, vacated, ended, posted_entry, posted_all, posted}
 
 -- what is pending stays, and no connection comes

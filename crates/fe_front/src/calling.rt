@@ -3,7 +3,7 @@
 ghost use Rattle.std.specs.Prelude.{◌≡◌, ◌+◌, ◌≤◌, ◌⊎◌, ◌↔◌, ℕ, List, [], Some, None, Ok, Err, IsTrue, false, IfOk, IfErr, OnErr};
 ghost use Rattle.fe_front.specs.Call.{request_at, IsCallRefused, WantsMemory, Called, Completed, Waits, repeat_of, repeated, waiters_completed};
 ghost use Rattle.fe_front.specs.Front.{has_room, is_spent};
-ghost use Rattle.fe_front.specs.Refusals.{addressed, own, in_window};
+ghost use Rattle.fe_front.specs.Refusals.{addressed};
 ghost use Rattle.fe_mail.specs.Books.{Balances};
 ghost use Rattle.fe_mail.specs.declared.refusal.Refusal as refusals;
 ghost use Rattle.fe_service.specs.Events.{IsFree, HasRoom};
@@ -19,10 +19,17 @@ use fe_mail::{Books, Mail, Refusal};
 use fe_state::{Answer, Effect, Request, WINDOW};
 
 impl Front {
-    /// The session, if its window has the number, or why the call is refused.
-    fn in_window(&self, session: u64, number: u64) -> Result<u64, Refusal>
-        ensures { result ≡ in_window self.now number session }
+    /// The session of a call, or why it is refused. The look-ups of the session and of the request's array that follow
+    /// take one comparison each.
+    fn addressed(&mut self, conn: u64, number: u64, request: &Request) -> Result<u64, Refusal>
+        ensures session { result ≡ addressed self.old conn number }
+        ensures same { self.new ≡ self.old }
     {
+        let Some(session) = self.connections.session_of(conn) else {
+            return Err(Refusal::NotAttached);
+        };
+        self.service.aim(session, request);
+        self.unclosing(session)?;
         let floor = self.floor(session);
         if number < floor {
             Err(Refusal::BelowFloor)
@@ -30,32 +37,6 @@ impl Front {
             Ok(session)
         } else {
             Err(Refusal::BeyondWindow)
-        }
-    }
-
-    /// The session of a connection that has one, or why an event of it is refused. The look-ups of the session and of
-    /// the request's array that follow take one comparison each.
-    fn aimed(&mut self, conn: u64, request: &Request) -> Result<u64, Refusal>
-        ensures session { result ≡ own self.old conn }
-        ensures same { self.new ≡ self.old }
-    {
-        match self.connections.session_of(conn) {
-            None => Err(Refusal::NotAttached),
-            Some(session) => {
-                self.service.aim(session, request);
-                self.unclosing(session)
-            }
-        }
-    }
-
-    /// The session of a call, or why it is refused.
-    fn addressed(&mut self, conn: u64, number: u64, request: &Request) -> Result<u64, Refusal>
-        ensures session { result ≡ addressed self.old conn number }
-        ensures same { self.new ≡ self.old }
-    {
-        match self.aimed(conn, request) {
-            Ok(session) => self.in_window(session, number),
-            Err(refusal) => Err(refusal),
         }
     }
 
@@ -199,7 +180,7 @@ impl Front {
             ⊎ ((refusal ≡ Refusal.NoMemory) × WantsMemory self.old conn number request)) }
         ensures err { OnErr result (self.new ≡ self.old) }
     {
-        self.limits();
+        let _ = self.state();
         match self.request_at(session, number) {
             Some(before) => {
                 if is_same(&before, &request) {

@@ -124,10 +124,10 @@ impl Front {
             (λ _. IsOk result × (self.new ≡ attached_to self.old conn session))
             (λ refusal. (result ≡ Err refusal) × (self.new ≡ self.old)) }
     {
-        self.limits();
+        let _ = self.state();
         self.attaching(conn, session)?;
         self.release(conn);
-        self.limits();
+        let _ = self.state();
         self.free(session);
         self.join(conn, session);
         Ok(())
@@ -161,7 +161,7 @@ impl Front {
             (λ session. IsOk result × (self.new ≡ settled_to self.old session floor))
             (λ refusal. (result ≡ Err refusal) × (self.new ≡ self.old)) }
     {
-        self.limits();
+        let _ = self.state();
         let session = self.settling(conn, floor)?;
         self.service.settle(session, floor);
         Ok(())
@@ -175,7 +175,7 @@ impl Front {
             (λ session. IsOk result × (self.new ≡ closed_by self.old session))
             (λ refusal. (result ≡ Err refusal) × (self.new ≡ self.old)) }
     {
-        self.limits();
+        let _ = self.state();
         let session = self.leaving(conn)?;
         let count = self.service.close(session);
         self.books.waiters_withdrawn(count);
@@ -257,11 +257,15 @@ impl Front {
         ensures notes { Notes self.old self.new changed.old changed.new }
         ensures none { OnErr result (changed.new ≡ changed.old) }
     {
-        if !self.is_out(&batch) {
+        let _ = self.state();
+        let is_out = match self.out {
+            None => false,
+            Some(out) => batch.first == out.first && batch.entries.as_slice().len() == out.length,
+        };
+        if !is_out {
             return Err(StrangeBatch(batch));
         }
         let Batch { first, mut entries } = batch;
-        self.limits();
         self.post_all(first, entries.as_slice(), changed);
         self.durable = first + entries.as_slice().len() as u64;
         self.out = None;

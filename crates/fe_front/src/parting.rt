@@ -40,7 +40,7 @@ impl Front {
     pub(crate) fn free(&mut self, session: u64)
         ensures freed { self.new ≡ freed self.old session }
     {
-        self.limits();
+        let _ = self.state();
         if let Some(conn) = self.holder(session) {
             self.part(conn, session);
         }

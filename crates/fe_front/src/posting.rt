@@ -1,37 +1,15 @@
 //! Posting a batch: each entry's mail goes to its connection.
 
-ghost use Rattle.std.specs.Prelude.{◌≡◌, ◌+◌, ◌^◌, ◌<◌, ◌↔◌, length, IsTrue};
-ghost use Rattle.fe_front.specs.Posting.{IsOut, delivered, ended, posted_entry, posted_all};
+ghost use Rattle.std.specs.Prelude.{◌≡◌, ◌+◌, ◌^◌, ◌<◌, length};
+ghost use Rattle.fe_front.specs.Posting.{ended, posted_entry, posted_all};
 ghost use Rattle.fe_front.specs.Noting.{Notes};
 
 use crate::connection_set::ConnectionSet;
 use crate::front::Front;
 use fe_mail::{Mail, session_of};
-use fe_state::{Batch, Entry};
+use fe_state::Entry;
 
 impl Front {
-    /// Whether a batch begins where the one that is out does, and is as long.
-    pub(crate) fn is_out(&self, batch: &Batch) -> bool
-        ensures { IsTrue result ↔ IsOut self.now.out batch.now }
-    {
-        match self.out {
-            None => false,
-            Some(out) => batch.first == out.first && batch.entries.as_slice().len() == out.length,
-        }
-    }
-
-    /// Mails an entry to the connection that has its session, if one does, and adds that connection to the set.
-    fn deliver(&mut self, entry: &Entry, place: u64, changed: &mut ConnectionSet)
-        ensures delivered { self.new ≡ delivered self.old entry.now place }
-        ensures notes { Notes self.old self.new changed.old changed.new }
-    {
-        self.limits();
-        if let Some(conn) = self.holder(session_of(entry)) {
-            changed.add(conn);
-            self.put(conn, Mail::of(entry, place));
-        }
-    }
-
     /// Takes a session from the connection that has it, if one does, and removes its attachment if it is closing.
     fn end(&mut self, session: u64)
         ensures ended { self.new ≡ ended self.old session }
@@ -42,11 +20,17 @@ impl Front {
         }
     }
 
+    /// Mails an entry to the connection that has its session, if one does, and adds the connection. A session that the
+    /// entry closes ends.
     fn post_entry(&mut self, entry: &Entry, place: u64, changed: &mut ConnectionSet)
         ensures posted { self.new ≡ posted_entry self.old entry.now place }
         ensures notes { Notes self.old self.new changed.old changed.new }
     {
-        self.deliver(entry, place, changed);
+        let _ = self.state();
+        if let Some(conn) = self.holder(session_of(entry)) {
+            changed.add(conn);
+            self.put(conn, Mail::of(entry, place));
+        }
         if let Entry::Closed { session } = *entry {
             self.end(session);
         }

@@ -2,12 +2,11 @@
 
 ghost use Rattle.std.specs.Prelude.{◌≡◌, None, IsTrue, IsSome};
 ghost use Rattle.std.specs.FinMap.{get};
-ghost use Rattle.fe_front.specs.Front.{IsFront, is_connected, is_spent};
+ghost use Rattle.fe_front.specs.Front.{is_connected, is_spent};
 ghost use Rattle.fe_front.specs.Refusals.{own, unclosing, attaching, settling, leaving, cancelling, may_settle, unspent, waits_below};
 ghost use Rattle.fe_front.specs.Steps.{joined, cancelled_from};
 ghost use Rattle.fe_mail.specs.Connections.{session_on};
 ghost use Rattle.fe_service.specs.AttachmentsState.{holder_of, is_closing};
-ghost use Rattle.fe_state.specs.State.{IsWithinLimits};
 ghost use Rattle.fe_service.specs.Events.{floor_of, IsAttachable, HasRoom};
 
 use crate::front::Front;
@@ -15,14 +14,6 @@ use fe_mail::Refusal;
 use fe_state::{EVENT_ENTRIES, GREATEST_FLOOR, GREATEST_PLACE, SESSIONS, WINDOW};
 
 impl Front {
-    /// The invariants of the front and of its state.
-    pub(crate) fn limits(&self)
-        ensures front { IsFront self.now }
-        ensures state { IsWithinLimits self.now.service.state }
-    {
-        let _ = self.state();
-    }
-
     /// Whether the history may have no place left for what one event adds.
     pub(crate) fn is_spent(&self) -> bool
         ensures { result ≡ is_spent self.now }
@@ -127,7 +118,7 @@ impl Front {
     fn waits_below(&self, session: u64, floor: u64) -> bool
         ensures { result ≡ waits_below self.now.service.waiting session floor }
     {
-        self.limits();
+        let _ = self.state();
         for number in self.floor(session)..floor {
             if self.waiting(session, number).is_some() {
                 return true;
@@ -140,7 +131,7 @@ impl Front {
     fn may_settle(&self, session: u64, floor: u64) -> Result<u64, Refusal>
         ensures { result ≡ may_settle self.now floor session }
     {
-        self.limits();
+        let _ = self.state();
         let old = self.floor(session);
         if floor < old {
             Err(Refusal::BelowFloor)

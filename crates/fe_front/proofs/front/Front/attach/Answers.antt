@@ -10,7 +10,7 @@ pub join-requires-clause-free_connection : goal.join-requires-clause-free_connec
 join-requires-clause-free_connection c =
     let mid = c.release.new.self in
     let free = ap (λ f. session_on f.connections c.args.conn) c.release.ensures.released ∙ released-free c.args.self.now c.args.conn in
-    ap (λ f. session_on f.connections c.args.conn) c.free.ensures.freed ∙ freed-free mid c.args.session c.limits-2.ensures.front.tied.agree c.args.conn free
+    ap (λ f. session_on f.connections c.args.conn) c.free.ensures.freed ∙ freed-free mid c.args.session c.state-2.ensures.front.tied.agree c.args.conn free
 
 pub join-requires-clause-connected : goal.join-requires-clause-connected
 join-requires-clause-connected c =
@@ -28,5 +28,5 @@ pub join-requires-clause-attachable : goal.join-requires-clause-attachable
 join-requires-clause-attachable c =
     let old = c.args.self.now in
     let found = attaches old c.args.conn c.args.session _ (sym c.attaching.ensures ∙ c.in_ok-attaching.was) in
-    let mid = subst (λ f. IsAttachable f.service c.args.session) (sym c.release.ensures.released) (released-attachable old c.args.conn c.args.session c.limits.ensures.front.tied.agree found.attachable) in
+    let mid = subst (λ f. IsAttachable f.service c.args.session) (sym c.release.ensures.released) (released-attachable old c.args.conn c.args.session c.state.ensures.front.tied.agree found.attachable) in
     subst (λ f. IsAttachable f.service c.args.session) (sym c.free.ensures.freed) (freed-attachable c.release.new.self c.args.session c.args.session mid)

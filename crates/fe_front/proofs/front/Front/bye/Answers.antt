@@ -15,7 +15,7 @@ pub close-count-requires-clause-open : goal.close-count-requires-clause-open
 close-count-requires-clause-open c =
     let old = c.args.self.now in
     let (mine, left) = leaves old c.args.conn c.in_ok-session.session (sym c.leaving.ensures ∙ c.in_ok-session.was) in
-    ap (λ (f : FrontState). is_some (get f.service.state.sessions c.in_ok-session.session)) c.self.view_is ∙ own_there old c.args.conn c.in_ok-session.session c.limits.ensures.front.service c.limits.ensures.front.tied.agree mine
+    ap (λ (f : FrontState). is_some (get f.service.state.sessions c.in_ok-session.session)) c.self.view_is ∙ own_there old c.args.conn c.in_ok-session.session c.state.ensures.front.service c.state.ensures.front.tied.agree mine
 
 pub invariant_of-self : goal.invariant_of-self
 invariant_of-self c =

@@ -4,10 +4,10 @@ use Rattle.fe_front.proofs.Repeating.{called_again}
 use Rattle.fe_front.proofs.front.Front.call_within.Goals as goal
 
 pub complete-requires-clause-free : goal.complete-requires-clause-free
-complete-requires-clause-free c = free_within c.args.self.now c.args.conn c.args.session c.args.number c.limits.ensures.front c.requires.addressed (sym c.request_at.ensures ∙ c.in-None.is)
+complete-requires-clause-free c = free_within c.args.self.now c.args.conn c.args.session c.args.number c.state.ensures.front c.requires.addressed (sym c.request_at.ensures ∙ c.in-None.is)
 
 pub wait-requires-clause-free : goal.wait-requires-clause-free
-wait-requires-clause-free c = free_within c.args.self.now c.args.conn c.args.session c.args.number c.limits.ensures.front c.requires.addressed (sym c.request_at.ensures ∙ c.in-None.is)
+wait-requires-clause-free c = free_within c.args.self.now c.args.conn c.args.session c.args.number c.state.ensures.front c.requires.addressed (sym c.request_at.ensures ∙ c.in-None.is)
 
 pub returns-then-is_same-clause-called : goal.returns-then-is_same-clause-called
 returns-then-is_same-clause-called c =

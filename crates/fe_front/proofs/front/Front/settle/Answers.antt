@@ -9,4 +9,4 @@ settle-requires-clause-settle c =
     let old = c.args.self.now in
     let (mine, may) = settles old c.args.conn c.in_ok-session.session c.args.floor (sym c.settling.ensures ∙ c.in_ok-session.was) in
     subst (λ (f : FrontState). MaySettle f.service c.in_ok-session.session c.args.floor) (sym c.self.view_is)
-    (may_settle_to old c.in_ok-session.session c.args.floor (own_there old c.args.conn c.in_ok-session.session c.limits.ensures.front.service c.limits.ensures.front.tied.agree mine) may)
+    (may_settle_to old c.in_ok-session.session c.args.floor (own_there old c.args.conn c.in_ok-session.session c.state.ensures.front.service c.state.ensures.front.tied.agree mine) may)

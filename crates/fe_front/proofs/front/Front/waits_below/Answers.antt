@@ -10,7 +10,7 @@ some_mapped f None = refl
 some_mapped f (Some x) = refl
 
 pub loop-number-init : goal.loop-number-init
-loop-number-init c = subst (λ n. NoneBelow c.args.self.now.service.waiting c.args.session n) (sym c.floor-number.ensures) (none_below-floor c.args.self.now.service c.args.session c.limits.ensures.front.service)
+loop-number-init c = subst (λ n. NoneBelow c.args.self.now.service.waiting c.args.session n) (sym c.floor-number.ensures) (none_below-floor c.args.self.now.service c.args.session c.state.ensures.front.service)
 
 pub loop-number-preserved : goal.loop-number-preserved
 loop-number-preserved c =
