@@ -1,9 +1,7 @@
 ghost use Rattle.std.specs.Prelude.{◌≡◌, ◌≤◌, ◌++◌, ℕ, List, [], true, length, IfOk, OnErr, IsOkAnd};
-ghost use Rattle.fe_wire.specs.DecoderState.{IsDecoderState, Consumes, decoding};
 ghost use Rattle.fe_wire.specs.Stream.{HasRead, HasReadFrom, CompletesMessage, fault_of};
 ghost use Rattle.fe_wire.specs.declared.client_message.ClientMessage.{ClientMessage as Message};
 
-use crate::client_message::ClientMessage;
 use crate::decoder_state::{DecoderState, FRAME_BYTES};
 use crate::fed::Fed;
 use crate::version::Version;
@@ -35,7 +33,7 @@ impl Decoder {
         ensures begins { HasRead result [] [] }
         ensures version { result.version ≡ Version.One }
     {
-        Self::at(Version::One, 0)
+        Self::with_version(Version::One)
     }
 
     /// A decoder for this version, at offset 0.
@@ -43,7 +41,14 @@ impl Decoder {
         ensures begins { HasRead result [] [] }
         ensures version { result.version ≡ version }
     {
-        Self::at(version, 0)
+        let state = DecoderState {
+            offset: 0,
+            cells: [0; FRAME_BYTES],
+            len: 0,
+            is_bad: false,
+            version,
+        };
+        Decoder { state }
     }
 
     /// A decoder for version 1 that counts the stream's first byte as the one at `offset`.
@@ -51,19 +56,12 @@ impl Decoder {
         ensures begins { HasReadFrom offset result [] [] }
         ensures version { result.version ≡ Version.One }
     {
-        Self::at(Version::One, offset)
-    }
-
-    fn at(version: Version, offset: u64) -> Decoder
-        ensures begins { HasReadFrom offset result [] [] }
-        ensures version { result.version ≡ version }
-    {
         let state = DecoderState {
             offset,
             cells: [0; FRAME_BYTES],
             len: 0,
             is_bad: false,
-            version,
+            version: Version::One,
         };
         Decoder { state }
     }
@@ -91,36 +89,21 @@ impl Decoder {
                 fault: self.state.fault(),
             });
         }
-        let (state, messages) = read_piece(alloc, self.state, piece)?;
+        named::<Request>();
+        let mut messages = Vec::new(alloc);
+        let mut state = self.state;
+        let mut rest = piece;
+        while !rest.is_empty() && !state.is_bad {
+            let (count, message) = state.step(rest);
+            rest = &rest[count..];
+            if let Some(message) = message {
+                messages.push(message)?;
+            }
+        }
         self.state = state;
         Ok(Fed {
             messages,
             fault: state.fault(),
         })
     }
-}
-
-/// Decodes the whole piece, or up to a bad frame. Returns the state after it and the messages in it.
-fn read_piece(
-    alloc: Global,
-    start: DecoderState,
-    piece: &[u8],
-) -> Result<(DecoderState, Vec<ClientMessage>), AllocError>
-    requires { IsDecoderState start }
-    ensures state { IfOk result (λ read. IsDecoderState read.0) }
-    ensures memory { OnErr result (CompletesMessage (decoding start) piece.now) }
-    ensures reads { IfOk result (λ read. Consumes start read.0 piece.now read.1.items) }
-{
-    named::<Request>();
-    let mut messages = Vec::new(alloc);
-    let mut state = start;
-    let mut rest = piece;
-    while !rest.is_empty() && !state.is_bad {
-        let (count, message) = state.step(rest);
-        rest = &rest[count..];
-        if let Some(message) = message {
-            messages.push(message)?;
-        }
-    }
-    Ok((state, messages))
 }

@@ -4,8 +4,9 @@ ghost use Rattle.fe_wire.specs.DecoderState.{IsDecoderState, Consumes, held_of, 
 
 use crate::client_message::ClientMessage;
 use crate::fed::BadFrame;
-use crate::head::{Head, LENGTH_BYTES, head_of, length_field};
+use crate::head::{Head, LENGTH_BYTES, head_of};
 use crate::version::Version;
+use fe_fields::u32_at;
 
 /// The length of the longest frame from a client, in bytes.
 pub const FRAME_BYTES: usize = 51;
@@ -44,7 +45,7 @@ impl DecoderState {
         let wanted = if self.len < LENGTH_BYTES {
             LENGTH_BYTES
         } else {
-            LENGTH_BYTES + length_field(&self.cells[..self.len]) as usize
+            LENGTH_BYTES + u32_at(&self.cells[..self.len], 0) as usize
         };
         let count = piece.len().min(wanted - self.len);
         self.cells[self.len..self.len + count].copy_from_slice(&piece[..count]);

@@ -1,8 +1,8 @@
 //! The head of a stream: the frame that its first bytes begin, as far as they have come. A frame is a length field, a
 //! kind of one byte, and a body (`docs/formats.md`, "Frames").
 
-ghost use Rattle.std.specs.Prelude.{◌≡◌, ◌≤◌, length};
-ghost use Rattle.fe_wire.specs.Stream.{IsHead, length_field, length_of_kind, longest};
+ghost use Rattle.std.specs.Prelude.{◌≡◌};
+ghost use Rattle.fe_wire.specs.Stream.{IsHead, length_of_kind};
 
 use crate::client_message::ClientMessage;
 use crate::kinds;
@@ -24,24 +24,6 @@ pub enum Head {
     Bad,
     /// The frame is complete. It has this many bytes with its length field, and spells the message.
     Whole(usize, ClientMessage),
-}
-
-/// The length field at the front of a frame: the number of bytes after it. Its four bytes must be there.
-pub fn length_field(bytes: &[u8]) -> u32
-    requires { 4 ≤ length bytes.now }
-    ensures { result ≡ length_field bytes.now }
-{
-    u32_at(bytes, 0)
-}
-
-/// The greatest value of the length field in a frame from a client.
-fn longest(version: Version) -> u32
-    ensures { result ≡ longest version }
-{
-    match version {
-        Version::One => 31,
-        Version::Two => 47,
-    }
 }
 
 fn length_of_kind(version: Version, kind: u8) -> Option<u32>
@@ -71,8 +53,12 @@ pub fn head_of(version: Version, bytes: &[u8]) -> Head
     if bytes.len() < LENGTH_BYTES {
         return Head::Unfinished;
     }
-    let length = length_field(bytes);
-    if length < SHORTEST || length > longest(version) {
+    let length = u32_at(bytes, 0);
+    let longest = match version {
+        Version::One => 31,
+        Version::Two => 47,
+    };
+    if length < SHORTEST || length > longest {
         return Head::Bad;
     }
     if bytes.len() == LENGTH_BYTES {

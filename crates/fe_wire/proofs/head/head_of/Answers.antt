@@ -18,17 +18,17 @@ known (Some m) n e = ap (λ (k : ℕ). Some k) (eqb-true m n (is_true (eqb m n) 
 pub returns-in-Some : goal.returns-in-Some
 returns-in-Some c =
     let bytes = c.args.bytes.now in
-    let whole : IsWhole bytes = omega (arith, c.length_field-length.ensures, c.if-bytes-end.false) in
-    let low : 1 ≤ length_field bytes = omega (arith, c.length_field-length.ensures, c.if-length-lt-SHORTEST.false) in
+    let whole : IsWhole bytes = omega (arith, c.u32_at-length.ensures, c.if-bytes-end.false) in
+    let low : 1 ≤ length_field bytes = omega (arith, c.u32_at-length.ensures, c.if-length-lt-SHORTEST.false) in
     let read : message_of (kind_field bytes) (body_field bytes) ≡ Some c.in-Some.message = cc in
-    let kind : length_of_kind c.args.version (kind_field bytes) ≡ Some (length_field bytes) = sym c.length_of_kind.ensures ∙ known c.length_of_kind.result c.length_field-length.result c.if-ne.ensures ∙ ap (λ (n : ℕ). Some n) c.length_field-length.ensures in
+    let kind : length_of_kind c.args.version (kind_field bytes) ≡ Some (length_field bytes) = sym c.length_of_kind.ensures ∙ known c.length_of_kind.result c.u32_at-length.result c.if-ne.ensures ∙ ap (λ (n : ℕ). Some n) c.u32_at-length.ensures in
     let r = reads_frame c.args.version bytes c.in-Some.message (λ i. omega (arith, c.type_inv.bytes i)) whole low kind read in
-    (r.0, r.1, whole, ap (λ (n : ℕ). 4 + n) c.length_field-length.ensures)
+    (r.0, r.1, whole, ap (λ (n : ℕ). 4 + n) c.u32_at-length.ensures)
 
 pub returns-in-None : goal.returns-in-None
 returns-in-None c =
     let bytes = c.args.bytes.now in
-    let whole : IsWhole bytes = omega (arith, c.length_field-length.ensures, c.if-bytes-end.false) in
-    let low : 1 ≤ length_field bytes = omega (arith, c.length_field-length.ensures, c.if-length-lt-SHORTEST.false) in
+    let whole : IsWhole bytes = omega (arith, c.u32_at-length.ensures, c.if-bytes-end.false) in
+    let low : 1 ≤ length_field bytes = omega (arith, c.u32_at-length.ensures, c.if-length-lt-SHORTEST.false) in
     let read : message_of (kind_field bytes) (body_field bytes) ≡ None = cc in
     inr (inr (reads_none c.args.version bytes (λ i. omega (arith, c.type_inv.bytes i)) whole low read))
