@@ -25,7 +25,8 @@ pub use laws::{
     frames_are_spelled, has_reading, limits_are, one_outcome, one_reading, one_reply_reading,
     one_reply_spelling, one_spelling,
 };
-pub use putting::{put_message, put_reply};
+pub use message_frames::put_message;
+pub use putting::put_reply;
 pub use replies::read_reply;
 pub use server_message::ServerMessage;
 pub use version::Version;

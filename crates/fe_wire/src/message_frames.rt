@@ -1,6 +1,6 @@
-//! The frames of clients' messages (`docs/formats.md`, "Frames").
+//! Writing clients' messages as frames (`docs/formats.md`, "Frames").
 
-ghost use Rattle.std.specs.Prelude.{◌≡◌};
+ghost use Rattle.std.specs.Prelude.{◌≡◌, ◌+◌, ◌<◌, ◌++◌, length, OnOk, OnErr, vec_len, vec_capacity};
 ghost use Rattle.fe_wire.specs.Spelling.{spelling, Fits};
 
 use crate::client_message::ClientMessage;
@@ -10,6 +10,7 @@ use crate::kinds;
 use fe_codes::{op_code, operand_of, tag_code};
 use fe_state::{Name, Request};
 use fe_words::{Op, Tag};
+use std::alloc::AllocError;
 
 fn attach_frame(session: u64) -> Frame
     ensures { result ≡ spelling (ClientMessage.Attach session) }
@@ -104,17 +105,22 @@ fn call_frame(number: u64, request: &Request) -> Frame
     }
 }
 
-/// The frame of a message, at most 51 bytes.
-pub fn message_frame(message: &ClientMessage) -> Frame
-    ensures spelled { result ≡ spelling message.now }
+/// Appends the frame of a message. Fails only if the vector has no spare room for it and memory runs out; then
+/// nothing is appended.
+pub fn put_message(out: &mut Vec<u8>, message: &ClientMessage) -> Result<(), AllocError>
+    ensures ok { OnOk result (out.new.items ≡ out.old.items ++ spelling message.now) }
+    ensures err { OnErr result (out.new.items ≡ out.old.items) }
+    ensures full { OnErr result (vec_capacity out.old < vec_len out.old + length (spelling message.now)) }
+    // The message is in the grammar, so it can be read again.
     ensures fits { Fits message.now }
 {
-    match message {
+    let frame = match message {
         ClientMessage::Attach { session } => attach_frame(*session),
         ClientMessage::Call { number, request } => call_frame(*number, request),
         ClientMessage::Cancel { number } => cancel_frame(*number),
         ClientMessage::Settle { floor } => settle_frame(*floor),
         ClientMessage::Bye => frame_of(1, kinds::BYE),
         ClientMessage::Report => frame_of(1, kinds::ASK_REPORT),
-    }
+    };
+    out.extend_from_slice(frame.bytes())
 }

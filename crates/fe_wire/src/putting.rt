@@ -1,28 +1,14 @@
-//! Writing messages and replies as frames, the bytes that go over a connection (`docs/formats.md`, "Frames").
+//! Writing replies as frames, the bytes that go over a connection (`docs/formats.md`, "Frames").
 
 ghost use Rattle.std.specs.Prelude.{◌≡◌, ◌+◌, ◌<◌, ◌++◌, length, OnOk, OnErr, vec_len, vec_capacity};
-ghost use Rattle.fe_wire.specs.Spelling.{spelling, reply_spelling, Fits, ReplyFits, HasRefusalCode};
+ghost use Rattle.fe_wire.specs.Spelling.{reply_spelling, ReplyFits, HasRefusalCode};
 
-use crate::client_message::ClientMessage;
 use crate::frame::{Frame, frame_of};
 use crate::kinds;
-use crate::message_frames::message_frame;
 use crate::server_message::ServerMessage;
 use fe_codes::answer_fields;
 use fe_state::Answer;
 use std::alloc::AllocError;
-
-/// Appends the frame of a message. Fails only if the vector has no spare room for it and memory runs out; then
-/// nothing is appended.
-pub fn put_message(out: &mut Vec<u8>, message: &ClientMessage) -> Result<(), AllocError>
-    ensures ok { OnOk result (out.new.items ≡ out.old.items ++ spelling message.now) }
-    ensures err { OnErr result (out.new.items ≡ out.old.items) }
-    ensures full { OnErr result (vec_capacity out.old < vec_len out.old + length (spelling message.now)) }
-    // The message is in the grammar, so it can be read again.
-    ensures fits { Fits message.now }
-{
-    out.extend_from_slice(message_frame(message).bytes())
-}
 
 fn welcome_frame(session: u64, floor: u64) -> Frame
     ensures { result ≡ reply_spelling (ServerMessage.Welcome session floor) }
