@@ -127,8 +127,6 @@ pub fn settle<C: Tally, M: Tally>(
     seat: StoreSeat<M>,
     state: &State,
 ) -> Result<Audit, (Unclosed, Account)>
-    requires calls { C.all ≡ C.parts }
-    requires mails { M.all ≡ M.parts }
     ensures audit { IfOk result (IsAudit calls mails (map (λ v. v.items) sent.items) receipts.whole) }
     // The receipts are these. The history goes on from that of the committing side and from the other one, with no other groups than
     // the side noted.
@@ -181,8 +179,6 @@ pub fn close<C: Tally, M: Tally, D: Disk + Drop>(
     seat: StoreSeat<M>,
     keeper: Keeper<D>,
 ) -> Result<Closing<D>, Unclosed>
-    requires calls { C.all ≡ C.parts }
-    requires mails { M.all ≡ M.parts }
     ensures calls { IfOk result (λ closing. closing.books.calls ≡ calls.amount) }
     ensures mails { IfOk result (λ closing. closing.books.taken ≡ mails.amount) }
     ensures add_up { IfOk result (λ closing. AddUp closing.books) }

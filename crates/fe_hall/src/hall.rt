@@ -1,5 +1,5 @@
 ghost use Rattle.std.specs.Prelude.{◌≡◌, ◌≤◌, ◌∷◌, ◌++◌, [], ◌+◌, ℕ, IfOk, IfErr, length, true};
-ghost use Rattle.fe_shared.specs.Seats.{HasRested, TookNoMessage, message_answered, taking_answered, most_connections};
+ghost use Rattle.fe_shared.specs.Seats.{HasRested, TookNoMessage, message_answered, taking_answered, IsBlankOf};
 ghost use mathlib.Core.List.{IsPrefix};
 ghost use Rattle.fe_history.specs.Acts.{WasStoredLast};
 ghost use Rattle.fe_shared.specs.Holds.{IsCutIn};
@@ -55,10 +55,8 @@ impl<C: Tally, M: Tally> Hall<C, M> {
         history: NewHistory,
     ) -> Result<(Hall<C, M>, StoreSeat<M>, ConnectRight), (AllocError, Front)>
         requires begun { IsBegun front history.acts }
-        requires calls { (calls.name ≡ C.name) × (calls.parts ≡ C.parts) × (C.all ≡ C.parts)
-            × (C.all ≡ most_connections + 1) }
-        requires mails { (mails.name ≡ M.name) × (mails.parts ≡ M.parts) × (M.all ≡ M.parts)
-            × (M.all ≡ most_connections + 1) }
+        requires calls { IsBlankOf C.name C.parts C.all calls.name calls.parts }
+        requires mails { IsBlankOf M.name M.parts M.all mails.name mails.parts }
         requires history { history.book ≡ M.book }
         ensures seat { IfOk result (λ hall. hall.1 ≡ history.acts) }
         ensures front { IfErr result (λ e. e.1 ≡ front) }

@@ -3,7 +3,6 @@ ghost use mathlib.Core.List.{IsPrefix};
 ghost use Rattle.fe_history.specs.Acts.{EachIssued, GatheredReceipts};
 
 use crate::history::History;
-use crate::receipt::Receipt;
 use crate::receipt_list::ReceiptList;
 use crate::receipts::Receipts;
 use crate::tally::Tally;
@@ -72,17 +71,12 @@ impl<M: Tally> GatheredReceipts<M> {
         self.list.miss();
     }
 
-    /// Whether it has the receipts of each side that was added or learned from.
-    pub fn is_whole(&self) -> bool
-        ensures { result ≡ self.now.whole }
+    /// The receipts. The list is whole if it has those of each side that was added or learned from.
+    pub fn list(&self) -> &ReceiptList
+        ensures items { result.now.items ≡ self.now.items }
+        ensures whole { result.now.whole ≡ self.now.whole }
     {
-        self.list.is_whole()
-    }
-
-    pub fn as_slice(&self) -> &[Receipt]
-        ensures { result.now ≡ self.now.items }
-    {
-        self.list.as_slice()
+        &self.list
     }
 
     /// The receipts, and the history with their answers.

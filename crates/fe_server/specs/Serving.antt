@@ -10,17 +10,11 @@ use Rattle.fe_server.specs.declared.stop_fault.StopFault.{StopFault}
 use Rattle.fe_server.specs.declared.stop_fault.StopFault.TheVariants as fault
 use Rattle.fe_history.specs.Acts.{Account}
 use Rattle.fe_hall.specs.Commits.{AppendsAreNoted, Commits, EndsAs}
-use Rattle.fe_shared.specs.Seats.{most_connections}
 use Rattle.fe_history.specs.declared.act.Act.{Act}
 use Rattle.fe_history.specs.declared.act.Act.TheVariants.{Began}
 use Rattle.fe_hall.specs.declared.commit_end.CommitEnd.{CommitEnd}
 use Rattle.fe_hall.specs.declared.commit_end.CommitEnd.TheVariants.{Stopped, Store, Strange, Spent}
 use Rattle.fe_disk.specs.declared.disk.Disk.{Ghosts}
-
--- A blank for a ledger, with this name and this many parts, is for a tally: it has a part for each connection that may
--- ever be made, and one for the hall.
-abbrev pub IsBlankOf : ℕ → ℕ → ℕ → ℕ → ℕ → Type 0
-IsBlankOf tally_name tally_parts all name parts = (name ≡ tally_name) × (parts ≡ tally_parts) × (all ≡ tally_parts) × (all ≡ most_connections + 1)
 
 -- A keeper was lent to a committing side, which had this end. It stored a history, and at every moment each image that
 -- a stop leaves stands for a prefix of it; if the disk works, what a stop may leave stands for the keeper's state; and

@@ -54,8 +54,6 @@ pub(crate) fn serve_clients<
     settings: &Settings,
     gate: &G,
 ) -> AllServed
-    requires calls { C.all ≡ C.parts }
-    requires mails { M.all ≡ M.parts }
     // Clients come until the server ends, or as many came as the settings say.
     ensures why { HasEnded settings.now.accepts result.no_more }
 {
@@ -65,7 +63,6 @@ pub(crate) fn serve_clients<
         thread::scope_env(),
         rt,
         move |scope| -> NoMore
-            requires { (C.all ≡ C.parts) × (M.all ≡ M.parts) }
             ensures { HasEnded accepts result }
         {
             let acceptor = Acceptor {
@@ -76,7 +73,7 @@ pub(crate) fn serve_clients<
                 gate,
             };
             let no_more = acceptor.accept_all(scope, &listener, accepts);
-            server.close_door(rt);
+            server.stop_accepting(rt);
             drop(listener);
             no_more
         },
@@ -104,8 +101,6 @@ impl<
 > Acceptor<'s, C, M, G, R> {
     /// Accepts connections until the server ends or this many came; without end if it is 0.
     fn accept_all<E>(&self, scope: &Scope<'s, E>, listener: &Listener, accepts: u64) -> NoMore
-        requires calls { C.all ≡ C.parts }
-        requires mails { M.all ≡ M.parts }
         ensures { HasEnded accepts result }
     {
         for _ in self.rt.forever() {
@@ -122,10 +117,7 @@ impl<
 
     /// Begins to serve a client, if there is room for it and the hall makes its seats. A client for whom a place is
     /// about to be free waits for it in a thread of its own.
-    fn welcome<E>(&self, scope: &Scope<'s, E>, accepted: Accepted)
-        requires calls { C.all ≡ C.parts }
-        requires mails { M.all ≡ M.parts }
-    {
+    fn welcome<E>(&self, scope: &Scope<'s, E>, accepted: Accepted) {
         let (rt, server) = (self.rt, self.server);
         match server.enter(rt) {
             Ok(admission) => {
@@ -142,10 +134,7 @@ impl<
     }
 
     /// Starts the thread of a client who waits for its place. If that can't be done, the client waits no more.
-    fn start_late<E>(&self, scope: &Scope<'s, E>, waiting: Waiting)
-        requires calls { C.all ≡ C.parts }
-        requires mails { M.all ≡ M.parts }
-    {
+    fn start_late<E>(&self, scope: &Scope<'s, E>, waiting: Waiting) {
         let (rt, alloc, server, right, gate) = (
             self.rt,
             self.alloc,
@@ -153,13 +142,11 @@ impl<
             self.right,
             self.gate,
         );
-        let started = Stack::new().stack_size(STACK).spawn_scoped_with(
-            scope,
-            Anything,
-            move || -> ArrivalEnded
-                requires { (C.all ≡ C.parts) × (M.all ≡ M.parts) }
-            { serve_late(rt, alloc, server, right, gate, ReadLimit::All, ROOM_WAIT) },
-        );
+        let started = Stack::new()
+            .stack_size(STACK)
+            .spawn_scoped_with(scope, Anything, move || -> ArrivalEnded {
+                serve_late(rt, alloc, server, right, gate, ReadLimit::All, ROOM_WAIT)
+            });
         match started {
             Ok(thread) => waiting.begins(thread.forget_promise()),
             Err(refused) => {
@@ -170,20 +157,15 @@ impl<
     }
 
     /// Starts the thread of a connection. If that can't be done, nothing is read from the connection, and it ends at once.
-    fn start<E>(&self, scope: &Scope<'s, E>, arrival: Arrival<C, M>)
-        requires calls { C.all ≡ C.parts }
-        requires mails { M.all ≡ M.parts }
-    {
+    fn start<E>(&self, scope: &Scope<'s, E>, arrival: Arrival<C, M>) {
         let (rt, alloc, server, gate) = (self.rt, self.alloc, self.server, self.gate);
         match server.put(rt, arrival) {
             Ok(waiting) => {
-                let started = Stack::new().stack_size(STACK).spawn_scoped_with(
-                    scope,
-                    Anything,
-                    move || -> ArrivalEnded
-                        requires { (C.all ≡ C.parts) × (M.all ≡ M.parts) }
-                    { serve_next(rt, alloc, server, gate, ReadLimit::All) },
-                );
+                let started = Stack::new()
+                    .stack_size(STACK)
+                    .spawn_scoped_with(scope, Anything, move || -> ArrivalEnded {
+                        serve_next(rt, alloc, server, gate, ReadLimit::All)
+                    });
                 match started {
                     Ok(thread) => waiting.begins(thread.forget_promise()),
                     Err(refused) => {
@@ -203,10 +185,7 @@ fn serve_next<
     M: Tally + Send + Sync,
     G: Gate + Sync,
     R: Clock + Threads + Wait + Sync,
->(rt: &R, alloc: Global, server: &RunningServer<C, M>, gate: &G, reads: ReadLimit) -> ArrivalEnded
-    requires calls { C.all ≡ C.parts }
-    requires mails { M.all ≡ M.parts }
-{
+>(rt: &R, alloc: Global, server: &RunningServer<C, M>, gate: &G, reads: ReadLimit) -> ArrivalEnded {
     match server.take(rt) {
         Ok(arrival) => arrival.serve(rt, alloc, server, gate, reads),
         Err(none) => ArrivalEnded::of(none),
@@ -227,10 +206,7 @@ fn serve_late<
     gate: &G,
     reads: ReadLimit,
     millis: u64,
-) -> ArrivalEnded
-    requires calls { C.all ≡ C.parts }
-    requires mails { M.all ≡ M.parts }
-{
+) -> ArrivalEnded {
     let (accepted, expected) = match server.take_late(rt) {
         Ok(late) => late,
         Err(none) => return ArrivalEnded::of(none),

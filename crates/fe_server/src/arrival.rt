@@ -80,10 +80,7 @@ impl<C: Tally + Send + Sync, M: Tally + Send + Sync> Unkept<C, M> {
         alloc: Global,
         server: &RunningServer<C, M>,
         gate: &G,
-    ) -> ArrivalEnded
-        requires calls { C.all ≡ C.parts }
-        requires mails { M.all ≡ M.parts }
-    {
+    ) -> ArrivalEnded {
         let Unkept { arrival, unstarted } = self;
         arrival.serve(rt, alloc, server, gate, ReadLimit::None(unstarted))
     }
@@ -114,7 +111,7 @@ impl<C: Tally, M: Tally> Arrival<C, M> {
     ) -> Result<Arrival<C, M>, Unserved>
         ensures connection { IfOk result (λ arrival. arrival.connection ≡ connection) }
     {
-        match hall.connect(rt, right, connection.conn()) {
+        match hall.connect(rt, right, connection.admission.conn()) {
             Ok(seats) => Ok(Arrival { connection, seats }),
             Err(why) => Err(Unserved { connection, why }),
         }
@@ -130,10 +127,7 @@ impl<C: Tally + Send + Sync, M: Tally + Send + Sync> Arrival<C, M> {
         server: &RunningServer<C, M>,
         gate: &G,
         reads: ReadLimit,
-    ) -> ArrivalEnded
-        requires calls { C.all ≡ C.parts }
-        requires mails { M.all ≡ M.parts }
-    {
+    ) -> ArrivalEnded {
         let Arrival { connection, seats } = self;
         let (calls, mails) = seats.begin();
         let outcome = connection.serve(rt, alloc, server, gate, calls, mails, reads);

@@ -132,7 +132,7 @@ impl Accepted {
 
 /// A connection that was admitted: its number and its socket. It is not `Drop`, since the admission has to be given back.
 pub(crate) struct Connection {
-    admission: Admission,
+    pub(crate) admission: Admission,
     socket: Arc<ClientSocket, Global>,
 }
 
@@ -143,13 +143,6 @@ impl Connection {
     {
         let Accepted { socket } = accepted;
         Connection { admission, socket }
-    }
-
-    /// Its number.
-    pub(crate) fn conn(&self) -> u64
-        ensures { result ≡ self.now.admission.conn }
-    {
-        self.admission.conn()
     }
 
     /// A handle by which others end its stream, and see whether it has ended.
@@ -250,15 +243,13 @@ impl<C: Tally, M: Tally> ConnectionOutcome<C, M> {
     }
 
     /// Adds it to what earlier connections did. The list and the receipts are added only if `keeps`.
-    pub(crate) fn add_to(self, departed: &mut FinishedConnections<C, M>, keeps: bool)
-        requires calls { C.all ≡ C.parts }
-        requires mails { M.all ≡ M.parts }
-        ensures calls { departed.new.calls ≡ joined_to departed.old.calls self.calls.calls }
-        ensures mails { departed.new.mails ≡ joined_to departed.old.mails self.mails.mails }
+    pub(crate) fn add_to(self, finished: &mut FinishedConnections<C, M>, keeps: bool)
+        ensures calls { finished.new.calls ≡ joined_to finished.old.calls self.calls.calls }
+        ensures mails { finished.new.mails ≡ joined_to finished.old.mails self.mails.mails }
         // What has to be kept is kept, or `short` says that memory was short for it.
-        ensures kept { IsTrue keeps → departed.new.short ≡ false
-            → (departed.new.sent.items ≡ departed.old.sent.items ++ self.sent ∷ [])
-            × (departed.new.receipts.items ≡ departed.old.receipts.items ++ self.receipts.items) }
+        ensures kept { IsTrue keeps → finished.new.short ≡ false
+            → (finished.new.sent.items ≡ finished.old.sent.items ++ self.sent ∷ [])
+            × (finished.new.receipts.items ≡ finished.old.receipts.items ++ self.receipts.items) }
     {
         let ConnectionOutcome {
             calls,
@@ -269,8 +260,8 @@ impl<C: Tally, M: Tally> ConnectionOutcome<C, M> {
             write: _,
             reads: _,
         } = self;
-        departed.add_calls(calls, sent, keeps);
-        departed.add_mails(mails, receipts, keeps);
+        finished.add_calls(calls, sent, keeps);
+        finished.add_mails(mails, receipts, keeps);
     }
 }
 

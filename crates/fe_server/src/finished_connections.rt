@@ -54,7 +54,6 @@ impl<C: Tally, M: Tally> FinishedConnections<C, M> {
 
     /// Adds what the read side of a connection did; what it sent only if `keeps`.
     pub(crate) fn add_calls(&mut self, seat: CallSeat<C>, sent: Vec<ClientMessage>, keeps: bool)
-        requires ledger { C.all ≡ C.parts }
         ensures joined { self.new.calls ≡ joined_to self.old.calls seat.calls }
         // A list that has to be kept is kept, or `short` says that memory was short for it.
         ensures sent { IsTrue keeps → self.new.short ≡ false → self.new.sent.items ≡ self.old.sent.items ++ sent ∷ [] }
@@ -74,7 +73,6 @@ impl<C: Tally, M: Tally> FinishedConnections<C, M> {
 
     /// Adds what the write side of a connection did and saw; its receipts only if `keeps`.
     pub(crate) fn add_mails(&mut self, seat: MailSeat<M>, receipts: Receipts<M>, keeps: bool)
-        requires ledger { M.all ≡ M.parts }
         requires own { receipts.conn ≡ seat.conn }
         ensures joined { self.new.mails ≡ joined_to self.old.mails seat.mails }
         // Receipts that have to be kept are kept, or `short` says that memory was short for them.
@@ -125,7 +123,7 @@ impl<C: Tally, M: Tally> FinishedConnections<C, M> {
     fn lacks(&self, keeps: bool) -> bool
         ensures { result ≡ lacks self.now.short keeps self.now.receipts.whole }
     {
-        self.short || keeps && !self.receipts.is_whole()
+        self.short || keeps && !self.receipts.list().is_whole()
     }
 
     /// Closes a hall with what its connections did. `state` is what is stored. `Memory` if not all of that could be
@@ -137,8 +135,6 @@ impl<C: Tally, M: Tally> FinishedConnections<C, M> {
         state: &State,
         keeps: bool,
     ) -> Result<Audit, (StopFault, Account)>
-        requires calls { C.all ≡ C.parts }
-        requires mails { M.all ≡ M.parts }
         // Its books are those of all seats, and its lists are these.
         ensures audit { IfOk result (λ audit. (calls : Totals) × (mails : Totals)
             × ((self.calls ≡ Some calls) × (self.mails ≡ Some mails) × (self.spent ≡ false))

@@ -17,9 +17,9 @@ impl Listener {
     }
 
     /// Another handle of the listener, as a stream. To shut that down ends a waiting `accept`; a listener has no such call.
-    pub(crate) fn door(&self) -> io::Result<UnixStream> {
-        let door = self.listener.try_clone()?;
-        Ok(UnixStream::from(OwnedFd::from(door)))
+    pub(crate) fn shutdown_socket(&self) -> io::Result<UnixStream> {
+        let listener = self.listener.try_clone()?;
+        Ok(UnixStream::from(OwnedFd::from(listener)))
     }
 
     /// Waits for a connection.

@@ -108,7 +108,7 @@ impl ServerEnded {
 /// The register, which the second lock of a server guards.
 pub(crate) struct Register<C: Tally, M: Tally> {
     /// The connections whose threads have not begun.
-    newcomers: Vec<Arrival<C, M>>,
+    arrivals: Vec<Arrival<C, M>>,
     /// How many connections were admitted, which is the number of the next.
     admitted: u64,
     /// How many of them have seats in the hall, or are about to get them.
@@ -118,14 +118,14 @@ pub(crate) struct Register<C: Tally, M: Tally> {
     /// How many clients wait for a place that is about to be free.
     awaited: u64,
     /// The clients who wait for a place and whose threads have not begun.
-    latecomers: Vec<(Accepted, Expected)>,
+    waiting_clients: Vec<(Accepted, Expected)>,
     /// The handles by which the streams of connections are ended.
     handles: Vec<SocketHandle>,
     /// Another handle of the listener, as a socket that can be shut down, while connections are accepted.
-    door: Option<UnixStream>,
+    listening_socket: Option<UnixStream>,
     /// Whether the committing side has ended, so that nothing is stored any more.
     over: bool,
-    pub(crate) departed: FinishedConnections<C, M>,
+    pub(crate) finished: FinishedConnections<C, M>,
     ghost few: { came ≤ admitted },
 }
 
@@ -134,32 +134,32 @@ impl<C: Tally, M: Tally> Register<C, M> {
     pub(crate) fn new(
         alloc: Global,
         right: &ConnectRight,
-        door: UnixStream,
+        listening_socket: UnixStream,
         receipts: GatheredReceipts<M>,
     ) -> Register<C, M> {
         Register {
-            newcomers: Vec::new(alloc),
+            arrivals: Vec::new(alloc),
             admitted: 0,
             came: 0,
             present: 0,
             awaited: 0,
-            latecomers: Vec::new(alloc),
+            waiting_clients: Vec::new(alloc),
             handles: Vec::new(alloc),
-            door: Some(door),
+            listening_socket: Some(listening_socket),
             over: false,
-            departed: FinishedConnections::new(alloc, right, receipts),
+            finished: FinishedConnections::new(alloc, right, receipts),
         }
     }
 
     /// Keeps a connection until its thread takes it, and its handle until it leaves. Gives it back if there is no memory for it.
     pub(crate) fn put(&mut self, arrival: Arrival<C, M>) -> Result<Waiting, Unkept<C, M>>
-        ensures put { OnOk result (self.new.newcomers.items ≡ self.old.newcomers.items ++ arrival ∷ []) }
+        ensures put { OnOk result (self.new.arrivals.items ≡ self.old.arrivals.items ++ arrival ∷ []) }
         ensures handle { OnOk result (IsAdded (λ handle. handle.conn ≡ arrival.connection.admission.conn)
             self.old.handles.items self.new.handles.items) }
         ensures back { IfErr result (λ back. back.arrival ≡ arrival) }
-        ensures departed { self.new.departed ≡ self.old.departed }
+        ensures finished { self.new.finished ≡ self.old.finished }
     {
-        if let Err(short) = reserve_one(&mut self.newcomers) {
+        if let Err(short) = reserve_one(&mut self.arrivals) {
             return Err(Unkept::of(arrival, Bar::Memory(short)));
         }
         if let Err(short) = reserve_one(&mut self.handles) {
@@ -168,7 +168,7 @@ impl<C: Tally, M: Tally> Register<C, M> {
         match arrival.connection.handle() {
             Ok(handle) => {
                 self.handles.push_reserved(handle);
-                self.newcomers.push_reserved(arrival);
+                self.arrivals.push_reserved(arrival);
                 Ok(Waiting(()))
             }
             Err(unshared) => Err(Unkept::of(arrival, Bar::Handle(unshared))),
@@ -177,11 +177,11 @@ impl<C: Tally, M: Tally> Register<C, M> {
 
     /// Takes a connection whose threads have not begun, the last that was put.
     pub(crate) fn take(&mut self) -> Result<Arrival<C, M>, NoArrival>
-        ensures taken { IfOk result (λ arrival. self.old.newcomers.items ≡ self.new.newcomers.items ++ arrival ∷ []) }
-        ensures none { OnErr result (self.old.newcomers.items ≡ []) }
-        ensures departed { self.new.departed ≡ self.old.departed }
+        ensures taken { IfOk result (λ arrival. self.old.arrivals.items ≡ self.new.arrivals.items ++ arrival ∷ []) }
+        ensures none { OnErr result (self.old.arrivals.items ≡ []) }
+        ensures finished { self.new.finished ≡ self.old.finished }
     {
-        match self.newcomers.pop() {
+        match self.arrivals.pop() {
             Some(arrival) => Ok(arrival),
             None => Err(NoArrival(())),
         }
@@ -210,15 +210,15 @@ impl<C: Tally, M: Tally> Register<C, M> {
         full: Full,
     ) -> Result<Waiting, (Accepted, Full)>
         ensures put { OnOk result
-            (IsAdded (λ late. late.0 ≡ accepted) self.old.latecomers.items self.new.latecomers.items) }
+            (IsAdded (λ late. late.0 ≡ accepted) self.old.waiting_clients.items self.new.waiting_clients.items) }
         ensures awaited { OnOk result (self.new.awaited ≡ self.old.awaited + 1) }
         ensures back { IfErr result (λ back. (back.0 ≡ accepted) × (back.1 ≡ full)) }
         ensures admitted { self.new.admitted ≡ self.old.admitted }
         ensures came { self.new.came ≡ self.old.came }
         ensures present { self.new.present ≡ self.old.present }
-        ensures departed { self.new.departed ≡ self.old.departed }
+        ensures finished { self.new.finished ≡ self.old.finished }
     {
-        if self.over || self.awaited >= full.most || self.latecomers.reserve(1).is_err() {
+        if self.over || self.awaited >= full.most || self.waiting_clients.reserve(1).is_err() {
             return Err((accepted, full));
         }
         let Some(at) = self.handles.iter().position(|handle| handle.is_ending()) else {
@@ -227,17 +227,18 @@ impl<C: Tally, M: Tally> Register<C, M> {
         self.handles[at].expect_end();
         self.awaited += 1;
         drop(full);
-        self.latecomers.push_reserved((accepted, Expected(())));
+        self.waiting_clients.push_reserved((accepted, Expected(())));
         Ok(Waiting(()))
     }
 
     /// Takes a client that waits for a place and whose thread has not begun, the last that was put.
     pub(crate) fn take_late(&mut self) -> Result<(Accepted, Expected), NoArrival>
-        ensures taken { IfOk result (λ late. self.old.latecomers.items ≡ self.new.latecomers.items ++ late ∷ []) }
-        ensures none { OnErr result (self.old.latecomers.items ≡ []) }
-        ensures departed { self.new.departed ≡ self.old.departed }
+        ensures taken { IfOk result
+            (λ late. self.old.waiting_clients.items ≡ self.new.waiting_clients.items ++ late ∷ []) }
+        ensures none { OnErr result (self.old.waiting_clients.items ≡ []) }
+        ensures finished { self.new.finished ≡ self.old.finished }
     {
-        match self.latecomers.pop() {
+        match self.waiting_clients.pop() {
             Some(late) => Ok(late),
             None => Err(NoArrival(())),
         }
@@ -260,7 +261,7 @@ impl<C: Tally, M: Tally> Register<C, M> {
         ensures full { IfErr result (λ full. (full.most ≡ most) × (full.accepts ≡ accepts)) }
         ensures refused { OnErr result ((self.new.admitted ≡ self.old.admitted) × (self.new.came ≡ self.old.came)
             × (self.new.present ≡ self.old.present)) }
-        ensures departed { self.new.departed ≡ self.old.departed }
+        ensures finished { self.new.finished ≡ self.old.finished }
         ensures awaited { self.new.awaited ≡ awaited_after expected self.old.awaited }
         // Only a full register refuses a connection.
         ensures why { OnErr result ((self.old.over ≡ true)
@@ -292,18 +293,16 @@ impl<C: Tally, M: Tally> Register<C, M> {
         keeps: bool,
     )
         requires own { outcome.mails.conn ≡ admission.conn }
-        requires calls { C.all ≡ C.parts }
-        requires mails { M.all ≡ M.parts }
         // Its handle goes, and so its socket is closed.
         ensures handles { self.new.handles.items ≡ without admission.conn self.old.handles.items }
         ensures present { self.new.present ≡ self.old.present - 1 }
-        ensures calls { self.new.departed.calls ≡ joined_to self.old.departed.calls outcome.calls.calls }
-        ensures mails { self.new.departed.mails ≡ joined_to self.old.departed.mails outcome.mails.mails }
-        ensures kept { IsTrue keeps → self.new.departed.short ≡ false
-            → (self.new.departed.sent.items ≡ self.old.departed.sent.items ++ outcome.sent ∷ [])
-            × (self.new.departed.receipts.items ≡ self.old.departed.receipts.items ++ outcome.receipts.items) }
+        ensures calls { self.new.finished.calls ≡ joined_to self.old.finished.calls outcome.calls.calls }
+        ensures mails { self.new.finished.mails ≡ joined_to self.old.finished.mails outcome.mails.mails }
+        ensures kept { IsTrue keeps → self.new.finished.short ≡ false
+            → (self.new.finished.sent.items ≡ self.old.finished.sent.items ++ outcome.sent ∷ [])
+            × (self.new.finished.receipts.items ≡ self.old.finished.receipts.items ++ outcome.receipts.items) }
     {
-        outcome.add_to(&mut self.departed, keeps);
+        outcome.add_to(&mut self.finished, keeps);
         self.release(admission);
     }
 
@@ -311,7 +310,7 @@ impl<C: Tally, M: Tally> Register<C, M> {
     pub(crate) fn refuse(&mut self, unserved: Unserved)
         ensures came { self.new.came ≡ self.old.came - 1 }
         ensures present { self.new.present ≡ self.old.present - 1 }
-        ensures departed { self.new.departed ≡ self.old.departed }
+        ensures finished { self.new.finished ≡ self.old.finished }
     {
         self.release(unserved.close());
         self.came = self.came.saturating_sub(1);
@@ -321,7 +320,7 @@ impl<C: Tally, M: Tally> Register<C, M> {
         ensures handles { self.new.handles.items ≡ without admission.conn self.old.handles.items }
         ensures present { self.new.present ≡ self.old.present - 1 }
         ensures came { self.new.came ≡ self.old.came }
-        ensures departed { self.new.departed ≡ self.old.departed }
+        ensures finished { self.new.finished ≡ self.old.finished }
     {
         let Admission {
             conn,
@@ -338,15 +337,15 @@ impl<C: Tally, M: Tally> Register<C, M> {
         ensures end { result.end ≡ end }
     {
         self.over = true;
-        if let Some(door) = self.door.take() {
-            let _ = door.shutdown(Shutdown::Both);
+        if let Some(listening_socket) = self.listening_socket.take() {
+            let _ = listening_socket.shutdown(Shutdown::Both);
         }
         Ending { end }
     }
 
     /// Drops the handle of the listener, since no connection is accepted any more.
-    pub(crate) fn close_door(&mut self) {
-        drop(self.door.take());
+    pub(crate) fn stop_accepting(&mut self) {
+        drop(self.listening_socket.take());
     }
 
     pub(crate) fn is_empty(&self) -> bool {
@@ -384,26 +383,26 @@ impl<C: Tally, M: Tally> Register<C, M> {
     }
 
     /// What the connections did that have ended. Each client was taken right after it was put, so none is dismissed here.
-    pub(crate) fn into_departed(self) -> FinishedConnections<C, M>
-        ensures { result ≡ self.departed }
+    pub(crate) fn into_finished(self) -> FinishedConnections<C, M>
+        ensures { result ≡ self.finished }
     {
         let Register {
-            newcomers,
+            arrivals,
             admitted: _,
             came: _,
             present: _,
             awaited: _,
-            latecomers,
+            waiting_clients,
             handles,
-            door,
+            listening_socket,
             over: _,
-            departed,
+            finished,
         } = self;
-        dismiss(newcomers);
-        dismiss_late(latecomers);
+        dismiss(arrivals);
+        dismiss_late(waiting_clients);
         drop(handles);
-        drop(door);
-        departed
+        drop(listening_socket);
+        finished
     }
 }
 
@@ -422,9 +421,9 @@ fn places_kept(awaited: &mut u64, expected: Option<Expected>) -> u64
 }
 
 /// Dismisses connections whose threads have not begun.
-fn dismiss<C: Tally, M: Tally>(newcomers: Vec<Arrival<C, M>>) {
-    let mut newcomers = newcomers;
-    while let Some(arrival) = newcomers.pop() {
+fn dismiss<C: Tally, M: Tally>(arrivals: Vec<Arrival<C, M>>) {
+    let mut arrivals = arrivals;
+    while let Some(arrival) = arrivals.pop() {
         let Arrival { connection, seats } = arrival;
         let Admission {
             conn: _,
@@ -433,18 +432,18 @@ fn dismiss<C: Tally, M: Tally>(newcomers: Vec<Arrival<C, M>>) {
         } = connection.close();
         drop(seats);
     }
-    newcomers.destroy_empty();
+    arrivals.destroy_empty();
 }
 
 /// Closes the sockets of clients whose threads have not begun.
-fn dismiss_late(latecomers: Vec<(Accepted, Expected)>) {
-    let mut latecomers = latecomers;
-    while let Some((accepted, expected)) = latecomers.pop() {
+fn dismiss_late(waiting_clients: Vec<(Accepted, Expected)>) {
+    let mut waiting_clients = waiting_clients;
+    while let Some((accepted, expected)) = waiting_clients.pop() {
         let Expected(()) = expected;
         accepted.close(Full {
             most: 0,
             accepts: 0,
         });
     }
-    latecomers.destroy_empty();
+    waiting_clients.destroy_empty();
 }

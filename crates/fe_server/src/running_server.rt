@@ -7,10 +7,11 @@ ghost use Rattle.fe_hall.specs.Audits.{account_left};
 ghost use Rattle.fe_history.specs.Receipts.{IsBorneOut};
 ghost use Rattle.fe_history.specs.declared.act.Act.TheVariants as act;
 ghost use Rattle.fe_shared.specs.declared.last_answer.LastAnswer.TheVariants as LastAnswer;
+ghost use Rattle.fe_shared.specs.Seats.{IsBlankOf};
 ghost use Rattle.fe_server.specs.Arrivals.{HasEnded};
 ghost use Rattle.fe_server.specs.FinishedConnections.{IsClean};
 ghost use Rattle.fe_server.specs.Sides.{most_reads};
-ghost use Rattle.fe_server.specs.Serving.{HasCommittedAndNoted, IsBlankOf, fault_of_end};
+ghost use Rattle.fe_server.specs.Serving.{HasCommittedAndNoted, fault_of_end};
 ghost use Rattle.fe_server.specs.declared.stop_fault.StopFault.TheVariants as fault;
 
 use crate::accepting::AllServed;
@@ -86,13 +87,13 @@ impl<C: Tally, M: Tally> Opened<C, M> {
         ensures keeps { IfOk result (λ opened. opened.0.server.keeps ≡ nat_lt 0 settings.now.accepts) }
         ensures seat { IfOk result (λ opened. opened.1 ≡ history.acts) }
     {
-        let Ok(door) = listener.door() else {
+        let Ok(listening_socket) = listener.shutdown_socket() else {
             drop(history);
             return Err(AllocError);
         };
         let Ok(front) = front_over(alloc, state) else {
             drop(history);
-            drop(door);
+            drop(listening_socket);
             return Err(AllocError);
         };
         let begun = Snapshot::of(front.state());
@@ -101,7 +102,7 @@ impl<C: Tally, M: Tally> Opened<C, M> {
                 let receipts = hall.no_receipts(alloc);
                 let server = RunningServer {
                     hall,
-                    register: Mutex::new(Register::new(alloc, &right, door, receipts)),
+                    register: Mutex::new(Register::new(alloc, &right, listening_socket, receipts)),
                     freed: Condvar::new(),
                     most: settings.connections,
                     accepts: settings.accepts,
@@ -138,7 +139,7 @@ impl<C: Tally, M: Tally> Opened<C, M> {
             keeps,
         } = server;
         drop(freed);
-        (hall, register.into_inner().into_departed(), keeps)
+        (hall, register.into_inner().into_finished(), keeps)
     }
 
     /// The account of the hall, whose committing side ended with a fault.
@@ -149,8 +150,8 @@ impl<C: Tally, M: Tally> Opened<C, M> {
         ensures leaves { (kept : Kept) × IsAccountOf seat kept.items kept.history result }
         ensures issued { EachIssued result.receipts result.history }
     {
-        let (hall, departed, _) = self.into_parts();
-        departed.account(hall, seat, over)
+        let (hall, finished, _) = self.into_parts();
+        finished.account(hall, seat, over)
     }
 
     /// Closes the hall with what is in the register. `state` is what is stored.
@@ -162,8 +163,6 @@ impl<C: Tally, M: Tally> Opened<C, M> {
         seat: StoreSeat<M>,
         state: &State,
     ) -> Result<Audit, (StopFault, Account)>
-        requires calls { C.all ≡ C.parts }
-        requires mails { M.all ≡ M.parts }
         ensures clean { IfOk result IsClean }
         ensures borne_out { IfOk result (λ audit. All (IsBorneOut state.now audit.sent) audit.receipts) }
         // If they are to be kept, no receipt is missing.
@@ -173,8 +172,8 @@ impl<C: Tally, M: Tally> Opened<C, M> {
         ensures faults { IfErr result (λ e. (e.0 ≡ fault.Memory) ⊎ (e.0 ≡ fault.Strange)) }
     {
         drop(over);
-        let (hall, departed, keeps) = self.into_parts();
-        departed.close(hall, seat, state, keeps)
+        let (hall, finished, keeps) = self.into_parts();
+        finished.close(hall, seat, state, keeps)
     }
 }
 
@@ -253,8 +252,6 @@ impl<C: Tally, M: Tally> RunningServer<C, M> {
         outcome: ConnectionOutcome<C, M>,
     )
         requires own { outcome.mails.conn ≡ connection.admission.conn }
-        requires calls { C.all ≡ C.parts }
-        requires mails { M.all ≡ M.parts }
     {
         let admission = connection.close();
         self.register.lock(rt).leave(admission, outcome, self.keeps);
@@ -326,8 +323,8 @@ impl<C: Tally, M: Tally> RunningServer<C, M> {
     }
 
     /// Drops the handle of the listener, since no connection is accepted any more.
-    pub(crate) fn close_door<R: Wait>(&self, rt: &R) {
-        self.register.lock(rt).close_door();
+    pub(crate) fn stop_accepting<R: Wait>(&self, rt: &R) {
+        self.register.lock(rt).stop_accepting();
     }
 
     /// Whether connections may come: the server has not ended and, unless `accepts` is 0, fewer than that came. While
@@ -349,7 +346,7 @@ impl<C: Tally, M: Tally> RunningServer<C, M> {
 
     /// Stops the hall because the committing thread could not be started. The closing reports that as a lack of memory.
     pub(crate) fn fall_short<R: Wait, F>(&self, rt: &R, _refused: &SpawnError<F>) {
-        self.register.lock(rt).departed.short = true;
+        self.register.lock(rt).finished.short = true;
         self.hall.stop(rt);
     }
 
@@ -368,7 +365,7 @@ impl<C: Tally, M: Tally> RunningServer<C, M> {
     }
 
     fn spend<R: Wait>(&self, rt: &R) {
-        self.register.lock(rt).departed.spent = true;
+        self.register.lock(rt).finished.spent = true;
         self.hall.stop(rt);
     }
 }

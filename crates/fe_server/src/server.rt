@@ -9,9 +9,10 @@ ghost use Rattle.fe_hall.specs.declared.commit_end.CommitEnd.{CommitEnd};
 ghost use Rattle.fe_hall.specs.declared.commit_end.CommitEnd.TheVariants as hall;
 ghost use Rattle.fe_journal.specs.Layout.{device_bytes};
 ghost use Rattle.fe_store.specs.declared.fault.OpenFault.TheVariants as store;
+ghost use Rattle.fe_shared.specs.Seats.{IsBlankOf};
 ghost use Rattle.fe_server.specs.Acknowledged.{IsAcknowledged};
 ghost use Rattle.fe_server.specs.Opened.{WasServed};
-ghost use Rattle.fe_server.specs.Serving.{HasCommitted, HasCommittedAndNoted, IsAnswerAt, IsBlankOf, account_in, fault_in, keeper_in};
+ghost use Rattle.fe_server.specs.Serving.{HasCommitted, HasCommittedAndNoted, IsAnswerAt, account_in, fault_in, keeper_in};
 ghost use Rattle.fe_server.specs.declared.serve_fault.ServeFault.TheVariants as served;
 ghost use Rattle.fe_server.specs.declared.stop_fault.StopFault.TheVariants as fault;
 
@@ -24,7 +25,7 @@ use crate::running_server::{Opened, RunningServer};
 use crate::served::Served;
 use crate::stop_fault::StopFault;
 use fe_disk::{Disk, FileDisk};
-use fe_hall::{Account, ConnectRight, Gate, NewHistory, StoreSeat, Tally};
+use fe_hall::{Account, ConnectRight, Gate, NewHistory, PARTS, StoreSeat, Tally};
 use fe_keeper::Keeper;
 use fe_options::Settings;
 use std::alloc::Global;
@@ -39,9 +40,6 @@ use std::sync::ledger::Blank;
 use std::thread;
 use std::thread::{Promise, Scope, Threads};
 use std::time::Clock;
-
-/// How many parts the ledgers of a hall have, 2^62 + 1.
-const PARTS: u64 = 4611686018427387905;
 
 /// Serves the store that the settings name, at the socket that they name, and gives what the server left. It opens the
 /// store before it makes the socket, so the socket's file means that the server is ready.
@@ -170,8 +168,6 @@ fn closed<C: Tally, M: Tally, D: Disk>(
     seat: StoreSeat<M>,
     keeper: Keeper<D>,
 ) -> Result<Served<D>, Failed<D>>
-    requires calls { C.all ≡ C.parts }
-    requires mails { M.all ≡ M.parts }
     ensures keeper { keeper_in result ≡ keeper }
     ensures answer { IsAnswerAt over.end (fault_in result) }
     ensures add_up { IfOk result (λ served. AddUp served.audit.books) }
@@ -247,8 +243,6 @@ fn run<
     seat: StoreSeat<M>,
     gate: &G,
 ) -> (Keeper<D>, ServerEnded, StoreSeat<M>)
-    requires calls { C.all ≡ C.parts }
-    requires mails { M.all ≡ M.parts }
     requires begun { opened.now.begun.value ≡ keeper.state }
     requires most { opened.now.server.most ≡ settings.now.connections }
     requires turns { opened.now.server.turns ≡ settings.now.turns }
@@ -261,7 +255,7 @@ fn run<
         thread::scope_env(),
         rt,
         move |scope| -> (Keeper<D>, ServerEnded, StoreSeat<M>)
-            requires { (C.all ≡ C.parts) × (M.all ≡ M.parts) × (seat ≡ act.Began keeper.state ∷ []) }
+            requires { seat ≡ act.Began keeper.state ∷ [] }
             ensures { HasCommittedAndNoted D.Disk keeper
                 result.0 result.1.end result.2 }
         {
@@ -293,8 +287,6 @@ fn run_in<
     seat: StoreSeat<M>,
     gate: &G,
 ) -> (Keeper<D>, ServerEnded, StoreSeat<M>)
-    requires calls { C.all ≡ C.parts }
-    requires mails { M.all ≡ M.parts }
     requires seat { seat ≡ act.Began keeper.state ∷ [] }
     ensures { HasCommittedAndNoted D.Disk keeper result.0 result.1.end result.2 }
 {

@@ -65,6 +65,14 @@ both_seats s t = record { connections = s.connections + t.connections; amount = 
 abbrev pub most_connections : ℕ
 most_connections = 2 ^ 62
 
+-- a ledger that counts so many parts in all has one for each connection that a hall makes, and one for its book
+abbrev pub IsWholeLedger : ℕ → ℕ → Type 0
+IsWholeLedger all parts = (all ≡ parts) × (all ≡ most_connections + 1)
+
+-- a blank makes the ledger of this name, which has all its parts
+abbrev pub IsBlankOf : ℕ → ℕ → ℕ → ℕ → ℕ → Type 0
+IsBlankOf ledger_name parts_in_ledger all name parts = (name ≡ ledger_name) × (parts ≡ parts_in_ledger) × IsWholeLedger all parts_in_ledger
+
 -- the most that a book may count before the sides of a hall end: one post more stays below 2^63
 abbrev pub most_counted : ℕ
 most_counted = 2 ^ 63 - 8192

@@ -1,5 +1,5 @@
 ghost use Rattle.std.specs.Prelude.{◌≡◌, ◌+◌, true};
-ghost use Rattle.fe_shared.specs.Seats.{calls_in, first_call_seat, message_taken, most_connections, one_seat};
+ghost use Rattle.fe_shared.specs.Seats.{calls_in, first_call_seat, message_taken, IsWholeLedger, one_seat};
 
 use crate::last_answer::LastAnswer;
 use crate::message_log::MessageLog;
@@ -31,7 +31,7 @@ pub struct CallSeat<C: Tally> {
 impl<C: Tally> Model for CallSeat<C> {
     ghost use Rattle.std.specs.Prelude.{◌≡◌, ◌+◌};
     ghost use Rattle.fe_shared.specs.Logs.{messages_of};
-    ghost use Rattle.fe_shared.specs.Seats.{CallSeatState, most_connections};
+    ghost use Rattle.fe_shared.specs.Seats.{CallSeatState, IsWholeLedger};
 
     ghost Value = { CallSeatState };
 
@@ -45,7 +45,7 @@ impl<C: Tally> Model for CallSeat<C> {
       rested = s.rested;
     } };
 
-    ghost invariant = { λ s. (s.share.parts ≡ 1) × (C.all ≡ most_connections + 1) };
+    ghost invariant = { λ s. (s.share.parts ≡ 1) × IsWholeLedger C.all C.parts };
 }
 
 impl<C: Tally> CallSeat<C> {
@@ -53,7 +53,7 @@ impl<C: Tally> CallSeat<C> {
     pub(crate) fn new(share: Share<C>, conn: u64) -> CallSeat<C>
         requires part { share.parts ≡ 1 }
         requires nothing { share.amount ≡ 0 }
-        requires all { C.all ≡ most_connections + 1 }
+        requires all { IsWholeLedger C.all C.parts }
         ensures { result ≡ first_call_seat conn }
     {
         CallSeat {

@@ -1,5 +1,5 @@
 ghost use Rattle.std.specs.Prelude.{◌≡◌, ◌+◌, true};
-ghost use Rattle.fe_shared.specs.Seats.{first_mail_seat, mail_taken, most_connections, one_seat};
+ghost use Rattle.fe_shared.specs.Seats.{first_mail_seat, mail_taken, IsWholeLedger, one_seat};
 
 use crate::last_answer::LastAnswer;
 use crate::mail_log::MailLog;
@@ -28,7 +28,7 @@ pub struct MailSeat<M: Tally> {
 impl<M: Tally> Model for MailSeat<M> {
     ghost use Rattle.std.specs.Prelude.{◌≡◌, ◌+◌};
     ghost use Rattle.fe_shared.specs.Logs.{mails_of};
-    ghost use Rattle.fe_shared.specs.Seats.{MailSeatState, most_connections};
+    ghost use Rattle.fe_shared.specs.Seats.{MailSeatState, IsWholeLedger};
 
     ghost Value = { MailSeatState };
 
@@ -41,7 +41,7 @@ impl<M: Tally> Model for MailSeat<M> {
       departed = s.departed;
     } };
 
-    ghost invariant = { λ s. (s.share.parts ≡ 1) × (M.all ≡ most_connections + 1) };
+    ghost invariant = { λ s. (s.share.parts ≡ 1) × IsWholeLedger M.all M.parts };
 }
 
 impl<M: Tally> MailSeat<M> {
@@ -49,7 +49,7 @@ impl<M: Tally> MailSeat<M> {
     pub(crate) fn new(share: Share<M>, conn: u64) -> MailSeat<M>
         requires part { share.parts ≡ 1 }
         requires nothing { share.amount ≡ 0 }
-        requires all { M.all ≡ most_connections + 1 }
+        requires all { IsWholeLedger M.all M.parts }
         ensures { result ≡ first_mail_seat conn }
     {
         MailSeat {

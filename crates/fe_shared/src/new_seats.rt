@@ -1,5 +1,5 @@
 ghost use Rattle.std.specs.Prelude.{◌≡◌, ◌+◌};
-ghost use Rattle.fe_shared.specs.Seats.{first_call_seat, first_mail_seat, most_connections};
+ghost use Rattle.fe_shared.specs.Seats.{first_call_seat, first_mail_seat, IsWholeLedger};
 
 use crate::call_seat::CallSeat;
 use crate::mail_seat::MailSeat;
@@ -17,21 +17,21 @@ pub struct NewSeats<C: Tally, M: Tally> {
 
 impl<C: Tally, M: Tally> Model for NewSeats<C, M> {
     ghost use Rattle.std.specs.Prelude.{◌≡◌, ◌+◌, ℕ};
-    ghost use Rattle.fe_shared.specs.Seats.{most_connections};
+    ghost use Rattle.fe_shared.specs.Seats.{IsWholeLedger};
 
     ghost Value = { ℕ };
 
     ghost view = { λ s. s.conn };
 
-    ghost invariant = { λ s. ((s.calls.parts ≡ 1) × (s.calls.amount ≡ 0) × (C.all ≡ most_connections + 1))
-        × ((s.mails.parts ≡ 1) × (s.mails.amount ≡ 0) × (M.all ≡ most_connections + 1)) };
+    ghost invariant = { λ s. ((s.calls.parts ≡ 1) × (s.calls.amount ≡ 0) × IsWholeLedger C.all C.parts)
+        × ((s.mails.parts ≡ 1) × (s.mails.amount ≡ 0) × IsWholeLedger M.all M.parts) };
 }
 
 impl<C: Tally, M: Tally> NewSeats<C, M> {
     /// The seats of a new connection: one part of each ledger.
     pub(crate) fn new(calls: Share<C>, mails: Share<M>, conn: u64) -> NewSeats<C, M>
-        requires calls { (calls.parts ≡ 1) × (calls.amount ≡ 0) × (C.all ≡ most_connections + 1) }
-        requires mails { (mails.parts ≡ 1) × (mails.amount ≡ 0) × (M.all ≡ most_connections + 1) }
+        requires calls { (calls.parts ≡ 1) × (calls.amount ≡ 0) × IsWholeLedger C.all C.parts }
+        requires mails { (mails.parts ≡ 1) × (mails.amount ≡ 0) × IsWholeLedger M.all M.parts }
         ensures { result ≡ conn }
     {
         NewSeats { calls, mails, conn }

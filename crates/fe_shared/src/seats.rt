@@ -1,5 +1,5 @@
 ghost use Rattle.std.specs.Prelude.{◌≡◌, ◌+◌};
-ghost use Rattle.fe_shared.specs.Seats.{both_seats, most_connections, one_seat};
+ghost use Rattle.fe_shared.specs.Seats.{both_seats, IsWholeLedger, one_seat};
 
 use fe_history::Tally;
 use std::marker::Model;
@@ -14,20 +14,20 @@ pub struct Seats<L: Tally> {
 
 impl<L: Tally> Model for Seats<L> {
     ghost use Rattle.std.specs.Prelude.{◌≡◌, ◌+◌, ◌<◌};
-    ghost use Rattle.fe_shared.specs.Seats.{Seats, most_connections};
+    ghost use Rattle.fe_shared.specs.Seats.{Seats, IsWholeLedger};
 
     ghost Value = { Seats };
 
     ghost view = { λ s. record { connections = s.connections; amount = s.share.amount } };
 
-    ghost invariant = { λ s. (s.share.parts ≡ s.connections) × ((0 < s.connections) × (L.all ≡ most_connections + 1)) };
+    ghost invariant = { λ s. (s.share.parts ≡ s.connections) × ((0 < s.connections) × IsWholeLedger L.all L.parts) };
 }
 
 impl<L: Tally> Seats<L> {
     /// The seat of one connection, with its part of the ledger.
     pub(crate) fn of(share: Share<L>) -> Seats<L>
         requires part { share.parts ≡ 1 }
-        requires all { L.all ≡ most_connections + 1 }
+        requires all { IsWholeLedger L.all L.parts }
         ensures { result ≡ one_seat share.amount }
     {
         Seats {
@@ -38,7 +38,6 @@ impl<L: Tally> Seats<L> {
 
     /// Adds the seats of other connections of the same hall.
     pub fn add(&mut self, other: Seats<L>)
-        requires ledger { L.all ≡ L.parts }
         ensures { self.new ≡ both_seats self.old other }
     {
         let Seats { share, connections } = other;
@@ -55,7 +54,6 @@ impl<L: Tally> Seats<L> {
 
     /// Shows that the seats of all connections counted what the book has. The spare part of the ledger is the hall's own.
     pub(crate) fn audit(self, book: &mut Book<L>, spare: Share<L>)
-        requires ledger { L.all ≡ L.parts }
         requires whole { spare.parts + self.connections ≡ L.all }
         requires nothing { spare.amount ≡ 0 }
         ensures { self.amount ≡ book.old.total }

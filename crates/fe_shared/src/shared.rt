@@ -15,7 +15,7 @@ ghost use Rattle.fe_shared.specs.Marks.{IsBegun, MayBeIssued};
 ghost use Rattle.fe_shared.specs.Holds.{Ends, IsDrained, IsOver, IsUnconnected, Leaves, MakesEvent, MakesNoEvent, TakesMail};
 ghost use Rattle.fe_front.specs.ConnectionSet.{may_have};
 ghost use Rattle.fe_shared.specs.Watching.{waits};
-ghost use Rattle.fe_shared.specs.Seats.{HasRested, IsOpen, TookNoMessage, message_taken, message_answered, taking_answered, takes_more, most_connections};
+ghost use Rattle.fe_shared.specs.Seats.{HasRested, IsOpen, TookNoMessage, message_taken, message_answered, taking_answered, takes_more, most_connections, IsBlankOf, IsWholeLedger};
 
 mod batches;
 
@@ -70,9 +70,9 @@ pub struct Shared<C: Tally, M: Tally> {
     ghost mails_agree: { mails.total ≡ front.books.taken },
     ghost few: { connections_made ≤ most_connections },
     ghost call_parts: { (spare_calls.parts + connections_made ≡ C.all) × (spare_calls.amount ≡ 0)
-        × (C.all ≡ most_connections + 1) },
+        × IsWholeLedger C.all C.parts },
     ghost mail_parts: { (spare_mails.parts + connections_made ≡ M.all) × (spare_mails.amount ≡ 0)
-        × (M.all ≡ most_connections + 1) },
+        × IsWholeLedger M.all M.parts },
 }
 
 impl<C: Tally, M: Tally> Drop for Shared<C, M> {
@@ -203,10 +203,8 @@ impl<C: Tally, M: Tally> Shared<C, M> {
     ) -> (Shared<C, M>, ConnectRight, HoldRight)
         requires begun { IsBegun front history }
         requires legal { IsLegal history }
-        requires calls { (calls.name ≡ C.name) × (calls.parts ≡ C.parts) × (C.all ≡ C.parts)
-            × (C.all ≡ most_connections + 1) }
-        requires mails { (mails.name ≡ M.name) × (mails.parts ≡ M.parts) × (M.all ≡ M.parts)
-            × (M.all ≡ most_connections + 1) }
+        requires calls { IsBlankOf C.name C.parts C.all calls.name calls.parts }
+        requires mails { IsBlankOf M.name M.parts M.all mails.name mails.parts }
         ensures { result.0.front ≡ front }
     {
         let (called, spare_calls) = calls.open::<C>();
@@ -411,7 +409,8 @@ impl<C: Tally, M: Tally> Shared<C, M> {
     fn is_drained(&self, conn: u64, place: u64) -> bool
         ensures { IsTrue result ↔ IsDrained self.now.front self.now.stopped conn place }
     {
-        self.is_over(conn) || self.front.durable() >= place && !self.front.has_mail(conn)
+        self.is_over(conn)
+            || self.front.durable() >= place && !self.front.has_mail(conn)
     }
 
     /// Whether the read side of a connection need not wait for what comes of its messages. If `None`, it is noted that it waits.
@@ -586,8 +585,6 @@ impl<C: Tally, M: Tally> Shared<C, M> {
 
     /// The books, once all seats of the hall are here.
     pub fn audit(self, calls: Seats<C>, mails: Seats<M>) -> Result<Books, SeatMissing>
-        requires calls { C.all ≡ C.parts }
-        requires mails { M.all ≡ M.parts }
         ensures all { IfOk result
             (λ books. (books.calls ≡ calls.amount) × (books.taken ≡ mails.amount) × (books ≡ self.front.books)) }
         ensures add_up { IfOk result (λ books. AddUp books) }

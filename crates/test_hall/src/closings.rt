@@ -1,17 +1,17 @@
 //! Closing halls with receipts that none of their connections got.
 
 ghost use Rattle.std.specs.Prelude.{◌≡◌, ◌+◌, ◌∷◌, []};
-ghost use Rattle.fe_shared.specs.Seats.{most_connections};
+ghost use Rattle.fe_shared.specs.Seats.{IsBlankOf};
 ghost use Rattle.fe_history.specs.declared.act.Act.TheVariants as act;
 
 use crate::rows::FIRST_PATH;
 use crate::saying::{Say, message_of};
-use crate::stage::{PARTS, hall_over};
+use crate::stage::hall_over;
 use crate::tests::store_after;
 use fe_disk::MemoryDisk;
 use fe_hall::{
-    ConnectRight, Hall, NewHistory, NewSeats, Receipt, ReceiptList, Tally, Unclosed, Unconnected,
-    close,
+    ConnectRight, Hall, NewHistory, NewSeats, PARTS, Receipt, ReceiptList, Tally, Unclosed,
+    Unconnected, close,
 };
 use fe_keeper::Keeper;
 use fe_state::{Answer, Request, named};
@@ -123,10 +123,8 @@ fn close_as<C: Tally, M: Tally, R: Abort + Wait>(
     mails: Blank,
     history: NewHistory,
 ) -> Closes
-    requires calls { (calls.name ≡ C.name) × (calls.parts ≡ C.parts) × (C.all ≡ C.parts)
-        × (C.all ≡ most_connections + 1) }
-    requires mails { (mails.name ≡ M.name) × (mails.parts ≡ M.parts) × (M.all ≡ M.parts)
-        × (M.all ≡ most_connections + 1) }
+    requires calls { IsBlankOf C.name C.parts C.all calls.name calls.parts }
+    requires mails { IsBlankOf M.name M.parts M.all mails.name mails.parts }
     requires history { history.book ≡ M.book }
     requires acts { history.acts ≡ act.Began keeper.state ∷ [] }
 {

@@ -5,15 +5,15 @@
 //! begin a checkpoint.
 
 ghost use Rattle.std.specs.Prelude.{◌≡◌, ◌+◌, ◌∷◌, []};
-ghost use Rattle.fe_shared.specs.Seats.{most_connections};
+ghost use Rattle.fe_shared.specs.Seats.{IsBlankOf};
 ghost use Rattle.fe_history.specs.declared.act.Act.TheVariants as act;
 
 use crate::saying::{Say, put_said};
-use crate::stage::{PARTS, hall_over};
+use crate::stage::hall_over;
 use fe_disk::Liar;
 use fe_hall::{
-    CallSeat, CommitEnd, ConnectRight, HalfFault, Hall, MemoryRead, NewHistory, Open, ReadEnd,
-    ReadHalf, StoreSeat, Tally, commit_side, read_side,
+    CallSeat, CommitEnd, ConnectRight, HalfFault, Hall, MemoryRead, NewHistory, Open, PARTS,
+    ReadEnd, ReadHalf, StoreSeat, Tally, commit_side, read_side,
 };
 use fe_keeper::{Fault, Keeper};
 use std::alloc::{AllocError, Global};
@@ -130,10 +130,8 @@ fn store_as<C: Tally, M: Tally, R: Abort + Clock + Wait>(
     mails: Blank,
     history: NewHistory,
 ) -> Option<CommitEnd>
-    requires calls { (calls.name ≡ C.name) × (calls.parts ≡ C.parts) × (C.all ≡ C.parts)
-        × (C.all ≡ most_connections + 1) }
-    requires mails { (mails.name ≡ M.name) × (mails.parts ≡ M.parts) × (M.all ≡ M.parts)
-        × (M.all ≡ most_connections + 1) }
+    requires calls { IsBlankOf C.name C.parts C.all calls.name calls.parts }
+    requires mails { IsBlankOf M.name M.parts M.all mails.name mails.parts }
     requires history { history.book ≡ M.book }
     requires acts { history.acts ≡ act.Began keeper.old.state ∷ [] }
 {

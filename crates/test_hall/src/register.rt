@@ -29,9 +29,7 @@ impl<C: Tally, M: Tally> Register<C, M> {
     }
 
     /// Adds what a read side received. If memory runs out, its list is lost.
-    pub fn add_calls(&mut self, seat: CallSeat<C>, sent: Vec<ClientMessage>)
-        requires { C.all ≡ C.parts }
-    {
+    pub fn add_calls(&mut self, seat: CallSeat<C>, sent: Vec<ClientMessage>) {
         match &mut self.calls {
             Some(calls) => calls.add(seat.into_seats()),
             None => self.calls = Some(seat.into_seats()),
@@ -40,9 +38,7 @@ impl<C: Tally, M: Tally> Register<C, M> {
     }
 
     /// Adds what a write side sent. If memory runs out, its receipts are lost.
-    pub fn add_mails(&mut self, seat: MailSeat<M>, receipts: Receipts<M>)
-        requires { M.all ≡ M.parts }
-    {
+    pub fn add_mails(&mut self, seat: MailSeat<M>, receipts: Receipts<M>) {
         match &mut self.mails {
             Some(mails) => mails.add(seat.into_seats()),
             None => self.mails = Some(seat.into_seats()),
@@ -51,7 +47,7 @@ impl<C: Tally, M: Tally> Register<C, M> {
     }
 
     pub fn receipts(&self) -> usize {
-        self.receipts.as_slice().len()
+        self.receipts.list().as_slice().len()
     }
 
     /// Closes the hall with everything in the register. `None` if it is not closed.
@@ -60,10 +56,7 @@ impl<C: Tally, M: Tally> Register<C, M> {
         hall: Hall<C, M>,
         seat: StoreSeat<M>,
         keeper: Keeper<D>,
-    ) -> Option<Closing<D>>
-        requires calls { C.all ≡ C.parts }
-        requires mails { M.all ≡ M.parts }
-    {
+    ) -> Option<Closing<D>> {
         let Register {
             calls,
             mails,

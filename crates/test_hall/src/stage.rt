@@ -1,7 +1,7 @@
 //! Plays in a hall: each client has two threads, and one more thread stores.
 
 ghost use Rattle.std.specs.Prelude.{◌≡◌, ◌+◌, ◌∷◌, []};
-ghost use Rattle.fe_shared.specs.Seats.{most_connections};
+ghost use Rattle.fe_shared.specs.Seats.{IsBlankOf};
 ghost use Rattle.fe_history.specs.declared.act.Act.TheVariants as act;
 
 use crate::board::Board;
@@ -11,8 +11,8 @@ use crate::register::Register;
 use fe_disk::{Disk, SyncHold};
 use fe_front::Front;
 use fe_hall::{
-    CallSeat, Closing, CommitEnd, ConnectRight, Hall, MailSeat, NewHistory, Open, StoreSeat, Tally,
-    commit_side, read_side, write_side,
+    CallSeat, Closing, CommitEnd, ConnectRight, Hall, MailSeat, NewHistory, Open, PARTS, StoreSeat,
+    Tally, commit_side, read_side, write_side,
 };
 use fe_keeper::Keeper;
 use fe_state::State;
@@ -24,9 +24,6 @@ use std::sync::{Mutex, Wait};
 use std::thread;
 use std::thread::{Scope, Threads};
 use std::time::Clock;
-
-/// The number of parts in the ledgers of a hall, 2^62 + 1.
-pub const PARTS: u64 = 4611686018427387905;
 
 /// The maximum number of bytes in one read: less than a window, so that frames are split.
 const PIECE: usize = 1000;
@@ -90,10 +87,8 @@ fn perform_as<
     mails: Blank,
     history: NewHistory,
 ) -> Played<D>
-    requires calls { (calls.name ≡ C.name) × (calls.parts ≡ C.parts) × (C.all ≡ C.parts)
-        × (C.all ≡ most_connections + 1) }
-    requires mails { (mails.name ≡ M.name) × (mails.parts ≡ M.parts) × (M.all ≡ M.parts)
-        × (M.all ≡ most_connections + 1) }
+    requires calls { IsBlankOf C.name C.parts C.all calls.name calls.parts }
+    requires mails { IsBlankOf M.name M.parts M.all mails.name mails.parts }
     requires history { history.book ≡ M.book }
     requires acts { history.acts ≡ act.Began keeper.state ∷ [] }
 {
@@ -120,10 +115,7 @@ fn finish<C: Tally, M: Tally, D: Disk + Drop>(
     keeper: Keeper<D>,
     seat: StoreSeat<M>,
     commit_end: CommitEnd,
-) -> Played<D>
-    requires calls { C.all ≡ C.parts }
-    requires mails { M.all ≡ M.parts }
-{
+) -> Played<D> {
     let Stage {
         hall,
         register,
@@ -147,10 +139,8 @@ pub fn hall_over<C: Tally, M: Tally>(
     mails: Blank,
     history: NewHistory,
 ) -> Result<(Hall<C, M>, StoreSeat<M>, ConnectRight), AllocError>
-    requires calls { (calls.name ≡ C.name) × (calls.parts ≡ C.parts) × (C.all ≡ C.parts)
-        × (C.all ≡ most_connections + 1) }
-    requires mails { (mails.name ≡ M.name) × (mails.parts ≡ M.parts) × (M.all ≡ M.parts)
-        × (M.all ≡ most_connections + 1) }
+    requires calls { IsBlankOf C.name C.parts C.all calls.name calls.parts }
+    requires mails { IsBlankOf M.name M.parts M.all mails.name mails.parts }
     requires history { history.book ≡ M.book }
     requires acts { history.acts ≡ act.Began state.now ∷ [] }
 {
@@ -176,15 +166,13 @@ fn run<
     stage: &Stage<C, M>,
     keeper: Keeper<D>,
     seat: StoreSeat<M>,
-) -> (Keeper<D>, CommitEnd, StoreSeat<M>)
-    requires { (C.all ≡ C.parts) × (M.all ≡ M.parts) }
-{
+) -> (Keeper<D>, CommitEnd, StoreSeat<M>) {
     thread::scope(
         thread::scope_env(),
         rt,
-        move |scope| -> (Keeper<D>, CommitEnd, StoreSeat<M>)
-            requires { (C.all ≡ C.parts) × (M.all ≡ M.parts) }
-        { run_in(rt, alloc, scope, stage, keeper, seat) },
+        move |scope| -> (Keeper<D>, CommitEnd, StoreSeat<M>) {
+            run_in(rt, alloc, scope, stage, keeper, seat)
+        },
     )
 }
 
@@ -202,9 +190,7 @@ fn run_in<
     stage: &'s Stage<C, M>,
     keeper: Keeper<D>,
     seat: StoreSeat<M>,
-) -> (Keeper<D>, CommitEnd, StoreSeat<M>)
-    requires { (C.all ≡ C.parts) × (M.all ≡ M.parts) }
-{
+) -> (Keeper<D>, CommitEnd, StoreSeat<M>) {
     match scope.spawn(move || -> (Keeper<D>, CommitEnd, StoreSeat<M>) {
         commit(rt, stage, keeper, seat)
     }) {
@@ -239,16 +225,10 @@ fn serve<C: Tally + Send + Sync, M: Tally + Send + Sync, R: Clock + Threads + Wa
     rt: &R,
     alloc: Global,
     stage: &Stage<C, M>,
-)
-    requires { (C.all ≡ C.parts) × (M.all ≡ M.parts) }
-{
-    thread::scope(
-        thread::scope_env(),
-        rt,
-        move |scope|
-            requires { (C.all ≡ C.parts) × (M.all ≡ M.parts) }
-        { serve_all(rt, alloc, scope, stage) },
-    );
+) {
+    thread::scope(thread::scope_env(), rt, move |scope| {
+        serve_all(rt, alloc, scope, stage)
+    });
 }
 
 fn serve_all<
@@ -257,9 +237,7 @@ fn serve_all<
     C: Tally + Send + Sync,
     M: Tally + Send + Sync,
     R: Clock + Threads + Wait + Sync,
->(rt: &'s R, alloc: Global, scope: &Scope<'s, E>, stage: &'s Stage<C, M>)
-    requires { (C.all ≡ C.parts) × (M.all ≡ M.parts) }
-{
+>(rt: &'s R, alloc: Global, scope: &Scope<'s, E>, stage: &'s Stage<C, M>) {
     for k in 0..stage.play.connections {
         serve_one(rt, alloc, scope, stage, k.saturating_add(1));
     }
@@ -272,27 +250,17 @@ fn serve_one<
     C: Tally + Send + Sync,
     M: Tally + Send + Sync,
     R: Clock + Threads + Wait + Sync,
->(rt: &'s R, alloc: Global, scope: &Scope<'s, E>, stage: &'s Stage<C, M>, conn: u64)
-    requires { (C.all ≡ C.parts) × (M.all ≡ M.parts) }
-{
+>(rt: &'s R, alloc: Global, scope: &Scope<'s, E>, stage: &'s Stage<C, M>, conn: u64) {
     let Ok(seats) = stage.hall.connect(rt, &stage.right, conn) else {
         return;
     };
     let (calls, mails) = seats.begin();
-    let reading = scope.spawn(
-        move ||
-            requires { C.all ≡ C.parts }
-        { read(rt, alloc, stage, calls, conn) },
-    );
+    let reading = scope.spawn(move || { read(rt, alloc, stage, calls, conn) });
     if let Err(refused) = reading {
         stage.hall.stop(rt);
         (refused.value)();
     }
-    let writing = scope.spawn(
-        move ||
-            requires { M.all ≡ M.parts }
-        { write(rt, alloc, stage, mails, conn) },
-    );
+    let writing = scope.spawn(move || { write(rt, alloc, stage, mails, conn) });
     if let Err(refused) = writing {
         stage.hall.stop(rt);
         (refused.value)();
@@ -306,9 +274,7 @@ fn read<C: Tally, M: Tally, R: Clock + Wait>(
     stage: &Stage<C, M>,
     seat: CallSeat<C>,
     conn: u64,
-)
-    requires { C.all ≡ C.parts }
-{
+) {
     let reads = stage.play.reads;
     let piece = if reads.is_some() { 1 } else { PIECE };
     let mut half = ClientRead::new(rt, alloc, &stage.board, stage.hold, conn, piece);
@@ -324,9 +290,7 @@ fn write<C: Tally, M: Tally, R: Clock + Wait>(
     stage: &Stage<C, M>,
     seat: MailSeat<M>,
     conn: u64,
-)
-    requires { M.all ≡ M.parts }
-{
+) {
     let mut half = ClientWrite::new(rt, &stage.board, conn);
     let (seat, receipts, end) = write_side(rt, alloc, &stage.hall, seat, &mut half);
     stage.board.lock(rt).write_ended(conn, end);
