@@ -2,7 +2,7 @@
 use Rattle.std.proofs.Common.{◌≡◌, inr, ℕ, zero, suc, ◌+◌, ◌<◌, ◌≤◌, Bool, true, false, List, [], ◌∷◌, ◌++◌, length, Option, Some, None, Result, Ok, Err, OnOk, OnErr, refl, sym, ap, subst, ◌∙◌, arith, append_assoc, length-append}
 use Rattle.std.proofs.lemmas.Bool.Decides.{nat_tests}
 use Rattle.std.proofs.lemmas.List.{append-nil, map-append}
-use Rattle.std.specs.Prelude.{IfSome, drop, is_some, nat_eq, nat_lt, slice_get, if◌then◌else◌, ◌||◌, Ok as Right}
+use Rattle.std.specs.Prelude.{IfSome, drop, is_some, nat_eq, nat_lt, not, slice_get, if◌then◌else◌, ◌||◌, Ok as Right}
 use Rattle.std.specs.List.{AllByRecursion}
 use Rattle.std.specs.Option.{option_map, option_map_or}
 use Rattle.std.specs.Ordering.{nat_cmp}
@@ -464,3 +464,8 @@ may_later conn (taking.Mail mail more) xs ys p may = by (receipt_of conn mail) m
 may_later conn taking.Gone xs ys p may = tt
 may_later conn taking.Stopped xs ys p may = tt
 may_later conn taking.Spent xs ys p may = tt
+
+-- a front that has a cut is not without one
+pub some_pending : (none has : Bool) → has ≡ not none → has ≡ true → none ≡ false
+some_pending true has is held = absurd (cc (sym held ∙ is))
+some_pending false has is held = refl

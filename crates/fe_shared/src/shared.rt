@@ -13,9 +13,8 @@ ghost use Rattle.fe_history.specs.Acts.{IsLegal};
 ghost use Rattle.fe_history.specs.Rules.{Hears};
 ghost use Rattle.fe_shared.specs.Marks.{IsBegun, MayBeIssued};
 ghost use Rattle.fe_shared.specs.Holds.{Ends, IsDrained, IsOver, IsUnconnected, Leaves, MakesEvent, MakesNoEvent, TakesMail};
-ghost use Rattle.fe_front.specs.ConnectionSet.{may_have};
 ghost use Rattle.fe_shared.specs.Watching.{waits};
-ghost use Rattle.fe_shared.specs.Seats.{HasRested, IsOpen, TookNoMessage, message_taken, message_answered, taking_answered, takes_more, most_connections, IsBlankOf, IsWholeLedger};
+ghost use Rattle.fe_shared.specs.Seats.{HasRested, IsOpen, TookNoMessage, message_answered, taking_answered, takes_more, most_connections, IsBlankOf};
 
 mod batches;
 
@@ -30,7 +29,7 @@ use crate::taking::Taking;
 use crate::unconnected::Unconnected;
 use crate::watchers::Watchers;
 pub use batches::{AllDurable, CutBatch, CutOutcome, FullBook, NotOut, Posted, Uncut, Unposted};
-use fe_front::{Books, ConnectionSet, Front};
+use fe_front::{Books, Front};
 use fe_history::{Account, History, HistoryWords, Tally};
 use fe_messages::take_message;
 use fe_wire::ClientMessage;
@@ -70,9 +69,9 @@ pub struct Shared<C: Tally, M: Tally> {
     ghost mails_agree: { mails.total ≡ front.books.taken },
     ghost few: { connections_made ≤ most_connections },
     ghost call_parts: { (spare_calls.parts + connections_made ≡ C.all) × (spare_calls.amount ≡ 0)
-        × IsWholeLedger C.all C.parts },
+        × (C.all ≡ most_connections + 1) },
     ghost mail_parts: { (spare_mails.parts + connections_made ≡ M.all) × (spare_mails.amount ≡ 0)
-        × IsWholeLedger M.all M.parts },
+        × (M.all ≡ most_connections + 1) },
 }
 
 impl<C: Tally, M: Tally> Drop for Shared<C, M> {
@@ -107,6 +106,7 @@ impl<C: Tally, M: Tally> Model for Shared<C, M> {
     ghost use Rattle.fe_front.specs.Front.{front_code};
     ghost use Rattle.fe_history.specs.contracts.act.Act as acts;
     ghost use Rattle.fe_shared.specs.Marks.{IsMarked, SharedState};
+    ghost use Rattle.fe_shared.specs.Seats.{IsWholeLedger};
 
     ghost Value = { SharedState };
 
@@ -121,7 +121,8 @@ impl<C: Tally, M: Tally> Model for Shared<C, M> {
       watched = s.watchers.items.items;
     } };
 
-    ghost invariant = { λ s. IsMarked s.front s.posted s.history };
+    ghost invariant = { λ s. IsMarked s.front s.posted s.history
+        × (IsWholeLedger C.all C.parts × IsWholeLedger M.all M.parts) };
 }
 
 /// The right to make connections in a hall. There is one, which the hall gives to the caller that begins it.
@@ -267,38 +268,6 @@ impl<C: Tally, M: Tally> Shared<C, M> {
         Ok(NewSeats::new(calls, mails, conn))
     }
 
-    /// Whether one message more stays within the books of a hall.
-    pub fn takes_more(&self) -> bool
-        ensures { result ≡ takes_more self.now.front.books }
-    {
-        let books = self.front.books();
-        books.calls < MOST_COUNTED && books.mails < MOST_COUNTED
-    }
-
-    /// Takes a message of a connection: it is an event, or its refusal is mailed.
-    fn take_message(
-        &mut self,
-        alloc: Global,
-        history_words: &HistoryWords<M>,
-        message: ClientMessage,
-        seat: &mut CallSeat<C>,
-    )
-        requires room { IsTrue (has_room self.old.front) }
-        requires more { IsTrue (takes_more self.old.front.books) }
-        ensures taken { (es : List Entry) × Takes self.old.front seat.old.conn message es self.new.front }
-        ensures seat { seat.new ≡ message_taken seat.old message self.new.front.service.state.place }
-        ensures heard { Hears self.old.history seat.old.conn message self.new.history }
-        ensures still { MakesNoEvent self.old self.new }
-    {
-        // It names what is always true of the front (`docs/DECISIONS.md`, "Toolchain").
-        let _ = self.front.state();
-        let conn = seat.conn();
-        let took = take_message(alloc, &mut self.front, conn, message);
-        seat.take(&mut self.calls, &message, self.front.state().place());
-        self.history.hear(history_words, &self.mails, took);
-        self.paces.note_message(conn);
-    }
-
     /// Handles a message, or records in its seat why it does not. If there is no room for the message, does nothing and
     /// returns `None`. The history learns which session the message asks for.
     pub fn handle(
@@ -333,23 +302,23 @@ impl<C: Tally, M: Tally> Shared<C, M> {
             seat.set_last_answer(&self.calls, LastAnswer::Gone);
             return Some(LastAnswer::Gone);
         }
-        if !self.takes_more() {
+        let books = self.front.books();
+        let takes_more = books.calls < MOST_COUNTED && books.mails < MOST_COUNTED;
+        if !takes_more {
             seat.set_last_answer(&self.calls, LastAnswer::Spent);
             return Some(LastAnswer::Spent);
         }
         if !self.front.room() {
             return None;
         }
-        self.take_message(alloc, history_words, *message, seat);
+        // It names what is always true of the front (`docs/DECISIONS.md`, "Toolchain").
+        let _ = self.front.state();
+        let conn = seat.conn();
+        let took = take_message(alloc, &mut self.front, conn, *message);
+        seat.take(&mut self.calls, message, self.front.state().place());
+        self.history.hear(history_words, &self.mails, took);
+        self.paces.note_message(conn);
         Some(LastAnswer::Served)
-    }
-
-    /// Adds the connections whose read sides wait for their boxes.
-    pub fn add_watched(&self, set: &mut ConnectionSet)
-        ensures added { (conn : ℕ) → IsTrue (waits self.now.watched conn) → IsTrue (may_have set.new conn) }
-        ensures still { (other : ℕ) → IsTrue (may_have set.old other) → IsTrue (may_have set.new other) }
-    {
-        self.watchers.add_to(set);
     }
 
     /// Notes that the read side of a connection waits for its box. Fails if there is no memory for that.
@@ -409,8 +378,7 @@ impl<C: Tally, M: Tally> Shared<C, M> {
     fn is_drained(&self, conn: u64, place: u64) -> bool
         ensures { IsTrue result ↔ IsDrained self.now.front self.now.stopped conn place }
     {
-        self.is_over(conn)
-            || self.front.durable() >= place && !self.front.has_mail(conn)
+        self.is_over(conn) || self.front.durable() >= place && !self.front.has_mail(conn)
     }
 
     /// Whether the read side of a connection need not wait for what comes of its messages. If `None`, it is noted that it waits.

@@ -1,13 +1,13 @@
 //! How the part under the lock hands batches out, and takes back those that were stored.
 
-ghost use Rattle.std.specs.Prelude.{◌≡◌, ◌+◌, ◌≤◌, ℕ, [], Some, None, false, IfErr, IfOk, IfSome, OnOk, OnErr, length};
+ghost use Rattle.std.specs.Prelude.{◌≡◌, ◌+◌, ℕ, [], Some, false, IfErr, IfOk, IfSome, IsTrue, OnOk, OnErr, length};
+ghost use Rattle.fe_front.specs.ConnectionSet.{may_have};
 ghost use Rattle.fe_front.specs.Event as event;
 ghost use Rattle.fe_front.specs.Noting.{Notes};
 ghost use Rattle.fe_front.specs.Step.{FrontStep};
-ghost use Rattle.fe_front.specs.Steps.{has_no_cut};
 ghost use Rattle.fe_history.specs.Acts.{WasStoredLast};
-ghost use Rattle.fe_shared.specs.Holds.{Cuts, IsCutIn, IsUnposted, MakesEvent, MakesNoEvent};
-ghost use Rattle.fe_shared.specs.Seats.{posts_more};
+ghost use Rattle.fe_shared.specs.Holds.{Cuts, IsCutIn, IsUnposted, MakesEvent};
+ghost use Rattle.fe_shared.specs.Watching.{waits};
 
 use super::{MOST_COUNTED, Shared};
 use fe_disk::Disk;
@@ -99,46 +99,29 @@ impl<C: Tally, M: Tally> Shared<C, M> {
         ensures event { MakesEvent self.old self.new }
     {
         self.used = true;
-        if self.front.has_cut() {
-            return Some(self.cut_batch(history_words, cuts));
+        if !self.front.has_cut() {
+            if self.stopped && self.front.durable() == self.front.state().place() {
+                return Some(CutOutcome::Stopped(AllDurable(())));
+            }
+            return None;
         }
-        if self.stopped && self.front.durable() == self.front.state().place() {
-            return Some(CutOutcome::Stopped(AllDurable(())));
-        }
-        None
-    }
-
-    /// Hands all pending entries out, and notes the cut. Nothing changes if another side noted one.
-    fn cut_batch(&mut self, history_words: &HistoryWords<M>, cuts: &mut History<M>) -> CutOutcome
-        requires some { has_no_cut self.old.front ≡ false }
-        ensures cuts { Cuts self.old.front self.old.stopped (Some result) self.new.front }
-        ensures noted { IsCutIn result cuts.new }
-        ensures still { MakesNoEvent self.old self.new }
-    {
         let _ = self.front.state();
         let count = self.posted;
         let mut history = self.history.again();
         if !history.cut(history_words, count, &self.front) {
-            return CutOutcome::Strange(Uncut(()));
+            return Some(CutOutcome::Strange(Uncut(())));
         }
         let Some(batch) = self.front.cut() else {
             unreachable!()
         };
         cuts.learn(&history);
         self.history = history;
-        CutOutcome::Batch(CutBatch { batch, count })
-    }
-
-    /// Whether the mails of a batch stay within the books of a hall.
-    fn posts_more(&self, batch: &Batch) -> bool
-        ensures { result ≡ posts_more self.now.front.books batch.now }
-    {
-        let count = batch.entries.as_slice().len() as u64;
-        self.front.books().mails <= MOST_COUNTED - count
+        Some(CutOutcome::Batch(CutBatch { batch, count }))
     }
 
     /// Makes the batch that is out durable, which was stored last: mails its entries, and adds the connections whose
-    /// boxes change. It is not posted if a book has no room for its mails.
+    /// boxes change. It is not posted if a book has no room for its mails. The connections whose read sides wait for
+    /// their boxes are added in any case.
     pub fn post(
         &mut self,
         batch: Batch,
@@ -151,11 +134,15 @@ impl<C: Tally, M: Tally> Shared<C, M> {
         ensures step { OnOk result (FrontStep self.old.front (event.Post batch) [] self.new.front) }
         ensures durable { IfOk result (λ posted. posted ≡ batch.first + length batch.entries) }
         ensures notes { Notes self.old.front self.new.front changed.old changed.new }
+        ensures added { (conn : ℕ) → IsTrue (waits self.new.watched conn) → IsTrue (may_have changed.new conn) }
         ensures err { OnErr result (self.new.front ≡ self.old.front) }
         ensures event { MakesEvent self.old self.new }
     {
         self.used = true;
-        if !self.posts_more(&batch) {
+        self.watchers.add_to(changed);
+        let count = batch.entries.as_slice().len() as u64;
+        let posts_more = self.front.books().mails <= MOST_COUNTED - count;
+        if !posts_more {
             drop(batch);
             return Err(Unposted::Full(FullBook(())));
         }

@@ -15,10 +15,10 @@ invariant_of-self-inside g c =
 pub invariant_of-self : goal.invariant_of-self
 invariant_of-self g c =
     let s = c.self.inside in
-    taken_marked s.front c.take_mail.new.self c.conn-conn.result s.posted s.history c.take_mail.ensures.taken c.self.invariant
+    (taken_marked s.front c.take_mail.new.self c.conn-conn.result s.posted s.history c.take_mail.ensures.taken c.self.invariant.0, c.self.invariant.1)
 
 pub returns-in-Some-clause-stored : goal.returns-in-Some-clause-stored
 returns-in-Some-clause-stored g c =
     let s = c.self.inside in
     subst (λ (n : ℕ). MayBeIssued n (taking.Mail c.in-Some.mail c.has_mail-more.result) s.history) c.conn-conn.ensures
-    (first_may s.front c.conn-conn.result c.in-Some.mail c.has_mail-more.result s.posted s.history (sym c.in-Some.is ∙ c.take_mail.ensures.mail) c.self.invariant)
+    (first_may s.front c.conn-conn.result c.in-Some.mail c.has_mail-more.result s.posted s.history (sym c.in-Some.is ∙ c.take_mail.ensures.mail) c.self.invariant.0)

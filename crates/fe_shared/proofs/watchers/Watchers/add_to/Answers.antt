@@ -1,4 +1,4 @@
-use Rattle.std.proofs.Common.{arith, rules, false, ap, sym, take, ◌∙◌}
+use Rattle.std.proofs.Common.{arith, rules, false, ap, ◌∙◌}
 use Rattle.std.specs.Prelude.{◌==◌}
 use Rattle.std.specs.List.{list_any}
 use Rattle.std.proofs.lemmas.List.{take_all}
