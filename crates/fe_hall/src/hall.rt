@@ -304,7 +304,6 @@ impl<C: Tally, M: Tally> Hall<C, M> {
         let mut changed = ConnectionSet::new();
         let mut hold = self.lock.enter(rt);
         let outcome = hold.post(batch, seat, &mut changed);
-        hold.add_watched(&mut changed);
         MutexGuard::unlock(hold);
         for at in 0..self.bells.len() {
             if changed.may_have(at as u64) {
