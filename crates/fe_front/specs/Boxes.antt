@@ -1,5 +1,5 @@
 -- What is always true of the boxes of a front, where mails to connections wait: each has at most `most_mails_in_box`
--- mails, and an answer is in one only once its entry is durable, that is stored.
+-- mails, and an answer is in one only once its entry is durable, that is stored (`docs/model.md`, "The front").
 use Rattle.std.specs.Prelude.{ℕ, ◌≤◌, ◌<◌, List, length, All}
 use Rattle.fe_state.specs.State.{ServerState}
 use Rattle.fe_state.specs.declared.entry.Entry.{Entry}

@@ -1,4 +1,5 @@
 -- The outcomes of a call (a request of a client under a number of its session), and what each leaves of a front.
+-- See `docs/model.md`, "The front".
 use Rattle.std.specs.Prelude.{◌≡◌, ◌≢◌, ℕ, ◌+◌, zero, suc, nat_lt, if◌then◌else◌, true, false, List, [], ◌∷◌, length, Option, Some, None, Ok, MatchOption, MatchResult}
 use Rattle.std.specs.Option.{option_map, option_map_or}
 use Rattle.std.specs.FinMap.{get}

@@ -1,5 +1,5 @@
 -- The state of the front, and what is always true of it. The front takes the events of connections, makes entries of
--- the history, and has them stored in batches. At most one batch is out, cut and not yet posted.
+-- the history, and has them stored in batches. At most one batch is out, cut and not yet posted (`docs/model.md`, "The front").
 use Rattle.std.specs.Prelude.{◌≡◌, ◌↔◌, ℕ, ◌+◌, ◌≤◌, refl, Bool, not, ◌&&◌, nat_le, nat_lt, [], length, Option, Some, None, IfSome, is_some}
 use Rattle.std.specs.Ordering.{nat_cmp}
 use Rattle.std.specs.Coded.{Coded, code_by, coded×, coded_ℕ, coded_option}

@@ -1,4 +1,4 @@
--- The names of mails and refusals, for crates above that don't name `fe_mail`.
+-- The names of mails and refusals, for crates above that don't name `fe_mail` (`docs/model.md`, "The front").
 pub use Rattle.fe_mail.specs.declared.mail.Mail.{Mail}
 pub use Rattle.fe_mail.specs.declared.mail.Mail.TheVariants.{Welcome, Answer, Withdrawn, Settled, Goodbye, Refused, Report}
 pub use Rattle.fe_mail.specs.declared.refusal.Refusal.{Refusal}

@@ -1,4 +1,4 @@
--- Whose box a post changed, as a set of connections notes it.
+-- Whose box a post changed, as a set of connections notes it (`docs/model.md`, "The front").
 use Rattle.std.specs.Prelude.{◌≡◌, ◌⊎◌, ℕ, IsTrue}
 use Rattle.fe_mail.specs.Connections.{mails_on}
 use Rattle.fe_front.specs.ConnectionSet.{may_have}

@@ -1,4 +1,5 @@
 -- What posting a batch leaves of a front. A batch is posted once it is stored: each entry's mail goes to its connection.
+-- See `docs/model.md`, "The front".
 use Rattle.std.specs.Prelude.{◌≡◌, ℕ, ◌+◌, if◌then◌else◌, List, [], ◌∷◌, length, Option, Some, None}
 use Rattle.std.specs.Option.{option_map_or}
 use Rattle.fe_state.specs.declared.batch.Batch.{Batch}

@@ -1,4 +1,5 @@
 -- Why an event is refused: the first reason that applies. An event that is not refused belongs to a session.
+-- See `docs/model.md`, "The front".
 use Rattle.std.specs.Prelude.{ℕ, zero, suc, ◌+◌, ◌||◌, ◌&&◌, Bool, false, not, if◌then◌else◌, nat_lt, is_some, is_none, Result, Ok, Err}
 use Rattle.std.specs.Option.{option_map_or}
 use Rattle.std.specs.FinMap.{get, len}

@@ -1,4 +1,5 @@
 -- How the books of a front, its counts of calls and mails, rise with each event, so that counts kept beside them can follow.
+-- See `docs/model.md`, "The front".
 use Rattle.std.specs.Prelude.{◌≡◌, ℕ, ◌+◌, ◌≤◌, false, List, length, Some}
 use Rattle.fe_state.specs.declared.entry.Entry.{Entry}
 use Rattle.fe_mail.specs.Books.{Books}

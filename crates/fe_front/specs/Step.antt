@@ -1,4 +1,4 @@
--- The steps of a front: what each event that is not refused does, and the entries that it makes.
+-- The steps of a front: what each event that is not refused does, and the entries that it makes (`docs/model.md`, "The front").
 use Rattle.std.specs.Prelude.{◌≡◌, ◌≤◌, ℕ, List, [], ◌∷◌, length, None, Ok, slice_get}
 use Rattle.std.specs.FinMap.{get}
 use Rattle.fe_state.specs.History.{AreLegal}

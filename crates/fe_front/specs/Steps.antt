@@ -1,4 +1,4 @@
--- What the events leave of a front. A comment says what has happened.
+-- What the events leave of a front. A comment says what has happened (`docs/model.md`, "The front").
 use Rattle.std.specs.Prelude.{ℕ, ◌||◌, Bool, if◌then◌else◌, nat_lt, nat_eq, [], ◌∷◌, ◌++◌, length, drop, Option, Some, None, is_some}
 use Rattle.std.specs.Option.{option_map_or}
 use Rattle.std.specs.FinMap.{insert, remove}

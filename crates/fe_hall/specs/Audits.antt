@@ -1,5 +1,5 @@
 -- What is reported of a hall that was closed, when no thread has it any more. Each thread of a connection, a side, has
--- a seat, which counts the calls or mails of that connection.
+-- a seat, which counts the calls or mails of that connection (`docs/model.md`, "The hall").
 use Rattle.std.specs.Prelude.{◌≡◌, Bool, true, false, List, Result, Ok, Err}
 use Rattle.fe_mail.specs.Books.{AddUp, Books}
 use Rattle.fe_wire.specs.declared.client_message.ClientMessage.{ClientMessage}

@@ -1,4 +1,4 @@
--- What the committing side of a hall, the thread that stores, does to the keeper that it is lent.
+-- What the committing side of a hall, the thread that stores, does to the keeper that it is lent (`docs/model.md`, "The hall").
 use Rattle.std.specs.Prelude.{◌≡◌, ◌⊎◌, ℕ, ◌+◌, ◌≤◌, true, false, List, [], ◌∷◌, ◌++◌, length, map, take, Option, Some, None, Result, Ok, Err}
 use mathlib.Core.List.{IsPrefix}
 use Rattle.fe_disk.specs.Runs.{LeavesOnly}

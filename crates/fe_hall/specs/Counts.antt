@@ -1,4 +1,4 @@
--- How many reads were made of a half, one direction of a connection.
+-- How many reads were made of a half, one direction of a connection (`docs/model.md`, "The hall").
 use Rattle.std.specs.Prelude.{ℕ, ◌+◌}
 use Rattle.fe_hall.specs.declared.read_count.Reads.{Reads}
 use Rattle.fe_hall.specs.declared.read_count.Reads.TheOpen as shape

@@ -1,4 +1,5 @@
 -- What the write side of a connection, the thread that writes, takes out of the box of its mails, and what its client gets.
+-- See `docs/model.md`, "The hall".
 use Rattle.std.specs.Prelude.{◌≡◌, ℕ, ◌+◌, ◌-◌, ◌<◌, ◌≤◌, List, ◌++◌, length, take, Option, Some, None, Result, Ok, Err}
 use Rattle.std.specs.List.{filter_map}
 use Rattle.fe_mail.specs.declared.mail.Mail.{Mail}

@@ -1,4 +1,5 @@
 -- Which answers the entries of a history give, so that a mail can be held against the history.
+-- See `docs/model.md`, "Messages and mails".
 use Rattle.std.specs.Prelude.{◌≡◌, ◌⊎◌, ℕ, ◌+◌, ◌<◌, List, [], ◌∷◌, ◌++◌, length, Some}
 use Rattle.std.specs.FinMap.{get}
 use Rattle.fe_state.specs.Sessions.{kept_in}

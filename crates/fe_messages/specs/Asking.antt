@@ -1,4 +1,4 @@
--- Which sessions connections ask for by their messages, and which of them they have.
+-- Which sessions connections ask for by their messages, and which of them they have (`docs/model.md`, "Messages and mails").
 use Rattle.std.specs.Prelude.{◌≡◌, ℕ, Some}
 use Rattle.fe_service.specs.AttachmentsState.{holder_of}
 use Rattle.fe_mail.specs.Connections.{session_on}

@@ -1,4 +1,4 @@
--- What a message leaves of a front that makes entries.
+-- What a message leaves of a front that makes entries (`docs/model.md`, "Messages and mails").
 use Rattle.std.specs.Prelude.{◌≡◌, ℕ, true, List, ◌++◌}
 use Rattle.fe_state.specs.History.{AreLegal}
 use Rattle.fe_state.specs.State.{after_all}

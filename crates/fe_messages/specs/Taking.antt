@@ -1,4 +1,4 @@
--- What a message of a connection does to the front: it is an event, or is refused.
+-- What a message of a connection does to the front: it is an event, or is refused (`docs/model.md`, "Messages and mails").
 use Rattle.std.specs.Prelude.{◌≡◌, ◌⊎◌, ℕ, List, [], ◌∷◌, Err}
 use Rattle.fe_state.specs.declared.entry.Entry.{Entry}
 use Rattle.fe_state.specs.declared.request.Request.{Request}

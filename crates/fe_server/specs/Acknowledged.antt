@@ -1,4 +1,5 @@
 -- What an account, a hall's history and receipts, says of its answers, and of the images that a stop may leave after each.
+-- See `docs/model.md`, "The hall".
 use Rattle.std.specs.Prelude.{◌≡◌, ◌⊎◌, ℕ, ◌+◌, ◌<◌, ◌≤◌, true, false, List, ◌∷◌, ◌++◌, flat_map, length, slice_get, take, Some, MatchBool, Contains}
 use Rattle.std.specs.List.{AllByRecursion}
 use Rattle.fe_disk.specs.Runs.{LeavesOnly}

@@ -1,4 +1,5 @@
 -- Whether more connections come, and how many places (a server has a fixed number) are kept for clients that wait for one.
+-- See `docs/model.md`, "The hall".
 use Rattle.std.specs.Prelude.{◌≡◌, ◌⊎◌, ◌-◌, ◌<◌, ◌≤◌, ℕ, true, Option, None, Some}
 use Rattle.fe_server.specs.declared.register.Expected.{Expected}
 use Rattle.fe_server.specs.declared.register.NoMore.{NoMore}

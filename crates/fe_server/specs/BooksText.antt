@@ -1,4 +1,4 @@
--- The books as text: a line for the calls and one for the mails.
+-- The books as text: a line for the calls and one for the mails (`docs/model.md`, "The hall").
 use Rattle.std.specs.Prelude.{ℕ, List, ◌++◌, codes}
 use Rattle.std.specs.Fmt.{decimal}
 use Rattle.fe_mail.specs.Books.{Books}

@@ -1,4 +1,5 @@
 -- What the connections leave that ended: seats (what each side counted), lists of messages, and receipts of answers.
+-- See `docs/model.md`, "The hall".
 use Rattle.std.specs.Prelude.{◌≡◌, ℕ, Bool, false, ◌&&◌, ◌||◌, not, ◌==◌, filter, List, [], ◌∷◌, ◌++◌, Option, Some, None}
 use Rattle.fe_mail.specs.Books.{AddUp}
 use Rattle.fe_hall.specs.Audits.{Audited}

@@ -1,4 +1,4 @@
--- How serving a store ends. The committing side is the thread that stores.
+-- How serving a store ends. The committing side is the thread that stores (`docs/model.md`, "The hall").
 use Rattle.std.specs.Prelude.{◌≡◌, ◌⊎◌, ◌↔◌, ◌+◌, ℕ, true, false, List, [], ◌∷◌, Option, Some, None, Result, Ok, Err}
 use Rattle.fe_keeper.specs.Keeper.{KeeperState}
 use Rattle.fe_keeper.specs.Stands.{EachStandsFor}

@@ -1,5 +1,5 @@
 -- What a hold of a hall's lock did to the front, and why it did nothing. A hall is a front that many threads share; a
--- hold is one time that a thread has its lock, and makes at most one event.
+-- hold is one time that a thread has its lock, and makes at most one event (`docs/model.md`, "The hall").
 use Rattle.std.specs.Prelude.{◌≡◌, ◌⊎◌, ℕ, ◌≤◌, Bool, true, false, List, [], length, nat_lt, Option, Some, None}
 use Rattle.fe_mail.specs.Connections.{mails_on}
 use Rattle.fe_front.specs.Event as event

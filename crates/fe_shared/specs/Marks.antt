@@ -1,4 +1,5 @@
 -- How the part under a hall's lock follows the history: the front's entries are those of the batches cut, and those pending.
+-- See `docs/model.md`, "The hall".
 use Rattle.std.specs.Prelude.{◌≡◌, ℕ, Bool, List, [], ◌∷◌, ◌++◌, length, Option, None, Some, IfSome}
 use Rattle.std.specs.List.{AllByRecursion}
 use Rattle.std.specs.Option.{option_map}

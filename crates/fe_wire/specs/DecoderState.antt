@@ -1,4 +1,5 @@
 -- How the fields of a decoder give its state as contracts see it. A decoder reads the stream of frames from one client.
+-- See `docs/model.md`, "Frames".
 use Rattle.std.specs.Prelude.{◌≡◌, ℕ, ◌≤◌, Bool, true, false, List, [], ◌++◌, length, take}
 use Rattle.fe_wire.specs.declared.client_message.ClientMessage.{ClientMessage}
 use Rattle.fe_wire.specs.declared.decoder_state.DecoderState.{DecoderState}

@@ -1,4 +1,4 @@
--- Laws of clients' streams of frames and of the server's replies, cited by public functions.
+-- Laws of clients' streams of frames and of the server's replies, cited by public functions (`docs/model.md`, "Frames").
 use Rattle.std.specs.Prelude.{◌≡◌, ℕ, List, ◌++◌}
 use Rattle.fe_codes.specs.Bytes.{IsBytes}
 use Rattle.fe_wire.specs.declared.client_message.ClientMessage.{ClientMessage}

@@ -1,5 +1,5 @@
 -- What the readers of fields and of messages' bodies return: the value, or None if the bytes spell none. A frame is a
--- length, a kind and a body; its kind says which message it is.
+-- length, a kind and a body; its kind says which message it is (`docs/model.md`, "Frames").
 use Rattle.std.specs.Prelude.{ℕ, List, [], ◌∷◌, length, take, drop, Bool, true, false, ◌&&◌, Option, Some, None, nat_le, ◌==◌, if◌then◌else◌}
 use Rattle.std.specs.List.{list_all}
 use Rattle.std.specs.Int.{w32, w64}

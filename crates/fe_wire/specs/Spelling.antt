@@ -1,4 +1,5 @@
 -- The one spelling of each message as bytes, its frame; which messages have one, and which messages a version has.
+-- See `docs/model.md`, "Frames".
 use Rattle.std.specs.Prelude.{◌≡◌, ℕ, ◌+◌, ◌-◌, ◌<◌, ◌≤◌, ◌^◌, Bool, false, List, [], ◌∷◌, ◌++◌, length, replicate, nat_lt, if◌then◌else◌}
 use Rattle.std.specs.Int.{w32, w64, to_be_bytes}
 use Rattle.std.specs.Str.{IsUtf8}

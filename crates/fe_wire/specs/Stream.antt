@@ -1,4 +1,5 @@
 -- A client's stream in a version: whole frames, and then a rest that is an unfinished frame or begins with a bad one.
+-- See `docs/model.md`, "Frames".
 use Rattle.std.specs.Prelude.{◌≡◌, ◌≢◌, ℕ, ◌+◌, ◌-◌, ◌<◌, ◌≤◌, ◌^◌, min, Bool, true, false, ◌⊎◌, List, [], ◌++◌, length, take, slice_index, Option, Some, None, ◌==◌, if◌then◌else◌}
 use Rattle.std.specs.List.{flat_map, AllByRecursion}
 use Rattle.std.specs.Int.{w32, from_be_bytes}

@@ -1,4 +1,4 @@
--- How the fields of the front give what callers see. No public clause cites this module.
+-- How the fields of the front give what callers see. No public clause cites this module (`docs/model.md`, "The front").
 use Rattle.std.specs.Prelude.{◌≡◌, [], Some, None}
 use Rattle.fe_front.specs.Front.{FrontState, IsTied}
 use Rattle.fe_front.specs.declared.front.Front.TheInside.{Inside}

@@ -1,4 +1,4 @@
--- What the readers of the bodies of replies' frames return: the reply, or None if the bytes spell none.
+-- What the readers of the bodies of replies' frames return: the reply, or None if the bytes spell none (`docs/model.md`, "Frames").
 use Rattle.std.specs.Prelude.{ℕ, List, length, ◌&&◌, Option, Some, None, nat_lt, nat_le, ◌==◌, if◌then◌else◌}
 use Rattle.std.specs.Str.{is_utf8}
 use Rattle.std.specs.Int.{w32, w64}

@@ -27,6 +27,8 @@ invariant_of-self-in-Ok g c =
     let s = c.self.inside in
     let e = c.post_noting.ensures in
     let steps = posted_steps s.front c.post_noting.new.self c.args.batch c.post_noting.result e.refused e.posted in
-    let step = rw c.in-Ok.is at steps in
-    (posted_marked s.front c.post_noting.new.self c.args.batch s.posted s.history c.history.result.now c.learn.new.self c.learn.ensures.legal c.learn.ensures.this c.learn.ensures.that
-    (rw c.history.ensures c.requires.stored) c.state.ensures.front step.0 step.1.front c.self.invariant.0, c.self.invariant.1)
+    let step = rw c.in-Ok.is at steps in (
+      posted_marked s.front c.post_noting.new.self c.args.batch s.posted s.history c.history.result.now c.learn.new.self c.learn.ensures.legal c.learn.ensures.this c.learn.ensures.that
+          (rw c.history.ensures c.requires.stored) c.state.ensures.front step.0 step.1.front c.self.invariant.0,
+      c.self.invariant.1,
+    )
