@@ -1,4 +1,4 @@
-ghost use Rattle.std.specs.Prelude.{◌≡◌, ◌⊎◌, ◌+◌, ◌↔◌, List, not, nat_lt, length, slice_get, Some, None, Ok, Err, IsTrue, IsOk, IsErr, IfOk, IfErr, OnOk, OnErr, MatchResult};
+ghost use Rattle.std.specs.Prelude.{◌≡◌, ◌⊎◌, ◌+◌, ◌↔◌, List, not, slice_get, Some, None, Ok, Err, IsTrue, IsOk, IsErr, IfOk, IfErr, OnOk, OnErr, MatchResult};
 ghost use Rattle.std.specs.Option.{option_map};
 ghost use Rattle.std.specs.FinMap.{get, len};
 ghost use Rattle.fe_state.specs.State as states;
@@ -286,11 +286,11 @@ impl Front {
         mail
     }
 
-    /// Whether a mail is in a connection's box.
-    pub fn has_mail(&self, conn: u64) -> bool
-        ensures { result ≡ nat_lt 0 (length (mails_on self.now.connections conn)) }
+    /// The connections, with their boxes of mails.
+    pub fn connections(&self) -> &Connections
+        ensures { result.now ≡ self.now.connections }
     {
-        self.connections.has_mail(conn)
+        &self.connections
     }
 
     /// Mails the text of a report to a connection. A connection whose box is full is removed.

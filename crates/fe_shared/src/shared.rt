@@ -378,7 +378,8 @@ impl<C: Tally, M: Tally> Shared<C, M> {
     fn is_drained(&self, conn: u64, place: u64) -> bool
         ensures { IsTrue result ↔ IsDrained self.now.front self.now.stopped conn place }
     {
-        self.is_over(conn) || self.front.durable() >= place && !self.front.has_mail(conn)
+        self.is_over(conn)
+            || self.front.durable() >= place && !self.front.connections().has_mail(conn)
     }
 
     /// Whether the read side of a connection need not wait for what comes of its messages. If `None`, it is noted that it waits.
@@ -452,7 +453,7 @@ impl<C: Tally, M: Tally> Shared<C, M> {
         let conn = seat.conn();
         match self.front.take_mail(conn) {
             Some(mail) => {
-                let more = self.front.has_mail(conn);
+                let more = self.front.connections().has_mail(conn);
                 seat.take(&mut self.mails, &mail, more);
                 self.watchers.note_move(conn);
                 self.paces.note_mail(conn);
