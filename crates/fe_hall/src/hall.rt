@@ -30,7 +30,8 @@ const STILL_MILLIS: u64 = 1000;
 #[derive(Drop)]
 pub struct Hall<C: Tally, M: Tally> {
     lock: Lock<C, M>,
-    baton: Baton,
+    /// A side takes it while it has several events to make.
+    pub(crate) baton: Baton,
     /// The words that count the history's batches, and the history as it began.
     history_words: HistoryWords<M>,
     begun: History<M>,
@@ -259,18 +260,6 @@ impl<C: Tally, M: Tally> Hall<C, M> {
             hold = self.lock.wait(rt, hold, self.bell(conn), baton_guard);
         }
         unreachable!()
-    }
-
-    /// Waits for the baton, if the side has several events to make.
-    pub(crate) fn take_baton<'a, R: Wait>(
-        &'a self,
-        rt: &R,
-        baton_guard: &mut BatonGuard<'a>,
-        has_several: bool,
-    ) {
-        if has_several {
-            baton_guard.take(rt, &self.baton);
-        }
     }
 
     /// Waits for entries and cuts them into a batch, or says that the hall is stopped and nothing is left to store. A

@@ -30,23 +30,20 @@ impl<C: Tally, M: Tally> Lock<C, M> {
         }
     }
 
-    /// Takes the lock, for one event.
+    /// Takes the lock, for one event. The standard library's `lock` sleeps at once if another thread sleeps already, so
+    /// this tries first.
     pub(crate) fn enter<R: Wait>(&self, rt: &R) -> Hold<'_, C, M>
         ensures { (under result).used ≡ false }
     {
-        let mut hold = self.guard(rt);
-        hold.begin_hold(&self.right);
-        hold
-    }
-
-    /// Takes the mutex. The standard library's `lock` sleeps at once if another thread sleeps already, so this tries first.
-    fn guard<R: Wait>(&self, rt: &R) -> Hold<'_, C, M> {
         for _k in 0..LOOKS {
-            if let Some(hold) = self.shared.try_lock() {
+            if let Some(mut hold) = self.shared.try_lock() {
+                hold.begin_hold(&self.right);
                 return hold;
             }
         }
-        self.shared.lock(rt)
+        let mut hold = self.shared.lock(rt);
+        hold.begin_hold(&self.right);
+        hold
     }
 
     /// Releases the lock until a bell is rung, and takes it again, for one event. A side that waits has no baton.

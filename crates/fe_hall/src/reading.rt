@@ -1,9 +1,9 @@
 //! The read side of a connection, the thread that reads: the messages of its client's stream go to the hall, one after another.
 
-ghost use Rattle.std.specs.Prelude.{◌≡◌, ◌≢◌, ◌↔◌, ◌+◌, ◌<◌, ◌≤◌, ◌++◌, [], ℕ, List, length, Option, IsNone, Some, IsTrue, false, IfNone, IfSome, OnSome, MatchOption};
+ghost use Rattle.std.specs.Prelude.{◌≡◌, ◌≢◌, ◌+◌, ◌<◌, ◌≤◌, ◌++◌, [], ℕ, List, length, Option, Some, IsTrue, false, IfNone, IfSome, OnSome, MatchOption};
 ghost use Rattle.fe_wire.specs.declared.client_message.ClientMessage.{ClientMessage as Message};
 ghost use Rattle.fe_shared.specs.Seats.{HasDeparted, HasRested, CallSeatState, TookNoMessage, message_taken};
-ghost use Rattle.fe_hall.specs.Reads.{IsQuietEnd, is_sent, listed_with, AreHandled, AreLeft, EndsEarly, EndsAmong, HandlesStream, IsAt, IsOfMessages, IsEndAfter};
+ghost use Rattle.fe_hall.specs.Reads.{IsQuietEnd, listed_with, AreHandled, AreLeft, EndsEarly, EndsAmong, HandlesStream, IsAt, IsOfMessages, IsEndAfter};
 
 use crate::baton::BatonGuard;
 use crate::ends::ReadEnd;
@@ -202,7 +202,9 @@ impl<C: Tally> Reading<C> {
         let mut baton_guard = BatonGuard::none();
         for message in messages {
             // A message that had to wait has given the baton up.
-            hall.take_baton(rt, &mut baton_guard, messages.len() > 1);
+            if messages.len() > 1 {
+                baton_guard.take(rt, &hall.baton);
+            }
             if let Some(end) = self.take(rt, hall, gate, message, &mut baton_guard) {
                 return Some(end);
             }
@@ -228,7 +230,10 @@ impl<C: Tally> Reading<C> {
         ensures ended_as { IfSome result (λ end. IsEndAfter end self.new.seat.last_answer) }
         ensures decoder { self.new.decoder ≡ self.old.decoder }
     {
-        let lists = is_sent(message) && self.listed.len() < LISTED;
+        let lists = match message {
+            ClientMessage::Attach { .. } | ClientMessage::Call { .. } => self.listed.len() < LISTED,
+            _ => false,
+        };
         if lists {
             if let Err(short) = reserve_one(&mut self.listed) {
                 return Some(ReadEnd::NoMemory(short));
@@ -244,9 +249,11 @@ impl<C: Tally> Reading<C> {
             baton_guard.give_up();
             hall.await_rest(rt, &self.seat);
         }
-        let last_answer = hall.handle(rt, self.alloc, message, &mut self.seat, baton_guard);
-        if let Some(end) = end_of(last_answer) {
-            return Some(end);
+        match hall.handle(rt, self.alloc, message, &mut self.seat, baton_guard) {
+            LastAnswer::Served => {}
+            LastAnswer::Gone => return Some(ReadEnd::Gone),
+            LastAnswer::Stopped => return Some(ReadEnd::Stopped),
+            LastAnswer::Spent => return Some(ReadEnd::Spent),
         }
         if lists && self.listed.push(*message).is_err() {
             unreachable!();
@@ -313,28 +320,4 @@ fn depart<C: Tally, M: Tally, R: Wait>(
         ReadEnd::Stopped => {}
         _ => hall.leave_by_reader(rt, seat),
     }
-}
-
-/// Why a side ends after this answer to its message. `None` if the message was taken.
-fn end_of(last_answer: LastAnswer) -> Option<ReadEnd>
-    ensures served { IsNone result ↔ (last_answer ≡ LastAnswer.Served) }
-    ensures ended_as { IfSome result (λ end. IsEndAfter end last_answer) }
-    ensures end { IfSome result EndsEarly }
-{
-    match last_answer {
-        LastAnswer::Served => None,
-        LastAnswer::Gone => Some(ReadEnd::Gone),
-        LastAnswer::Stopped => Some(ReadEnd::Stopped),
-        LastAnswer::Spent => Some(ReadEnd::Spent),
-    }
-}
-
-/// Whether a message is an attach or a call.
-fn is_sent(message: &ClientMessage) -> bool
-    ensures { result ≡ is_sent message.now }
-{
-    matches!(
-        message,
-        ClientMessage::Attach { .. } | ClientMessage::Call { .. }
-    )
 }

@@ -156,7 +156,9 @@ impl<M: Tally> Writing<M> {
                 return Ok(());
             }
             more = self.take_mail(rt, hall, &mut baton_guard)?;
-            hall.take_baton(rt, &mut baton_guard, more);
+            if more {
+                baton_guard.take(rt, &hall.baton);
+            }
         }
         unreachable!()
     }
