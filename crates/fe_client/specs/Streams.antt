@@ -1,5 +1,5 @@
--- What the events of a conversation do to its input, its connection and its output, whose bytes may be known.
--- See `docs/formats.md`, "What a client has to know".
+-- What the events of a conversation, one run of the client, do to its input, its connection and its output. The bytes of a stream
+-- are known if a contract can name them; those of a terminal or a socket are not (`None`).
 use Rattle.std.specs.Prelude.{◌≡◌, ◌⊎◌, ℕ, List, [], ◌∷◌, ◌++◌, Option, None, Some, IfSome}
 use Rattle.std.proofs.Common.{sym, subst, inl, inr, ◌∙◌}
 use Rattle.std.specs.Io.KnownBytes.{Appends, Consumes, IsAtEnd}
@@ -17,7 +17,7 @@ pub record Known : Type 0 where
 abbrev pub known : Option (List ℕ) → Option (List ℕ) → Option (List ℕ) → Option (List ℕ) → Known
 known left sent received written = record { left = left; sent = sent; received = received; written = written }
 
--- the end of the input was read
+-- one of the events read no byte, so the input is at its end
 abbrev pub HasEnded : List Event → Type 0
 HasEnded [] = ⊥
 HasEnded (Event.Read [] ∷ events) = Unit {0}

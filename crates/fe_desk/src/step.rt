@@ -25,14 +25,14 @@ pub enum Step {
 }
 
 impl Step {
-    /// Whether no box has a mail after the step, if none had one before (`quiet`).
+    /// Whether no box had a mail before the step (`quiet`) and the step makes none, so that no box has one after it.
     pub(crate) fn is_still(&self, quiet: bool) -> bool
         ensures { result ≡ true → (quiet ≡ true) × (mails_nothing self.now ≡ true) }
     {
         quiet && !matches!(self, Step::Bytes { .. } | Step::Gone { .. } | Step::Post)
     }
 
-    /// Whether the step posts the batch that is stored, and no box had a mail before (`quiet`).
+    /// Whether no box had a mail before the step (`quiet`) and the step posts the batch that is stored.
     pub(crate) fn posts(&self, quiet: bool) -> bool
         ensures { result ≡ true → (quiet ≡ true) × (self.now ≡ Step.Post) }
     {

@@ -17,7 +17,7 @@ use fe_journal::DEVICE_BYTES;
 use fe_store::OpenFault;
 use std::alloc::{AllocError, Global};
 
-/// The most readings of a store: one more each time that a checkpoint begins.
+/// The most readings of a store. One more is made each time that no slot counts, or a checkpoint began in the slot that was read.
 const MOST_READINGS: u64 = 100;
 
 /// What one reading of a store found.
@@ -27,23 +27,24 @@ enum Reading {
     Unformatted,
     /// A checkpoint began in the slot while it was read.
     Overtaken,
-    /// The bytes of a store that has this slot alone.
+    /// The bytes of a device that has the slot that counts, and zeros elsewhere.
     Whole(Vec<u8>),
 }
 
 /// A copy of the store on a disk, as a crash at some moment since the call began may leave it, with only the slot that counted
-/// then. All that it holds is synced. `Unformatted` if no slot counts. `Device` if the disk fails, or a checkpoint begins during
-/// each of 100 readings.
+/// then. All that it holds is synced. `Unformatted` if no slot counts, or the disk has another size than a store. `Device` if the
+/// disk fails, or if each of 100 readings found no slot or a checkpoint that began meanwhile, which an honest disk, one that only
+/// its owner writes, never shows.
 pub(crate) fn copy_of<D: Disk>(alloc: Global, disk: &mut D) -> Result<MemoryDisk, OpenFault>
     // The copy holds what the disk holds, and what is wrong with the disk is wrong with it.
     ensures copy { D.honest disk.old → IfOk result (λ copy. IsCopyOf (D.seen disk.old) copy.image) }
     ensures honest { IfOk result IsHonest }
-    // A reported fault is true of the store, and a store that stands for a state is refused only with `Device` or `Memory`.
+    // A reported fault is true of the store, and a store that can be opened is refused only with `Device` or `Memory`.
     ensures refused { D.honest disk.old → IfErr result (IsReason (D.seen disk.old)) }
     ensures device { D.honest disk.old
         → IsErrOf result fault.Device → Rises (D.failures disk.old) (D.failures disk.new) }
     ensures failed { Rises (D.failures disk.old) (D.failures disk.new) → IsErrOf result fault.Device }
-    // No write is counted. A crash leaves nothing that it couldn't leave before, and reads give the same bytes.
+    // It writes nothing. A crash leaves nothing that it couldn't leave before, and reads give the same bytes.
     ensures kept { KeepsDisk D.Disk disk.old disk.new }
     ensures sized { (found : ℕ) → IsErrOf result (fault.Size found) → ⊥ }
 {
@@ -82,7 +83,7 @@ fn read_bytes<D: Disk>(alloc: Global, disk: &mut D) -> Result<Vec<u8>, OpenFault
     }
 }
 
-// Reads the store once.
+// One reading of the store, and what it found.
 fn read_once<D: Disk>(alloc: Global, disk: &mut D) -> Result<Reading, OpenFault>
     requires device { D.size disk.old ≡ device_bytes }
     ensures tells { D.honest disk.old → IfOk result (TellsReading (D.seen disk.old)) }
@@ -102,7 +103,6 @@ fn read_once<D: Disk>(alloc: Global, disk: &mut D) -> Result<Reading, OpenFault>
     }
 }
 
-// This many zeros.
 fn zeros(alloc: Global, count: usize) -> Result<Vec<u8>, AllocError>
     ensures size { IfOk result (λ bytes. length bytes.items ≡ count) }
     ensures zeros { IfOk result (λ bytes. (i : ℕ) → slice_index bytes.items i ≡ 0) }

@@ -43,11 +43,12 @@ use std::time::{Clock, Duration};
 /// How many milliseconds the write sides have for writing what was issued, once nothing is stored any more.
 const LAST_WAIT: u64 = 400;
 
-/// What the threads of a server share: the hall and the register.
+/// What the threads of a server share. `C` counts calls, and `M` mails.
 pub(crate) struct RunningServer<C: Tally, M: Tally> {
     hall: Hall<C, M>,
     register: Mutex<Register<C, M>>,
-    /// The condition variable that is rung when a connection has ended.
+    /// The condition variable that is rung when a place may be free, when a client who waited for one waits no more, and when the
+    /// server ends.
     freed: Condvar,
     /// How many connections may be there at once.
     most: u64,
@@ -55,11 +56,11 @@ pub(crate) struct RunningServer<C: Tally, M: Tally> {
     accepts: u64,
     /// How many reads are made from each connection at most.
     turns: u64,
-    /// Whether what was sent and the receipts are kept for the closing.
+    /// Whether what was sent and the receipts are kept, to be compared when the hall is closed. They are if `accepts` bounds them.
     keeps: bool,
 }
 
-/// A server, and the state that its hall's front began with. Threads share the server alone.
+/// A server, and the state that its hall's front began with. The threads share only the server.
 pub(crate) struct Opened<C: Tally, M: Tally> {
     server: RunningServer<C, M>,
     begun: Snapshot<State>,
@@ -189,8 +190,8 @@ impl<C: Tally, M: Tally> RunningServer<C, M> {
         self.register.lock(rt).enter(None, most, accepts)
     }
 
-    /// Keeps a client until its thread takes it, and for it a place that is about to be free. Returns the client if
-    /// there is no place for which nobody has waited yet.
+    /// Keeps a client until its thread takes it, and for it a place that is about to be free. Returns the client if no place is,
+    /// or each such place was already waited for.
     pub(crate) fn put_late<R: Wait>(
         &self,
         rt: &R,
@@ -280,7 +281,7 @@ impl<C: Tally, M: Tally> RunningServer<C, M> {
         &self.hall
     }
 
-    /// How many reads are made from a connection at most.
+    /// How many reads are made from a connection at most: none, or as many as the settings say.
     pub(crate) fn most_reads(&self, reads: &ReadLimit) -> u64
         ensures { result ≡ most_reads reads.now self.now.turns }
     {
@@ -327,8 +328,8 @@ impl<C: Tally, M: Tally> RunningServer<C, M> {
         self.register.lock(rt).stop_accepting();
     }
 
-    /// Whether connections may come: the server has not ended and, unless `accepts` is 0, fewer than that came. While
-    /// the clients who wait may be as many as are left, it waits for them.
+    /// Whether connections may come: the server has not ended and, unless `accepts` is 0, fewer than that came. If the clients who
+    /// wait for a place may be the last that come, it first waits to learn whether they got in.
     pub(crate) fn running<R: Wait>(&self, rt: &R, accepts: u64) -> Result<Running, NoMore>
         ensures why { IfErr result (HasEnded accepts) }
     {

@@ -22,7 +22,7 @@ use std::marker::Model;
 pub struct AllDurable(());
 
 /// A batch that was cut and is to be stored, and how many were cut before it. Only a cut makes one, and nothing changes
-/// it. It is not `Drop`, so whoever has one hands it to a keeper.
+/// it. It is not `Drop`, so whoever has one takes the batch out, which needs a keeper to store it.
 pub struct CutBatch {
     batch: Batch,
     count: u64,
@@ -37,7 +37,7 @@ impl Model for CutBatch {
 }
 
 impl CutBatch {
-    /// The batch, for this keeper, and how many were cut before it.
+    /// The batch, which this keeper is to store, and how many were cut before it.
     pub fn into_batch<D: Disk>(self, _keeper: &Keeper<D>) -> (Batch, u64)
         ensures { result ≡ (self.batch, self.count) }
     {
@@ -119,8 +119,8 @@ impl<C: Tally, M: Tally> Shared<C, M> {
         Some(CutOutcome::Batch(CutBatch { batch, count }))
     }
 
-    /// Makes the batch that is out durable, which was stored last: mails its entries, and adds the connections whose
-    /// boxes change. It is not posted if a book has no room for its mails. The connections whose read sides wait for
+    /// Posts the batch that is out, once it is stored: its entries are durable, and each is mailed to its connection. Adds
+    /// the connections whose boxes change. The batch is not posted if a book has no room for its mails. The connections whose read sides wait for
     /// their boxes are added in any case.
     pub fn post(
         &mut self,
