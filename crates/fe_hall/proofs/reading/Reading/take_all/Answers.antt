@@ -12,10 +12,10 @@ loop-message-init g c = record {
 pub loop-message-preserved : goal.loop-message-preserved
 loop-message-preserved g c = record {
   handled = λ before earlier h.
-      handled_next before c.loop-message.self.seat c.take.new.self.seat c.loop-message.self.listed.items c.take.new.self.listed.items earlier c.args.messages.now c.loop-message.message-index c.message-item.result
+      handled_next before c.loop-message.self.seat c.take-in-loop-message.new.self.seat c.loop-message.self.listed.items c.take-in-loop-message.new.self.listed.items earlier c.args.messages.now c.loop-message.message-index c.message-item.result
       c.loop-message-test.true c.message-item.is c.in_default.ensures.seat c.in_default.ensures.listed (c.loop-message.invariant.handled before earlier h);
-  own = c.take.ensures.own ∙ c.loop-message.invariant.own;
-  decoder = c.take.ensures.decoder ∙ c.loop-message.invariant.decoder;
+  own = c.take-in-loop-message.ensures.own ∙ c.loop-message.invariant.own;
+  decoder = c.take-in-loop-message.ensures.decoder ∙ c.loop-message.invariant.decoder;
 }
 
 pub returns-in-Some-clause-handled : goal.returns-in-Some-clause-handled
@@ -24,7 +24,7 @@ returns-in-Some-clause-handled g c = λ before earlier h. record {
   count = c.loop-message.message-index;
   fewer = c.loop-message-test.true;
   handled =
-      handled_still before c.loop-message.self.seat c.take.new.self.seat c.loop-message.self.listed.items c.take.new.self.listed.items _ c.in-Some.ensures.untaken.0 c.in-Some.ensures.untaken.1
+      handled_still before c.loop-message.self.seat c.take-in-loop-message.new.self.seat c.loop-message.self.listed.items c.take-in-loop-message.new.self.listed.items _ c.in-Some.ensures.untaken.0 c.in-Some.ensures.untaken.1
       (c.loop-message.invariant.handled before earlier h);
 }
 

@@ -32,3 +32,15 @@ loop-preserved g c =
     let short = subst (λ (xs : List ℕ). length xs < 65536) i.3 room in
     let takes = takes_on s.seat l.seat n.seat s.receipts.items l.receipts.items n.receipts.items i.0 t.0 i.1 t.1 in
     ((i.0 ++ t.0, takes, batch_more i.0 t.0 i.2 t.2 short, spelled_more l.frames.items n.frames.items i.0 t.0 i.3 t.3, issued_both s.seat.conn l.seat.conn i.0 t.0 l.history n.history i.1.conn c.take_mail.ensures.this i.4 t.4), inr c.in_ok-more.ensures.more, prefix_trans s.history l.history n.history c.loop.invariant.2 c.take_mail.ensures.this, (tt, tt))
+
+pub loop-preserved-then-more : goal.loop-preserved-then-more
+loop-preserved-then-more g c =
+    let s = c.args.self.now in
+    let l = c.loop.self in
+    let n = c.take_mail.new.self in
+    let i = c.loop.invariant.0 in
+    let t = c.in_ok-more.ensures.took in
+    let room : length l.frames.items < 65536 = omega arith in
+    let short = subst (λ (xs : List ℕ). length xs < 65536) i.3 room in
+    let takes = takes_on s.seat l.seat n.seat s.receipts.items l.receipts.items n.receipts.items i.0 t.0 i.1 t.1 in
+    ((i.0 ++ t.0, takes, batch_more i.0 t.0 i.2 t.2 short, spelled_more l.frames.items n.frames.items i.0 t.0 i.3 t.3, issued_both s.seat.conn l.seat.conn i.0 t.0 l.history n.history i.1.conn c.take_mail.ensures.this i.4 t.4), inr c.in_ok-more.ensures.more, prefix_trans s.history l.history n.history c.loop.invariant.2 c.take_mail.ensures.this, (tt, tt))
