@@ -49,7 +49,7 @@ def types(_place):
                     count += 1
                     if here.setdefault(name, found[1]) != found[1]:
                         wrong.append(f"{path}: {name} of {here[name]} and of {found[1]}")
-    return told(wrong, count, 500, "types taken from other crates")
+    return told(wrong, count, 400, "types taken from other crates")
 
 
 CHECKS = (device, types)
