@@ -1,5 +1,5 @@
--- What the answers stand on that a desk writes, whatever its steps answer: the groups of entries that are stored.
--- See `docs/model.md`, "The desk".
+-- The mails that a desk writes rest on groups of entries that are stored, whatever its steps return.
+-- See `docs/headline.md`, "Including every acknowledged operation".
 use Rattle.std.specs.Prelude.{◌≡◌, ℕ, ◌+◌, Bool, true, false, List, [], ◌∷◌, ◌++◌, length, take, is_some, Some, IfSome, Contains, Result}
 use Rattle.std.specs.List.{flat_map, AllByRecursion}
 use Rattle.fe_state.specs.State.{ServerState, IsWithinLimits, after_all}
@@ -32,9 +32,10 @@ use Rattle.fe_disk.specs.declared.disk.Disk.{Ghosts}
 abbrev pub entries_of : List (List Entry) → List Entry
 entries_of groups = flat_map (λ group. group) groups
 
--- What a mail to a connection says of the history is in the groups that were stored, and of a session that the connection may ask
--- for: it is the entry of the session, or an answer with its place, unless that was kept already. A refusal, a withdrawal and a
--- report say nothing of the history.
+-- A welcome, a settled floor, a goodbye and an answer are of a session that the connection may ask for (`asked`), and have their
+-- entry in the groups, an answer at its place. Only an answer that was kept when the store was opened needs no entry there. A
+-- refusal, a withdrawal and a report say nothing of the history. `asked` is any choice of the sessions that each connection may
+-- ask for, by an attach: it is a premise, and the server checks no such thing.
 abbrev pub StandsOn : ServerState → List (List Entry) → (ℕ → Bool) → Mail → Type 0
 StandsOn begun groups asked (mail.Welcome session floor) = (asked session ≡ true) × Contains (entries_of groups) (Attached session floor)
 StandsOn begun groups asked (mail.Answer session number answer place) =
@@ -45,7 +46,8 @@ StandsOn begun groups asked (mail.Settled floor) = (session : ℕ) × (asked ses
 StandsOn begun groups asked (mail.Goodbye session) = (asked session ≡ true) × Contains (entries_of groups) (Closed session)
 StandsOn begun groups asked (mail.Report text) = Unit {0}
 
--- What was written to a client is the spelling of mails, and so is a reply that waits; each of these mails stands on the groups.
+-- What was written to a client is the spelling of mails, and a reply that waits is that of a mail; each of these mails stands on
+-- the groups.
 pub record IsWritten (begun : ServerState) (groups : List (List Entry)) (asked : ℕ → ℕ → Bool) (c : Client) : Type 0 where
   pub mails : List Mail
   pub stand : AllByRecursion (StandsOn begun groups (asked c.conn)) mails
@@ -72,7 +74,7 @@ StepAsksFor asked d (step.Bytes conn piece) = (before after : Decoding) (more : 
     → Reads before after piece.items more → AllByRecursion (AsksFor (asked conn)) more
 StepAsksFor asked d other = Unit {0}
 
--- If every connection may ask for every session, no step asks for another.
+-- If every connection may ask for every session, each step asks only for sessions that may be asked for.
 abbrev pub AnySessionMayBeAsked : Type 0 → Type 0
 AnySessionMayBeAsked D = (d : DeskState D) (x : Step) → StepAsksFor (λ conn session. true) d x
 
@@ -88,7 +90,7 @@ cut_entries (Stored batch) = []
 abbrev pub made_entries : List (List Entry) → Handed → FrontState → List Entry
 made_entries groups handed f = entries_of groups ++ (cut_entries handed ++ f.service.pending)
 
--- the batch is the last of the groups, and begins at the mark, the number of entries that are posted
+-- the batch is the last of the groups, and begins at the mark: all entries before the mark are posted, or were there at opening
 pub record IsLast (begun : ServerState) (groups : List (List Entry)) (durable : ℕ) (batch : Batch) : Type 0 where
   pub before : List (List Entry)
   pub groups_are : groups ≡ before ++ batch.entries ∷ []
@@ -101,10 +103,11 @@ IsOnItsWay begun groups f Nothing = f.durable ≡ begun.place + length (entries_
 IsOnItsWay begun groups f (Cut batch) = (f.durable ≡ begun.place + length (entries_of groups)) × (is_some f.out ≡ true) × (batch.first ≡ f.durable)
 IsOnItsWay begun groups f (Stored batch) = IsLast begun groups f.durable batch × (is_some f.out ≡ true)
 
--- A desk over a state that was opened, whatever its steps answered: each answer that was written stands on the groups that are
--- stored. The other fields are what a step needs to keep it so. Each mail in a box stands on these groups; a connection has only
--- sessions that it may ask for; the front is ahead of the groups by what was made since, with each of these entries answered as
--- the operation table says; and only what is stored is posted.
+-- A desk over a state that was opened, whatever its steps returned: each mail that was written stands on the groups that are
+-- stored. The other fields are what a step needs to keep it so. Each mail in a box stands on these groups; messages that are left
+-- ask only for sessions that their connection may ask for, and a connection has only such sessions; the front's state is that after
+-- all entries that were made, stored or not, and each entry that finishes a request has the reply to it; only what is stored is
+-- posted; and unless the device failed, all groups are stored.
 pub record IsAcknowledged {D : Type 0} (begun : ServerState) (asked : ℕ → ℕ → Bool) (d : DeskState D) : Type 0 where
   pub answers : AnswersStand begun (stored_groups d) asked d.run_state
   pub boxed : (conn : ℕ) → AllByRecursion (StandsOn begun (stored_groups d) (asked conn)) (mails_on d.run_state.front.connections conn)

@@ -1,4 +1,4 @@
--- How a step of a desk ends for which memory is short, or in which the device fails (`docs/model.md`, "The desk").
+-- How a step of a desk ends if memory is short for it, or if the device fails in it (`docs/model.md`, "The desk").
 use Rattle.std.specs.Prelude.{◌≡◌, ◌⊎◌, ℕ, Bool, true, false, [], ◌∷◌, ◌++◌, List, length, IsTrue}
 use Rattle.fe_front.specs.Front.{is_connected}
 use Rattle.fe_keeper.specs.Keeper.{can_begin}
@@ -12,7 +12,8 @@ use Rattle.fe_desk.specs.Checks.{StoresMore}
 
 -- ---- no memory
 
--- memory was short for mails that were owed: some of them, from the first on, are written, and nothing else was done
+-- memory was short for mails that were owed: they are written from the first on, up to one for which it was short (maybe the
+-- first), and nothing else was done
 pub record StillOwes {D : Type 0} (old new : DeskState D) : Type 0 where
   pub owed : old.run_state.owes ≡ true
   pub writes : WritesSome old.run_state new.run_state
@@ -23,9 +24,10 @@ pub record StillOwes {D : Type 0} (old new : DeskState D) : Type 0 where
 abbrev pub discharged_desk : {D : Type 0} → DeskState D → DeskState D
 discharged_desk d = record d { run_state = discharged d.run_state }
 
--- What a step found no memory for, if no mails are owed. For a connection, a batch at hand or a checkpoint that could begin,
--- nothing was done. For the messages of a connection, the first of them were taken, before its piece was read or after it
--- (`fed`), and what that stored is all that was done to the store. Other steps take no memory.
+-- A step found no memory, with no mails owed. If it was short for a new connection, the batch at hand or a checkpoint that could
+-- begin, nothing was done. If it was short for a message of a connection, or for a batch stored to make room for it, the messages
+-- before it were taken, and what they stored is all that was done to the store; the step's piece was read (`fed`) or not. Other
+-- steps take no memory, except to write their mails (`StillOwes`).
 abbrev pub Lacks : {D : Type 0} → Bool → Step → DeskState D → DeskState D → Type 0
 Lacks false (step.Connect conn) old new = (is_connected old.run_state.front conn ≡ false) × (new ≡ old)
 Lacks false (step.Bytes conn piece) old new = StopsShort false old.run_state conn piece.items new.run_state × StoresMore old new
@@ -40,24 +42,25 @@ FindsNoMemory fed step old new = ((fed ≡ false) × StillOwes old new) ⊎ Lack
 
 -- ---- the device
 
--- The device failed while the batch at hand was stored: it is the last group, and the only one that is not known to be stored.
+-- The device failed while the batch at hand was being stored. The batch is now the last group, the only one that is not known to
+-- be stored.
 pub record Tears {D : Type 0} (last : DeskRunState) (new : DeskState D) : Type 0 where
   pub at_hand : HasCut last
   pub run_state : new.run_state ≡ record last { groups = last.groups ++ at_hand.batch.entries ∷ [] }
   pub synced : new.synced ≡ length last.groups
 
--- In a step with bytes: some messages, from the first on, were taken; the next found no room, since the batch was not stored.
+-- In a step with bytes: the first messages, maybe none, were taken; the next found no room, since the batch at hand was not stored.
 pub record TearsBytes {D : Type 0} (s : DeskRunState) (conn : ℕ) (piece : List ℕ) (new : DeskState D) : Type 0 where
   pub last : DeskRunState
   pub stops : StopsBefore s conn last ⊎ StopsBehind s conn piece last
   pub tears : Tears last new
 
--- the device failed in a call of a checkpoint: no group came, and nothing else was done
+-- the device failed in a call of a checkpoint: the state of the run is as before, and as many groups are known to be stored
 pub record BreaksOff {D : Type 0} (old new : DeskState D) : Type 0 where
   pub run_state : new.run_state ≡ old.run_state
   pub synced : new.synced ≡ old.synced
 
--- What a step did in which the device failed, if no mails are owed. Other steps make no call of the device.
+-- What a step in which the device failed has done, if no mails are owed. Other steps make no call of the device.
 abbrev pub TearsStep : {D : Type 0} → Step → DeskState D → DeskState D → Type 0
 TearsStep (step.Bytes conn piece) old new = TearsBytes old.run_state conn piece.items new
 TearsStep step.Append old new = Tears old.run_state new

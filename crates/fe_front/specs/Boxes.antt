@@ -1,5 +1,6 @@
 -- What is always true of the boxes of a front, where mails to connections wait: each has at most `most_mails_in_box`
--- mails, and an answer is in one only once its entry is durable, that is stored (`docs/model.md`, "The front").
+-- mails, and an answer is in one only once its entry is durable: its batch was stored and posted, or it was there from the
+-- beginning (`docs/model.md`, "The front").
 use Rattle.std.specs.Prelude.{ℕ, ◌≤◌, ◌<◌, List, length, All}
 use Rattle.fe_state.specs.State.{ServerState}
 use Rattle.fe_state.specs.declared.entry.Entry.{Entry}
@@ -12,12 +13,12 @@ use Rattle.fe_front.specs.Front.{FrontState, IsFront, IsFirst}
 use Rattle.fe_front.specs.Call.{call_refused_by}
 use Rattle.fe_front.specs.Step.{FrontStep}
 
--- a mail that carries a place, that of an answer's entry, carries one below the mark, the number of durable entries
+-- if the mail is an answer, the place of its entry is below the mark, the number of durable entries
 abbrev pub IsBelow : ℕ → Mail → Type 0
 IsBelow mark (Answer session number answer place) = place < mark
 IsBelow mark _ = Unit {0}
 
--- each mail in a box that carries a place has one below the durable mark
+-- each answer in a box has the place of an entry that is durable
 abbrev pub HoldsDurable : FrontState → Type 0
 HoldsDurable f = (conn : ℕ) → All (IsBelow f.durable) (mails_on f.connections conn)
 
@@ -31,8 +32,10 @@ pub record IsAlwaysTrue (P : FrontState → Type 0) : Type 0 where
   pub step : (f f' : FrontState) (event : Event) (es : List Entry) → IsFront f → FrontStep f event es f' → P f → P f'
   pub refused : (f : FrontState) → P f → P (call_refused_by f)
 
+-- an answer comes into a box only once its entry is durable
 abbrev pub MailsStayDurable : Type 0
 MailsStayDurable = IsAlwaysTrue HoldsDurable
 
+-- no box ever has more than `most_mails_in_box` mails
 abbrev pub BoxesStayShort : Type 0
 BoxesStayShort = IsAlwaysTrue HasShortBoxes

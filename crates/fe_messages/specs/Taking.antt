@@ -16,12 +16,12 @@ use Rattle.fe_front.specs.Refusals.{attaching, settling, leaving, cancelling}
 use Rattle.fe_front.specs.Call.{IsCallRefused, WantsMemory, call_refused_by}
 use Rattle.fe_front.specs.declared.outcome.Outcome.{Outcome}
 
--- a message is refused: its connection gets a mail that says why, and nothing else happens
+-- a message is refused: a mail that says why comes to its connection (`mailed`), and nothing else happens
 pub record IsRefused (f : FrontState) (conn number : ℕ) (refusal : Refusal) (es : List Entry) (g : FrontState) : Type 0 where
   pub entries : es ≡ []
   pub front : g ≡ mailed f conn (mail.Refused number refusal)
 
--- a call is refused for a reason that the front's definition names, or because memory that it needs is short
+-- a call is refused for the reason that `IsCallRefused` gives, or because memory that it needs is short
 abbrev pub MayRefuse : FrontState → ℕ → ℕ → Request → Refusal → Type 0
 MayRefuse f conn number request refusal =
     IsCallRefused f conn number request refusal ⊎ ((refusal ≡ NoMemory) × WantsMemory f conn number request)

@@ -3,13 +3,14 @@ ghost use Rattle.std.specs.Prelude.{◌≡◌};
 use fe_waits::Row;
 use fe_words::Op;
 
-/// A request that waits for its turn on a word.
+/// A request that waits until its word has the tag that its operation needs, or its array is removed. A `Row` is the same with the
+/// session's slot in place of the session.
 #[derive(Clone, Copy, PartialEq, Eq)]
 pub struct WaitingRequest {
     pub session: u64,
     /// Its number in the session.
     pub number: u64,
-    /// The array and the index of its word.
+    /// The id of the array, and the index of its word there.
     pub array: u64,
     pub index: u32,
     pub op: Op,

@@ -15,7 +15,7 @@ pub enum OpenFault {
     Memory,
     /// The store's file has this size in bytes, which is not the size of a store.
     Size(u64),
-    /// Neither slot of the store is valid.
+    /// The device doesn't have the size of a store, or neither slot is valid.
     Unformatted,
     /// The slot that counts is wrong at this offset of the device, in bytes (`docs/formats.md`, "Device").
     Damaged(usize),

@@ -19,16 +19,19 @@ use std::alloc::Global;
 
 /// Opens the store on a disk: a sync, and then only reads. It never fails with `Size`.
 pub fn open_existing<D: Disk>(alloc: Global, disk: D) -> Result<Keeper<D>, (OpenFault, D)>
-    // What the disk reads stands for the keeper's state, and so does each image that a stop may leave.
+    // What is read of the disk stands for the keeper's state, and so does each image that a stop may leave.
     ensures opened { D.honest disk → IfOk result (IsOpenedFrom D.Disk (D.seen disk)) }
-    // A reported fault is the store's. A valid store is refused only if the device fails or memory runs out.
+    // `Unformatted` and `Damaged` are reported only of a disk that is so. A store that stands for a state is refused only if
+    // the device fails or memory runs out.
     ensures refused { D.honest disk → IfErr result (λ e. IsReason (D.seen disk) e.0) }
-    // Memory runs out only if what was read until then is right.
+    // Memory runs out only if the header of the slot that counts is right and, once the whole store is read, also the
+    // lengths of its groups and the first fields of its image.
     ensures memory { D.honest disk
         → IfErr result (λ e. e.0 ≡ fault.Memory → MayLackMemory (D.seen disk) (D.calls disk) (D.calls e.1)) }
     // No stop leaves what could not be left before, and what is read stays the same.
     ensures reads { D.honest disk → OnlyReads D.Disk disk (disk_after result) }
 
+    // These hold of any disk.
     ensures ready { IfOk result IsReady }
     ensures device { AsksToOpen D.Disk fault.Device (without_disk result) disk
         (disk_after result) }
@@ -40,16 +43,20 @@ pub fn open_existing<D: Disk>(alloc: Global, disk: D) -> Result<Keeper<D>, (Open
     }
 }
 
-/// Opens the store on a disk. An unformatted store is formatted if `format` is set, and refused if not.
+/// Opens the store on a disk. If the disk is unformatted, it makes a new store there if `format` is set and the disk has a
+/// store's size, and else fails with `Unformatted`.
 pub fn open_on<D: Disk>(alloc: Global, disk: D, format: bool) -> Result<Keeper<D>, (OpenFault, D)>
     // The keeper has the state that the disk stands for, or that of a new store if there was none and one was asked for.
     ensures opened { D.honest disk → IfOk result (IsOpenedAs D.Disk (D.seen disk) format) }
-    // A reported fault is the store's. A valid store is refused only if the device fails or memory runs out.
+    // `Unformatted` and `Damaged` are reported only of a disk that is so. A store that stands for a state is refused only if
+    // the device fails or memory runs out.
     ensures refused { D.honest disk → IfErr result (λ e. IsReason (D.seen disk) e.0) }
-    // If no store is made, no stop leaves what could not be left before, and what is read stays the same.
+    // Unless the disk is unformatted and `format` is set, no stop leaves what could not be left before, and what is read
+    // stays the same.
     ensures reads { D.honest disk → (IsToFormat (D.seen disk) format → ⊥)
         → OnlyReads D.Disk disk (disk_after result) }
 
+    // These hold of any disk.
     ensures ready { IfOk result IsReady }
     ensures sized { IfErr result (λ e. (found : ℕ) → e.0 ≢ fault.Size found) }
     // A disk of a store's size is reported as unformatted only if no format was asked for.

@@ -1,4 +1,4 @@
-//! A reader together with what was read of it.
+//! A reader together with what was read from it.
 
 ghost use Rattle.std.specs.Prelude.{◌≡◌, ◌<◌, ◌≤◌, length, Some, IfOk, IfSome, option_map};
 ghost use Rattle.std.specs.Io.KnownBytes.{IsAtEnd, WriteAppends};
@@ -8,7 +8,7 @@ use crate::{StreamFailed, read_some};
 use std::io::Read;
 use std::snapshot::Snapshot;
 
-/// A reader. Clauses see also the bytes that were read of it, if its bytes are known.
+/// A reader. Clauses, not the program, also see which bytes were read from it, if `R.remaining` gives its bytes.
 #[derive(Drop)]
 pub struct Incoming<R: Read> {
     reader: R,
@@ -27,10 +27,11 @@ impl<R: Read> Incoming<R> {
         Incoming { reader, began }
     }
 
-    /// Reads at least one byte into the front of the buffer and returns how many; returns 0 only at the end of the stream
-    /// or if the buffer is empty.
+    /// Reads bytes into the front of the buffer and returns how many: at least one, except at the end of the stream or if the
+    /// buffer is empty.
     pub fn read_some(&mut self, buffer: &mut [u8]) -> Result<usize, StreamFailed>
         ensures fits { IfOk result (λ count. count ≤ length buffer.old) }
+        // What is read is added to the bytes that were read before; a failed read adds nothing.
         ensures read { WriteAppends (bytes_read (R.remaining self.old.began.value) (R.remaining self.old.reader))
             (bytes_read (R.remaining self.new.began.value) (R.remaining self.new.reader)) result buffer.new }
         ensures began { self.new.began ≡ self.old.began }

@@ -17,8 +17,8 @@ const TRIES: u64 = 1 << 40;
 #[derive(Clone, Copy, PartialEq, Eq)]
 pub struct StreamFailed(());
 
-/// Reads at least one byte into the front of the buffer and returns how many; returns 0 only at the end of the stream
-/// or if the buffer is empty.
+/// Reads bytes into the front of the buffer and returns how many: at least one, except at the end of the stream or if the
+/// buffer is empty.
 pub fn read_some<R: Read>(reader: &mut R, buffer: &mut [u8]) -> Result<usize, StreamFailed>
     ensures fits { IfOk result (λ count. count ≤ length buffer.old) }
     ensures room { length buffer.new ≡ length buffer.old }

@@ -1,4 +1,5 @@
--- What the readers of the bodies of replies' frames return: the reply, or None if the bytes spell none (`docs/model.md`, "Frames").
+-- What the functions that read a reply's frame return: the reply, or None if the bytes spell none (`docs/formats.md`, "Frames", has
+-- the kinds).
 use Rattle.std.specs.Prelude.{ℕ, List, length, ◌&&◌, Option, Some, None, nat_lt, nat_le, ◌==◌, if◌then◌else◌}
 use Rattle.std.specs.Str.{is_utf8}
 use Rattle.std.specs.Int.{w32, w64}
@@ -24,7 +25,7 @@ refused_of body = do
   code ← next_byte number.1
   if nat_lt code.0 1 then None else if nat_lt 10 code.0 then None else ended code.1 (server.Refused number.0 code.0)
 
--- the reply that a frame with this kind and body spells, unless it is a report
+-- the reply that a frame with this kind and body spells; None for a report, which `report_of` reads
 unfoldable pub reply_of_kind : ℕ → List ℕ → Option ServerMessage
 reply_of_kind kind body =
     if kind == 65 then made_of_two (λ session floor. server.Welcome session floor) body
