@@ -1,4 +1,4 @@
--- What the lines of an input ask of a server (`docs/formats.md`, "What a client has to know").
+-- What the lines of an input ask of a server (`docs/commands.md`, "Commands").
 use Rattle.std.specs.Prelude.{ℕ, List, length, Option, None, nat_lt, if◌then◌else◌}
 use Rattle.fe_wire.specs.declared.client_message.ClientMessage.{ClientMessage}
 use Rattle.fe_text.specs.Line.{message_in}

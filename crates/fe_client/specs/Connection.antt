@@ -1,4 +1,4 @@
--- When a connection to a server, over a stream, is over (`docs/formats.md`, "What a client has to know").
+-- When a connection to a server, over a stream, is over (`docs/commands.md`, "Commands").
 use Rattle.std.specs.Prelude.{◌≡◌, ◌⊎◌, ℕ, List, [], Option, None, Some, IsSome, ⊤}
 use Rattle.fe_streams.specs.declared.StreamFailed.{StreamFailed}
 

@@ -1,5 +1,5 @@
 -- A conversation with a server: the lines of an input, and for each an exchange of a message and its reply.
--- See `docs/formats.md`, "What a client has to know".
+-- See `docs/commands.md`.
 use Rattle.std.specs.Prelude.{◌≡◌, ◌≢◌, ℕ, ◌+◌, List, [], ◌∷◌, ◌++◌, Some}
 use Rattle.fe_wire.specs.Spelling.{ReplyFits}
 use Rattle.fe_wire.specs.declared.client_message.ClientMessage.{ClientMessage}

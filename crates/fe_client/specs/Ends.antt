@@ -1,4 +1,4 @@
--- How a conversation with a server ends before its input does (`docs/formats.md`, "What a client has to know").
+-- How a conversation with a server ends before its input does (`docs/commands.md`, "Commands").
 use Rattle.std.specs.Prelude.{◌≡◌, ◌≢◌, ◌⊎◌, ℕ, ◌+◌, ◌^◌, ◌<◌, ◌≤◌, List, [], ◌∷◌, ◌++◌, length, take, Option, None, Some, ⊤}
 use Rattle.fe_wire.specs.Spelling.{spelling, reply_spelling, ReplyFits}
 use Rattle.fe_wire.specs.declared.client_message.ClientMessage.{ClientMessage}

@@ -1,4 +1,4 @@
--- What happens in a conversation with a server, as a list of events in order (`docs/formats.md`, "What a client has to know").
+-- What happens in a conversation with a server, as a list of events in order (`docs/commands.md`, "Commands").
 use Rattle.std.specs.Prelude.{ℕ, List, [], ◌∷◌, ◌++◌, map, take, Option, None, Some}
 use Rattle.std.specs.List.{flat_map}
 use Rattle.fe_wire.specs.Spelling.{spelling, reply_spelling}

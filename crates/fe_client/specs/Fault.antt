@@ -1,4 +1,4 @@
--- The fault of a call if a stream is at fault (`docs/formats.md`, "What a client has to know").
+-- The fault of a call if a stream is at fault (`docs/commands.md`, "Commands").
 use Rattle.std.specs.Prelude.{◌≡◌}
 use Rattle.fe_text.specs.declared.fault.StreamFault.{StreamFault}
 use Rattle.fe_text.specs.declared.fault.StreamFault.TheVariants as stream

@@ -1,4 +1,4 @@
--- What is read of a conversation's input, and what is taken of it line by line (`docs/formats.md`, "What a client has to know").
+-- What is read of a conversation's input, and what is taken of it line by line (`docs/commands.md`, "Commands").
 use Rattle.std.specs.Prelude.{◌≡◌, ◌≢◌, ◌⊎◌, ℕ, ◌-◌, Bool, true, false, List, [], ◌∷◌, ◌++◌, take, drop}
 use Rattle.fe_text.specs.Lines.{HasNoFeed}
 use Rattle.fe_client.specs.declared.fault.CallFault.{CallFault}

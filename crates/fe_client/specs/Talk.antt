@@ -1,4 +1,4 @@
--- What the parts of a conversation with a server do (`docs/formats.md`, "What a client has to know").
+-- What the parts of a conversation with a server do (`docs/commands.md`, "Commands").
 use Rattle.std.specs.Prelude.{ℕ, ◌+◌, ◌≤◌, List, length}
 use Rattle.fe_wire.specs.Spelling.{reply_spelling, ReplyFits}
 use Rattle.fe_wire.specs.declared.client_message.ClientMessage.{ClientMessage}

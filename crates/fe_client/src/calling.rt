@@ -18,10 +18,11 @@ use std::net::Net;
 use std::os::unix::net::UnixStream;
 
 /// Sends each line that the reader gives, as one message, to the server at the socket of that path, and prints the reply
-/// before it reads the next line. An empty line asks nothing, and is counted.
+/// before it takes the next line. An empty line asks nothing, and is counted.
 ///
-/// `Line` at the first line outside the syntax, counted from 1. `Socket` if there is no server, the connection fails or
-/// ends before a reply, or a frame is bad. `Input` if the reader or the writer fails, or a stream was read 2^40 times.
+/// `Line` at the first line, counted from 1, that has not the form of a schedule's line without `cN ` (`docs/schedules.md`,
+/// "Lines"). `Socket` if there is no server, the connection fails or ends before a reply, or a frame is bad. `Input` if the reader or
+/// the writer fails, or after 2^40 reads of a stream or writes of one text. `Memory` if memory runs out.
 pub fn call<N: Net, R: Read, W: Write>(
     rt: &N,
     alloc: Global,
@@ -29,7 +30,8 @@ pub fn call<N: Net, R: Read, W: Write>(
     reader: &mut R,
     writer: &mut W,
 ) -> Result<(), CallFault>
-    // A conversation was held over what the reader gave, and what is written is what it wrote.
+    // A whole conversation was held. What the reader gave is its input, to the end, and the replies that it printed were
+    // appended to what the writer had, each if known.
     ensures ok { OnOk result (TalksAll Flows
         (over_socket (R.remaining reader.old) (W.contents writer.old))
         (over_socket (R.remaining reader.new) (W.contents writer.new))) }
@@ -48,7 +50,7 @@ pub fn call<N: Net, R: Read, W: Write>(
 }
 
 /// As `call`, over a connection. The reader, the connection and the writer are three objects, and no clause can say in which order
-/// they were called: these say what the conversation's events do to each. The order is that of `converse`.
+/// they were called, so the clauses say only what the conversation's events did to each. Their order is that of `converse`.
 pub fn call_over<C: Connection, R: Read, W: Write>(
     alloc: Global,
     connection: &mut C,
@@ -72,9 +74,9 @@ pub fn call_over<C: Connection, R: Read, W: Write>(
 
 /// Holds a conversation over streams whose events have one order.
 pub fn converse<E: Streams>(alloc: Global, streams: &mut E) -> Result<(), CallFault>
-    // The input is read only once each line that was read had its exchange, the last reply written and flushed.
+    // The input is read again only after each line that was read has had its exchange, and its reply was written and flushed.
     ensures ok { OnOk result (TalksAll E.leads streams.old streams.new) }
-    // At a fault, this holds for the lines before the one at fault, and the fault says how far that one came.
+    // At a fault, this holds for the lines before the one at fault, and the clause says how far that one came, and why no further.
     ensures fault { IfErr result (λ end. TalksUntil E.leads end (E.is_over streams.new) streams.old streams.new) }
 {
     let mut input = Input::new(alloc)?;

@@ -9,7 +9,7 @@ pub struct Broken;
 
 /// A connection to a server.
 pub trait Connection {
-    /// The bytes that were sent, if they are known. Those of a socket are not.
+    /// The bytes that were sent, if clauses can know them; of a socket they cannot.
     ghost sent: { Self → Option (List ℕ) };
 
     /// The bytes that were received, if they are known.

@@ -3,13 +3,13 @@ use fe_text::StreamFault;
 /// Why a call ended before its input did.
 #[derive(Clone, Copy, PartialEq, Eq)]
 pub enum CallFault {
-    /// The line of that number, counted from 1, isn't in the syntax.
+    /// The line of that number, counted from 1, has not the form of a schedule's line without `cN ` (`docs/schedules.md`, "Lines").
     Line(u64),
     /// There is no server, or the connection failed, ended before a reply or had a bad frame.
     Socket,
-    /// The input can't be read or the output can't be written, or a stream was read 2^40 times.
+    /// The input can't be read or the output can't be written; or after 2^40 reads of a stream, or writes of one text.
     Input,
-    /// There is no memory.
+    /// Memory ran out.
     Memory,
 }
 

@@ -1,7 +1,7 @@
 -- The rule of images: which state an image stands for, or else the offset of its first fault. It goes over the fields
 -- in the order of the format (`docs/formats.md`, "Image"). A step returns a value and the bytes after it; or, at the
 -- first fault, how many bytes are left from there on. A fault is a field whose value isn't allowed, given those before
--- it, or the end of the bytes.
+-- it; or the end of the bytes, if a field is missing there; or the first byte after the last field.
 use Rattle.std.specs.Prelude.{ℕ, zero, suc, ◌+◌, ◌-◌, ◌^◌, Bool, true, ◌&&◌, List, [], ◌∷◌, length, take, drop, Option, Some, None, is_some, Result, Ok, Err, nat_le, nat_lt, ◌==◌, if◌then◌else◌}
 use Rattle.std.specs.List.{list_all}
 use Rattle.std.specs.Option.{option_map}
@@ -75,13 +75,13 @@ header_at bytes =
     number_in w32 0 (most_sessions + 1) arrays.1 followed_by λ sessions.
     Ok (record { place = place.0; next_id = next.0; arrays = arrays.0; sessions = sessions.0 }, sessions.1)
 
--- the state with the header's place and next id, and no arrays and sessions
+-- the state with the image header's place and next id, and with no arrays and no sessions
 abbrev pub starting : ImageHeader → ServerState
 starting header = record { arrays = empty; sessions = empty; next_id = header.next_id; place = header.place }
 
 -- ---- arrays
 
--- an id below the next one, and above that of the previous array
+-- an id from 1 on, below the image's next array id, and above that of the previous array
 unfoldable pub id_at : Option ℕ → ℕ → List ℕ → Result (ℕ × List ℕ) ℕ
 id_at previous next bytes =
     number_in w64 1 next bytes followed_by λ id.
@@ -119,20 +119,21 @@ word_at bytes =
     number w64 tag.1 followed_by λ value.
     Ok (word value.0 tag.0, value.1)
 
--- a state with this word at an index of an array, and a state with a new array, whose words are read afterwards
+-- the state with this word at an index of an array
 abbrev pub with_word_at : ServerState → ℕ → ℕ → Word → ServerState
 with_word_at s array index w = with_arrays s (put_word s.arrays array index w (get s.arrays array))
 
+-- the state with one array more, whose words are read afterwards
 abbrev pub with_new_array : ServerState → ℕ → List ℕ → ℕ → ServerState
 with_new_array s id name size = with_arrays s (insert s.arrays id (new_array name size Empty))
 
--- the next word of an array, given its index, the state and the bytes so far
+-- the next word of an array, given its index, the state so far and the bytes that are left
 unfoldable pub next_word : ℕ → ℕ × ServerState × List ℕ → Result (ℕ × ServerState × List ℕ) ℕ
 next_word array x =
     word_at x.2 followed_by λ w.
     Ok (x.0 + 1, with_word_at x.1 array x.0 w.0, w.1)
 
--- the next array, given the id of the previous one, the state and the bytes so far
+-- the next array, given the id of the previous one, the state so far and the bytes that are left
 unfoldable pub next_array : Format → Option ℕ × ServerState × List ℕ → Result (Option ℕ × ServerState × List ℕ) ℕ
 next_array format x =
     id_at x.0 x.1.next_id x.2 followed_by λ id.
@@ -147,6 +148,7 @@ next_array format x =
 abbrev pub is_next_number : ℕ → Option ℕ → ℕ → Bool
 is_next_number floor previous n = nat_le floor n && nat_lt n (floor + window_length) && is_after previous n
 
+-- the kept answer in this entry, if it is one that finished a request of the session and has a next number
 abbrev pub kept_of : ℕ → ℕ → Option ℕ → ℕ → Option Entry → Option (ℕ × Kept)
 kept_of session floor previous place (Some (Finished owner n request answer)) =
     if owner == session && is_next_number floor previous n then Some (n, record { request = request; answer = answer; place = place }) else None
@@ -160,15 +162,16 @@ kept_at format limit session floor previous bytes =
     or_fault (length place.1) (kept_of session floor previous place.0 (record_entry format cells.0)) followed_by λ kept.
     Ok (kept, cells.1)
 
--- a state that keeps this, and a state with a new session, whose kept answers are read afterwards
+-- the state that keeps this answer too
 abbrev pub with_kept : ServerState → ℕ → ℕ × Kept → ServerState
 with_kept s session k =
     with_sessions s (put_session s.sessions session (option_map (λ x. keeping x k.0 k.1) (get s.sessions session)))
 
+-- the state with one session more, whose kept answers are read afterwards
 abbrev pub with_new_session : ServerState → ℕ → ℕ → ServerState
 with_new_session s session floor = with_sessions s (insert s.sessions session (record { floor = floor; kept = empty }))
 
--- the next kept answer of a session, given the number of the previous one, the state and the bytes so far
+-- the next kept answer of a session, given the number of the previous one, the state so far and the bytes that are left
 unfoldable pub next_kept : Format → ℕ → ℕ → Option ℕ × ServerState × List ℕ → Result (Option ℕ × ServerState × List ℕ) ℕ
 next_kept format session floor x =
     kept_at format x.1.place session floor x.0 x.2 followed_by λ kept.
@@ -180,7 +183,7 @@ session_at previous bytes =
     number w64 bytes followed_by λ session.
     if is_after previous session.0 then Ok session else Err (length bytes)
 
--- the next session, given the number of the previous one, the state and the bytes so far
+-- the next session, given the number of the previous one, the state so far and the bytes that are left
 unfoldable pub next_session : Format → Option ℕ × ServerState × List ℕ → Result (Option ℕ × ServerState × List ℕ) ℕ
 next_session format x =
     session_at x.0 x.2 followed_by λ session.

@@ -1,4 +1,5 @@
--- What a record, the bytes of an entry, holds. Its unused bytes are looked at last (`docs/model.md`, "Records, groups and images").
+-- Which entry a record, a row of bytes, spells: its fields are read, and then all bytes are compared with the spelling of that
+-- entry (`docs/formats.md`, "Entry record").
 use Rattle.std.specs.Prelude.{ℕ, ◌+◌, ◌^◌, Bool, true, ◌&&◌, List, length, take, drop, slice_index, Option, Some, None, nat_le, nat_lt, ◌==◌, if◌then◌else◌}
 use Rattle.std.specs.Str.{bytes_eq}
 use Rattle.std.specs.Int.{Width, w32, w64, byte_len, from_be_bytes}
@@ -49,7 +50,7 @@ finished_of format bytes = do
   answer ← answer_of (slice_index bytes 2) (field_at w64 bytes (32 + name_bytes format)) (field_at w32 bytes (28 + name_bytes format))
   Some (Finished (field_at w64 bytes 8) (field_at w64 bytes 16) request answer)
 
--- the entry that a record of the right length may spell
+-- the entry that these bytes spell, if they are a record at all; they have a record's length
 unfoldable pub entry_of : Format → List ℕ → Option Entry
 entry_of format bytes =
     if slice_index bytes 0 == 1 then Some (Attached (field_at w64 bytes 8) (field_at w64 bytes 16))
@@ -74,10 +75,11 @@ is_of_format Two entry = true
 abbrev pub is_record : Format → Entry → List ℕ → Bool
 is_record format entry bytes = is_numbered entry && is_of_format format entry && bytes_eq (entry_spelling format entry) bytes
 
+-- the entry, if the bytes are its record
 abbrev pub if_record : Format → List ℕ → Option Entry → Option Entry
 if_record format bytes None = None
 if_record format bytes (Some entry) = if is_record format entry bytes then Some entry else None
 
--- the entry whose record the bytes are
+-- the entry whose record the bytes are, if there is one
 unfoldable pub record_entry : Format → List ℕ → Option Entry
 record_entry format bytes = if length bytes == record_bytes format then if_record format bytes (entry_of format bytes) else None

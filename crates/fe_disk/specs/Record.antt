@@ -5,11 +5,11 @@ use Rattle.fe_disk.specs.Memory.{DiskEvent, Write, Sync}
 use Rattle.fe_disk.specs.declared.record.Call.{Call}
 use Rattle.fe_disk.specs.declared.record.Call.TheVariants.{Wrote, Synced}
 
--- `before` are the bytes that the write replaced
+-- the event of a call; `before` is the bytes that the write replaced
 abbrev pub event_of : Call → DiskEvent
 event_of (Wrote at before) = Write at before.items
 event_of Synced = Sync
 
--- the events of calls that are given in the order in which they were made, the latest first
+-- the events of these calls, the latest first; the calls come in the order in which they were made
 abbrev pub newest_first : List Call → List DiskEvent
 newest_first calls = reverse (map event_of calls)

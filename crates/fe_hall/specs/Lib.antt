@@ -1,3 +1,4 @@
+-- What the threads of a hall do, which is a front under one lock (`docs/model.md`, "The hall").
 pub mod Commits
 pub mod Reads
 pub mod Writes

@@ -1,4 +1,4 @@
--- The command line: its commands, and what they ask for.
+-- The command line: its commands, and what they ask for (`docs/commands.md`).
 use Rattle.std.specs.Prelude.{◌≡◌, List, codes, Bool, true, false, Option, Some, None, is_some, if◌then◌else◌}
 use Rattle.std.specs.Str.{bytes_eq}
 use Rattle.clap.specs.Words.{App, Row, Rule, Text, first_of, new_app, new_rule, with_rule, with_subcommand}
@@ -14,7 +14,7 @@ option_rule name = record (new_rule name) { long = Some name; value_names = 1; r
 abbrev pub with_option : Text → Text → App
 with_option name option = with_rule (new_app name) (option_rule option)
 
--- the program, which requires a command
+-- the program, which has a version and requires a command
 abbrev pub program : App
 program = on_top (λ s. record s { has_version = true; subcommand_required = true }) (new_app (codes "femem"))
 
@@ -32,14 +32,14 @@ femem =
     (with_option (codes "call") (codes "socket")).top)
     (with_option (codes "look") (codes "store")).top
 
--- the command with this name and these option values asks for this
+-- the command with this name and these option values asks for this invocation
 abbrev pub IsCommand : Invocation → Text → List Row → Type 0
 IsCommand Run name found = name ≡ codes "run"
 IsCommand (Serve settings) name found = (name ≡ codes "serve") × (first_of (codes "settings") found ≡ Some settings.now)
 IsCommand (Call socket) name found = (name ≡ codes "call") × (first_of (codes "socket") found ≡ Some socket.now)
 IsCommand (Look store) name found = (name ≡ codes "look") × (first_of (codes "store") found ≡ Some store.now)
 
--- the command that was entered, with its option values, asks for this
+-- the command that was entered, with its option values, asks for this invocation
 abbrev pub IsAsked : Invocation → Option (Text × List Row) → Type 0
 IsAsked asked None = ⊥
 IsAsked asked (Some met) = IsCommand asked met.0 met.1

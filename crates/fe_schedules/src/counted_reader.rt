@@ -5,7 +5,8 @@ use crate::streams::Source;
 use fe_text::StreamFault;
 use std::io::{ErrorKind, Read};
 
-/// A reader of `std`. For clauses it counts its reads, and notes the faults with which they failed.
+/// A reader (`std::io::Read`) as the source of a schedule. It counts its reads, interrupted ones too, and notes with which faults
+/// they failed, so that clauses can say so.
 #[derive(Drop)]
 pub struct CountedReader<R> {
     stream: R,

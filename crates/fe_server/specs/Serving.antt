@@ -16,23 +16,25 @@ use Rattle.fe_hall.specs.declared.commit_end.CommitEnd.{CommitEnd}
 use Rattle.fe_hall.specs.declared.commit_end.CommitEnd.TheVariants.{Stopped, Store, Strange, Spent}
 use Rattle.fe_disk.specs.declared.disk.Disk.{Ghosts}
 
--- A keeper was lent to a committing side, which had this end. It stored a history, and at every moment each image that
--- a stop leaves stands for a prefix of it; if the disk works, what a stop may leave stands for the keeper's state; and
--- the end says whether the disk failed.
+-- A keeper was lent to a committing side, which had this end. The side stored a history. If the disk was honest and had not
+-- failed before, each image that a stop leaves at any moment stands for a prefix of that history. If it is honest and has not
+-- failed now, each image that a stop may leave stands for the keeper's state. The end says whether the disk failed, and the disk
+-- is honest exactly if it was.
 pub record HasCommitted {D : Type 0} (model : Ghosts D) (old new : KeeperState D) (end : CommitEnd) : Type 0 where
   pub commits : Commits model old new (Some end)
   pub stands : model.honest new.store.disk → new.store.has_failed ≡ false → EachStandsFor model new.store.disk new.state
   pub ended_as : EndsAs model old new (Some end)
   pub honesty : model.honest new.store.disk ↔ model.honest old.store.disk
 
--- A keeper was lent so, and the history of a hall that began with that keeper notes what was stored.
+-- As `HasCommitted`; and the history `acts`, which began with that keeper's state, notes the groups that were stored and no others:
+-- all of them, or all but the last if the end is `Strange`.
 abbrev pub HasCommittedAndNoted : {D : Type 0} → Ghosts D → KeeperState D → KeeperState D → CommitEnd → List Act → Type 0
 HasCommittedAndNoted model old new end acts =
     (all : HasCommitted model old new end) × AppendsAreNoted model all.commits.appends (Some end) (Began old.state ∷ []) acts
 
--- ---- what a server answers
+-- ---- what serving returns
 
--- the fault with which a fault of an append ends a server; a correct keeper returns no other
+-- the fault that ends a server whose append failed with this one; an end `Store` has only the first three (`EndsAs`)
 abbrev pub fault_of_store : keeper.Fault → StopFault
 fault_of_store store.Device = fault.Device
 fault_of_store store.Failed = fault.Device
@@ -46,13 +48,13 @@ fault_of_end (Store why) = Some (fault_of_store why)
 fault_of_end Strange = Some fault.Strange
 fault_of_end Spent = Some fault.Strange
 
--- the fault in an answer, if it has one
+-- the fault in what is returned, if there is one
 abbrev pub fault_in : {D : Type 0} → Result (Served D) (Failed D) → Option StopFault
 fault_in (Ok served) = None
 fault_in (Err failed) = Some failed.fault
 
--- What a server may answer after this end of its committing side: that side's fault; or after a stop the books, or that
--- memory was short, or that a receipt or a seat is strange.
+-- After this end of its committing side the server may return this fault, or none. If the side ended with a fault, it is that one.
+-- If it was stopped: none, with the books; or `Memory`; or `Strange`, since a book is full, a seat is missing or a receipt is strange.
 abbrev pub IsAnswerAt : CommitEnd → Option StopFault → Type 0
 IsAnswerAt Stopped None = Unit {0}
 IsAnswerAt Stopped (Some given) = (given ≡ fault.Memory) ⊎ (given ≡ fault.Strange)
@@ -65,7 +67,8 @@ abbrev pub keeper_in : {D : Type 0} → Result (Served D) (Failed D) → KeeperS
 keeper_in (Ok served) = served.keeper
 keeper_in (Err failed) = failed.keeper
 
--- the account that is returned; a hall in whose history others noted groups is not closed
+-- the account that is returned; after `Ok` its `own` is true, since a hall is closed only if no other than its committing side
+-- noted groups
 abbrev pub account_in : {D : Type 0} → Result (Served D) (Failed D) → Account
 account_in (Ok served) = record { receipts = served.audit.receipts; history = served.audit.history; own = true }
 account_in (Err failed) = failed.account

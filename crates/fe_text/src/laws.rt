@@ -1,3 +1,5 @@
+//! Laws: functions that do nothing; their clauses are proved.
+
 ghost use Rattle.std.specs.Prelude.{◌≡◌};
 ghost use Rattle.fe_text.specs.Limits.{longest_line};
 ghost use Rattle.fe_text.specs.RefusalNames.{PrintsTheirNames};
@@ -8,7 +10,7 @@ pub fn refusals_print_their_names()
     ensures { PrintsTheirNames }
 {}
 
-/// The constant of the code is the limit in the definitions, with which contracts are stated.
+/// `LONGEST_LINE` is the limit that contracts use (`specs/Limits.antt`).
 pub fn limits_are()
     ensures line { LONGEST_LINE ≡ longest_line }
 {}
