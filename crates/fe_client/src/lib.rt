@@ -1,4 +1,5 @@
-//! The small client: the lines of an input go to a server as messages, and the reply to each is printed before the next.
+//! The client of `femem call`: it sends each line of an input to a server as one message, and prints the reply before it takes the
+//! next line (`docs/commands.md`).
 #![tactic(auto)]
 
 mod asking;

@@ -5,21 +5,24 @@ ghost use Rattle.std.specs.Prelude.{◌≡◌, ◌<◌, ◌≤◌, length};
 use crate::connection::{Broken, Connection};
 use std::alloc::Global;
 
-/// A connection whose other end gave its bytes beforehand. They come in pieces.
+/// A connection without a server: what the other end gives is fixed beforehand and is received in pieces, and what is sent is only
+/// kept.
 #[derive(Drop)]
 pub struct MemoryConnection {
     answers: Vec<u8>,
-    /// How many of its bytes came.
+    /// How many bytes of `answers` were received.
     next: usize,
+    /// The most bytes that one `receive` gives.
     piece: usize,
     sent: Vec<u8>,
+    /// Whether a `send` found no memory.
     has_failed: bool,
     ghost within: { next ≤ length answers.items },
     ghost some: { 0 < piece },
 }
 
 impl MemoryConnection {
-    /// A connection whose other end gives these bytes, in pieces of at most this many, and then closes it.
+    /// A connection whose other end gives these bytes, in pieces of at most this many. After them `receive` fails, and `send` goes on.
     pub fn new(alloc: Global, answers: Vec<u8>, piece: usize) -> MemoryConnection
         requires { 0 < piece }
     {

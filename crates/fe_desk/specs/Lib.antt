@@ -1,3 +1,5 @@
+-- Definitions about a desk: a front, its connections' streams and a store's keeper, in one thread (`docs/model.md`, "The desk").
+-- `within` has those that no public clause rests on.
 pub mod Frames
 pub mod Mails
 pub mod DeskRunState

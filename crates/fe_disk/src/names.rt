@@ -1,4 +1,4 @@
-//! Names of files. A stop leaves a name there or not, and nothing in between.
+//! Names of files. A stop, also a loss of power, during a call leaves the name there or not, and nothing in between.
 
 use std::fs::File;
 use std::io::ErrorKind;
@@ -6,8 +6,8 @@ use std::path::Path;
 use std::rt::Files;
 use std::{fs, io};
 
-/// Gives the file at a path a second name, and syncs the folder of the new name. `false` if a file has that name
-/// already; that file stays as it is.
+/// Makes `name`, a path, one more name (a hard link) of the file at `path`, and syncs its folder. `false` if that name is taken
+/// already; nothing changes then. After an error the name may be there: the sync may have failed.
 pub fn add_name<R: Files<File = File>>(rt: &R, path: &str, name: &str) -> io::Result<bool> {
     match fs::hard_link(rt, path, name) {
         Ok(()) => {
@@ -19,13 +19,13 @@ pub fn add_name<R: Files<File = File>>(rt: &R, path: &str, name: &str) -> io::Re
     }
 }
 
-/// Removes a name of a file, and syncs its folder.
+/// Removes a name of a file, and syncs its folder. After an error the name may be gone.
 pub fn remove_name<R: Files<File = File>>(rt: &R, name: &str) -> io::Result<()> {
     fs::remove_file(rt, name)?;
     sync_folder(rt, name)
 }
 
-/// Syncs the folder of this path, so that its names are on the device.
+/// Syncs the folder that has this path's name, so that the names in it are on the device as they are now.
 pub(crate) fn sync_folder<R: Files<File = File>>(rt: &R, path: &str) -> io::Result<()> {
     File::open(rt, folder_of(path))?.sync_all()
 }

@@ -5,7 +5,8 @@ use fe_history::Tally;
 use std::marker::Model;
 use std::sync::ledger::{Book, Share};
 
-/// The seats of one side of some connections. Contracts see how many these are, and how many calls or mails they counted in all.
+/// The seats of one side, the reading or the writing threads, of several connections, added up (`docs/model.md`, "The hall"). Contracts
+/// see the number of connections, and how many calls (of reading threads) or mails (of writing threads) their seats counted in all.
 #[derive(Drop)]
 pub struct Seats<L: Tally> {
     share: Share<L>,
@@ -52,7 +53,8 @@ impl<L: Tally> Seats<L> {
         self.connections
     }
 
-    /// Shows that the seats of all connections counted what the book has. The spare part of the ledger is the hall's own.
+    /// Shows that these seats, which must be those of all connections that were made, counted in all what the book has. `spare` has
+    /// the other parts of the ledger: the hall's own, and one for each connection that was never made.
     pub(crate) fn audit(self, book: &mut Book<L>, spare: Share<L>)
         requires whole { spare.parts + self.connections ≡ L.all }
         requires nothing { spare.amount ≡ 0 }

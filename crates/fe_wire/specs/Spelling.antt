@@ -1,5 +1,5 @@
--- The one spelling of each message as bytes, its frame; which messages have one, and which messages a version has.
--- See `docs/model.md`, "Frames".
+-- Each message has one spelling as bytes, its frame. Here are the frames, which messages have fields that fit into one, and which
+-- messages each version has (`docs/model.md`, "Frames").
 use Rattle.std.specs.Prelude.{◌≡◌, ℕ, ◌+◌, ◌-◌, ◌<◌, ◌≤◌, ◌^◌, Bool, false, List, [], ◌∷◌, ◌++◌, length, replicate, nat_lt, if◌then◌else◌}
 use Rattle.std.specs.Int.{w32, w64, to_be_bytes}
 use Rattle.std.specs.Str.{IsUtf8}
@@ -18,7 +18,7 @@ use Rattle.fe_codes.specs.Codes.{tag_code, op_code, operand_of, answer_code, ans
 abbrev pub frame : ℕ → List ℕ → List ℕ
 frame kind body = to_be_bytes w32 (length body + 1) ++ kind ∷ body
 
--- a name of more than 16 bytes; its messages have kinds of their own
+-- a name of more than 16 bytes: a create or find with it has another kind
 abbrev pub is_long : List ℕ → Bool
 is_long name = nat_lt 16 (length name)
 
@@ -26,7 +26,7 @@ is_long name = nat_lt 16 (length name)
 abbrev pub name_room : Bool → ℕ
 name_room long = if long then 32 else 16
 
--- a name: its length, and 16 or 32 bytes, zero after the name
+-- the field of a name: its length in one byte, and the name, padded with zeros to 16 or 32 bytes
 abbrev pub name_field : List ℕ → List ℕ
 name_field name = length name ∷ name ++ replicate (name_room (is_long name) - length name) 0
 
@@ -39,7 +39,8 @@ find_kind long = if long then 13 else 3
 abbrev pub access_kind : Bool → ℕ
 access_kind no_wait = if no_wait then 11 else 5
 
--- The frame of a message from a client, with one row for each kind.
+-- The frame of a message from a client, with one row for each message and, of a call, for each request; the rows of create, find and
+-- access give two kinds each.
 abbrev pub spelling : ClientMessage → List ℕ
 spelling (Attach session) = frame 1 (to_be_bytes w64 session)
 spelling (Call number (Create name length tag)) =
@@ -103,7 +104,7 @@ ReplyFits (server.Goodbye session) = session < 2 ^ 64
 ReplyFits (server.Refused number code) = (number < 2 ^ 64) × (1 ≤ code) × (code ≤ 10)
 ReplyFits (server.Report text) = (1 ≤ length text) × (length text ≤ longest_report) × IsUtf8 text
 
--- A refusal has a code from 1 to 10.
+-- If the message is a refusal, its code is from 1 to 10.
 abbrev pub HasRefusalCode : ServerMessage → Type 0
 HasRefusalCode (server.Welcome session floor) = Unit {0}
 HasRefusalCode (server.Answer number answer) = Unit {0}

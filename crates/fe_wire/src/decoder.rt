@@ -69,7 +69,7 @@ impl Decoder {
     /// Decodes the next piece of the stream. Fails only if memory for the messages in it runs out; then the decoder
     /// is unchanged, as if the piece had not come.
     pub fn feed(&mut self, alloc: Global, piece: &[u8]) -> Result<Fed, AllocError>
-        // What has been read now includes this piece and its messages.
+        // The decoder has now read this piece too, and the returned messages are those that the piece completes.
         ensures reads { IfOk result (λ fed. (start : ℕ) (before : List ℕ) (earlier : List Message)
             → HasReadFrom start self.old before earlier
             → HasReadFrom start self.new (before ++ piece.now) (earlier ++ fed.messages.items)) }
