@@ -1,4 +1,5 @@
-//! Appending fields to a vector of bytes, for which there is room.
+//! Appends fields of an image to a vector of bytes. A call fails only if the vector has no room for all of it and memory runs out.
+//! What was in the vector stays; some words of `put_words` may stay after it.
 
 ghost use Rattle.std.specs.Prelude.{◌≡◌, ◌∷◌, ◌<◌, ◌^◌, [], flat_map, is_ok, OnOk, vec_capacity};
 ghost use Rattle.std.specs.List.{AllByRecursion};

@@ -1,5 +1,5 @@
--- The messages of a client that a step may leave, what it writes to no client before its end, and what it says of its bytes.
--- See `docs/model.md`, "The desk".
+-- The messages that a step may leave of a client, what was written to each connection number, and what a step that found no memory
+-- says of its bytes (`docs/model.md`, "The desk").
 use Rattle.std.specs.Prelude.{◌≡◌, ◌≢◌, ℕ, ◌<◌, Bool, true, false, List, [], ◌∷◌, ◌++◌, length, map, Option, Some}
 use Rattle.std.specs.Option.{option_map, option_map_or}
 use Rattle.fe_state.specs.declared.entry.Entry.{Entry}
@@ -20,7 +20,7 @@ use Rattle.fe_messages.specs.Taking.{Takes}
 abbrev pub left_of : DeskRunState → ℕ → List ClientMessage
 left_of s conn = option_map_or (λ c. c.left) (find conn s.clients) []
 
--- The first message that is left of a connection is handed to the front.
+-- The first message that is left of a connection is taken, maybe refused, by the front; the others are left.
 pub record TakesNext (s : DeskRunState) (conn : ℕ) (t : DeskRunState) : Type 0 where
   pub message : ClientMessage
   pub left : List ClientMessage
@@ -34,25 +34,25 @@ pub record TakesNext (s : DeskRunState) (conn : ℕ) (t : DeskRunState) : Type 0
 abbrev pub outputs : DeskRunState → List (ℕ × List ℕ)
 outputs s = map (λ c. (c.conn, c.written)) s.clients
 
--- the fault of a step for this fault of the keeper
+-- the fault of a step for this fault of the keeper; `fed` says whether the step's piece was read
 abbrev pub desk_fault_of : Fault → Bool → DeskFault
 desk_fault_of keeper.NoMemory fed = desk.NoMemory fed
 desk_fault_of fault fed = desk.Store fault
 
--- what a connection number has read of its stream
+-- the decoder of a connection number, which says what was read of its stream; None if the number never came
 abbrev pub read_by : DeskRunState → ℕ → Option Decoding
 read_by s conn = option_map (λ c. c.decoder) (find conn s.clients)
 
--- these messages are the last of all messages
+-- `all` ends with the messages `last`
 abbrev pub EndsWith : List ClientMessage → List ClientMessage → Type 0
 EndsWith all last = (first : List ClientMessage) × (all ≡ first ++ last)
 
--- no connection has read anything between the two states
+-- each connection number's decoder is the same in both states: nothing was read
 abbrev pub ReadsNone : DeskRunState → DeskRunState → Type 0
 ReadsNone s t = (conn : ℕ) → read_by t conn ≡ read_by s conn
 
--- The piece of a connection was read after what was read before, and nothing of another connection. Of the messages that it
--- completes the first were taken, and the others, one at least, are left.
+-- The piece was read as the continuation of this connection's stream, and nothing of another connection's. Of the messages that it
+-- completes the first, maybe none, were taken; the others, at least one, are left.
 pub record ReadsPiece (s : DeskRunState) (conn : ℕ) (piece : List ℕ) (t : DeskRunState) : Type 0 where
   pub before : Decoding
   pub after : Decoding

@@ -26,7 +26,7 @@ pub record FrontState : Type 0 where
   pub out : Option Out
   pub books : Books
 
--- a front is stored as the tuple of its fields
+-- for proofs, a front is coded as the tuple of its fields
 abbrev pub front_code : Coded FrontState
 front_code =
     code_by

@@ -2,10 +2,12 @@ ghost use Rattle.std.specs.Prelude.{◌≡◌, ◌≢◌, ◌%◌, ℕ, true, fa
 ghost use Rattle.fe_front.specs.ConnectionSet.{may_have};
 ghost use Rattle.fe_front.specs.Limits.{remainder_count};
 
-/// How many remainders tell connections apart: that of a connection's number, divided by this.
+/// How many remainders there are. A set tells two connections apart only if their numbers leave different remainders when divided by
+/// this.
 pub const REMAINDERS: u64 = 256;
 
-/// A set of connections, of a fixed size. It has each one that was added, and with it all that have the same remainder.
+/// A set of connections that takes a fixed amount of memory. With each one that was added, it has all whose numbers leave the same
+/// remainder.
 #[derive(Drop)]
 pub struct ConnectionSet {
     remainders: [bool; REMAINDERS as usize],

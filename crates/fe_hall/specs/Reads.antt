@@ -43,7 +43,8 @@ pub record AreHandled (before after : CallSeatState) (list messages : List Clien
   pub all : after.messages ≡ before.messages ++ messages
   pub listed : list ≡ sent_among messages
 
--- what an end says if the stream is these messages and then this rest, and this many of the messages were handled
+-- what each end says, where the stream is these messages and then this rest, and the first `count` messages were handled; memory may
+-- run out for the buffer, before anything is read
 abbrev pub EndsAt : ReadEnd → List ClientMessage → List ℕ → ℕ → Type 0
 EndsAt Closed messages rest count = (count ≡ length messages) × IsUnfinished Two rest
 EndsAt Device messages rest count = (count ≡ length messages) × IsUnfinished Two rest
@@ -55,7 +56,7 @@ EndsAt Stopped messages rest count = count < length messages
 EndsAt Spent messages rest count = count < length messages
 EndsAt (NoMemory short) messages rest count = (count < length messages) ⊎ (messages ≡ [])
 
--- A side read these bytes, the stream of its client: the first n of the stream's messages were handled, and none after them.
+-- A side read these bytes, the stream of its client: the first `count` of the stream's messages were handled, and no others.
 pub record HandlesStream (bytes : List ℕ) (before after : CallSeatState) (list : List ClientMessage) (end : ReadEnd) : Type 0 where
   pub messages : List ClientMessage
   pub rest : List ℕ
@@ -64,11 +65,12 @@ pub record HandlesStream (bytes : List ℕ) (before after : CallSeatState) (list
   pub handled : AreHandled before after list (take count messages)
   pub ends : EndsAt end messages rest count
 
--- an end without a fault: the stream ended, or as many reads were made as may be
+-- an end without a fault: the stream ended, or as many reads were made as the side may make
 abbrev pub IsQuietEnd : ReadEnd → Type 0
 IsQuietEnd end = (end ≡ Closed) ⊎ (end ≡ Turns)
 
--- an end that follows from the hall's last answer to the side
+-- an end that agrees with the hall's last answer: at `Gone`, `Stopped` and `Spent` the hall had answered so; the other ends go with
+-- any answer
 abbrev pub IsEndAfter : ReadEnd → LastAnswer → Type 0
 IsEndAfter Closed s = Unit {0}
 IsEndAfter Device s = Unit {0}
@@ -79,20 +81,20 @@ IsEndAfter Stopped s = s ≡ last_answer.Stopped
 IsEndAfter Spent s = s ≡ last_answer.Spent
 IsEndAfter (NoMemory short) s = Unit {0}
 
--- ---- on the way
+-- ---- while the side reads
 
 -- the list once one more message was handled
 abbrev pub listed_with : List ClientMessage → ClientMessage → List ClientMessage
 listed_with list message = if is_sent message && nat_lt (length list) most_listed then list ++ message ∷ [] else list
 
--- this many of the reads that a side may make are left after it made some; `None` sets no bound
+-- of the reads that a side may make (first), these are left (second) after it made this many (third); `None` sets no bound
 abbrev pub AreLeft : Option ℕ → Option ℕ → ℕ → Type 0
 AreLeft None None made = Unit {0}
 AreLeft None (Some left) made = ⊥
 AreLeft (Some turns) None made = ⊥
 AreLeft (Some turns) (Some left) made = made + left ≡ turns
 
--- the side ended before a message was handled
+-- an end that may come before a message is handled
 abbrev pub EndsEarly : ReadEnd → Type 0
 EndsEarly Closed = ⊥
 EndsEarly Device = ⊥
@@ -103,7 +105,8 @@ EndsEarly Stopped = Unit {0}
 EndsEarly Spent = Unit {0}
 EndsEarly (NoMemory short) = Unit {0}
 
--- the side ended because of what was read or of what the hall answered, and not because of its half or its number of reads
+-- the side ended because of the messages, their frames, memory or what the hall answered: not because the stream ended, a read
+-- failed, or no more reads may be made
 abbrev pub IsOfMessages : ReadEnd → Type 0
 IsOfMessages end = (end ≢ Closed) × (end ≢ Device) × (end ≢ Turns)
 
@@ -116,7 +119,7 @@ pub record IsAt (bytes : List ℕ) (before : CallSeatState) (decoder : Decoding)
   pub reads : HasRead decoder bytes messages
   pub handled : AreHandled before after list messages
 
--- The side ended before one of these messages was handled, which came after the earlier ones.
+-- These messages came after the earlier ones, all of which were handled; the side ended before one of these was handled.
 pub record EndsAmong (before after : CallSeatState) (list earlier messages : List ClientMessage) (end : ReadEnd) : Type 0 where
   pub breaks : EndsEarly end
   pub count : ℕ

@@ -1,4 +1,4 @@
--- Laws of what an image, all bytes of a device, holds, cited by public functions (`docs/model.md`, "The journal").
+-- Laws of what an image (all bytes of a device) holds. Public functions cite them (`docs/model.md`, "The journal").
 use Rattle.std.specs.Prelude.{◌≡◌, ℕ, List}
 use Rattle.fe_journal.specs.Contents.{Contents, Holds}
 use Rattle.fe_journal.specs.Damage.{IsUnformatted, IsDamagedAt}

@@ -20,7 +20,7 @@ pub record Books : Type 0 where
   pub left : ℕ
   pub spent : Bool
 
--- books are stored as the tuple of their columns
+-- for proofs, books are coded as the tuple of their columns
 abbrev pub books_code : Coded Books
 books_code =
     code_by (ℕ × (ℕ × (ℕ × (ℕ × (ℕ × (ℕ × (ℕ × (ℕ × (ℕ × (ℕ × Bool)))))))))) (coded× coded_ℕ (coded× coded_ℕ (coded× coded_ℕ (coded× coded_ℕ (coded× coded_ℕ (coded× coded_ℕ (coded× coded_ℕ (coded× coded_ℕ (coded× coded_ℕ (coded× coded_ℕ coded_bool)))))))))) (λ b. (b.calls, (b.completed, (b.waiting, (b.withdrawn, (b.repeated, (b.refused, (b.mails, (b.taken, (b.dropped, (b.left, b.spent))))))))))) (λ p. record { calls = p.0; completed = p.1.0; waiting = p.1.1.0; withdrawn = p.1.1.1.0; repeated = p.1.1.1.1.0; refused = p.1.1.1.1.1.0; mails = p.1.1.1.1.1.1.0; taken = p.1.1.1.1.1.1.1.0; dropped = p.1.1.1.1.1.1.1.1.0; left = p.1.1.1.1.1.1.1.1.1.0; spent = p.1.1.1.1.1.1.1.1.1.1 }) (λ _. refl)

@@ -28,7 +28,7 @@ link_code =
     (λ p. record { previous = p.0; next = p.1 })
     (λ _. refl))
 
--- the columns are stored as the tuple of their fields
+-- for proofs, the columns are coded as the tuple of their fields
 abbrev pub columns_code : {T : Type 0} → Coded T → Coded (Columns T)
 columns_code {T} code =
     code_by
@@ -40,12 +40,12 @@ columns_code {T} code =
     (λ p. record { items = p.0; followers = p.1.0; of_word = p.1.1.0; of_session = p.1.1.1 })
     (λ _. refl)
 
--- the neighbours of a node
+-- the neighbours of a node in the column of a family, or None if there are none
 abbrev pub link_at : List Link → ℕ → Link
 link_at links node = slice_index_or links node None
 
 module _ {T : Type 0} where
-  -- the neighbours in one family
+  -- the column of a family: each node's neighbours on its list of that family
   abbrev pub links_of : Columns T → Family → List Link
   links_of c OfWord = c.of_word
   links_of c OfSession = c.of_session
@@ -70,7 +70,7 @@ abbrev pub index_before : ℕ → Option ℕ
 index_before zero = None
 index_before (suc index) = Some index
 
--- for each of the first nodes, the next lower node
+-- for this many nodes from node 0 on, the next lower node of each
 abbrev pub before_each : ℕ → List (Option ℕ)
 before_each zero = []
 before_each (suc index) = before_each index ++ index_before index ∷ []

@@ -13,7 +13,7 @@ pub record Contents (T : Type 0) : Type 0 where
   pub of_word : List (List ℕ)
   pub of_session : List (List ℕ)
 
--- the contents are stored as the tuple of their fields
+-- for proofs, the contents are coded as the tuple of their fields
 abbrev pub contents_code : {T : Type 0} → Coded T → Coded (Contents T)
 contents_code {T} code =
     code_by

@@ -1,6 +1,6 @@
 use std::marker::Model;
 
-/// A node of a pool: its index, from 0 to the number of nodes less one.
+/// A node of a `Pool`, as its index in the pool's vector. Those that a pool hands out are below its number of nodes.
 #[derive(Clone, Copy, PartialEq, Eq)]
 pub struct Node {
     index: u32,

@@ -21,7 +21,7 @@ pub record AttachmentsState : Type 0 where
   pub waiting : FinMap pair_cmp WaitingAccess
   pub requests_by_node : List (Option WaitingRequest)
 
--- it is stored as the tuple of its fields
+-- for proofs, it is coded as the tuple of its fields
 abbrev pub attachments_code : Coded AttachmentsState
 attachments_code =
     code_by

@@ -21,7 +21,7 @@ pub record ServiceState : Type 0 where
   pub waiting : WaitingAccesses
   pub pending : List Entry
 
--- a service is stored as the tuple of its fields
+-- for proofs, a service is coded as the tuple of its fields
 abbrev pub service_code : Coded ServiceState
 service_code =
     code_by

@@ -26,7 +26,7 @@ pub record Directory : Type 0 where
   pub arrays : FinMap nat_cmp Array
   pub next_id : ℕ
 
--- a directory is stored as the pair of its fields
+-- for proofs, a directory is coded as the pair of its fields
 abbrev pub directory_code : Coded Directory
 directory_code =
     code_by (FinMap nat_cmp Array × ℕ) (coded× (code coded_ℕ the_row.coded) coded_ℕ) (λ d. (d.arrays, d.next_id)) (λ p. record { arrays = p.0; next_id = p.1 }) (λ _. refl)

@@ -13,7 +13,7 @@ pub record Session : Type 0 where
   pub floor : ℕ
   pub kept : FinMap nat_cmp Kept
 
--- a session is stored as the pair of its fields
+-- for proofs, a session is coded as the pair of its fields
 abbrev pub session_code : Coded Session
 session_code =
     code_by (ℕ × FinMap nat_cmp Kept) (coded× coded_ℕ (code coded_ℕ the_row.coded)) (λ s. (s.floor, s.kept)) (λ p. record { floor = p.0; kept = p.1 }) (λ _. refl)

@@ -28,7 +28,7 @@ pub record ServerState : Type 0 where
   pub next_id : ℕ
   pub place : ℕ
 
--- a state is stored as the tuple of its fields
+-- for proofs, a state is coded as the tuple of its fields
 abbrev pub state_code : Coded ServerState
 state_code =
     code_by (FinMap nat_cmp Array × (FinMap nat_cmp Session × (ℕ × ℕ))) (coded× (code coded_ℕ the_row.coded) (coded× (code coded_ℕ session_code) (coded× coded_ℕ coded_ℕ))) (λ s. (s.arrays, (s.sessions, (s.next_id, s.place)))) (λ p. record { arrays = p.0; sessions = p.1.0; next_id = p.1.1.0; place = p.1.1.1 }) (λ _. refl)

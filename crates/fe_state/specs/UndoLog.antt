@@ -25,7 +25,7 @@ pub record UndoLog : Type 0 where
   pub undos : List Undo
   pub dropped : List Dropped
 
--- a log is stored as the tuple of its fields
+-- for proofs, a log is coded as the tuple of its fields
 abbrev pub log_code : Coded UndoLog
 log_code =
     code_by (ℕ × (List Undo × List Dropped)) (coded× coded_ℕ (coded× (coded_list the_row.coded) (coded_list dropped_row.coded))) (λ l. (l.room, (l.undos, l.dropped))) (λ p. record { room = p.0; undos = p.1.0; dropped = p.1.1 }) (λ _. refl)
@@ -34,7 +34,7 @@ log_code =
 abbrev pub empty_log : ℕ → UndoLog
 empty_log room = record { room = room; undos = []; dropped = [] }
 
--- the log whose memory has the latest last
+-- the log, given its room and, both with the latest last, its undos and dropped answers
 abbrev pub log_of : ℕ → List Undo → List Dropped → UndoLog
 log_of room undos dropped = record { room = room; undos = reverse undos; dropped = reverse dropped }
 
@@ -44,7 +44,7 @@ answers_of (Closed floor answers) = answers
 answers_of (Settled floor answers) = answers
 answers_of _ = 0
 
--- how many of an entry's answers have room; no entry drops more than those of a window
+-- how many dropped answers a log has room for on behalf of an entry: as many as it dropped, at most a window's
 abbrev pub with_room : Undo → ℕ
 with_room u = min window_length (answers_of u.session_change)
 
@@ -52,7 +52,7 @@ with_room u = min window_length (answers_of u.session_change)
 pub record HasMemory (l : UndoLog) (undos dropped : ℕ) : Type 0 where
   -- there are no more entries than the room
   pub few : length l.undos ≤ l.room
-  -- each answer was dropped by an entry
+  -- there are no more dropped answers than the entries dropped, at most a window's counted for each
   pub paired : length l.dropped ≤ sum_by with_room l.undos
   -- the memory for the whole room is reserved
   pub undos_room : l.room ≤ undos
@@ -94,7 +94,7 @@ pub record CanUndo (u : Undo) (dropped : List Dropped) (s : ServerState) : Type 
   pub place : 1 ≤ s.place
   pub limits : IsWithinLimits (before u dropped s)
 
--- what is left of a log without the latest of its entries
+-- the log without the latest of these undos, which are all that it has
 abbrev pub without_latest : UndoLog → List Undo → UndoLog
 without_latest l [] = l
 without_latest l (u ∷ us) = record { room = l.room; undos = us; dropped = left u.session_change l.dropped }
@@ -112,7 +112,7 @@ before_latest (u ∷ us) dropped s = before u dropped s
 abbrev pub undone : UndoLog → ServerState → ServerState
 undone l s = before_latest l.undos l.dropped s
 
--- the state before the first of entries, given the one after the latest
+-- the state before the earliest of entries, given the one after the latest; the list has the latest first
 abbrev pub before_all : List Undo → List Dropped → ServerState → ServerState
 before_all [] dropped s = s
 before_all (u ∷ us) dropped s = before_all us (left u.session_change dropped) (before u dropped s)
@@ -121,7 +121,7 @@ before_all (u ∷ us) dropped s = before_all us (left u.session_change dropped) 
 abbrev pub rewound : UndoLog → ServerState → ServerState
 rewound l s = before_all l.undos l.dropped s
 
--- a state that entries may have led to, the latest last: each may be undone once those after it are
+-- a state that entries may have led to; the list has the latest first, and each can be undone once those before it in the list are
 abbrev pub MayFollowAll : List Undo → List Dropped → ServerState → Type 0
 MayFollowAll [] dropped s = Unit {0}
 MayFollowAll (u ∷ us) dropped s = CanUndo u dropped s × MayFollowAll us (left u.session_change dropped) (before u dropped s)
@@ -130,7 +130,8 @@ MayFollowAll (u ∷ us) dropped s = CanUndo u dropped s × MayFollowAll us (left
 abbrev pub IsLogOf : UndoLog → ServerState → Type 0
 IsLogOf l s = MayFollowAll l.undos l.dropped s
 
--- what an entry adds to a log for the sessions: its change of one session, beside what it changed of the arrays
+-- An entry was added to a log: what it changed of one session, and `change`, what it changed of the arrays. From the sessions after
+-- it, those before it can be put back.
 pub record Remembers (change : Change) (old new : UndoLog) (sessions after : FinMap nat_cmp Session) : Type 0 where
   pub session : ℕ
   pub session_change : SessionChange
@@ -140,7 +141,7 @@ pub record Remembers (change : Change) (old new : UndoLog) (sessions after : Fin
   pub undoable : CanPutBack session_change new.dropped after session
   pub undone : put_back session_change new.dropped after session ≡ sessions
 
--- what an entry that drops answers of a session adds to a log
+-- what an entry that drops answers of a session adds to a log; `made` gives its change of the session, from how many answers it dropped
 pub record HasDropped (session : ℕ) (made : ℕ → SessionChange) (change : Change) (old new : UndoLog) (before after : Session) : Type 0 where
   pub answers : List Dropped
   pub undos : new.undos ≡ record { session = session; session_change = made (length answers); change = change } ∷ old.undos

@@ -17,7 +17,7 @@ pub record WaitingAccess : Type 0 where
   pub index : ℕ
   pub op : Op
 
--- a waiter is stored as the tuple of its fields
+-- for proofs, a waiter is coded as the tuple of its fields
 abbrev pub waiting_access_code : Coded WaitingAccess
 waiting_access_code =
     code_by
@@ -34,7 +34,7 @@ pub record Waiting : Type 0 where
   pub members : FinMap pair_cmp WaitingAccess
   pub nodes : List (Option Row)
 
--- the record is stored as the tuple of its fields
+-- for proofs, the record is coded as the tuple of its fields
 abbrev pub waiting_code : Coded Waiting
 waiting_code =
     code_by
