@@ -5,11 +5,10 @@ use Rattle.std.specs.List.{last_or}
 use Rattle.fe_pool.specs.declared.chain.Chain.{Chain}
 use Rattle.fe_pool.specs.declared.family.Family.{Family}
 use Rattle.fe_pool.specs.declared.neighbours.Neighbours.{Neighbours}
-use Rattle.fe_pool.specs.Pool.{Contents, first_or, list_of, without, IsChain, IsOff, IsSound, KeepsOtherChains, KeepsOtherNodes, KeepsOtherFamily}
+use Rattle.fe_pool.specs.Pool.{Contents, first_or, list_of, without, IsChain, IsOff, ChangesList}
 use Rattle.fe_pool.specs.Columns.{Columns, link_at, links_of, with_links, IsLinked}
 use Rattle.fe_pool.specs.within.Runs.{previous_of, next_of, with_next, with_previous, IsPool, contents}
 use Rattle.fe_pool.proofs.AmongLemmas.{among-split, among-Contains, last-some, last_or-append}
-use Rattle.fe_pool.proofs.PoolLemmas.{pool-sound}
 use Rattle.fe_pool.proofs.ChainLemmas.{IsChanged, is-pool, is-list, is-chain, is-others, is-nodes, is-off, is-family, is-items, items-step, push-changed, split-link, unlink-changed, unlink-previous, unlink-next, unlink-taken, unlink-without, unlink-gone, unlink-count}
 
 -- a value chosen by a test is one of the two
@@ -44,25 +43,14 @@ unlink-last xs (y ∷ ys) n previous next last last' test p q l tested choice =
     ∙ last_or-append None xs (n ∷ y ∷ ys)
     ∙ sym (last_or-append None xs (y ∷ ys))
 
--- the list of the chain becomes `new`, and everything else except `n` stays the same
-pub record IsReturned {T : Type 0} (p p' : Contents T) (family : Family) (old after : Chain) (new : List ℕ) (n : ℕ) : Type 0 where
-  pub list : list_of p' family after ≡ new
-  pub chain : IsChain p' family after
-  pub other_chains : KeepsOtherChains p p' family old
-  pub other_nodes : KeepsOtherNodes p p' family n
-  pub other_family : KeepsOtherFamily p p' family
-  pub items : p'.items ≡ p.items
-  pub sound : IsSound p'
-
-returned : {T : Type 0} (c c' : Columns T) (first : Option ℕ) (pool : IsPool c first) (family : Family) (chain chain' : Chain) (new : List ℕ) (n : ℕ) → IsChanged c c' family chain new n → IsSome (get_or c.items n None) → IsChain (contents c) family chain → chain'.first ≡ first_or None new → chain'.last ≡ last_or None new → chain'.length ≡ length new → IsReturned (contents c) (contents c') family chain chain' new n
-returned c c' first pool family chain chain' new n change taken is f l k = record {
+returned : {T : Type 0} (c c' : Columns T) (first : Option ℕ) (pool : IsPool c first) (family : Family) (chain chain' : Chain) (new : List ℕ) (n : ℕ) → IsChanged c c' family chain new n → IsChain (contents c) family chain → chain'.first ≡ first_or None new → chain'.last ≡ last_or None new → chain'.length ≡ length new → ChangesList (contents c) (contents c') family chain chain' new n
+returned c c' first pool family chain chain' new n change is f l k = record {
   list = is-list c c' first pool family chain new n change chain' f;
   chain = is-chain c c' first pool family chain new n change chain' f l k;
   other_chains = is-others c c' first pool family chain new n change is;
   other_nodes = is-nodes c c' first pool family chain new n change;
   other_family = is-family c c' first pool family chain new n change;
   items = is-items c c' first pool family chain new n change;
-  sound = pool-sound c' first (is-pool c c' first pool family chain new n change taken);
 }
 
 module _ {T : Type 0} (c : Columns T) (first : Option ℕ) (pool : IsPool c first) (family : Family) (chain : Chain) (is : IsChain (contents c) family chain) (n : ℕ) where
@@ -70,9 +58,9 @@ module _ {T : Type 0} (c : Columns T) (first : Option ℕ) (pool : IsPool c firs
     pub push-pool : IsPool c2 first
     push-pool = is-pool c c2 first pool family chain _ n (push-changed c first pool family chain is n taken off c1 c2 one two) taken
 
-    pub push-returned : (first' : Option ℕ) (test : Bool) → is_some chain.first ≡ not test → IsChoice test (Some n) chain.first first' → IsReturned (contents c) (contents c2) family chain (record { first = first'; last = Some n; length = chain.length + 1 }) (list_of (contents c) family chain ++ n ∷ []) n
+    pub push-returned : (first' : Option ℕ) (test : Bool) → is_some chain.first ≡ not test → IsChoice test (Some n) chain.first first' → ChangesList (contents c) (contents c2) family chain (record { first = first'; last = Some n; length = chain.length + 1 }) (list_of (contents c) family chain ++ n ∷ []) n
     push-returned first' test tested choice =
-        returned c c2 first pool family chain _ _ n (push-changed c first pool family chain is n taken off c1 c2 one two) taken is
+        returned c c2 first pool family chain _ _ n (push-changed c first pool family chain is n taken off c1 c2 one two) is
         (push-first (list_of (contents c) family chain) n chain.first first' test is.first tested choice)
         (sym (last_or-append None (list_of (contents c) family chain) (n ∷ [])))
         counted
@@ -125,12 +113,12 @@ module _ {T : Type 0} (c : Columns T) (first : Option ℕ) (pool : IsPool c firs
             pub unlink-off : IsOff (contents c3) family n
             unlink-off = is-off c c3 first pool family chain _ n changed (unlink-gone c first pool family chain is n before behind split)
 
-            pub unlink-returned : (first' last' : Option ℕ) (test test' : Bool) → is_some v.previous ≡ not test → IsChoice test v.next chain.first first' → is_some v.next ≡ not test' → IsChoice test' v.previous chain.last last' → IsReturned (contents c) (contents c3) family chain (record { first = first'; last = last'; length = chain.length - 1 }) (without (list_of (contents c) family chain) n) n
+            pub unlink-returned : (first' last' : Option ℕ) (test test' : Bool) → is_some v.previous ≡ not test → IsChoice test v.next chain.first first' → is_some v.next ≡ not test' → IsChoice test' v.previous chain.last last' → ChangesList (contents c) (contents c3) family chain (record { first = first'; last = last'; length = chain.length - 1 }) (without (list_of (contents c) family chain) n) n
             unlink-returned first' last' test test' tested choice tested' choice' =
-                subst (λ new. IsReturned (contents c) (contents c3) family chain (record { first = first'; last = last'; length = chain.length - 1 }) new n)
+                subst (λ new. ChangesList (contents c) (contents c3) family chain (record { first = first'; last = last'; length = chain.length - 1 }) new n)
                 (sym (unlink-without c first pool family chain is n before behind split))
                 (
-                returned c c3 first pool family chain _ _ n changed unlink-item is
+                returned c c3 first pool family chain _ _ n changed is
                 (unlink-first before behind n v.previous v.next chain.first first' test previous_is next_is (is.first ∙ ap (first_or None) split) tested choice)
                 (unlink-last before behind n v.previous v.next chain.last last' test' previous_is next_is (is.last ∙ ap (last_or None) split) tested' choice')
                 (let counted = unlink-count c first pool family chain is n before behind split in omega arith)

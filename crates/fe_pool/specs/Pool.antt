@@ -104,6 +104,15 @@ module _ {T : Type 0} where
   abbrev pub KeepsOtherFamily : Contents T → Contents T → Family → Type 0
   KeepsOtherFamily old new family = (other : Family) → other ≢ family → lists_of new other ≡ lists_of old other
 
+  -- the chain's list became `nodes`, and nothing else changed but whether the node is on a list of the family
+  pub record ChangesList (old new : Contents T) (family : Family) (before after : Chain) (nodes : List ℕ) (node : ℕ) : Type 0 where
+    pub list : list_of new family after ≡ nodes
+    pub chain : IsChain new family after
+    pub other_chains : KeepsOtherChains old new family before
+    pub other_nodes : KeepsOtherNodes old new family node
+    pub other_family : KeepsOtherFamily old new family
+    pub items : new.items ≡ old.items
+
   -- what `next` returns for a node: its successor on each list it is on
   abbrev pub IsNext : Contents T → Family → ℕ → Option ℕ → Type 0
   IsNext p family node next = (first : Option ℕ) (before after : List ℕ) → list_from (lists_of p family) first ≡ before ++ node ∷ after → next ≡ first_or None after

@@ -1,5 +1,5 @@
 ghost use Rattle.std.specs.Prelude.{◌≡◌, ◌<◌, ◌+◌, ◌↔◌, ℕ, [], ◌∷◌, ◌++◌, length, replicate, slice_set, Some, None, Option, IfOk, IsNone, IfSome, IsSome, OnSome, IfNone, Contains};
-ghost use Rattle.fe_pool.specs.Pool.{item_at, IsTaken, IsFree, list_of, lists_of, without, IsChain, IsOn, IsOff, KeepsOtherChains, KeepsOtherNodes, KeepsOtherFamily, IsNext, IsSound};
+ghost use Rattle.fe_pool.specs.Pool.{item_at, IsTaken, IsFree, list_of, lists_of, without, IsChain, IsOn, IsOff, ChangesList, IsNext, IsSound};
 
 use crate::cells::Cells;
 use crate::chain::Chain;
@@ -75,7 +75,6 @@ impl<T: Drop> Pool<T> {
         ensures taken { IfSome result
             (λ node. self.new ≡ record self.old { items = slice_set self.old.items node (Some item) }) }
         ensures unchanged { IfNone result (self.new ≡ self.old) }
-        ensures sound { IsSound self.new }
     {
         let node = self.first_free?;
         self.first_free = self.cells.occupy(node, item);
@@ -88,7 +87,6 @@ impl<T: Drop> Pool<T> {
         requires off { (family : _) → IsOff self.old family node }
         ensures item { item_at self.old node ≡ Some result }
         ensures freed { self.new ≡ record self.old { items = slice_set self.old.items node None } }
-        ensures sound { IsSound self.new }
     {
         let item = self.cells.vacate(node, self.first_free);
         self.first_free = Some(node);
@@ -116,16 +114,9 @@ impl<T: Drop> Pool<T> {
         requires chain { IsChain self.old family chain.old }
         requires taken { IsTaken self.old node }
         requires off { IsOff self.old family node }
-        ensures list { list_of self.new family chain.new ≡ list_of self.old family chain.old ++ node ∷ [] }
-        ensures chain { IsChain self.new family chain.new }
+        ensures changes { ChangesList self.old self.new family chain.old chain.new
+            (list_of self.old family chain.old ++ node ∷ []) node }
         ensures length { chain.new.length ≡ chain.old.length + 1 }
-
-        // Nothing else changes.
-        ensures other_chains { KeepsOtherChains self.old self.new family chain.old }
-        ensures other_nodes { KeepsOtherNodes self.old self.new family node }
-        ensures other_family { KeepsOtherFamily self.old self.new family }
-        ensures items { self.new.items ≡ self.old.items }
-        ensures sound { IsSound self.new }
     {
         let Chain {
             first,
@@ -149,17 +140,10 @@ impl<T: Drop> Pool<T> {
     pub fn unlink(&mut self, family: Family, chain: &mut Chain, node: Node)
         requires chain { IsChain self.old family chain.old }
         requires on { Contains (list_of self.old family chain.old) node }
-        ensures list { list_of self.new family chain.new ≡ without (list_of self.old family chain.old) node }
-        ensures chain { IsChain self.new family chain.new }
+        ensures changes { ChangesList self.old self.new family chain.old chain.new
+            (without (list_of self.old family chain.old) node) node }
         ensures length { chain.new.length + 1 ≡ chain.old.length }
         ensures off { IsOff self.new family node }
-
-        // Nothing else changes.
-        ensures other_chains { KeepsOtherChains self.old self.new family chain.old }
-        ensures other_nodes { KeepsOtherNodes self.old self.new family node }
-        ensures other_family { KeepsOtherFamily self.old self.new family }
-        ensures items { self.new.items ≡ self.old.items }
-        ensures sound { IsSound self.new }
     {
         let Chain {
             first,

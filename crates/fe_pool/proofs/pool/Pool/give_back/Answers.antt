@@ -1,4 +1,4 @@
-use Rattle.fe_pool.proofs.PoolLemmas.{pool-off_loose, pool-sound, some-below}
+use Rattle.fe_pool.proofs.PoolLemmas.{pool-off_loose, some-below}
 use Rattle.fe_pool.proofs.FreeLemmas.{pool-vacated}
 use Rattle.fe_pool.proofs.pool.Pool.give_back.Goals as goal
 
@@ -11,6 +11,3 @@ invariant_of-self g c =
     let taken = rw (← c.self.view_is) at c.requires.taken in
     let loose = pool-off_loose _ _ c.self.invariant c.args.node (rw (← c.self.view_is) at c.requires.off) in
     rw c.vacate-item.ensures.after (pool-vacated _ _ c.self.invariant c.args.node (some-below _ _ taken) taken loose)
-
-pub returns-clause-sound : goal.returns-clause-sound
-returns-clause-sound g c = pool-sound _ _ (invariant_of-self g c)

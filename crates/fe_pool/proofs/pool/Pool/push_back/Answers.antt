@@ -28,12 +28,6 @@ returns g c =
     ] in
     let all = push-returned _ _ c.self.invariant c.args.family c.args.chain.now kept.chain c.args.node kept.taken kept.off _ _ c.set_neighbours.ensures c.set_next.ensures c.if-is_none.chain c.is_none.result c.is_none.ensures choice in
     rw (← c.self.view_is) (record {
-      list = all.list;
-      chain = all.chain;
       length = omega arith;
-      other_chains = all.other_chains;
-      other_nodes = all.other_nodes;
-      other_family = all.other_family;
-      items = all.items;
-      sound = all.sound;
+      changes = all;
     })

@@ -1,5 +1,5 @@
 use Rattle.std.proofs.Common.{refl, true≢false}
-use Rattle.fe_pool.proofs.PoolLemmas.{pool-first, pool-full, pool-free_off, pool-sound}
+use Rattle.fe_pool.proofs.PoolLemmas.{pool-first, pool-full, pool-free_off}
 use Rattle.fe_pool.proofs.FreeLemmas.{pool-occupied}
 use Rattle.fe_pool.proofs.pool.Pool.take.Goals as goal
 
@@ -8,9 +8,6 @@ returns-in_err-node-clause-full g c = (
   λ none node free. pool-full _ _ c.self.invariant c.in_err-node.was node (rw (← c.self.view_is) at free),
   λ none. rw c.from_residual.ensures refl,
 )
-
-pub returns-in_err-node-clause-sound : goal.returns-in_err-node-clause-sound
-returns-in_err-node-clause-sound g c = rw (← c.self.view_is) (pool-sound _ _ c.self.invariant)
 
 pub occupy-self-inside-requires-clause-within : goal.occupy-self-inside-requires-clause-within
 occupy-self-inside-requires-clause-within g c = (pool-first _ _ c.self.invariant _ c.in_ok-node.was).0
@@ -36,6 +33,3 @@ pub returns-clause-off : goal.returns-clause-off
 returns-clause-off g c =
     rw (← c.self.view_is)
     (λ family. pool-free_off _ _ c.self.invariant family c.in_ok-node.node (pool-first _ _ c.self.invariant _ c.in_ok-node.was).1)
-
-pub returns-clause-sound : goal.returns-clause-sound
-returns-clause-sound g c = pool-sound _ _ (invariant_of-self g c)

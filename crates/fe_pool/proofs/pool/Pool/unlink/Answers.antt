@@ -48,13 +48,7 @@ returns g c =
     ] in
     let all = unlink-returned _ _ c.self.invariant c.args.family c.args.chain.now kept.chain c.args.node kept.on c.unwrap.result link _ c.set_next.ensures _ c.set_previous.ensures _ c.set_neighbours.ensures c.if-is_none.chain c.if-is_none-2.chain c.is_none.result c.is_none-2.result c.is_none.ensures first c.is_none-2.ensures last in
     rw (← c.self.view_is) (record {
-      list = all.list;
-      chain = all.chain;
       length = unlink-shorter _ _ c.self.invariant c.args.family c.args.chain.now kept.chain c.args.node kept.on c.unwrap.result link _ c.set_next.ensures _ c.set_previous.ensures _ c.set_neighbours.ensures;
       off = unlink-off _ _ c.self.invariant c.args.family c.args.chain.now kept.chain c.args.node kept.on c.unwrap.result link _ c.set_next.ensures _ c.set_previous.ensures _ c.set_neighbours.ensures;
-      other_chains = all.other_chains;
-      other_nodes = all.other_nodes;
-      other_family = all.other_family;
-      items = all.items;
-      sound = all.sound;
+      changes = all;
     })

@@ -54,7 +54,7 @@ push_back-requires-2-clause-chain c =
     let took = rw c.unwrap-node.ensures at c.take.ensures.taken in
     let row : Row = record { slot = c.args.slot; number = c.args.number; array = c.args.array; index = c.args.index; op = c.args.op } in
     let linked = c.push_back.ensures in
-    session-chain_linked _ _ _ _ c.self.invariant row asked.slot asked.new _ free _ took _ _ _ c.chain-word.ensures linked.list linked.chain linked.other_chains linked.other_family linked.items _ c.at-session.ensures
+    session-chain_linked _ _ _ _ c.self.invariant row asked.slot asked.new _ free _ took _ _ _ c.chain-word.ensures linked.changes.list linked.changes.chain linked.changes.other_chains linked.changes.other_family linked.changes.items _ c.at-session.ensures
 
 pub push_back-requires-2-clause-taken : goal.push_back-requires-2-clause-taken
 push_back-requires-2-clause-taken c =
@@ -63,7 +63,7 @@ push_back-requires-2-clause-taken c =
     let took = rw c.unwrap-node.ensures at c.take.ensures.taken in
     let row : Row = record { slot = c.args.slot; number = c.args.number; array = c.args.array; index = c.args.index; op = c.args.op } in
     let linked = c.push_back.ensures in
-    linked-is _ _ _ _ c.self.invariant row asked.slot asked.new _ free _ took _ _ _ c.chain-word.ensures linked.list linked.chain linked.other_chains linked.other_family linked.items
+    linked-is _ _ _ _ c.self.invariant row asked.slot asked.new _ free _ took _ _ _ c.chain-word.ensures linked.changes.list linked.changes.chain linked.changes.other_chains linked.changes.other_family linked.changes.items
 
 pub push_back-requires-2-clause-off : goal.push_back-requires-2-clause-off
 push_back-requires-2-clause-off c =
@@ -73,7 +73,7 @@ push_back-requires-2-clause-off c =
     let off = rw c.unwrap-node.ensures at c.take.ensures.off in
     let row : Row = record { slot = c.args.slot; number = c.args.number; array = c.args.array; index = c.args.index; op = c.args.op } in
     let linked = c.push_back.ensures in
-    off-linked _ _ _ _ c.self.invariant row asked.slot asked.new _ free _ took _ _ _ c.chain-word.ensures linked.list linked.chain linked.other_chains linked.other_family linked.items (off OfSession)
+    off-linked _ _ _ _ c.self.invariant row asked.slot asked.new _ free _ took _ _ _ c.chain-word.ensures linked.changes.list linked.changes.chain linked.changes.other_chains linked.changes.other_family linked.changes.items (off OfSession)
 
 pub set-requires : goal.set-requires
 set-requires c = let slots = c.self.invariant.slots in let asked = c.requires.slot in omega arith
@@ -94,7 +94,7 @@ invariant_of-self c =
     let added = c.push_back-2.ensures in
     let few : len (with_chain c.self.inside.words c.args.array c.args.index c.push_back.new.chain) ≤ 64 = rw (len-with _ c.args.array c.args.index c.push_back.new.chain (ap is_some c.chain-word.ensures)) c.self.invariant.arrays in
     rw (c.set.ensures, c.set_chain.ensures)
-    (kept-added _ _ _ _ c.self.invariant row asked.slot asked.new _ free _ took _ _ _ c.chain-word.ensures linked.list linked.chain linked.other_chains linked.other_family linked.items _ _ _ c.at-session.ensures added.list added.chain added.length added.other_chains added.other_family added.items asked.room few)
+    (kept-added _ _ _ _ c.self.invariant row asked.slot asked.new _ free _ took _ _ _ c.chain-word.ensures linked.changes.list linked.changes.chain linked.changes.other_chains linked.changes.other_family linked.changes.items _ _ _ c.at-session.ensures added.changes.list added.changes.chain added.length added.changes.other_chains added.changes.other_family added.changes.items asked.room few)
 
 pub returns-clause-added : goal.returns-clause-added
 returns-clause-added c =
@@ -105,7 +105,7 @@ returns-clause-added c =
     let linked = c.push_back.ensures in
     let added = c.push_back-2.ensures in
     rw (← c.self.view_is)
-    (ap members_of (items_added _ _ _ _ c.self.invariant row asked.slot asked.new _ free _ took _ _ _ c.chain-word.ensures linked.list linked.chain linked.other_chains linked.other_family linked.items _ _ _ c.at-session.ensures added.list added.chain added.length added.other_chains added.other_family added.items asked.room)
+    (ap members_of (items_added _ _ _ _ c.self.invariant row asked.slot asked.new _ free _ took _ _ _ c.chain-word.ensures linked.changes.list linked.changes.chain linked.changes.other_chains linked.changes.other_family linked.changes.items _ _ _ c.at-session.ensures added.changes.list added.changes.chain added.length added.changes.other_chains added.changes.other_family added.changes.items asked.room)
     ∙ members-added _ _ _ _ c.self.invariant row asked.slot asked.new _ free)
 
 pub returns-clause-arrays : goal.returns-clause-arrays

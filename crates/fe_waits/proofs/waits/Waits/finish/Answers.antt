@@ -27,12 +27,12 @@ at-session-requires c = session-there _ _ _ _ c.self.invariant _ _ c.get-row.ens
 pub unlink-requires-2-clause-chain : goal.unlink-requires-2-clause-chain
 unlink-requires-2-clause-chain c =
     let one = c.unlink.ensures in
-    session-chain_linked _ _ _ _ c.self.invariant _ _ c.get-row.ensures _ c.chain-word.ensures _ _ one.list one.chain one.other_chains one.other_family one.items _ c.at-session.ensures
+    session-chain_linked _ _ _ _ c.self.invariant _ _ c.get-row.ensures _ c.chain-word.ensures _ _ one.changes.list one.changes.chain one.changes.other_chains one.changes.other_family one.changes.items _ c.at-session.ensures
 
 pub unlink-requires-2-clause-on : goal.unlink-requires-2-clause-on
 unlink-requires-2-clause-on c =
     let one = c.unlink.ensures in
-    session-on _ _ _ _ c.self.invariant _ _ c.get-row.ensures _ c.chain-word.ensures _ _ one.list one.chain one.other_chains one.other_family one.items _ c.at-session.ensures
+    session-on _ _ _ _ c.self.invariant _ _ c.get-row.ensures _ c.chain-word.ensures _ _ one.changes.list one.changes.chain one.changes.other_chains one.changes.other_family one.changes.items _ c.at-session.ensures
 
 pub set-requires : goal.set-requires
 set-requires c = session-there _ _ _ _ c.self.invariant _ _ c.get-row.ensures
@@ -41,47 +41,47 @@ pub overflow_sub-self : goal.overflow_sub-self
 overflow_sub-self c =
     let one = c.unlink.ensures in
     let two = c.unlink-2.ensures in
-    some-waits _ _ _ _ c.self.invariant _ _ c.get-row.ensures _ c.chain-word.ensures _ _ one.list one.chain one.other_chains one.other_family one.items _ c.at-session.ensures _ _ two.list two.chain two.length two.other_chains two.other_family two.items
+    some-waits _ _ _ _ c.self.invariant _ _ c.get-row.ensures _ c.chain-word.ensures _ _ one.changes.list one.changes.chain one.changes.other_chains one.changes.other_family one.changes.items _ c.at-session.ensures _ _ two.changes.list two.changes.chain two.length two.changes.other_chains two.changes.other_family two.changes.items
 
 pub give_back-requires-clause-taken : goal.give_back-requires-clause-taken
 give_back-requires-clause-taken c =
     let one = c.unlink.ensures in
     let two = c.unlink-2.ensures in
-    ap is_some (row-left _ _ _ _ c.self.invariant _ _ c.get-row.ensures _ c.chain-word.ensures _ _ one.list one.chain one.other_chains one.other_family one.items _ c.at-session.ensures _ _ two.list two.chain two.length two.other_chains two.other_family two.items)
+    ap is_some (row-left _ _ _ _ c.self.invariant _ _ c.get-row.ensures _ c.chain-word.ensures _ _ one.changes.list one.changes.chain one.changes.other_chains one.changes.other_family one.changes.items _ c.at-session.ensures _ _ two.changes.list two.changes.chain two.length two.changes.other_chains two.changes.other_family two.changes.items)
 
 pub give_back-requires-clause-off : goal.give_back-requires-clause-off
 give_back-requires-clause-off c =
     let one = c.unlink.ensures in
     let two = c.unlink-2.ensures in
-    off-left _ _ _ _ c.self.invariant _ _ c.get-row.ensures _ c.chain-word.ensures _ _ one.list one.chain one.other_chains one.other_family one.items _ c.at-session.ensures _ _ two.list two.chain two.length two.other_chains two.other_family two.items one.off two.off
+    off-left _ _ _ _ c.self.invariant _ _ c.get-row.ensures _ c.chain-word.ensures _ _ one.changes.list one.changes.chain one.changes.other_chains one.changes.other_family one.changes.items _ c.at-session.ensures _ _ two.changes.list two.changes.chain two.length two.changes.other_chains two.changes.other_family two.changes.items one.off two.off
 
 pub invariant_of-self : goal.invariant_of-self
 invariant_of-self c =
     let one = c.unlink.ensures in
     let two = c.unlink-2.ensures in
     let few : len (with_chain c.self.inside.words c.get-row.result.now.array c.get-row.result.now.index c.unlink.new.chain) ≤ 64 = rw (len-with _ c.get-row.result.now.array c.get-row.result.now.index c.unlink.new.chain (ap is_some c.chain-word.ensures)) c.self.invariant.arrays in
-    rw (c.set.ensures, c.set_chain.ensures) (kept-finished _ _ _ _ c.self.invariant _ _ c.get-row.ensures _ c.chain-word.ensures _ _ one.list one.chain one.other_chains one.other_family one.items _ c.at-session.ensures _ _ two.list two.chain two.length two.other_chains two.other_family two.items _ c.give_back.ensures.freed few)
+    rw (c.set.ensures, c.set_chain.ensures) (kept-finished _ _ _ _ c.self.invariant _ _ c.get-row.ensures _ c.chain-word.ensures _ _ one.changes.list one.changes.chain one.changes.other_chains one.changes.other_family one.changes.items _ c.at-session.ensures _ _ two.changes.list two.changes.chain two.length two.changes.other_chains two.changes.other_family two.changes.items _ c.give_back.ensures.freed few)
 
 pub returns-clause-row : goal.returns-clause-row
 returns-clause-row c =
     let one = c.unlink.ensures in
     let two = c.unlink-2.ensures in
-    let same : c.give_back.result ≡ c.get-row.result.now = some_same (sym c.give_back.ensures.item ∙ row-left _ _ _ _ c.self.invariant _ _ c.get-row.ensures _ c.chain-word.ensures _ _ one.list one.chain one.other_chains one.other_family one.items _ c.at-session.ensures _ _ two.list two.chain two.length two.other_chains two.other_family two.items) in
+    let same : c.give_back.result ≡ c.get-row.result.now = some_same (sym c.give_back.ensures.item ∙ row-left _ _ _ _ c.self.invariant _ _ c.get-row.ensures _ c.chain-word.ensures _ _ one.changes.list one.changes.chain one.changes.other_chains one.changes.other_family one.changes.items _ c.at-session.ensures _ _ two.changes.list two.changes.chain two.length two.changes.other_chains two.changes.other_family two.changes.items) in
     rw (← c.self.view_is) (c.get-row.ensures ∙ ap Some (sym same))
 
 pub returns-clause-member : goal.returns-clause-member
 returns-clause-member c =
     let one = c.unlink.ensures in
     let two = c.unlink-2.ensures in
-    let same : c.give_back.result ≡ c.get-row.result.now = some_same (sym c.give_back.ensures.item ∙ row-left _ _ _ _ c.self.invariant _ _ c.get-row.ensures _ c.chain-word.ensures _ _ one.list one.chain one.other_chains one.other_family one.items _ c.at-session.ensures _ _ two.list two.chain two.length two.other_chains two.other_family two.items) in
+    let same : c.give_back.result ≡ c.get-row.result.now = some_same (sym c.give_back.ensures.item ∙ row-left _ _ _ _ c.self.invariant _ _ c.get-row.ensures _ c.chain-word.ensures _ _ one.changes.list one.changes.chain one.changes.other_chains one.changes.other_family one.changes.items _ c.at-session.ensures _ _ two.changes.list two.changes.chain two.length two.changes.other_chains two.changes.other_family two.changes.items) in
     rw (← c.self.view_is) (members-row _ c.self.invariant.different c.args.node _ (c.get-row.ensures ∙ ap Some (sym same)))
 
 pub returns-clause-removed : goal.returns-clause-removed
 returns-clause-removed c =
     let one = c.unlink.ensures in
     let two = c.unlink-2.ensures in
-    let same : c.give_back.result ≡ c.get-row.result.now = some_same (sym c.give_back.ensures.item ∙ row-left _ _ _ _ c.self.invariant _ _ c.get-row.ensures _ c.chain-word.ensures _ _ one.list one.chain one.other_chains one.other_family one.items _ c.at-session.ensures _ _ two.list two.chain two.length two.other_chains two.other_family two.items) in
-    rw (← c.self.view_is) (members-finished _ _ _ _ c.self.invariant _ _ c.get-row.ensures _ c.chain-word.ensures _ _ one.list one.chain one.other_chains one.other_family one.items _ c.at-session.ensures _ _ two.list two.chain two.length two.other_chains two.other_family two.items _ c.give_back.ensures.freed ∙ ap (λ (row : Row). remove (members_of c.self.inside.pool.items) (key_of row)) (sym same))
+    let same : c.give_back.result ≡ c.get-row.result.now = some_same (sym c.give_back.ensures.item ∙ row-left _ _ _ _ c.self.invariant _ _ c.get-row.ensures _ c.chain-word.ensures _ _ one.changes.list one.changes.chain one.changes.other_chains one.changes.other_family one.changes.items _ c.at-session.ensures _ _ two.changes.list two.changes.chain two.length two.changes.other_chains two.changes.other_family two.changes.items) in
+    rw (← c.self.view_is) (members-finished _ _ _ _ c.self.invariant _ _ c.get-row.ensures _ c.chain-word.ensures _ _ one.changes.list one.changes.chain one.changes.other_chains one.changes.other_family one.changes.items _ c.at-session.ensures _ _ two.changes.list two.changes.chain two.length two.changes.other_chains two.changes.other_family two.changes.items _ c.give_back.ensures.freed ∙ ap (λ (row : Row). remove (members_of c.self.inside.pool.items) (key_of row)) (sym same))
 
 pub returns-clause-arrays : goal.returns-clause-arrays
 returns-clause-arrays c = rw (← c.self.view_is) (ap lengths c.set_chain.ensures ∙ lengths-with _ c.get-row.result.now.array c.get-row.result.now.index c.unlink.new.chain (ap is_some c.chain-word.ensures))
