@@ -1,5 +1,5 @@
 -- What the calls that make the other slot ready keep.
-use Rattle.std.proofs.Common.{◌≡◌, ℕ, ◌+◌, ◌-◌, ◌<◌, ◌≤◌, ◌^◌, Bool, List, ◌++◌, length, length-append, Option, Some, None, inl, inr, sym, ◌∙◌, ap, subst, refl, arith}
+use Rattle.std.proofs.Common.{◌≡◌, ℕ, ◌+◌, ◌-◌, ◌<◌, ◌≤◌, ◌^◌, Bool, List, ◌++◌, length, length-append, Option, Some, None, IsSomeAnd, inl, inr, sym, ◌∙◌, ap, subst, refl, arith}
 use Rattle.std.specs.Option.{ForSome}
 use Rattle.fe_disk.specs.Disk.{IsTorn, Follows, LeavesJust, after_write, bytes_at}
 use Rattle.fe_disk.specs.Runs.{HasElapsed, LeavesOnly}
@@ -31,6 +31,18 @@ pub within_more : (b : Begun) (n : ℕ) → b.written + n ≤ b.image_length →
 within_more b n fits length_fits =
     let next : Begun = record { format = b.format; generation = b.generation; image_length = b.image_length; written = b.written + n } in
     λ e is. subst (λ (x : Begun). (x.written ≤ x.image_length) × IsImageLength x.format x.image_length) (begun_same next e is) (fits, length_fits)
+
+-- what holds of the slot begun, as what holds of each that is begun
+each_begun : (begun : Option Begun) (P : Begun → Type 0) → IsSomeAnd begun P → ForSome begun P
+each_begun None P held = absurd held
+each_begun (Some b) P held = λ e is. subst P (begun_same b e is) held
+
+pub each_fits : (begun : Option Begun) (n : ℕ) → IsSomeAnd begun (λ b. b.written + n ≤ b.image_length) → ForSome begun (λ b. b.written + n ≤ b.image_length)
+each_fits begun n held = each_begun begun (λ (b : Begun). b.written + n ≤ b.image_length) held
+
+pub each_whole : (begun : Option Begun) (catch_up : List ℕ) → IsSomeAnd begun (λ b. (b.written ≡ b.image_length) × IsCatchUp b.format catch_up)
+    → ForSome begun (λ b. (b.written ≡ b.image_length) × IsCatchUp b.format catch_up)
+each_whole begun catch_up held = each_begun begun (λ (b : Begun). (b.written ≡ b.image_length) × IsCatchUp b.format catch_up) held
 
 -- what a slice more makes of a draft
 begun_more : (b : Begun) (d : Draft) (slice : List ℕ) → b ≡ record { format = d.format; generation = d.generation; image_length = d.image_length; written = length d.bytes }

@@ -4,7 +4,6 @@ use Rattle.std.specs.Prelude.{IsErrOf}
 use Rattle.std.proofs.lemmas.Bool.{cases_lt, cases_eq}
 use Rattle.std.proofs.lemmas.Option.{none-some}
 use Rattle.fe_disk.specs.Disk.{LeavesJust, bytes_at}
-use Rattle.fe_disk.specs.declared.calls.Calls.{Calls}
 use Rattle.fe_disk.proofs.Images.{length-bytes_at}
 use Rattle.fe_journal.specs.Layout.{header_of, image_of, area_of, device_bytes, number_at, IsGateOpen, IsGateShut}
 use Rattle.fe_format.specs.Layout.{magic_of, IsImageLength}

@@ -1,5 +1,5 @@
 -- What opening a store returns, and why it fails (`docs/store.md`, "Opening a store").
-use Rattle.std.specs.Prelude.{◌≡◌, ◌⊎◌, ◌↔◌, ◌+◌, ◌≤◌, ℕ, List, None, Result, Ok, Err, IsErrOf}
+use Rattle.std.specs.Prelude.{◌≡◌, ◌⊎◌, ◌↔◌, ◌+◌, ◌≤◌, ℕ, List, None, Result, Ok, Err, IfOk, IfErr, IsErrAnd, IsErrOf}
 use Rattle.fe_disk.specs.Disk.{Rises, MakesAtMost}
 use Rattle.fe_disk.specs.declared.calls.Calls.{Calls}
 use Rattle.fe_journal.specs.Layout.{area_of}
@@ -7,10 +7,11 @@ use Rattle.fe_journal.specs.Contents.{Contents, Holds}
 use Rattle.fe_journal.specs.Cursor.{Lists}
 use Rattle.fe_journal.specs.Groups.{end_of_groups}
 use Rattle.fe_journal.specs.Journal.{KeepsContents}
-use Rattle.fe_journal.specs.Damage.{TellsFound}
+use Rattle.fe_journal.specs.Steps.{OnlyReads}
+use Rattle.fe_journal.specs.Damage.{IsUnformatted, TellsFound}
 use Rattle.fe_journal.specs.declared.opening.Found.{Found}
 use Rattle.fe_journal.specs.declared.fault.StoreFault.{StoreFault}
-use Rattle.fe_journal.specs.declared.fault.StoreFault.TheVariants.{Device, NoMemory}
+use Rattle.fe_journal.specs.declared.fault.StoreFault.TheVariants.{Unformatted, Device, NoMemory}
 use Rattle.fe_disk.specs.declared.disk.Disk.{Ghosts}
 
 -- What was found are the contents of the image that the disk reads: a journal that keeps them, the bytes of the state's
@@ -54,3 +55,12 @@ pub record AsksToOpen {D T E : Type 0} (model : Ghosts D) (device : E) (result :
 abbrev pub disk_after : {D : Type 0} → Result (Found D) (StoreFault × D) → D
 disk_after (Ok found) = found.journal.disk
 disk_after (Err refused) = refused.1
+
+-- What opening says of an honest disk, which is only read. What was found are the contents that it reads, and a refusal
+-- is the store's: one that holds contents is refused only if the device fails or memory runs out, and memory runs out
+-- only after a sound header, before all was read. An unformatted store is reported as such, however much memory there is.
+pub record FindsStore {D : Type 0} (model : Ghosts D) (disk : D) (result : Result (Found D) (StoreFault × D)) : Type 0 where
+  pub found : IfOk result (IsFound model (model.seen disk))
+  pub refused : IfErr result (λ e. IsReason (model.seen disk) (model.calls disk) (model.calls e.1) e.0)
+  pub unformatted : IsUnformatted (model.seen disk) → IsErrAnd result (λ e. (e.0 ≡ Unformatted) ⊎ (e.0 ≡ Device))
+  pub reads : OnlyReads model disk (disk_after result)

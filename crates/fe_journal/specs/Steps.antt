@@ -1,6 +1,6 @@
 -- What single steps of the journal write on a disk, byte by byte. A commit writes bytes and then opens a gate.
 -- See `docs/model.md`, "The journal".
-use Rattle.std.specs.Prelude.{◌≡◌, ◌⊎◌, ℕ, ◌+◌, List, [], ◌∷◌, ◌++◌, length}
+use Rattle.std.specs.Prelude.{◌≡◌, ◌⊎◌, ℕ, ◌+◌, List, [], ◌∷◌, ◌++◌, length, take}
 use Rattle.byteorder.specs.Endian.{big_bytes}
 use Rattle.fe_disk.specs.Disk.{IsTorn, AddsNone, MakesJust, bytes_at, after_write}
 use Rattle.fe_disk.specs.Runs.{LeavesOnly}
@@ -26,6 +26,11 @@ pub record OnlyReads {D : Type 0} (model : Ghosts D) (old new : D) : Type 0 wher
   pub same : model.seen new ≡ model.seen old
   pub adds_none : AddsNone (model.may_leave old) (model.may_leave new)
   pub run : LeavesOnly model old new (model.may_leave old)
+
+-- The first `count` bytes of a buffer were written, and are these; it is as long as before.
+pub record BeginsWith (count : ℕ) (bytes old new : List ℕ) : Type 0 where
+  pub bytes_are : take count new ≡ bytes
+  pub same : length new ≡ length old
 
 -- the image after a whole commit: the bytes, and the gate open
 abbrev pub after_commit : List ℕ → ℕ → List ℕ → ℕ → List ℕ

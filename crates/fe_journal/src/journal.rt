@@ -1,5 +1,4 @@
-ghost use Rattle.std.specs.Prelude.{◌≡◌, ◌+◌, ◌≤◌, ◌<◌, length, Option, Some, None, false, vec_len, IsSome, IfSome, OnOk};
-ghost use Rattle.std.specs.Option.{ForSome};
+ghost use Rattle.std.specs.Prelude.{◌≡◌, ◌+◌, ◌≤◌, ◌<◌, length, Option, Some, None, false, vec_len, IsSomeAnd, IfSome, OnOk};
 ghost use Rattle.fe_disk.specs.Disk.{MakesJust};
 ghost use Rattle.fe_disk.specs.Runs.{LeavesOnly};
 ghost use Rattle.fe_journal.specs.Layout.{device_bytes, area_bytes, slice_bytes, other_than, gate_of};
@@ -250,8 +249,7 @@ impl<D: Disk> Journal<D> {
 
     /// Writes the next slice of the image of the slot begun. One device call.
     pub fn slot_write(&mut self, slice: &[u8]) -> Result<(), JournalFault>
-        requires begun { ForSome self.old.begun (λ b. b.written + length slice.now ≤ b.image_length) }
-        requires has_begun { IsSome self.old.begun }
+        requires begun { IsSomeAnd self.old.begun (λ b. b.written + length slice.now ≤ b.image_length) }
         requires short { length slice.now ≤ slice_bytes }
 
         // A stop at any moment of the call leaves the old contents.
@@ -291,8 +289,7 @@ impl<D: Disk> Journal<D> {
     /// Finishes the slot begun, whose image is whole. What came since it was begun goes into its journal
     /// area as one group, and then its gate is opened. From then on the slot counts. Four device calls.
     pub fn slot_finish(&mut self, catch_up: &[u8]) -> Result<(), JournalFault>
-        requires begun { ForSome self.old.begun (λ b. (b.written ≡ b.image_length) × IsCatchUp b.format catch_up.now) }
-        requires has_begun { IsSome self.old.begun }
+        requires begun { IsSomeAnd self.old.begun (λ b. (b.written ≡ b.image_length) × IsCatchUp b.format catch_up.now) }
 
         // A stop at any moment of the call leaves the old contents or those of the new slot.
         ensures any_moment { D.honest self.old.disk

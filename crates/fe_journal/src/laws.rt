@@ -1,16 +1,17 @@
-//! Laws of what an image holds, apart from any code; and that the code's sizes and offsets are those of the definitions.
+//! Laws of what the bytes of a device hold, apart from any code; and that the code's sizes and offsets are those of the
+//! definitions.
 
 ghost use Rattle.std.specs.Prelude.{◌≡◌};
 ghost use Rattle.fe_journal.specs.Laws.{HasOneContents, IsHeldOrRefused};
 ghost use Rattle.fe_journal.specs.Layout.{header_bytes, area_begin, area_bytes, slot_bytes, device_bytes, empty_area_room, slice_bytes};
 ghost use Rattle.fe_journal.specs.declared.layout.TheConstants.{HEADER_BYTES, AREA_BEGIN, AREA_BYTES, SLOT_BYTES, DEVICE_BYTES, LONGEST_PAYLOAD, SLICE_BYTES};
 
-/// An image holds at most one contents.
+/// The bytes of a device hold at most one contents.
 pub fn one_contents()
     ensures { HasOneContents }
 {}
 
-/// An image that holds contents is neither unformatted nor damaged.
+/// Bytes that hold contents are neither unformatted nor damaged.
 pub fn held_or_refused()
     ensures { IsHeldOrRefused }
 {}

@@ -1,9 +1,7 @@
 // The bytes that the journal writes: header fields, groups, and the beginning of a journal area.
-ghost use Rattle.std.specs.Prelude.{◌≡◌, ◌+◌, ◌≤◌, ◌<◌, ◌^◌, ◌∷◌, ◌++◌, length, take};
-ghost use Rattle.byteorder.specs.Endian.{big_bytes};
-ghost use Rattle.fe_disk.specs.Disk.{after_write};
+ghost use Rattle.std.specs.Prelude.{◌≡◌, ◌+◌, ◌≤◌, ◌<◌, ◌^◌, ◌∷◌, length};
 ghost use Rattle.fe_journal.specs.Groups.{after_gate};
-ghost use Rattle.fe_journal.specs.Steps.{header_fields, area_start};
+ghost use Rattle.fe_journal.specs.Steps.{header_fields, area_start, BeginsWith};
 
 use crate::Format;
 use byteorder::{BigEndian, ByteOrder};
@@ -20,36 +18,19 @@ pub fn header_fields(format: Format, generation: u64, image_length: usize) -> [u
     fields
 }
 
-// The open gate of a group and the length of its payload.
-fn group_head(length: usize) -> [u8; 5]
-    requires { length < 2 ^ 32 }
-    ensures { result ≡ 1 ∷ big_bytes 4 length }
-{
-    let mut head = [1; 5];
-    BigEndian::write_u32(&mut head[1..], length as u32);
-    head
-}
-
-// Writes a piece over the bytes from `at` on.
-fn replace(buffer: &mut [u8], at: usize, piece: &[u8])
-    requires { at + length piece.now ≤ length buffer.old }
-    ensures { buffer.new ≡ after_write buffer.old at piece.now }
-{
-    buffer[at..at + piece.len()].copy_from_slice(piece);
-}
-
 /// Puts an open gate, the payload's length, the payload and a closed gate into the buffer. Returns how many bytes that is.
 pub fn put_group(buffer: &mut [u8], payload: &[u8]) -> usize
     requires room { 6 + length payload.now ≤ length buffer.old }
     requires short { length payload.now < 2 ^ 32 }
     ensures size { result ≡ 6 + length payload.now }
-    ensures bytes { take (6 + length payload.now) buffer.new ≡ 1 ∷ after_gate payload.now }
-    ensures same { length buffer.new ≡ length buffer.old }
+    ensures put { BeginsWith result (1 ∷ after_gate payload.now) buffer.old buffer.new }
 {
     let end = 5 + payload.len();
-    replace(buffer, 0, &group_head(payload.len()));
-    replace(buffer, 5, payload);
-    replace(buffer, end, &[0]);
+    let mut head = [1; 5];
+    BigEndian::write_u32(&mut head[1..], payload.len() as u32);
+    buffer[..5].copy_from_slice(&head);
+    buffer[5..end].copy_from_slice(payload);
+    buffer[end] = 0;
     end + 1
 }
 
@@ -59,8 +40,7 @@ pub fn put_area_start(buffer: &mut [u8], catch_up: &[u8]) -> usize
     requires room { 6 + length catch_up.now ≤ length buffer.old }
     requires short { length catch_up.now < 2 ^ 32 }
     ensures within { result ≤ length buffer.old }
-    ensures bytes { take result buffer.new ≡ area_start catch_up.now }
-    ensures same { length buffer.new ≡ length buffer.old }
+    ensures put { BeginsWith result (area_start catch_up.now) buffer.old buffer.new }
 {
     if catch_up.is_empty() {
         buffer[0] = 0;

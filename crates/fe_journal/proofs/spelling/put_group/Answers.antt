@@ -1,10 +1,8 @@
-use Rattle.std.proofs.Common.{◌≡◌, ℕ, List, [], ◌∷◌, ◌++◌, length, ◌∙◌, ap, refl, arith}
+use Rattle.std.proofs.Common.{◌∷◌, length, refl, arith, rules}
+use Rattle.byteorder.specs.Endian.{big_bytes}
 use Rattle.fe_journal.proofs.Buffers.{group_put}
 use Rattle.fe_journal.proofs.spelling.put_group.Goals as goal
 
-pub returns-clause-bytes : goal.returns-clause-bytes
-returns-clause-bytes c =
-    let last : List ℕ = 0 ∷ [] in
-    let five : length c.group_head.result ≡ 5 = ap (λ (l : List ℕ). length l) c.group_head.ensures in
-    group_put c.args.buffer.now c.group_head.result c.args.payload.now last five refl (omega (arith, c.requires.room)) c.replace.new.buffer c.replace-2.new.buffer c.replace-3.new.buffer c.replace.ensures c.replace-2.ensures c.replace-3.ensures
-    ∙ ap (λ (l : List ℕ). l ++ (c.args.payload.now ++ last)) c.group_head.ensures
+pub returns-clause-put : goal.returns-clause-put
+returns-clause-put c =
+    group_put c.args.buffer.now (1 ∷ big_bytes 4 (length c.args.payload.now)) c.args.payload.now c.copy_from_slice.new.self c.copy_from_slice-2.new.self refl (search (rules, c.copy_from_slice.ensures.after, c.write_u32.ensures)) c.copy_from_slice-2.ensures.after (omega (arith, c.requires.room))
