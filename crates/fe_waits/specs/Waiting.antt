@@ -78,6 +78,11 @@ AreWaitingRequestsOf members slot waiting_requests =
 abbrev pub AreListedOnce : List (ℕ × (ℕ × ℕ × Op)) → Type 0
 AreListedOnce waiting_requests = AllPairs (λ a b. a.0 ≢ b.0) waiting_requests
 
+-- the list has all waiting requests of a slot, each once
+pub record ListsWaitingRequestsOf (members : FinMap pair_cmp WaitingAccess) (slot : ℕ) (waiting_requests : List (ℕ × (ℕ × ℕ × Op))) : Type 0 where
+  pub all : AreWaitingRequestsOf members slot waiting_requests
+  pub once : AreListedOnce waiting_requests
+
 -- the array is added, and the index is below its length
 abbrev pub IsWord : FinMap nat_cmp ℕ → ℕ → ℕ → Type 0
 IsWord arrays array index = (length : ℕ) × (get arrays array ≡ Some length) × (index < length)
@@ -108,6 +113,16 @@ count_of members slot = len (of_slot members slot)
 -- the requests of the other slots
 abbrev pub without_slot : FinMap pair_cmp WaitingAccess → ℕ → FinMap pair_cmp WaitingAccess
 without_slot members slot = retain_keys members (λ key. not (key.0 == slot))
+
+-- the waiting requests become these, and the arrays stay
+pub record MembersBecome (old new : Waiting) (these : FinMap pair_cmp WaitingAccess) : Type 0 where
+  pub members : new.members ≡ these
+  pub arrays : new.arrays ≡ old.arrays
+
+-- the arrays become these, and the waiting requests stay
+pub record ArraysBecome (old new : Waiting) (these : FinMap nat_cmp ℕ) : Type 0 where
+  pub arrays : new.arrays ≡ these
+  pub members : new.members ≡ old.members
 
 -- the invariant: slots are below 64, each request is on a word of an added array, a slot has at most 32 requests,
 -- there are at most 2,048 requests and at most 64 arrays, and a node represents a waiting request

@@ -1,6 +1,6 @@
 ghost use Rattle.std.specs.Prelude.{◌≡◌, ◌≢◌, ◌↔◌, ◌<◌, Some, None, IfOk, OnErr, IfSome, IsSome, IsNone, IfNone};
 ghost use Rattle.std.specs.FinMap as map;
-ghost use Rattle.fe_waits.specs.Waiting.{key_of, waiting_access_of, row_of, row_at, of_slot, count_of, without_slot, IsWord, IsNodeOn, NoneOnWord, NoneOnArray, AreWaitingRequestsOf, AreListedOnce, IsWithinLimits};
+ghost use Rattle.fe_waits.specs.Waiting.{key_of, waiting_access_of, row_of, row_at, of_slot, count_of, without_slot, IsWord, IsNodeOn, NoneOnWord, NoneOnArray, ListsWaitingRequestsOf, MembersBecome, ArraysBecome, IsWithinLimits};
 ghost use Rattle.fe_waits.specs.within.Inner.{IsNodeOfSlot};
 
 use crate::chains::Chains;
@@ -96,8 +96,7 @@ impl Waits {
     pub fn add_array(&mut self, array: u64, length: u32) -> Result<(), AllocError>
         requires new { map.get self.old.arrays array ≡ None }
         requires room { map.len self.old.arrays < 64 }
-        ensures ok { IfOk result (λ _. self.new.arrays ≡ map.insert self.old.arrays array length) }
-        ensures members { self.new.members ≡ self.old.members }
+        ensures ok { IfOk result (λ _. ArraysBecome self.old self.new (map.insert self.old.arrays array length)) }
         ensures err { OnErr result (self.new ≡ self.old) }
     {
         let chains = Chains::new(self.alloc, length as usize)?;
@@ -108,8 +107,7 @@ impl Waits {
     /// Drops an array on which nothing waits.
     pub fn drop_array(&mut self, array: u64)
         requires unused { NoneOnArray self.old.members array }
-        ensures arrays { self.new.arrays ≡ map.remove self.old.arrays array }
-        ensures members { self.new.members ≡ self.old.members }
+        ensures dropped { ArraysBecome self.old self.new (map.remove self.old.arrays array) }
     {
         let _ = self.words.remove(array);
     }
@@ -121,9 +119,8 @@ impl Waits {
         requires new { map.get self.old.members (slot, number) ≡ None }
         requires room { count_of self.old.members slot < 32 }
         requires word { IsWord self.old.arrays array index }
-        ensures added { self.new.members
-            ≡ map.insert self.old.members (slot, number) (record { array = array; index = index; op = op }) }
-        ensures arrays { self.new.arrays ≡ self.old.arrays }
+        ensures added { MembersBecome self.old self.new
+            (map.insert self.old.members (slot, number) (record { array = array; index = index; op = op })) }
     {
         let row = Row {
             slot,
@@ -165,8 +162,7 @@ impl Waits {
         requires { IsSome (row_of self.old node) }
         ensures row { row_of self.old node ≡ Some result }
         ensures member { map.get self.old.members (key_of result) ≡ Some (waiting_access_of result) }
-        ensures removed { self.new.members ≡ map.remove self.old.members (key_of result) }
-        ensures arrays { self.new.arrays ≡ self.old.arrays }
+        ensures removed { MembersBecome self.old self.new (map.remove self.old.members (key_of result)) }
     {
         let row = *self.pool.get(node);
         let mut word = chain(&self.words, row.array, row.index);
@@ -196,8 +192,7 @@ impl Waits {
         slot: u8,
     ) -> Result<Vec<(u64, (u64, u32, Op))>, AllocError>
         requires slot { slot < 64 }
-        ensures lists { IfOk result (λ list. AreWaitingRequestsOf self.now.members slot list.items) }
-        ensures once { IfOk result (λ list. AreListedOnce list.items) }
+        ensures lists { IfOk result (λ list. ListsWaitingRequestsOf self.now.members slot list.items) }
     {
         let _ = self.pool.capacity();
         let chain = self.sessions.at(slot as usize);
@@ -216,8 +211,7 @@ impl Waits {
     pub fn cancel(&mut self, slot: u8, number: u64) -> Option<Row>
         requires slot { slot < 64 }
         ensures row { result ≡ row_at self.old.members slot number }
-        ensures removed { self.new.members ≡ map.remove self.old.members (slot, number) }
-        ensures arrays { self.new.arrays ≡ self.old.arrays }
+        ensures removed { MembersBecome self.old self.new (map.remove self.old.members (slot, number)) }
     {
         let node = self.node_of(slot, number)?;
         Some(self.finish(node))
@@ -227,8 +221,7 @@ impl Waits {
     pub fn drop_session(&mut self, slot: u8) -> u32
         requires slot { slot < 64 }
         ensures count { result ≡ count_of self.old.members slot }
-        ensures removed { self.new.members ≡ without_slot self.old.members slot }
-        ensures arrays { self.new.arrays ≡ self.old.arrays }
+        ensures removed { MembersBecome self.old self.new (without_slot self.old.members slot) }
     {
         let count = self.count_of(slot);
         while let Some(node) = self.first_of(slot) {

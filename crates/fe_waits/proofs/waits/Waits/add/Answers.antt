@@ -96,17 +96,17 @@ invariant_of-self c =
     rw (c.set.ensures, c.set_chain.ensures)
     (kept-added _ _ _ _ c.self.invariant row asked.slot asked.new _ free _ took _ _ _ c.chain-word.ensures linked.changes.list linked.changes.chain linked.changes.other_chains linked.changes.other_family linked.changes.items _ _ _ c.at-session.ensures added.changes.list added.changes.chain added.length added.changes.other_chains added.changes.other_family added.changes.items asked.room few)
 
-pub returns-clause-added : goal.returns-clause-added
-returns-clause-added c =
+pub returns : goal.returns
+returns c =
     let asked = rw (← c.self.view_is) at c.requires in
     let free = rw c.unwrap-node.ensures at c.take.ensures.was_free in
     let took = rw c.unwrap-node.ensures at c.take.ensures.taken in
     let row : Row = record { slot = c.args.slot; number = c.args.number; array = c.args.array; index = c.args.index; op = c.args.op } in
     let linked = c.push_back.ensures in
     let added = c.push_back-2.ensures in
-    rw (← c.self.view_is)
-    (ap members_of (items_added _ _ _ _ c.self.invariant row asked.slot asked.new _ free _ took _ _ _ c.chain-word.ensures linked.changes.list linked.changes.chain linked.changes.other_chains linked.changes.other_family linked.changes.items _ _ _ c.at-session.ensures added.changes.list added.changes.chain added.length added.changes.other_chains added.changes.other_family added.changes.items asked.room)
-    ∙ members-added _ _ _ _ c.self.invariant row asked.slot asked.new _ free)
-
-pub returns-clause-arrays : goal.returns-clause-arrays
-returns-clause-arrays c = rw (← c.self.view_is) (ap lengths c.set_chain.ensures ∙ lengths-with _ c.args.array c.args.index c.push_back.new.chain (ap is_some c.chain-word.ensures))
+    record { added = rw (← c.self.view_is) (record {
+      members =
+          ap members_of (items_added _ _ _ _ c.self.invariant row asked.slot asked.new _ free _ took _ _ _ c.chain-word.ensures linked.changes.list linked.changes.chain linked.changes.other_chains linked.changes.other_family linked.changes.items _ _ _ c.at-session.ensures added.changes.list added.changes.chain added.length added.changes.other_chains added.changes.other_family added.changes.items asked.room)
+          ∙ members-added _ _ _ _ c.self.invariant row asked.slot asked.new _ free;
+      arrays = ap lengths c.set_chain.ensures ∙ lengths-with _ c.args.array c.args.index c.push_back.new.chain (ap is_some c.chain-word.ensures);
+    }) }

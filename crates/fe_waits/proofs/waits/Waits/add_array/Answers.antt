@@ -1,4 +1,4 @@
-use Rattle.std.proofs.Common.{ap, ◌∙◌, subst, ◌<◌, length, rules}
+use Rattle.std.proofs.Common.{refl, ap, ◌∙◌, subst, ◌<◌, length, rules}
 use Rattle.std.proofs.lemmas.List.{length-replicate}
 use Rattle.std.specs.FinMap.{insert}
 use Rattle.fe_waits.specs.within.WordChains.{lengths}
@@ -18,5 +18,7 @@ invariant_of-self c =
 
 pub returns-clause-ok : goal.returns-clause-ok
 returns-clause-ok c =
-    rw (← c.self.view_is)
-    (ap lengths c.insert.ensures.inserted ∙ lengths-insert _ _ _ ∙ ap (insert (lengths c.self.inside.words) c.args.array) (ap length c.in_ok-chains.ensures ∙ length-replicate c.args.length empty_chain))
+    rw (← c.self.view_is) (record {
+      arrays = ap lengths c.insert.ensures.inserted ∙ lengths-insert _ _ _ ∙ ap (insert (lengths c.self.inside.words) c.args.array) (ap length c.in_ok-chains.ensures ∙ length-replicate c.args.length empty_chain);
+      members = refl;
+    })

@@ -10,7 +10,7 @@ loop-node-smaller c =
     let of_slot = c.in-Some.ensures.of_slot in
     let in_slot : c.finish.result.slot ≡ c.args.slot = ap (λ (row : Row). row.slot) (some_same (sym c.finish.ensures.row ∙ of_slot.1)) ∙ of_slot.2 in
     let fewer = count-falls c.loop-node.self.members (key_of c.finish.result) _ c.finish.ensures.member in
-    rw c.finish.ensures.removed (subst (λ slot. count_of (remove c.loop-node.self.members (key_of c.finish.result)) slot < count_of c.loop-node.self.members slot) in_slot fewer)
+    rw c.finish.ensures.removed.members (subst (λ slot. count_of (remove c.loop-node.self.members (key_of c.finish.result)) slot < count_of c.loop-node.self.members slot) in_slot fewer)
 
 pub loop-node-preserved : goal.loop-node-preserved
 loop-node-preserved c =
@@ -18,11 +18,14 @@ loop-node-preserved c =
     let in_slot : c.finish.result.slot ≡ c.args.slot = ap (λ (row : Row). row.slot) (some_same (sym c.finish.ensures.row ∙ of_slot.1)) ∙ of_slot.2 in
     record {
       others =
-          ap (λ m. without_slot m c.args.slot) c.finish.ensures.removed
+          ap (λ m. without_slot m c.args.slot) c.finish.ensures.removed.members
           ∙ subst (λ slot. without_slot (remove c.loop-node.self.members (key_of c.finish.result)) slot ≡ without_slot c.loop-node.self.members slot) in_slot (without-remove c.loop-node.self.members (key_of c.finish.result))
           ∙ c.loop-node.invariant.others;
-      arrays = c.finish.ensures.arrays ∙ c.loop-node.invariant.arrays;
+      arrays = c.finish.ensures.removed.arrays ∙ c.loop-node.invariant.arrays;
     }
 
 pub returns-clause-removed : goal.returns-clause-removed
-returns-clause-removed c = sym (without-none _ _ c.in_default.ensures.none) ∙ c.loop-node.invariant.others
+returns-clause-removed c = record {
+  members = sym (without-none _ _ c.in_default.ensures.none) ∙ c.loop-node.invariant.others;
+  arrays = c.loop-node.invariant.arrays;
+}

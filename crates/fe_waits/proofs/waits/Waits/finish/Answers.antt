@@ -81,7 +81,7 @@ returns-clause-removed c =
     let one = c.unlink.ensures in
     let two = c.unlink-2.ensures in
     let same : c.give_back.result ≡ c.get-row.result.now = some_same (sym c.give_back.ensures.item ∙ row-left _ _ _ _ c.self.invariant _ _ c.get-row.ensures _ c.chain-word.ensures _ _ one.changes.list one.changes.chain one.changes.other_chains one.changes.other_family one.changes.items _ c.at-session.ensures _ _ two.changes.list two.changes.chain two.length two.changes.other_chains two.changes.other_family two.changes.items) in
-    rw (← c.self.view_is) (members-finished _ _ _ _ c.self.invariant _ _ c.get-row.ensures _ c.chain-word.ensures _ _ one.changes.list one.changes.chain one.changes.other_chains one.changes.other_family one.changes.items _ c.at-session.ensures _ _ two.changes.list two.changes.chain two.length two.changes.other_chains two.changes.other_family two.changes.items _ c.give_back.ensures.freed ∙ ap (λ (row : Row). remove (members_of c.self.inside.pool.items) (key_of row)) (sym same))
-
-pub returns-clause-arrays : goal.returns-clause-arrays
-returns-clause-arrays c = rw (← c.self.view_is) (ap lengths c.set_chain.ensures ∙ lengths-with _ c.get-row.result.now.array c.get-row.result.now.index c.unlink.new.chain (ap is_some c.chain-word.ensures))
+    rw (← c.self.view_is) (record {
+      members = members-finished _ _ _ _ c.self.invariant _ _ c.get-row.ensures _ c.chain-word.ensures _ _ one.changes.list one.changes.chain one.changes.other_chains one.changes.other_family one.changes.items _ c.at-session.ensures _ _ two.changes.list two.changes.chain two.length two.changes.other_chains two.changes.other_family two.changes.items _ c.give_back.ensures.freed ∙ ap (λ (row : Row). remove (members_of c.self.inside.pool.items) (key_of row)) (sym same);
+      arrays = ap lengths c.set_chain.ensures ∙ lengths-with _ c.get-row.result.now.array c.get-row.result.now.index c.unlink.new.chain (ap is_some c.chain-word.ensures);
+    })

@@ -29,6 +29,8 @@ loop-preserved c =
 
 pub returns : goal.returns
 returns c = record {
-  lists = rw (← c.self.view_is) (listing-all _ _ _ _ c.self.invariant _ _ _ _ _ c.loop.invariant c.loop-test.false);
-  once = c.loop.invariant.once;
+  lists = rw (← c.self.view_is) (record {
+    all = listing-all _ _ _ _ c.self.invariant _ _ _ _ _ c.loop.invariant c.loop-test.false;
+    once = c.loop.invariant.once;
+  });
 }
