@@ -3,7 +3,7 @@
 ghost use Rattle.std.specs.Prelude.{◌≡◌, ℕ, ◌≤◌, length, Err, OnOk, OnErr};
 ghost use Rattle.fe_state.specs.State.{after_all};
 ghost use Rattle.fe_state.specs.UndoLog.{empty_log, rewound, IsLogOf};
-ghost use Rattle.fe_replica.specs.Taking.{Continues, IsMismatch, IsIllegalAt, AreTaken, MakesSomeArray};
+ghost use Rattle.fe_replica.specs.Taking.{Continues, IsMismatch, MakesSomeArray};
 ghost use Rattle.fe_replica.specs.declared.taking.Refused.TheVariants.{Mismatch, NoMemory};
 
 use fe_state::{Entry, State, UndoLog};
@@ -42,31 +42,14 @@ pub fn take(
             place: state.place(),
         });
     }
-    let taken = take_each(state, log, entries);
-    if taken.is_err() {
-        state.rewind(log);
-    }
-    taken
-}
-
-/// Carries out entries up to the first that is refused.
-fn take_each(state: &mut State, log: &mut UndoLog, entries: &[Entry]) -> Result<(), Refused>
-    requires empty { log.old ≡ empty_log log.old.room }
-    requires room { length entries.now ≤ log.old.room }
-    ensures taken { OnOk result (AreTaken state.old entries.now state.new log.new) }
-    ensures log { IsLogOf log.new state.new }
-    ensures beginning { rewound log.new state.new ≡ state.old }
-    ensures room { log.new.room ≡ log.old.room }
-    ensures mismatch { (place : ℕ) → result ≡ Err (Mismatch place) → IsIllegalAt state.old entries.now place }
-    ensures memory { result ≡ Err NoMemory → MakesSomeArray entries.now }
-{
     for entry in entries {
         let Ok(effect) = state.examine(entry) else {
-            return Err(Refused::Mismatch {
-                place: state.place(),
-            });
+            let place = state.place();
+            state.rewind(log);
+            return Err(Refused::Mismatch { place });
         };
         let Ok(()) = state.apply(*entry, effect, log) else {
+            state.rewind(log);
             return Err(Refused::NoMemory);
         };
     }

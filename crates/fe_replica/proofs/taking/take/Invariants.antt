@@ -1,6 +1,6 @@
 use Rattle.std.proofs.Common.{◌≡◌, take}
 use Rattle.fe_replica.specs.Taking.{AreTaken}
-use Rattle.fe_replica.proofs.taking.take_each.Given as goal
+use Rattle.fe_replica.proofs.taking.take.Given as goal
 
 abbrev pub invariant-loop-entry : goal.invariant-loop-entry
 invariant-loop-entry l = record {
