@@ -1,5 +1,5 @@
--- What an entry, a step of the history, requires of the sessions, and the sessions after it. The floor of a session is the least request
--- number that it may still use, and its window the 32 numbers from there on. The answer to a used number is kept (`docs/model.md`).
+-- What an entry, a step of the history, requires of the sessions, and the sessions after it. The window of a session is the 32 request
+-- numbers from its floor on. It may use each of them once, and the answer to a used one is kept (`docs/model.md`).
 use Rattle.std.specs.Prelude.{◌≡◌, ℕ, ◌<◌, Option, None, IsSome, IsSomeAnd, MatchOption}
 use Rattle.std.specs.Option.{option_map}
 use Rattle.std.specs.Ordering.{nat_cmp}

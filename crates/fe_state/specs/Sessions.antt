@@ -1,5 +1,6 @@
 -- Sessions. A client numbers its requests in a session, so that one it repeats takes effect once. A session has a
--- floor, its least usable number, and the answers kept for its numbers (`docs/model.md`, "The state of the server").
+-- window of numbers, the least of which is its floor, and keeps the answer of each number of the window that was used
+-- (`docs/model.md`, "The state of the server").
 use Rattle.std.specs.Prelude.{ℕ, ◌+◌, ◌≤◌, ◌<◌, nat_le, refl, Option, Some, None, if◌then◌else◌}
 use Rattle.std.specs.Ordering.{nat_cmp}
 use Rattle.std.specs.Coded.{Coded, code_by, coded×, coded_ℕ}
@@ -22,7 +23,7 @@ session_code =
 abbrev pub first_session : Session
 first_session = record { floor = 1; kept = empty }
 
--- the numbers that a session may use are those of its window, from its floor on
+-- the window of a session: 32 numbers from its floor on, each of which it may use once
 pub record IsInWindow (floor number : ℕ) : Type 0 where
   pub not_below : floor ≤ number
   pub not_beyond : number < floor + window_length

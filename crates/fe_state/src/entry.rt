@@ -16,7 +16,7 @@ pub enum Entry {
     Closed {
         session: u64,
     },
-    /// The least usable number of the session rose to the floor.
+    /// The floor of the session, the least number of its window, rose to this one.
     Settled {
         session: u64,
         floor: u64,

@@ -18,8 +18,8 @@ use fe_table::Copied;
 use std::alloc::{AllocError, Global};
 use std::marker::Model;
 
-/// A session: its floor, which is its least usable number, and what is kept for the numbers of its window, from the
-/// floor on. It owns no allocated memory.
+/// A session: its floor, and what is kept for the numbers of its window, which are the `WINDOW` numbers from the floor
+/// on. A number of the window is usable while nothing is kept for it. It owns no allocated memory.
 #[derive(Drop)]
 pub struct Session {
     pub(crate) floor: u64,
@@ -61,7 +61,7 @@ impl Session {
         }
     }
 
-    /// The least usable number, 1 to `GREATEST_FLOOR`.
+    /// The least number of the window, 1 to `GREATEST_FLOOR`.
     pub fn floor(&self) -> u64
         ensures floor { result ≡ self.now.floor }
         ensures least { 1 ≤ self.now.floor }

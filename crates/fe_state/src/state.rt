@@ -277,7 +277,7 @@ impl State {
         self.sessions.get(session)?.kept(number)
     }
 
-    /// The least usable number of a session.
+    /// The floor of a session, which is the least number of its window.
     pub fn floor(&self, session: u64) -> Option<u64>
         ensures { result ≡ option_map (λ x. x.floor) (get self.now.sessions session) }
     {

@@ -23,7 +23,7 @@ held cells floor (suc n) = with_cell (held cells floor n) (floor + n) (cell_of c
 abbrev pub window_of : {X : Type 0} → List (Option X) → ℕ → FinMap nat_cmp X
 window_of cells floor = held cells floor window_length
 
--- a floor within its limits, and a cell for each number of the window
+-- a ring: the cells of a session, one for each number of its window, beside a floor from 1 to the greatest
 pub record IsRing {X : Type 0} (floor : ℕ) (cells : List (Option X)) : Type 0 where
   pub least : 1 ≤ floor
   pub most : floor ≤ greatest_floor
