@@ -3,12 +3,11 @@
 //! A server names or removes `PATH.new` only while it has the lock of that file and has seen that the name leads to it. So two
 //! servers that start at once never remove or name each other's file.
 
-ghost use Rattle.std.specs.Prelude.{◌≡◌, ◌⊎◌, length, IfOk, IfErr};
+ghost use Rattle.std.specs.Prelude.{◌≡◌, length};
 ghost use Rattle.fe_disk.specs.FileDisk.{file_size};
 ghost use Rattle.fe_journal.specs.Layout.{device_bytes};
-ghost use Rattle.fe_store.specs.declared.fault.OpenFault.TheVariants as fault;
 
-use crate::fault::OpenFault;
+use crate::fault::{BesideFault, OpenFault};
 use crate::fresh::is_spare;
 use crate::opening::open_on;
 use fe_disk::{Disk, FileDisk, add_name, remove_name};
@@ -30,23 +29,19 @@ pub(crate) fn make<R: Files<File = File>>(
     rt: &R,
     alloc: Global,
     path: &str,
-) -> Result<(), OpenFault>
-    ensures faults { IfErr result (λ e. (e ≡ fault.Device) ⊎ (e ≡ fault.Memory)) }
-{
+) -> Result<(), BesideFault> {
     let new = beside(alloc, path, NEW)?;
     clear(rt, alloc, path, new.as_str(), &[])?;
-    let disk = made(rt, new.as_str())?;
+    let disk = FileDisk::create(rt, new.as_str(), DEVICE_BYTES)?;
     match open_on(alloc, disk, true) {
         Ok(keeper) => {
             let named = renamed(rt, new.as_str(), path);
             drop(keeper);
-            match named {
-                Ok(_) => Ok(()),
-                Err(_) => Err(OpenFault::Device),
-            }
+            named?;
+            Ok(())
         }
-        Err((OpenFault::Memory, _)) => Err(OpenFault::Memory),
-        Err(_) => Err(OpenFault::Device),
+        Err((OpenFault::Memory, _)) => Err(BesideFault::Memory),
+        Err(_) => Err(BesideFault::Device),
     }
 }
 
@@ -57,10 +52,9 @@ pub(crate) fn keep<R: Files<File = File>>(
     alloc: Global,
     path: &str,
     disk: &mut FileDisk,
-) -> Result<(), OpenFault>
+) -> Result<(), BesideFault>
     requires size { file_size disk.old ≡ device_bytes }
     ensures size { file_size disk.new ≡ device_bytes }
-    ensures faults { IfErr result (λ e. (e ≡ fault.Device) ⊎ (e ≡ fault.Memory)) }
 {
     let mut bytes = vec![in alloc; 0; DEVICE_BYTES]?;
     disk.read_at(0, &mut bytes)?;
@@ -73,7 +67,7 @@ pub(crate) fn keep<R: Files<File = File>>(
         Err(error) if error.kind() == ErrorKind::NotFound => {
             copy(rt, alloc, path, kept.as_str(), &bytes)
         }
-        Err(_) => Err(OpenFault::Device),
+        Err(_) => Err(BesideFault::Device),
     }
 }
 
@@ -92,30 +86,28 @@ fn clear<R: Files<File = File>>(
     path: &str,
     new: &str,
     others: &[u8],
-) -> Result<(), OpenFault>
-    ensures faults { IfErr result (λ e. (e ≡ fault.Device) ⊎ (e ≡ fault.Memory)) }
-{
+) -> Result<(), BesideFault> {
     let found = match fs::symlink_metadata(rt, new) {
         Ok(found) if found.is_file() && found.len() <= DEVICE_BYTES as u64 => found,
         Err(error) if error.kind() == ErrorKind::NotFound => return Ok(()),
-        _ => return Err(OpenFault::Device),
+        _ => return Err(BesideFault::Device),
     };
     let kept = beside(alloc, path, KEPT)?;
     if is_at(rt, path, &found) || is_at(rt, kept.as_str(), &found) {
-        return removed(rt, new);
+        remove_name(rt, new)?;
+        return Ok(());
     }
-    let Ok(mut disk) = FileDisk::at(rt, new, found.len() as usize) else {
-        return Err(OpenFault::Device);
-    };
+    let mut disk = FileDisk::at(rt, new, found.len() as usize)?;
     disk.sync()?;
     let mut bytes = vec![in alloc; 0; disk.size()]?;
     disk.read_at(0, &mut bytes)?;
     if !is_spare(&bytes, others) {
-        return Err(OpenFault::Device);
+        return Err(BesideFault::Device);
     }
-    let removed = removed(rt, new);
+    let removed = remove_name(rt, new);
     drop(disk);
-    removed
+    removed?;
+    Ok(())
 }
 
 /// Whether the path leads to this file.
@@ -126,15 +118,6 @@ fn is_at<R: Files<File = File>>(rt: &R, path: &str, file: &Metadata) -> bool {
     }
 }
 
-fn removed<R: Files<File = File>>(rt: &R, name: &str) -> Result<(), OpenFault>
-    ensures faults { IfErr result (λ e. e ≡ fault.Device) }
-{
-    match remove_name(rt, name) {
-        Ok(()) => Ok(()),
-        Err(_) => Err(OpenFault::Device),
-    }
-}
-
 /// Keeps these bytes in a new file, which appears whole or not at all.
 fn copy<R: Files<File = File>>(
     rt: &R,
@@ -142,20 +125,19 @@ fn copy<R: Files<File = File>>(
     path: &str,
     kept: &str,
     bytes: &[u8],
-) -> Result<(), OpenFault>
+) -> Result<(), BesideFault>
     requires { length bytes.now ≡ device_bytes }
-    ensures faults { IfErr result (λ e. (e ≡ fault.Device) ⊎ (e ≡ fault.Memory)) }
 {
     let new = beside(alloc, path, NEW)?;
     clear(rt, alloc, path, new.as_str(), bytes)?;
-    let mut disk = made(rt, new.as_str())?;
+    let mut disk = FileDisk::create(rt, new.as_str(), DEVICE_BYTES)?;
     disk.write_at(0, bytes)?;
     disk.sync()?;
     let named = renamed(rt, new.as_str(), kept);
     drop(disk);
     match named {
         Ok(true) => Ok(()),
-        _ => Err(OpenFault::Device),
+        _ => Err(BesideFault::Device),
     }
 }
 
@@ -165,29 +147,14 @@ fn compare<R: Files<File = File>>(
     alloc: Global,
     kept: &str,
     bytes: &[u8],
-) -> Result<(), OpenFault>
-    ensures faults { IfErr result (λ e. (e ≡ fault.Device) ⊎ (e ≡ fault.Memory)) }
-{
-    let Ok(mut disk) = FileDisk::read_only(rt, kept, DEVICE_BYTES) else {
-        return Err(OpenFault::Device);
-    };
+) -> Result<(), BesideFault> {
+    let mut disk = FileDisk::read_only(rt, kept, DEVICE_BYTES)?;
     let mut others = vec![in alloc; 0; DEVICE_BYTES]?;
     disk.read_at(0, &mut others)?;
     if is_spare(bytes, &others) {
         Ok(())
     } else {
-        Err(OpenFault::Device)
-    }
-}
-
-/// A disk over a new file of zeros, of a store's size.
-fn made<R: Files<File = File>>(rt: &R, new: &str) -> Result<FileDisk, OpenFault>
-    ensures size { IfOk result (λ disk. file_size disk ≡ device_bytes) }
-    ensures faults { IfErr result (λ e. e ≡ fault.Device) }
-{
-    match FileDisk::create(rt, new, DEVICE_BYTES) {
-        Ok(disk) => Ok(disk),
-        Err(_) => Err(OpenFault::Device),
+        Err(BesideFault::Device)
     }
 }
 

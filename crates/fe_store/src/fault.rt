@@ -5,6 +5,7 @@ ghost use Rattle.fe_store.specs.within.Faults.{IsOpenFaultOf};
 use fe_disk::{DeviceFault, FileFault};
 use fe_keeper::Fault;
 use std::alloc::AllocError;
+use std::io;
 
 /// Why a store is not opened.
 #[derive(Clone, Copy, PartialEq, Eq)]
@@ -55,6 +56,53 @@ impl From<DeviceFault> for OpenFault {
 
     fn from(_: DeviceFault) -> OpenFault {
         OpenFault::Device
+    }
+}
+
+/// Why a file next to a store is not made, kept or removed.
+#[derive(Clone, Copy, PartialEq, Eq)]
+pub(crate) enum BesideFault {
+    /// A file was not read, written, named or removed, or holds other bytes.
+    Device,
+    /// Memory ran out.
+    Memory,
+}
+
+impl From<AllocError> for BesideFault {
+    fn from(_: AllocError) -> BesideFault {
+        BesideFault::Memory
+    }
+}
+
+impl From<DeviceFault> for BesideFault {
+    fn from(_: DeviceFault) -> BesideFault {
+        BesideFault::Device
+    }
+}
+
+impl From<FileFault> for BesideFault {
+    fn from(_: FileFault) -> BesideFault {
+        BesideFault::Device
+    }
+}
+
+impl From<io::Error> for BesideFault {
+    fn from(_: io::Error) -> BesideFault {
+        BesideFault::Device
+    }
+}
+
+impl From<BesideFault> for OpenFault {
+    ghost use Rattle.std.specs.Prelude.{◌≡◌, ◌⊎◌};
+    ghost use Rattle.fe_store.specs.declared.fault.OpenFault.TheVariants.{Device, Memory};
+
+    ghost from_gives = { λ _ fault. (fault ≡ Device) ⊎ (fault ≡ Memory) };
+
+    fn from(before: BesideFault) -> OpenFault {
+        match before {
+            BesideFault::Device => OpenFault::Device,
+            BesideFault::Memory => OpenFault::Memory,
+        }
     }
 }
 
