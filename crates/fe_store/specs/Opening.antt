@@ -1,13 +1,17 @@
 -- What opening a store returns. An image is the list of all bytes of a disk (`docs/store.md`, "The file").
-use Rattle.std.specs.Prelude.{◌≡◌, ◌⊎◌, ℕ, Bool, true, List, Result, Ok, Err}
+use Rattle.std.specs.Prelude.{◌≡◌, ◌≢◌, ◌⊎◌, ◌↔◌, ℕ, Bool, true, List, Result, Ok, Err, IfOk, IfErr, IsErrOf}
 use Rattle.fe_state.specs.State.{ServerState, first_state}
 use Rattle.fe_journal.specs.Damage.{IsUnformatted}
+use Rattle.fe_journal.specs.Layout.{device_bytes}
 use Rattle.fe_keeper.specs.Damage.{IsDamagedAt}
 use Rattle.fe_keeper.specs.Keeper.{KeeperState}
+use Rattle.fe_keeper.specs.Opened.{IsReady}
 use Rattle.fe_keeper.specs.Stands.{StandsFor, EachStandsFor}
 use Rattle.fe_store.specs.declared.fault.OpenFault.{OpenFault}
 use Rattle.fe_store.specs.declared.fault.OpenFault.TheVariants as fault
+use Rattle.fe_disk.specs.FileDisk.{file_size}
 use Rattle.fe_disk.specs.declared.disk.Disk.{Ghosts}
+use Rattle.fe_disk.specs.declared.file_disk.FileDisk.{FileDisk}
 
 -- the image holds no store, and a new one is asked for
 abbrev pub IsToFormat : List ℕ → Bool → Type 0
@@ -39,3 +43,17 @@ TellsImage other image = Unit {0}
 pub record IsReason (image : List ℕ) (why : OpenFault) : Type 0 where
   pub tells : TellsImage why image
   pub valid : (s : ServerState) → StandsFor image s → (why ≡ fault.Device) ⊎ (why ≡ fault.Memory)
+
+-- How opening the store on a disk ends: the keeper is ready, or the fault is true of what an honest disk reads, and is not `Size`. The
+-- disk stays honest, or not, and has its size.
+pub record EndsOpening {D : Type 0} (model : Ghosts D) (disk : D) (result : Result (KeeperState D) (OpenFault × D)) : Type 0 where
+  pub ready : IfOk result IsReady
+  pub reason : model.honest disk → IfErr result (λ e. IsReason (model.seen disk) e.0)
+  pub sized : IfErr result (λ e. (found : ℕ) → e.0 ≢ fault.Size found)
+  pub honesty : model.honest (disk_after result) ↔ model.honest disk
+  pub size : model.size (disk_after result) ≡ model.size disk
+
+-- A disk over the file of a store has the size of a store. The size of the file is reported only if it is another.
+pub record OpensStoreFile (result : Result FileDisk OpenFault) : Type 0 where
+  pub size : IfOk result (λ disk. file_size disk ≡ device_bytes)
+  pub wrong : (found : ℕ) → IsErrOf result (fault.Size found) → found ≢ device_bytes

@@ -1,8 +1,8 @@
 //! Opening the store in a file, which is made or formatted if that is asked for (`docs/store.md`, "The file").
 
 ghost use Rattle.std.specs.Prelude.{◌≡◌, ◌≢◌, ℕ, false, IfOk, IsErrOf, None};
-ghost use Rattle.fe_disk.specs.FileDisk.{file_size};
 ghost use Rattle.fe_journal.specs.Layout.{device_bytes};
+ghost use Rattle.fe_store.specs.Opening.{OpensStoreFile};
 ghost use Rattle.fe_store.specs.declared.fault.OpenFault.TheVariants as fault;
 
 use crate::beside::{keep, make, tidy};
@@ -33,28 +33,14 @@ pub fn open_store<R: Files<File = File>>(
     tidy(rt, alloc, path);
     match open_on(alloc, disk, false) {
         Ok(keeper) => Ok(keeper),
-        Err((OpenFault::Unformatted, disk)) if format => formatted(rt, alloc, path, disk),
-        Err((fault, _)) => Err(fault),
-    }
-}
-
-/// Formats the store on a disk, once its bytes are kept.
-fn formatted<R: Files<File = File>>(
-    rt: &R,
-    alloc: Global,
-    path: &str,
-    disk: FileDisk,
-) -> Result<Keeper<FileDisk>, OpenFault>
-    requires size { file_size disk ≡ device_bytes }
-    ensures works { IfOk result (λ keeper. keeper.store.has_failed ≡ false) }
-    ensures none_under_way { IfOk result (λ keeper. keeper.store.checkpoint ≡ None) }
-    ensures sized { (found : ℕ) → IsErrOf result (fault.Size found) → ⊥ }
-    ensures unformatted { IsErrOf result fault.Unformatted → ⊥ }
-{
-    let mut disk = disk;
-    keep(rt, alloc, path, &mut disk)?;
-    match open_on(alloc, disk, true) {
-        Ok(keeper) => Ok(keeper),
+        Err((OpenFault::Unformatted, disk)) if format => {
+            let mut disk = disk;
+            keep(rt, alloc, path, &mut disk)?;
+            match open_on(alloc, disk, true) {
+                Ok(keeper) => Ok(keeper),
+                Err((fault, _)) => Err(fault),
+            }
+        }
         Err((fault, _)) => Err(fault),
     }
 }
@@ -66,8 +52,7 @@ fn disk_at<R: Files<File = File>>(
     path: &str,
     format: bool,
 ) -> Result<FileDisk, OpenFault>
-    ensures size { IfOk result (λ disk. file_size disk ≡ device_bytes) }
-    ensures wrong { (found : ℕ) → IsErrOf result (fault.Size found) → found ≢ device_bytes }
+    ensures store { OpensStoreFile result }
     ensures formatted { IsErrOf result fault.Unformatted → ⊥ }
 {
     match FileDisk::at(rt, path, DEVICE_BYTES) {
@@ -82,8 +67,7 @@ fn disk_at<R: Files<File = File>>(
 /// The disk over the file of a store, for reading only. The file need not be writable, every write fails, and others may write the
 /// file meanwhile. `Device` if there is no such file or it can't be read, and `Size` if it has another size.
 pub fn disk_to_read<R: Files<File = File>>(rt: &R, path: &str) -> Result<FileDisk, OpenFault>
-    ensures size { IfOk result (λ disk. file_size disk ≡ device_bytes) }
-    ensures wrong_size { (found : ℕ) → IsErrOf result (fault.Size found) → found ≢ device_bytes }
+    ensures store { OpensStoreFile result }
 {
     Ok(FileDisk::read_only(rt, path, DEVICE_BYTES)?)
 }

@@ -1,15 +1,13 @@
 //! Opening the store on a disk, or making a new one there.
 
-ghost use Rattle.std.specs.Prelude.{◌≡◌, ◌≢◌, ◌⊎◌, ◌↔◌, ℕ, false, IfOk, IfErr};
+ghost use Rattle.std.specs.Prelude.{◌≡◌, false, IfOk, IfErr};
 ghost use Rattle.fe_disk.specs.Runs.{without_disk};
-ghost use Rattle.fe_state.specs.State.{first_state};
 ghost use Rattle.fe_journal.specs.Found.{AsksToOpen};
 ghost use Rattle.fe_journal.specs.Layout.{device_bytes};
 ghost use Rattle.fe_journal.specs.Steps.{OnlyReads};
 ghost use Rattle.fe_keeper.specs.Damage.{MayLackMemory};
-ghost use Rattle.fe_keeper.specs.Opened.{IsOpenedFrom, IsReady};
-ghost use Rattle.fe_keeper.specs.Stands.{EachStandsFor};
-ghost use Rattle.fe_store.specs.Opening.{IsToFormat, IsReason, IsOpenedAs, disk_after};
+ghost use Rattle.fe_keeper.specs.Opened.{IsOpenedFrom};
+ghost use Rattle.fe_store.specs.Opening.{IsToFormat, IsOpenedAs, EndsOpening, disk_after};
 ghost use Rattle.fe_store.specs.declared.fault.OpenFault.TheVariants as fault;
 
 use crate::fault::{OpenFault, open_fault_of};
@@ -21,9 +19,9 @@ use std::alloc::Global;
 pub fn open_existing<D: Disk>(alloc: Global, disk: D) -> Result<Keeper<D>, (OpenFault, D)>
     // What is read of the disk stands for the keeper's state, and so does each image that a stop may leave.
     ensures opened { D.honest disk → IfOk result (IsOpenedFrom D.Disk (D.seen disk)) }
-    // `Unformatted` and `Damaged` are reported only of a disk that is so. A store that stands for a state is refused only if
-    // the device fails or memory runs out.
-    ensures refused { D.honest disk → IfErr result (λ e. IsReason (D.seen disk) e.0) }
+    // The keeper is ready. `Unformatted` and `Damaged` are reported only of a disk that is so. A store that stands for a state
+    // is refused only if the device fails or memory runs out.
+    ensures ends { EndsOpening D.Disk disk result }
     // Memory runs out only if the header of the slot that counts is right and, once the whole store is read, also the
     // lengths of its groups and the first fields of its image.
     ensures memory { D.honest disk
@@ -31,11 +29,8 @@ pub fn open_existing<D: Disk>(alloc: Global, disk: D) -> Result<Keeper<D>, (Open
     // No stop leaves what could not be left before, and what is read stays the same.
     ensures reads { D.honest disk → OnlyReads D.Disk disk (disk_after result) }
 
-    // These hold of any disk.
-    ensures ready { IfOk result IsReady }
     ensures device { AsksToOpen D.Disk fault.Device (without_disk result) disk
         (disk_after result) }
-    ensures sized { IfErr result (λ e. (found : ℕ) → e.0 ≢ fault.Size found) }
 {
     match Keeper::open(alloc, disk) {
         Ok(keeper) => Ok(keeper),
@@ -48,40 +43,22 @@ pub fn open_existing<D: Disk>(alloc: Global, disk: D) -> Result<Keeper<D>, (Open
 pub fn open_on<D: Disk>(alloc: Global, disk: D, format: bool) -> Result<Keeper<D>, (OpenFault, D)>
     // The keeper has the state that the disk stands for, or that of a new store if there was none and one was asked for.
     ensures opened { D.honest disk → IfOk result (IsOpenedAs D.Disk (D.seen disk) format) }
-    // `Unformatted` and `Damaged` are reported only of a disk that is so. A store that stands for a state is refused only if
-    // the device fails or memory runs out.
-    ensures refused { D.honest disk → IfErr result (λ e. IsReason (D.seen disk) e.0) }
+    // The keeper is ready. `Unformatted` and `Damaged` are reported only of a disk that is so. A store that stands for a state
+    // is refused only if the device fails or memory runs out.
+    ensures ends { EndsOpening D.Disk disk result }
     // Unless the disk is unformatted and `format` is set, no stop leaves what could not be left before, and what is read
     // stays the same.
     ensures reads { D.honest disk → (IsToFormat (D.seen disk) format → ⊥)
         → OnlyReads D.Disk disk (disk_after result) }
 
-    // These hold of any disk.
-    ensures ready { IfOk result IsReady }
-    ensures sized { IfErr result (λ e. (found : ℕ) → e.0 ≢ fault.Size found) }
     // A disk of a store's size is reported as unformatted only if no format was asked for.
     ensures unformatted { D.size disk ≡ device_bytes → IfErr result (λ e. e.0 ≡ fault.Unformatted → format ≡ false) }
-    ensures honesty { D.honest (disk_after result) ↔ D.honest disk }
-    ensures size { D.size (disk_after result) ≡ D.size disk }
 {
     match open_existing(alloc, disk) {
-        Err((OpenFault::Unformatted, disk)) if format => made_on(alloc, disk),
+        Err((OpenFault::Unformatted, disk)) if format => match Keeper::format(alloc, disk) {
+            Ok(keeper) => Ok(keeper),
+            Err((fault, disk)) => Err((open_fault_of(fault), disk)),
+        },
         opened => opened,
-    }
-}
-
-/// Makes a new store on a disk, whatever was there.
-fn made_on<D: Disk>(alloc: Global, disk: D) -> Result<Keeper<D>, (OpenFault, D)>
-    ensures state { IfOk result (λ keeper. keeper.state ≡ first_state) }
-    ensures stands { D.honest disk → IfOk result (λ keeper. EachStandsFor D.Disk keeper.store.disk keeper.state) }
-    ensures ready { IfOk result IsReady }
-    ensures faults { IfErr result (λ e. (e.0 ≡ fault.Device) ⊎ ((e.0 ≡ fault.Memory) ⊎ (e.0 ≡ fault.Unformatted))) }
-    ensures unformatted { IfErr result (λ e. e.0 ≡ fault.Unformatted → D.size disk ≢ device_bytes) }
-    ensures honesty { D.honest (disk_after result) ↔ D.honest disk }
-    ensures size { D.size (disk_after result) ≡ D.size disk }
-{
-    match Keeper::format(alloc, disk) {
-        Ok(keeper) => Ok(keeper),
-        Err((fault, disk)) => Err((open_fault_of(fault), disk)),
     }
 }

@@ -40,7 +40,7 @@ returns-in-Ok-clause-front g c = record { state = c.state.result.now; count = c.
 pub returns-in-Err-clause-refused : goal.returns-in-Err-clause-refused
 returns-in-Err-clause-refused g c honest why is =
     let same : c.in-Err.fault ≡ why = cc is in
-    subst (λ (f : OpenFault). IsReason (g.D.Disk.seen c.args.disk) f) same (c.in-Err.ensures.refused honest)
+    subst (λ (f : OpenFault). IsReason (g.D.Disk.seen c.args.disk) f) same (c.in-Err.ensures.ends.reason honest)
 
 pub returns-in-Err-clause-memory : goal.returns-in-Err-clause-memory
 returns-in-Err-clause-memory g c honest is = c.in-Err.ensures.memory honest (cc is)

@@ -8,6 +8,7 @@ use Rattle.fe_store.specs.declared.fault.OpenFault.TheVariants as fault
 use Rattle.fe_keeper.specs.Damage.{TellsStore}
 use Rattle.fe_store.specs.Opening.{TellsImage}
 use Rattle.fe_store.specs.within.Faults.{IsOpenFaultOf}
+use Rattle.fe_store.proofs.Faults.{not_sized}
 use Rattle.fe_store.proofs.opening.open_existing.Goals as goal
 
 -- only the device or memory is reported
@@ -46,10 +47,17 @@ pub returns-in-Err-clause-memory : goal.returns-in-Err-clause-memory
 returns-in-Err-clause-memory g c honest is =
     subst (λ (e : keeper.Fault). TellsStore e (g.D.Disk.seen c.args.disk) (g.D.Disk.calls c.args.disk) (g.D.Disk.calls c.in-Err.disk)) (memory_of _ _ c.open_fault_of.ensures is) (c.in-Err.ensures.refused honest).tells
 
-pub returns-in-Err-clause-refused : goal.returns-in-Err-clause-refused
-returns-in-Err-clause-refused g c honest =
-    let reason = c.in-Err.ensures.refused honest in
-    record { tells = tells _ _ _ _ _ c.open_fault_of.ensures reason.tells; valid = λ s stands. told _ _ c.open_fault_of.ensures (reason.valid s stands) }
+pub returns-in-Err-clause-ends : goal.returns-in-Err-clause-ends
+returns-in-Err-clause-ends g c =
+    record {
+      ready = tt;
+      reason = λ honest.
+          let reason = c.in-Err.ensures.refused honest in
+          record { tells = tells _ _ _ _ _ c.open_fault_of.ensures reason.tells; valid = λ s stands. told _ _ c.open_fault_of.ensures (reason.valid s stands) };
+      sized = λ found. not_sized _ _ found c.open_fault_of.ensures;
+      honesty = c.in-Err.ensures.device.honesty;
+      size = c.in-Err.ensures.device.same_size;
+    }
 
 pub returns-in-Err-clause-device : goal.returns-in-Err-clause-device
 returns-in-Err-clause-device g c =
@@ -60,3 +68,7 @@ returns-in-Err-clause-device g c =
 pub returns-in-Ok-clause-device : goal.returns-in-Ok-clause-device
 returns-in-Ok-clause-device g c =
     opens_as g.D.Disk store.Device fault.Device _ _ c.args.disk c.in-Ok.keeper.store.disk c.in-Ok.ensures.device (λ is. cc) (λ is. cc)
+
+pub returns-in-Ok-clause-ends : goal.returns-in-Ok-clause-ends
+returns-in-Ok-clause-ends g c =
+    record { ready = c.in-Ok.ensures.ready; reason = λ honest. tt; sized = tt; honesty = c.in-Ok.ensures.device.honesty; size = c.in-Ok.ensures.device.same_size }
