@@ -1,6 +1,6 @@
 -- What the events of the front leave of a service: the state, the sessions' attachments, and what waits.
 -- See `docs/model.md`, "The service".
-use Rattle.std.specs.Prelude.{◌≡◌, ℕ, ◌+◌, ◌<◌, ◌≤◌, List, [], ◌∷◌, ◌++◌, length, false, Option, Some, None, IsSomeAnd}
+use Rattle.std.specs.Prelude.{◌≡◌, ℕ, ◌+◌, ◌<◌, ◌≤◌, List, [], ◌∷◌, ◌++◌, length, false, Option, Some, None, IsSome, IsSomeAnd}
 use Rattle.std.specs.Option.{option_map, option_map_or}
 use Rattle.std.specs.Ordering.{nat_cmp}
 use Rattle.std.specs.FinMap.{FinMap, get, insert, remove, len}
@@ -9,7 +9,11 @@ use Rattle.fe_service.specs.AttachmentsState.{without_session, with_holder, with
 use Rattle.fe_service.specs.declared.attachment.Attachment.{Attachment}
 use Rattle.fe_state.specs.Sessions.{Session, MayRise}
 use Rattle.fe_state.specs.SessionEffect.{IsUsable}
-use Rattle.fe_state.specs.State.{after}
+use Rattle.fe_state.specs.Effect.{effect_of}
+use Rattle.fe_state.specs.State.{after, directory_of, reply}
+use Rattle.fe_state.specs.declared.answer.Answer.{Answer}
+use Rattle.fe_state.specs.declared.effect.Effect.{Effect}
+use Rattle.fe_state.specs.declared.request.Request.{Request}
 use Rattle.fe_state.specs.declared.entry.Entry.{Entry}
 use Rattle.fe_state.specs.declared.entry.Entry.TheVariants.{Attached, Closed, Settled}
 use Rattle.fe_service.specs.Service.{Serves}
@@ -25,6 +29,14 @@ pub record IsFree (s : ServiceState) (session number : ℕ) : Type 0 where
 pub record HasRoom (s : ServiceState) : Type 0 where
   pub places : s.state.place + most_event_entries ≤ greatest_place
   pub few : length s.pending ≤ most_waiting
+
+-- a request may complete now with this answer and this effect: its number is free, they are the reply and the effect
+-- that it has, and there is room for the entries
+pub record MayComplete (s : ServiceState) (session number : ℕ) (request : Request) (answer : Answer) (effect : Effect) : Type 0 where
+  pub free : IsFree s session number
+  pub answered : reply s.state request ≡ Some answer
+  pub changes : effect_of (directory_of s.state) request ≡ effect
+  pub room : HasRoom s
 
 -- the event makes an entry of its own, and then those of the waiting requests that it lets be served
 pub record Completes (old new : ServiceState) (own : Entry) (served : List Entry) : Type 0 where
@@ -72,15 +84,27 @@ left s session = record s { attachments = remove s.attachments session }
 abbrev pub waited : ServiceState → ℕ → ℕ → WaitingAccess → ServiceState
 waited s session number waiter = record s { waiting = insert s.waiting (session, number) waiter }
 
--- a session may settle at this floor: the floor may rise to it, and all requests that wait have that number or a greater one
+-- a session may settle at this floor now: the floor may rise to it, all requests that wait have that number or a greater
+-- one, and there is room for the entry
 pub record MaySettle (s : ServiceState) (session floor : ℕ) : Type 0 where
   pub rises : IsSomeAnd (get s.state.sessions session) (λ x. MayRise x.floor floor)
   pub above : (number : ℕ) (w : WaitingAccess) → get s.waiting (session, number) ≡ Some w → floor ≤ number
+  pub room : HasRoom s
 
 -- a session has an attachment, or there is room for one, and it is not closing
 pub record IsAttachable (s : ServiceState) (session : ℕ) : Type 0 where
   pub not_closing : is_closing s.attachments session ≡ false
   pub attachment : get s.attachments session ≡ None → len s.attachments < most_sessions
+
+-- a session may be attached now: it is attachable, and there is room for the entry
+pub record MayAttach (s : ServiceState) (session : ℕ) : Type 0 where
+  pub attachable : IsAttachable s session
+  pub room : HasRoom s
+
+-- a session may be closed now: it is in the state, and there is room for the entry
+pub record MayClose (s : ServiceState) (session : ℕ) : Type 0 where
+  pub exists : IsSome (get s.state.sessions session)
+  pub room : HasRoom s
 
 -- each session of the state has an attachment that no connection has, and no other session has one
 abbrev pub AreFreeAttachments : FinMap nat_cmp Session → FinMap nat_cmp Attachment → Type 0

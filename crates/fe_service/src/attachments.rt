@@ -1,7 +1,8 @@
 ghost use Rattle.std.specs.Prelude.{◌≡◌, ◌↔◌, ◌<◌, ◌≤◌, Some, None, false, IfOk, IfSome, IsSome, IsNone};
 ghost use Rattle.std.specs.FinMap as map;
-ghost use Rattle.fe_waits.specs.Waiting.{IsWord, NoneOnWord, AreWaitingRequestsOf, AreListedOnce};
-ghost use Rattle.fe_service.specs.AttachmentsState.{is_closing, waiting_request_at, count_of, without_session, IsRequestOn, IsWithinLimits};
+ghost use Rattle.fe_waits.specs.Waiting.{IsWord, NoneOnWord, ListsWaitingRequestsOf};
+ghost use Rattle.fe_service.specs.AttachmentsState.{is_closing, waiting_request_at, count_of, IsRequestOn, IsWithinLimits};
+ghost use Rattle.fe_service.specs.within.Attaching.{AttachmentsBecome, DropsRequests};
 ghost use Rattle.fe_state.specs.Limits.{most_sessions, window_length};
 
 use crate::attachment::Attachment;
@@ -17,7 +18,7 @@ use std::alloc::{AllocError, Global};
 use std::marker::Model;
 
 /// The number of guesses at the position of a session.
-const GUESSES: usize = 256;
+pub(crate) const GUESSES: usize = 256;
 
 /// The attachments of the sessions, and the requests that wait, each on a word and in its session.
 ///
@@ -30,7 +31,7 @@ pub struct Attachments {
     /// The slots that no session has.
     pub(crate) slots: Vec<u8>,
     /// The position where a session was found last, in the cell of its number's remainder. Any position is good.
-    guesses: [usize; GUESSES],
+    pub(crate) guesses: [usize; GUESSES],
 }
 
 impl Drop for Attachments {
@@ -109,26 +110,12 @@ impl Attachments {
         Some(occupant.attachment)
     }
 
-    /// Looks for a session and returns its position in the order of the numbers. The look-ups of the session that
-    /// follow take one comparison each. For a session without an attachment it returns any position.
-    pub(crate) fn aim(&mut self, session: u64) -> usize
-        ensures { self.new ≡ self.old }
-    {
-        let cell = (session % GUESSES as u64) as usize;
-        let guess = self.guesses[cell];
-        let position = self.occupants.aim(session, guess);
-        self.guesses[cell] = position;
-        position
-    }
-
     /// Begins a session: it has an attachment, which the connection holds, if one does.
     pub(crate) fn begin_session(&mut self, session: u64, holder: Option<u64>)
         requires new { map.get self.old.attachments session ≡ None }
         requires room { map.len self.old.attachments < most_sessions }
-        ensures attachments { self.new.attachments
-            ≡ map.insert self.old.attachments session (record { holder = holder; closing = false }) }
-        ensures waiting { self.new.waiting ≡ self.old.waiting }
-        ensures arrays { self.new.arrays ≡ self.old.arrays }
+        ensures { AttachmentsBecome self.old self.new
+            (map.insert self.old.attachments session (record { holder = holder; closing = false })) }
     {
         let slot = self.slots.pop().unwrap();
         self.owners[slot as usize] = Some(session);
@@ -144,10 +131,8 @@ impl Attachments {
     pub(crate) fn attach(&mut self, session: u64, conn: u64)
         requires open { is_closing self.old.attachments session ≡ false }
         requires room { map.get self.old.attachments session ≡ None → map.len self.old.attachments < most_sessions }
-        ensures attachments { self.new.attachments
-            ≡ map.insert self.old.attachments session (record { holder = Some conn; closing = false }) }
-        ensures waiting { self.new.waiting ≡ self.old.waiting }
-        ensures arrays { self.new.arrays ≡ self.old.arrays }
+        ensures { AttachmentsBecome self.old self.new
+            (map.insert self.old.attachments session (record { holder = Some conn; closing = false })) }
     {
         if self.attachment(session).is_none() {
             self.begin_session(session, Some(conn));
@@ -193,8 +178,7 @@ impl Attachments {
         alloc: Global,
         session: u64,
     ) -> Result<Vec<(u64, (u64, u32, Op))>, AllocError>
-        ensures lists { IfOk result (λ list. AreWaitingRequestsOf self.now.waiting session list.items) }
-        ensures once { IfOk result (λ list. AreListedOnce list.items) }
+        ensures lists { IfOk result (λ list. ListsWaitingRequestsOf self.now.waiting session list.items) }
     {
         match slot_of(&self.occupants, session) {
             Some(slot) => self.waits.waiting_requests(alloc, slot),
@@ -204,10 +188,7 @@ impl Attachments {
 
     /// Takes out all requests of a session, and returns how many there were. The session keeps its attachment.
     pub(crate) fn drop_session(&mut self, session: u64) -> u32
-        ensures count { result ≡ count_of self.old.waiting session }
-        ensures removed { self.new.waiting ≡ without_session self.old.waiting session }
-        ensures attachments { self.new.attachments ≡ self.old.attachments }
-        ensures arrays { self.new.arrays ≡ self.old.arrays }
+        ensures { DropsRequests self.old self.new session result }
     {
         let Some(slot) = slot_of(&self.occupants, session) else {
             return 0;

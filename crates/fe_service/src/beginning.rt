@@ -26,7 +26,7 @@ pub(crate) fn begin_sessions(state: &State, attachments: &mut Attachments)
 pub(crate) fn add_arrays(state: &State, waits: &mut Waits) -> Result<(), AllocError>
     requires { waits.old.arrays ≡ empty }
     ensures arrays { IfOk result (λ _. (id : ℕ) → get waits.new.arrays id ≡ words_in (get state.now.arrays id)) }
-    ensures members { waits.new.members ≡ waits.old.members }
+    ensures members { IfOk result (λ _. waits.new.members ≡ waits.old.members) }
 {
     let _ = state.place();
     for k in 0..state.array_count() {

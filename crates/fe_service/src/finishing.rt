@@ -1,11 +1,9 @@
-ghost use Rattle.std.specs.Prelude.{◌≡◌, ◌+◌, List, [], length as length_of, Some, OnOk, OnErr};
-ghost use Rattle.fe_state.specs.Effect.{effect_of};
-ghost use Rattle.fe_state.specs.State.{directory_of, reply};
+ghost use Rattle.std.specs.Prelude.{◌≡◌, ◌+◌, List, [], length as length_of, OnOk, OnErr};
 ghost use Rattle.fe_state.specs.declared.entry.Entry.{Entry};
 ghost use Rattle.fe_state.specs.declared.entry.Entry.TheVariants.{Finished};
 ghost use Rattle.fe_state.specs.declared.request.Request.TheVariants as requests;
 ghost use Rattle.fe_state.specs.declared.answer.Answer.TheVariants as answers;
-ghost use Rattle.fe_service.specs.Events.{IsFree, HasRoom, Completes};
+ghost use Rattle.fe_service.specs.Events.{MayComplete, Completes};
 
 use crate::service::Service;
 use fe_state::{Answer, Effect, Entry, Name, Request};
@@ -24,10 +22,7 @@ impl Service {
         index: u32,
         word: Word,
     ) -> u32
-        requires free { IsFree self.old session number }
-        requires answered { reply self.old.state request ≡ Some answer }
-        requires changes { effect_of (directory_of self.old.state) request ≡ Effect.Write array index word }
-        requires room { HasRoom self.old }
+        requires { MayComplete self.old session number request answer (Effect.Write array index word) }
         ensures completes { (served : List Entry)
             × Completes self.old self.new (Finished session number request answer) served
             × (result ≡ 1 + length_of served) }
@@ -52,10 +47,7 @@ impl Service {
         array: u64,
         answer: Answer,
     ) -> u32
-        requires free { IsFree self.old session number }
-        requires answered { reply self.old.state (requests.Remove array) ≡ Some answer }
-        requires changes { effect_of (directory_of self.old.state) (requests.Remove array) ≡ Effect.Remove array }
-        requires room { HasRoom self.old }
+        requires { MayComplete self.old session number (requests.Remove array) answer (Effect.Remove array) }
         ensures completes { (served : List Entry)
             × Completes self.old self.new (Finished session number (requests.Remove array) answer) served
             × (result ≡ 1 + length_of served) }
@@ -75,29 +67,6 @@ impl Service {
         1 + served
     }
 
-    /// Finishes a request that changes nothing.
-    pub(crate) fn finish_unchanged(
-        &mut self,
-        session: u64,
-        number: u64,
-        request: Request,
-        answer: Answer,
-    )
-        requires free { IsFree self.old session number }
-        requires answered { reply self.old.state request ≡ Some answer }
-        requires unchanged { effect_of (directory_of self.old.state) request ≡ Effect.Nothing }
-        requires room { HasRoom self.old }
-        ensures completes { Completes self.old self.new (Finished session number request answer) [] }
-    {
-        let entry = Entry::Finished {
-            session,
-            number,
-            request,
-            answer,
-        };
-        self.inner.enter(entry, Effect::Nothing);
-    }
-
     /// Makes an array. Fails only if memory runs out; then nothing has changed.
     pub(crate) fn finish_create(
         &mut self,
@@ -108,9 +77,8 @@ impl Service {
         tag: Tag,
         id: u64,
     ) -> Result<(), AllocError>
-        requires free { IsFree self.old session number }
-        requires answered { reply self.old.state (requests.Create name length tag) ≡ Some (answers.Array id length) }
-        requires room { HasRoom self.old }
+        requires { MayComplete self.old session number (requests.Create name length tag) (answers.Array id length)
+            Effect.Create }
         ensures completes { OnOk result
             (Completes self.old self.new
             (Finished session number (requests.Create name length tag) (answers.Array id length)) []) }

@@ -1,17 +1,16 @@
 ghost use Rattle.std.specs.Prelude.{◌≡◌, ◌+◌, ◌≤◌, List, [], length, Some, None, IsSome, IfOk, OnErr, is_some, true, false};
 ghost use Rattle.std.specs.FinMap.{get, len, empty};
 ghost use Rattle.fe_state.specs.State as states;
-ghost use Rattle.fe_state.specs.Effect.{effect_of};
-ghost use Rattle.fe_state.specs.State.{directory_of, reply, MakesArray};
+ghost use Rattle.fe_state.specs.State.{reply, MakesArray};
 ghost use Rattle.fe_state.specs.declared.entry.Entry.{Entry};
 ghost use Rattle.fe_state.specs.declared.entry.Entry.TheVariants.{Finished};
 ghost use Rattle.fe_state.specs.declared.request.Request.TheVariants as requests;
 ghost use Rattle.fe_service.specs.AttachmentsState.{count_of, is_closing};
 ghost use Rattle.fe_service.specs.ServiceState.{IsService};
-ghost use Rattle.fe_service.specs.Events.{IsFree, HasRoom, MaySettle, IsAttachable, Completes, AreFreeAttachments, floor_of, attached, settled, closed, withdrawn, cancelled, held, left, waited};
+ghost use Rattle.fe_service.specs.Events.{IsFree, MayAttach, MayClose, MayComplete, MaySettle, Completes, AreFreeAttachments, floor_of, attached, settled, closed, withdrawn, cancelled, held, left, waited};
 ghost use Rattle.fe_state.specs.Limits.{most_batch_entries};
 
-use crate::attachments::Attachments;
+use crate::attachments::{Attachments, GUESSES};
 use crate::beginning::{add_arrays, begin_sessions};
 use crate::occupant::slot_of;
 use crate::service_inner::ServiceInner;
@@ -94,9 +93,13 @@ impl Service {
     pub fn aim(&mut self, session: u64, request: &Request)
         ensures { self.new ≡ self.old }
     {
+        let attachments = &mut self.inner.attachments;
+        let cell = (session % GUESSES as u64) as usize;
+        let guess = attachments.guesses[cell];
+        let position = attachments.occupants.aim(session, guess);
+        attachments.guesses[cell] = position;
         // Mostly the same sessions are in the state and have attachments.
-        let guess = self.inner.attachments.aim(session);
-        self.inner.state.aim(session, guess, request);
+        self.inner.state.aim(session, position, request);
     }
 
     /// How many entries were made and not yet taken, 0 to `BATCH_ENTRIES`.
@@ -119,8 +122,7 @@ impl Service {
 
     /// Attaches a session to a connection, with an entry. A new session begins.
     pub fn attach(&mut self, session: u64, conn: u64)
-        requires attachable { IsAttachable self.old session }
-        requires room { HasRoom self.old }
+        requires { MayAttach self.old session }
         ensures { self.new ≡ attached self.old session conn }
     {
         self.inner.limits();
@@ -132,8 +134,7 @@ impl Service {
 
     /// Raises a session's floor, with an entry.
     pub fn settle(&mut self, session: u64, floor: u64)
-        requires settle { MaySettle self.old session floor }
-        requires room { HasRoom self.old }
+        requires { MaySettle self.old session floor }
         ensures { self.new ≡ settled self.old session floor }
     {
         self.inner
@@ -143,8 +144,7 @@ impl Service {
     /// Closes a session, with an entry, and marks it as closing. Its waiting requests are withdrawn. Returns how many
     /// there were.
     pub fn close(&mut self, session: u64) -> u32
-        requires open { IsSome (get self.old.state.sessions session) }
-        requires room { HasRoom self.old }
+        requires { MayClose self.old session }
         ensures count { result ≡ count_of self.old.waiting session }
         ensures closed { self.new ≡ closed self.old session }
     {
@@ -206,10 +206,7 @@ impl Service {
         answer: Answer,
         effect: Effect,
     ) -> Result<u32, AllocError>
-        requires free { IsFree self.old session number }
-        requires answered { reply self.old.state request ≡ Some answer }
-        requires effect { effect ≡ effect_of (directory_of self.old.state) request }
-        requires room { HasRoom self.old }
+        requires { MayComplete self.old session number request answer effect }
         ensures completes { IfOk result
             (λ count. (served : List Entry)
             × Completes self.old self.new (Finished session number request answer) served
@@ -219,7 +216,13 @@ impl Service {
     {
         match effect {
             Effect::Nothing => {
-                self.finish_unchanged(session, number, request, answer);
+                let entry = Entry::Finished {
+                    session,
+                    number,
+                    request,
+                    answer,
+                };
+                self.inner.enter(entry, Effect::Nothing);
                 Ok(1)
             }
             Effect::Create => match request {

@@ -1,16 +1,14 @@
 ghost use Rattle.std.specs.Prelude.{◌≡◌, ◌≢◌, ◌+◌, ◌<◌, ◌≤◌, ℕ, true, false, List, [], ◌∷◌, ◌++◌, length as length_of, Some};
-ghost use Rattle.std.specs.FinMap.{get, insert, len};
+ghost use Rattle.std.specs.FinMap.{get};
 ghost use Rattle.fe_words.specs.declared.word.Tag.{Tag};
 ghost use Rattle.fe_waits.specs.Waiting.{IsWord};
 ghost use Rattle.fe_state.specs.State as state_limits;
 ghost use Rattle.fe_state.specs.State.{IsLegal, MakesArray, after, directory_of, effect_in};
 ghost use Rattle.fe_state.specs.declared.entry.Entry.{Entry};
 ghost use Rattle.fe_service.specs.AttachmentsState.{waiting_access_of, IsWithinLimits};
-ghost use Rattle.fe_service.specs.Events.{IsAttachable};
-ghost use Rattle.fe_service.specs.Service.{AreUsable, request_of};
-ghost use Rattle.fe_service.specs.ServiceState.{service_of};
-ghost use Rattle.fe_service.specs.within.ServiceInner.{IsQuietAt, WaitAtTag, IsAtRest, TakesTurn, TakesTurns};
-ghost use Rattle.fe_state.specs.Limits.{most_batch_entries, greatest_place};
+ghost use Rattle.fe_service.specs.Service.{request_of};
+ghost use Rattle.fe_service.specs.within.ServiceInner.{MayServe, IsQuietAt, WaitAtTag, IsAtRest, TakesTurn, TakesTurns};
+ghost use Rattle.fe_state.specs.Limits.{most_batch_entries};
 
 use crate::attachments::Attachments;
 use crate::waiting_request::WaitingRequest;
@@ -66,9 +64,7 @@ impl ServiceInner {
     /// Serves the first request that waits on the word, if it may be served. Returns whether it was.
     pub(crate) fn serve_first(&mut self, array: u64, index: u32) -> bool
         requires word { IsWord self.old.attachments.arrays array index }
-        requires usable { AreUsable self.old.state self.old.attachments.waiting }
-        requires places { self.old.state.place + len self.old.attachments.waiting ≤ greatest_place }
-        requires room { length_of self.old.pending + len self.old.attachments.waiting ≤ most_batch_entries }
+        requires able { MayServe self.old }
         ensures served { result ≡ true → (e : Entry) × TakesTurn self.old self.new array index e }
         ensures still { result ≡ false → self.new ≡ self.old }
         ensures rest { result ≡ false → IsAtRest self.old.state self.old.attachments.waiting array index }
@@ -96,9 +92,7 @@ impl ServiceInner {
     /// Serves the requests that wait on the word, until none may be served. Returns their number.
     pub(crate) fn serve_word(&mut self, array: u64, index: u32) -> u32
         requires word { IsWord self.old.attachments.arrays array index }
-        requires usable { AreUsable self.old.state self.old.attachments.waiting }
-        requires places { self.old.state.place + len self.old.attachments.waiting ≤ greatest_place }
-        requires room { length_of self.old.pending + len self.old.attachments.waiting ≤ most_batch_entries }
+        requires able { MayServe self.old }
         ensures served { (es : List Entry) × TakesTurns self.old self.new es × (result ≡ length_of es) }
         ensures here { (tag : Tag) → WaitAtTag self.old.attachments.waiting array index tag
             → IsQuietAt self.new.state self.new.attachments.waiting array index }
@@ -116,9 +110,7 @@ impl ServiceInner {
     /// Serves the requests that wait on any of this many words of an array that is gone. Returns their number.
     pub(crate) fn serve_array(&mut self, array: u64, length: u32) -> u32
         requires there { get self.old.attachments.arrays array ≡ Some length }
-        requires usable { AreUsable self.old.state self.old.attachments.waiting }
-        requires places { self.old.state.place + len self.old.attachments.waiting ≤ greatest_place }
-        requires room { length_of self.old.pending + len self.old.attachments.waiting ≤ most_batch_entries }
+        requires able { MayServe self.old }
         ensures served { (es : List Entry) × TakesTurns self.old self.new es × (result ≡ length_of es) }
         ensures here { (tag : ℕ → Tag) (j : ℕ) → j < length → WaitAtTag self.old.attachments.waiting array j (tag j)
             → IsQuietAt self.new.state self.new.attachments.waiting array j }

@@ -1,12 +1,13 @@
 -- How the parts of a service change while it serves. No public clause cites this module (`docs/model.md`, "The service").
-use Rattle.std.specs.Prelude.{◌≡◌, ℕ, ◌⊎◌, List, [], ◌∷◌, ◌++◌, Some, None}
-use Rattle.std.specs.FinMap.{get}
+use Rattle.std.specs.Prelude.{◌≡◌, ℕ, ◌+◌, ◌≤◌, ◌⊎◌, List, [], ◌∷◌, ◌++◌, length, Some, None}
+use Rattle.std.specs.FinMap.{get, len}
 use Rattle.fe_words.specs.Table.{row}
 use Rattle.fe_words.specs.declared.word.Tag.{Tag}
 use Rattle.fe_waits.specs.Waiting.{WaitingAccess, IsOn, NoneOnWord}
 use Rattle.fe_state.specs.State.{ServerState, reply, after, after_all}
 use Rattle.fe_state.specs.declared.entry.Entry.{Entry}
-use Rattle.fe_service.specs.Service.{WaitingAccesses, request_of, IsTurn, AreTurns, without_turn, without_turns}
+use Rattle.fe_state.specs.Limits.{greatest_place, most_batch_entries}
+use Rattle.fe_service.specs.Service.{WaitingAccesses, AreUsable, request_of, IsTurn, AreTurns, without_turn, without_turns}
 use Rattle.fe_service.specs.declared.service_inner.ServiceInner.{ServiceInner}
 
 -- no request that waits on the word may be served
@@ -28,6 +29,12 @@ pub record HasIdle (s : ServerState) (waiting : WaitingAccesses) (array index : 
 -- no request waits on the word, or some that does may not be served
 abbrev pub IsAtRest : ServerState → WaitingAccesses → ℕ → ℕ → Type 0
 IsAtRest s waiting array index = NoneOnWord waiting array index ⊎ HasIdle s waiting array index
+
+-- each request that waits is usable, and there are a place and room for the entry that serving it makes
+pub record MayServe (p : ServiceInner) : Type 0 where
+  pub usable : AreUsable p.state p.attachments.waiting
+  pub places : p.state.place + len p.attachments.waiting ≤ greatest_place
+  pub room : length p.pending + len p.attachments.waiting ≤ most_batch_entries
 
 -- an entry more, of the request of one that waited on the word
 pub record TakesTurn (old new : ServiceInner) (array index : ℕ) (e : Entry) : Type 0 where

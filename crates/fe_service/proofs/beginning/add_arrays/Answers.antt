@@ -37,11 +37,11 @@ pub loop-k-preserved : goal.loop-k-preserved
 loop-k-preserved c =
     let e = shown_array c.unwrap-id.result in
     let here = sym c.array_entry.ensures.entry ∙ ap (option_map shown_array) c.unwrap-id.ensures in
-    let added = c.in_ok-add_array.ensures.ok in
+    let added = c.in_ok-add_array.ensures.ok.arrays in
     record {
       tied = λ q. ap (λ m. get m q) added ∙ tied_next c.args.state.now.arrays words c.loop-k.waits.arrays c.loop-k.k e here c.loop-k.invariant.tied q;
       few = subst (λ m. len m ≤ c.loop-k.k + 1) (sym added) (tied_len c.args.state.now.arrays words c.loop-k.waits.arrays c.loop-k.k e here c.loop-k.invariant.tied c.loop-k.invariant.few);
-      members = c.in_ok-add_array.ensures.members ∙ c.loop-k.invariant.members;
+      members = c.in_ok-add_array.ensures.ok.members ∙ c.loop-k.invariant.members;
     }
 
 pub returns-clause-arrays : goal.returns-clause-arrays

@@ -14,8 +14,12 @@ get_mut-requires c =
 pub invariant_of-self : goal.invariant_of-self
 invariant_of-self c = kept-with_others _ _ _ _ _ c.self.invariant _ _ _ c.get_mut.ensures.value refl
 
-pub returns-else-is_none-clause-attachments : goal.returns-else-is_none-clause-attachments
-returns-else-is_none-clause-attachments c =
-    attachments-holder _ _ _ c.get_mut.ensures.value (Some c.args.conn)
-    ∙ ap (λ s. with_holder s.attachments c.args.session (Some c.args.conn)) c.self.view_is
-    ∙ old_attachment c.args.self.now.attachments c.args.session c.args.conn c.requires.open
+pub returns-else-is_none : goal.returns-else-is_none
+returns-else-is_none c = record {
+  attachments =
+      attachments-holder _ _ _ c.get_mut.ensures.value (Some c.args.conn)
+      ∙ ap (λ s. with_holder s.attachments c.args.session (Some c.args.conn)) c.self.view_is
+      ∙ old_attachment c.args.self.now.attachments c.args.session c.args.conn c.requires.open;
+  waiting = ap (λ s. s.waiting) c.self.view_is;
+  arrays = ap (λ s. s.arrays) c.self.view_is;
+}

@@ -31,12 +31,12 @@ invariant_of-self c =
     rw (c.insert.ensures.inserted, c.pop.ensures.capacity)
     (kept-begin_session _ _ _ _ _ c.self.invariant c.args.session c.unwrap-slot.result _ (record { slot = c.unwrap-slot.result; attachment = record { holder = c.args.holder; closing = false } }) (no_occupant _ _ asked.new) popped refl)
 
-pub returns-clause-attachments : goal.returns-clause-attachments
-returns-clause-attachments c = rw (← c.self.view_is) (ap attachments_of c.insert.ensures.inserted ∙ attachments-insert _ _ _)
-
-pub returns-clause-waiting : goal.returns-clause-waiting
-returns-clause-waiting c =
+pub returns : goal.returns
+returns c =
     let asked = rw (← c.self.view_is) at c.requires in
     let popped = rw c.unwrap-slot.ensures at c.pop.ensures.items in
-    rw (← c.self.view_is)
-    (waiting-begin_session _ _ _ _ _ c.self.invariant c.args.session c.unwrap-slot.result _ (record { slot = c.unwrap-slot.result; attachment = record { holder = c.args.holder; closing = false } }) (no_occupant _ _ asked.new) popped refl)
+    rw (← c.self.view_is) (record {
+      attachments = ap attachments_of c.insert.ensures.inserted ∙ attachments-insert _ _ _;
+      waiting = waiting-begin_session _ _ _ _ _ c.self.invariant c.args.session c.unwrap-slot.result _ (record { slot = c.unwrap-slot.result; attachment = record { holder = c.args.holder; closing = false } }) (no_occupant _ _ asked.new) popped refl;
+      arrays = refl;
+    })

@@ -1,4 +1,4 @@
-use Rattle.std.proofs.Common.{not, ap, sym, ◌∙◌}
+use Rattle.std.proofs.Common.{not, refl, ap, sym, ◌∙◌}
 use Rattle.fe_service.specs.within.Slots.{by_session}
 use Rattle.fe_service.proofs.KeptLemmas.{slot-below, kept-waits}
 use Rattle.fe_service.proofs.OwnerLemmas.{owned-kept}
@@ -10,19 +10,22 @@ drop_session-requires c = record { slot = slot-below _ _ _ _ _ c.self.invariant 
 
 pub invariant_of-self : goal.invariant_of-self
 invariant_of-self c =
-    kept-waits _ _ _ _ _ c.self.invariant _ (rw c.drop_session.ensures.removed (owned-kept _ _ c.self.invariant.agree _ c.self.invariant.owned (λ b. not b) c.in-Some.slot))
+    kept-waits _ _ _ _ _ c.self.invariant _ (rw c.drop_session.ensures.removed.members (owned-kept _ _ c.self.invariant.agree _ c.self.invariant.owned (λ b. not b) c.in-Some.slot))
 
-pub returns-clause-count : goal.returns-clause-count
-returns-clause-count c =
-    rw (← c.self.view_is) (c.drop_session.ensures.count ∙ sym (count-in_slot _ _ c.self.invariant.agree _ c.self.invariant.owned _ _ (sym c.in-Some.ensures)))
+pub returns : goal.returns
+returns c =
+    rw (← c.self.view_is) (record {
+      count = c.drop_session.ensures.count ∙ sym (count-in_slot _ _ c.self.invariant.agree _ c.self.invariant.owned _ _ (sym c.in-Some.ensures));
+      removed = ap (by_session c.self.inside.owners.items) c.drop_session.ensures.removed.members ∙ without-in_slot _ _ c.self.invariant.agree _ c.self.invariant.owned _ _ (sym c.in-Some.ensures);
+      attachments = refl;
+      arrays = c.drop_session.ensures.removed.arrays;
+    })
 
-pub returns-clause-removed : goal.returns-clause-removed
-returns-clause-removed c =
-    rw (← c.self.view_is)
-    (ap (by_session c.self.inside.owners.items) c.drop_session.ensures.removed ∙ without-in_slot _ _ c.self.invariant.agree _ c.self.invariant.owned _ _ (sym c.in-Some.ensures))
-
-pub returns-in_default-clause-count : goal.returns-in_default-clause-count
-returns-in_default-clause-count c = rw (← c.self.view_is) (sym (count-without_attachment _ _ c.self.invariant.agree _ c.self.invariant.owned _ (sym c.in_default.ensures)))
-
-pub returns-in_default-clause-removed : goal.returns-in_default-clause-removed
-returns-in_default-clause-removed c = rw (← c.self.view_is) (sym (without-without_attachment _ _ c.self.invariant.agree _ c.self.invariant.owned _ (sym c.in_default.ensures)))
+pub returns-in_default : goal.returns-in_default
+returns-in_default c =
+    rw (← c.self.view_is) (record {
+      count = sym (count-without_attachment _ _ c.self.invariant.agree _ c.self.invariant.owned _ (sym c.in_default.ensures));
+      removed = sym (without-without_attachment _ _ c.self.invariant.agree _ c.self.invariant.owned _ (sym c.in_default.ensures));
+      attachments = refl;
+      arrays = refl;
+    })

@@ -9,12 +9,16 @@ waiting_requests-requires c = record { slot = slot-below _ _ _ _ _ c.self.invari
 
 pub returns-in-Some : goal.returns-in-Some
 returns-in-Some c = record {
-  lists = rw (← c.self.view_is) (IfOk-weaker c.waiting_requests.result _ _ (λ waiting_requests all. waiting_requests-in_slot _ _ c.self.invariant.agree _ c.self.invariant.owned _ _ waiting_requests.items (sym c.in-Some.ensures) all) c.waiting_requests.ensures.lists);
-  once = c.waiting_requests.ensures.once;
+  lists = rw (← c.self.view_is) (IfOk-weaker c.waiting_requests.result _ _ (λ waiting_requests listed. record {
+    all = waiting_requests-in_slot _ _ c.self.invariant.agree _ c.self.invariant.owned _ _ waiting_requests.items (sym c.in-Some.ensures) listed.all;
+    once = listed.once;
+  }) c.waiting_requests.ensures.lists);
 }
 
 pub returns-in-None : goal.returns-in-None
 returns-in-None c = record {
-  lists = rw (← c.self.view_is) (waiting_requests-without_attachment _ _ c.self.invariant.agree _ c.self.invariant.owned _ c.new.result.items (sym c.in-None.ensures) c.new.ensures.items);
-  once = let none = ap length c.new.ensures.items in λ i j d less below. absurd (omega (arith, none, below));
+  lists = rw (← c.self.view_is) (record {
+    all = waiting_requests-without_attachment _ _ c.self.invariant.agree _ c.self.invariant.owned _ c.new.result.items (sym c.in-None.ensures) c.new.ensures.items;
+    once = let none = ap length c.new.ensures.items in λ i j d less below. absurd (omega (arith, none, below));
+  });
 }

@@ -25,12 +25,12 @@ pub cancel-requires : goal.cancel-requires
 cancel-requires c = record { slot = slot-below _ _ _ _ _ c.attachments.invariant _ _ (sym c.in-Some.ensures) }
 
 pub invariant_of-attachments : goal.invariant_of-attachments
-invariant_of-attachments c = kept-waits _ _ _ _ _ c.attachments.invariant _ (rw c.cancel.ensures.removed (owned-remove _ _ c.attachments.invariant.agree _ c.attachments.invariant.owned _))
+invariant_of-attachments c = kept-waits _ _ _ _ _ c.attachments.invariant _ (rw c.cancel.ensures.removed.members (owned-remove _ _ c.attachments.invariant.agree _ c.attachments.invariant.owned _))
 
 -- the request no longer waits
 removed : (c : After-cancel) → by_session c.attachments.inside.owners.items c.cancel.new.self.members ≡ remove c.self.inside.inner.attachments.waiting (c.args.session, c.args.number)
 removed c =
-    ap (by_session c.attachments.inside.owners.items) c.cancel.ensures.removed
+    ap (by_session c.attachments.inside.owners.items) c.cancel.ensures.removed.members
     ∙ by_session-remove _ _ c.attachments.invariant.agree _ c.attachments.invariant.owned _ _ _ (sym c.in-Some.ensures)
     ∙ ap (λ s. remove s.waiting (c.args.session, c.args.number)) c.attachments.view_is
 
@@ -41,7 +41,7 @@ invariant_of-self-2 c =
     let fewer = fewer_service (service_of old) (remove old.attachments.waiting key) (within_remove old.attachments.waiting key) c.self.invariant.service in
     record {
       service = same_service _ _ refl (ap (λ s. s.attachments) c.attachments.view_is) (removed (goal.at.invariant_of-self-2 c).After-cancel) refl fewer;
-      arrays = λ id. ap (λ m. get m id) c.cancel.ensures.arrays ∙ ap (λ s. get s.arrays id) c.attachments.view_is ∙ c.self.invariant.arrays id;
+      arrays = λ id. ap (λ m. get m id) c.cancel.ensures.removed.arrays ∙ ap (λ s. get s.arrays id) c.attachments.view_is ∙ c.self.invariant.arrays id;
     }
 
 pub returns-clause-waited : goal.returns-clause-waited

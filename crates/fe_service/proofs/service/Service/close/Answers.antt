@@ -12,7 +12,7 @@ use Rattle.fe_service.proofs.service.Service.close.Goals as goal
 
 pub get_mut-requires : goal.get_mut-requires
 get_mut-requires c =
-    let asked = rw (← c.self.view_is) at c.requires.open in
+    let asked = rw (← c.self.view_is) at c.requires.exists in
     let there = open_there c.self.inside.inner.attachments.attachments c.args.session (sym (c.self.invariant.service.has_attachment c.args.session) ∙ asked) in (
       omega arith,
       is_occupant _ _ (ap (λ s. is_some (get s.attachments c.args.session)) c.attachments.view_is ∙ ap (λ m. is_some (get m c.args.session)) c.drop_session-count.ensures.attachments ∙ there),

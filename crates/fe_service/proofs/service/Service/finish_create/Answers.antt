@@ -31,18 +31,18 @@ drop_array-requires c =
     let absent = sym (c.self.invariant.arrays c.args.id) ∙ id_absent old c.args.name c.args.length c.args.tag c.args.id c.args.length c.self.invariant c.limits.ensures.state (ap (λ (s : ServiceState). reply s.state (Create c.args.name c.args.length c.args.tag)) c.self.view_is ∙ c.requires.answered) in
     let none = none_on_absent old.state old.attachments.waiting c.args.id c.self.invariant.service.quiet absent in
     let listed = none-on_array_back _ _ c.attachments.invariant.agree _ c.attachments.invariant.owned c.args.id (rw (← c.attachments.view_is) at none) in
-    record { unused = λ key w waits. listed key w (subst (λ m. get m key ≡ Some w) c.in_ok-add_array.ensures.members waits) }
+    record { unused = λ key w waits. listed key w (subst (λ m. get m key ≡ Some w) c.in_ok-add_array.ensures.ok.members waits) }
 
 pub invariant_of-self-in-Err : goal.invariant_of-self-in-Err
 invariant_of-self-in-Err c =
     let old = c.self.inside.inner in
     let arrays =
-    c.drop_array.ensures.arrays
-    ∙ ap (λ m. remove m c.args.id) c.in_ok-add_array.ensures.ok
+    c.drop_array.ensures.dropped.arrays
+    ∙ ap (λ m. remove m c.args.id) c.in_ok-add_array.ensures.ok.arrays
     ∙ remove-insert c.attachments.inside.waits.arrays c.args.id c.args.length (ap (λ s. get s.arrays c.args.id) c.attachments.view_is ∙ id_absent old c.args.name c.args.length c.args.tag c.args.id c.args.length c.self.invariant c.limits.ensures.state (ap (λ (s : ServiceState). reply s.state (Create c.args.name c.args.length c.args.tag)) c.self.view_is ∙ c.requires.answered))
     ∙ ap (λ s. s.arrays) c.attachments.view_is
     in
-    let waiting = ap (by_session c.attachments.inside.owners.items) (c.drop_array.ensures.members ∙ c.in_ok-add_array.ensures.members) ∙ ap (λ s. s.waiting) c.attachments.view_is in
+    let waiting = ap (by_session c.attachments.inside.owners.items) (c.drop_array.ensures.dropped.members ∙ c.in_ok-add_array.ensures.ok.members) ∙ ap (λ s. s.waiting) c.attachments.view_is in
     record {
       service = same_service _ _ c.in-Err.ensures.err (ap (λ s. s.attachments) c.attachments.view_is) waiting refl c.self.invariant.service;
       arrays = λ id. ap (λ m. get m id) arrays ∙ c.self.invariant.arrays id ∙ sym (ap (λ s. words_in (get s.arrays id)) c.in-Err.ensures.err);
@@ -55,7 +55,7 @@ invariant_of-self-2 c =
     let answer = answers.Array c.args.id c.args.length in
     let entered : IsEntered old new _ = record {
       state = c.in_default.ensures.ok;
-      waiting = ap (by_session c.attachments.inside.owners.items) c.in_ok-add_array.ensures.members ∙ ap (λ s. s.waiting) c.attachments.view_is;
+      waiting = ap (by_session c.attachments.inside.owners.items) c.in_ok-add_array.ensures.ok.members ∙ ap (λ s. s.waiting) c.attachments.view_is;
       attachments = ap (λ s. s.attachments) c.attachments.view_is;
       pending = c.push.ensures;
     } in
@@ -63,7 +63,7 @@ invariant_of-self-2 c =
     record {
       service = entered_service old new new c.args.session c.args.number (Create c.args.name c.args.length c.args.tag) answer [] c.self.invariant.service (free_in c.self.view_is c.requires.free) entered (none_taken new) quiet;
       arrays = λ id.
-          ap (λ m. get m id) c.in_ok-add_array.ensures.ok
+          ap (λ m. get m id) c.in_ok-add_array.ensures.ok.arrays
           ∙ ap (λ s. get (insert s.arrays c.args.id c.args.length) id) c.attachments.view_is
           ∙ created_lengths old.state old.attachments.arrays c.args.session c.args.number c.args.name c.args.length c.args.tag c.args.id c.args.length (ap (λ (s : ServiceState). reply s.state (Create c.args.name c.args.length c.args.tag)) c.self.view_is ∙ c.requires.answered) c.self.invariant.arrays id
           ∙ sym (ap (λ s. words_in (get s.arrays id)) c.in_default.ensures.ok);
@@ -75,7 +75,7 @@ returns-clause-completes c =
     let new : ServiceInner = record { state = c.advance.new.self; attachments = attachments_state_of c.add_array.new.self c.attachments.inside.occupants c.attachments.inside.owners.items; pending = c.push.new.self } in
     let entered : IsEntered old new _ = record {
       state = c.in_default.ensures.ok;
-      waiting = ap (by_session c.attachments.inside.owners.items) c.in_ok-add_array.ensures.members ∙ ap (λ s. s.waiting) c.attachments.view_is;
+      waiting = ap (by_session c.attachments.inside.owners.items) c.in_ok-add_array.ensures.ok.members ∙ ap (λ s. s.waiting) c.attachments.view_is;
       attachments = ap (λ s. s.attachments) c.attachments.view_is;
       pending = c.push.ensures;
     } in

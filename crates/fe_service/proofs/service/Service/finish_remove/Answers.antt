@@ -1,4 +1,4 @@
-use Rattle.std.proofs.Common.{◌≡◌, inl, inr, refl, sym, ap, subst, ◌∙◌, arith}
+use Rattle.std.proofs.Common.{◌≡◌, inl, inr, length, length-append, refl, sym, ap, subst, ◌∙◌, arith}
 use Rattle.std.specs.Prelude.{is_some}
 use Rattle.std.specs.FinMap.{get, len, remove}
 use Rattle.fe_state.proofs.Maps.{same_or_other, get_removed, get_left}
@@ -9,7 +9,7 @@ use Rattle.fe_state.specs.declared.request.Request.TheVariants.{Remove}
 use Rattle.fe_state.specs.declared.entry.Entry.TheVariants.{Finished}
 use Rattle.fe_service.specs.Service.{IsQuiet}
 use Rattle.fe_service.specs.ServiceState.{ServiceState}
-use Rattle.fe_service.specs.Events.{Completes}
+use Rattle.fe_service.specs.Events.{HasRoom, Completes}
 use Rattle.fe_service.specs.within.Slots.{by_session}
 use Rattle.fe_service.proofs.RequestLemmas.{none-on_array_back}
 use Rattle.fe_service.proofs.Staying.{same_service}
@@ -27,10 +27,18 @@ unwrap-length-requires c =
     let changes = ap (λ (s : ServiceState). effect_of (directory_of s.state) (Remove c.args.array)) c.self.view_is ∙ c.requires.changes in
     ap is_some c.length.ensures ∙ removes c.args.array here changes
 
-pub serve_array-served-requires-clause-usable : goal.serve_array-served-requires-clause-usable
-serve_array-served-requires-clause-usable c =
+pub serve_array-served-requires-clause-able : goal.serve_array-served-requires-clause-able
+serve_array-served-requires-clause-able c =
     let entered : IsEntered c.self.inside.inner c.enter.new.self _ = entered_by c.self.inside.inner c.enter.new.self _ c.enter.ensures.state c.enter.ensures.attachments c.enter.ensures.pending in
-    entered_usable c.self.inside.inner c.enter.new.self c.args.session c.args.number (Remove c.args.array) c.args.answer c.self.invariant.service.usable (free_in c.self.view_is c.requires.free) entered
+    let room = subst HasRoom (sym c.self.view_is) c.requires.room in
+    let places = ap (λ s. s.place) c.enter.ensures.state in
+    let few = ap length c.enter.ensures.pending ∙ length-append c.self.inside.inner.pending _ in
+    let same = ap (λ s. len s.waiting) c.enter.ensures.attachments in
+    record {
+      usable = entered_usable c.self.inside.inner c.enter.new.self c.args.session c.args.number (Remove c.args.array) c.args.answer c.self.invariant.service.usable (free_in c.self.view_is c.requires.free) entered;
+      places = omega (arith, places, same, room.places, c.limits.ensures.attachments.all);
+      room = omega (arith, few, same, room.few, c.limits.ensures.attachments.all);
+    }
 
 -- nobody that waits may be served any more
 all_quiet : (c : After-serve_array-served) → IsQuiet c.serve_array-served.new.self.state c.serve_array-served.new.self.attachments.waiting
@@ -70,11 +78,11 @@ invariant_of-self c =
     let quiet = all_quiet (goal.at.invariant_of-self c).After-serve_array-served in
     let service = entered_service old mid new c.args.session c.args.number (Remove c.args.array) c.args.answer es c.self.invariant.service (free_in c.self.view_is c.requires.free) entered t quiet in
     record {
-      service = same_service _ _ refl (ap (λ s. s.attachments) c.attachments.view_is) (ap (by_session c.attachments.inside.owners.items) c.drop_array.ensures.members ∙ ap (λ s. s.waiting) c.attachments.view_is) refl service;
+      service = same_service _ _ refl (ap (λ s. s.attachments) c.attachments.view_is) (ap (by_session c.attachments.inside.owners.items) c.drop_array.ensures.dropped.members ∙ ap (λ s. s.waiting) c.attachments.view_is) refl service;
       arrays = λ id.
           elim (same_or_other id c.args.array) as (λ _. get c.drop_array.new.self.arrays id ≡ words_in (get new.state.arrays id)) [
             | inl same ↦
-                ap (λ m. get m id) c.drop_array.ensures.arrays
+                ap (λ m. get m id) c.drop_array.ensures.dropped.arrays
                 ∙ ap (λ s. get (remove s.arrays c.args.array) id) c.attachments.view_is
                 ∙ ap (get (remove new.attachments.arrays c.args.array)) same
                 ∙ get_removed new.attachments.arrays c.args.array
@@ -82,7 +90,7 @@ invariant_of-self c =
                 ∙ sym (taken_lengths mid new es t c.args.array)
                 ∙ ap (λ id. words_in (get new.state.arrays id)) (sym same)
             | inr other ↦
-                ap (λ m. get m id) c.drop_array.ensures.arrays
+                ap (λ m. get m id) c.drop_array.ensures.dropped.arrays
                 ∙ ap (λ s. get (remove s.arrays c.args.array) id) c.attachments.view_is
                 ∙ get_left new.attachments.arrays c.args.array id other
                 ∙ ap (λ m. get m id) t.arrays
@@ -103,7 +111,7 @@ returns c =
     let quiet = all_quiet (goal.at.returns c).After-serve_array-served in
     let completes = completes_in c.self.view_is (entered_completes old mid new _ es entered t quiet) in
     let attachments = sym (ap (λ s. s.attachments) c.attachments.view_is) in
-    let waiting = sym (ap (by_session c.attachments.inside.owners.items) c.drop_array.ensures.members ∙ ap (λ s. s.waiting) c.attachments.view_is) in
+    let waiting = sym (ap (by_session c.attachments.inside.owners.items) c.drop_array.ensures.dropped.members ∙ ap (λ s. s.waiting) c.attachments.view_is) in
     record {
       completes = (
         es,

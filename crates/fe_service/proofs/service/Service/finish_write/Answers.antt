@@ -1,9 +1,10 @@
-use Rattle.std.proofs.Common.{length, sym, ap, subst, ◌∙◌, arith}
+use Rattle.std.proofs.Common.{length, length-append, sym, ap, subst, ◌∙◌, arith}
 use Rattle.std.specs.FinMap.{get, len}
 use Rattle.fe_state.specs.Directory.{words_in}
 use Rattle.fe_state.specs.Effect.{effect_of}
 use Rattle.fe_state.specs.State.{directory_of}
 use Rattle.fe_service.specs.Service.{IsQuiet}
+use Rattle.fe_service.specs.Events.{HasRoom}
 use Rattle.fe_service.specs.ServiceState.{ServiceState}
 use Rattle.fe_service.specs.within.ServiceInner.{WaitAtTag}
 use Rattle.fe_service.proofs.Effects.{Writes, writes, writes_one, written_lengths}
@@ -24,10 +25,18 @@ serve_word-requires-clause-word c =
     let (n, length, below) = word_below (get old.state.arrays c.args.array) c.args.index w.before w.there in
     (n, ap (λ s. get s.arrays c.args.array) c.enter.ensures.attachments ∙ c.self.invariant.arrays c.args.array ∙ length, below)
 
-pub serve_word-requires-clause-usable : goal.serve_word-requires-clause-usable
-serve_word-requires-clause-usable c =
+pub serve_word-requires-clause-able : goal.serve_word-requires-clause-able
+serve_word-requires-clause-able c =
     let entered : IsEntered c.self.inside.inner c.enter.new.self _ = entered_by c.self.inside.inner c.enter.new.self _ c.enter.ensures.state c.enter.ensures.attachments c.enter.ensures.pending in
-    entered_usable c.self.inside.inner c.enter.new.self c.args.session c.args.number c.args.request c.args.answer c.self.invariant.service.usable (free_in c.self.view_is c.requires.free) entered
+    let room = subst HasRoom (sym c.self.view_is) c.requires.room in
+    let places = ap (λ s. s.place) c.enter.ensures.state in
+    let few = ap length c.enter.ensures.pending ∙ length-append c.self.inside.inner.pending _ in
+    let same = ap (λ s. len s.waiting) c.enter.ensures.attachments in
+    record {
+      usable = entered_usable c.self.inside.inner c.enter.new.self c.args.session c.args.number c.args.request c.args.answer c.self.invariant.service.usable (free_in c.self.view_is c.requires.free) entered;
+      places = omega (arith, places, same, room.places, c.limits.ensures.attachments.all);
+      room = omega (arith, few, same, room.few, c.limits.ensures.attachments.all);
+    }
 
 pub overflow_add-result : goal.overflow_add-result
 overflow_add-result c =

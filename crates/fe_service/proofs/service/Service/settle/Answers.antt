@@ -12,6 +12,6 @@ invariant_of-self c =
     record {
       service =
           same_service _ _ c.enter.ensures.state (ap (λ s. s.attachments) c.enter.ensures.attachments) (ap (λ s. s.waiting) c.enter.ensures.attachments) c.enter.ensures.pending
-          (settled_service (service_of old) c.args.session c.args.floor (subst (λ (s : ServiceState). MaySettle s c.args.session c.args.floor) (sym c.self.view_is) c.requires.settle) c.self.invariant.service);
+          (settled_service (service_of old) c.args.session c.args.floor (subst (λ (s : ServiceState). MaySettle s c.args.session c.args.floor) (sym c.self.view_is) c.requires) c.self.invariant.service);
       arrays = λ id. ap (λ s. get s.arrays id) c.enter.ensures.attachments ∙ c.self.invariant.arrays id ∙ sym (ap (λ s. words_in (get s.arrays id)) c.enter.ensures.state);
     }

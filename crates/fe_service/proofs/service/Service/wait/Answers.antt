@@ -49,12 +49,12 @@ add-requires-clause-word c =
 pub invariant_of-attachments : goal.invariant_of-attachments
 invariant_of-attachments c =
     kept-waits _ _ _ _ _ c.attachments.invariant _
-    (rw c.add.ensures.added (owned-insert _ _ c.attachments.invariant.agree _ c.attachments.invariant.owned _ _ c.args.number (sym c.slot_of.ensures ∙ c.unwrap-slot.ensures) _))
+    (rw c.add.ensures.added.members (owned-insert _ _ c.attachments.invariant.agree _ c.attachments.invariant.owned _ _ c.args.number (sym c.slot_of.ensures ∙ c.unwrap-slot.ensures) _))
 
 -- the request waits
 added : (c : After-add) → by_session c.attachments.inside.owners.items c.add.new.self.members ≡ insert c.self.inside.inner.attachments.waiting (c.args.session, c.args.number) (record { array = c.args.array; index = c.args.index; op = c.args.op })
 added c =
-    ap (by_session c.attachments.inside.owners.items) c.add.ensures.added
+    ap (by_session c.attachments.inside.owners.items) c.add.ensures.added.members
     ∙ by_session-insert _ _ c.attachments.invariant.agree _ c.attachments.invariant.owned _ _ _ (sym c.slot_of.ensures ∙ c.unwrap-slot.ensures) _
     ∙ ap (λ s. insert s.waiting (c.args.session, c.args.number) (record { array = c.args.array; index = c.args.index; op = c.args.op })) c.attachments.view_is
 
@@ -66,7 +66,7 @@ invariant_of-self c =
       service =
           same_service _ _ refl (ap (λ s. s.attachments) c.attachments.view_is) (added (goal.at.invariant_of-self c).After-add) refl
           (waited_service (service_of c.self.inside.inner) c.args.session c.args.number waiter (free_in c.self.view_is c.requires.free).usable asked c.self.invariant.service);
-      arrays = λ id. ap (λ m. get m id) c.add.ensures.arrays ∙ ap (λ s. get s.arrays id) c.attachments.view_is ∙ c.self.invariant.arrays id;
+      arrays = λ id. ap (λ m. get m id) c.add.ensures.added.arrays ∙ ap (λ s. get s.arrays id) c.attachments.view_is ∙ c.self.invariant.arrays id;
     }
 
 pub returns : goal.returns

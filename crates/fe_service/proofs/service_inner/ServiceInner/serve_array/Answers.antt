@@ -10,21 +10,16 @@ serve_word-count-requires-clause-word c =
     let (es, t, counted) = c.loop-index.invariant.served in
     (c.args.length, ap (λ m. get m c.args.array) t.arrays ∙ c.requires.there, c.loop-index-test.true)
 
-pub serve_word-count-requires-clause-usable : goal.serve_word-count-requires-clause-usable
-serve_word-count-requires-clause-usable c =
-    let (es, t, counted) = c.loop-index.invariant.served in taken_usable c.args.self.now c.loop-index.self es c.requires.usable t
-
-pub serve_word-count-requires-clause-places : goal.serve_word-count-requires-clause-places
-serve_word-count-requires-clause-places c =
+pub serve_word-count-requires-clause-able : goal.serve_word-count-requires-clause-able
+serve_word-count-requires-clause-able c =
     let (es, t, counted) = c.loop-index.invariant.served in
-    let same = taken_places c.args.self.now c.loop-index.self es t in
-    omega (arith, same, c.requires.places)
-
-pub serve_word-count-requires-clause-room : goal.serve_word-count-requires-clause-room
-serve_word-count-requires-clause-room c =
-    let (es, t, counted) = c.loop-index.invariant.served in
-    let same = taken_room c.args.self.now c.loop-index.self es t in
-    omega (arith, same, c.requires.room)
+    let places = taken_places c.args.self.now c.loop-index.self es t in
+    let room = taken_room c.args.self.now c.loop-index.self es t in
+    record {
+      usable = taken_usable c.args.self.now c.loop-index.self es c.requires.able.usable t;
+      places = omega (arith, places, c.requires.able.places);
+      room = omega (arith, room, c.requires.able.room);
+    }
 
 pub overflow_add-count : goal.overflow_add-count
 overflow_add-count c =
@@ -32,7 +27,7 @@ overflow_add-count c =
     let (fs, u, more) = c.serve_word-count.ensures.served in
     let one = taken_len c.args.self.now c.loop-index.self es t in
     let other = taken_len c.loop-index.self c.serve_word-count.new.self fs u in
-    omega (arith, counted, more, one, other, c.requires.room)
+    omega (arith, counted, more, one, other, c.requires.able.room)
 
 pub loop-index-preserved : goal.loop-index-preserved
 loop-index-preserved c =

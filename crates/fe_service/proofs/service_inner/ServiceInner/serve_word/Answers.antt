@@ -30,11 +30,13 @@ loop-count-preserved c =
       served = (es ++ e ∷ [], taken_then c.args.self.now self new es c.args.array c.args.index e before t, omega (arith, counted, longer));
       counted = omega (arith, c.loop-count.invariant.counted, fewer, left);
       word = subst (λ arrays. IsWord arrays c.args.array c.args.index) (sym t.arrays) c.loop-count.invariant.word;
-      usable =
-          subst (λ s. AreUsable s new.attachments.waiting) (sym t.state)
-          (subst (λ w. AreUsable (after self.state e) w) (sym t.waiting) (turn_usable self.state self.attachments.waiting e c.loop-count.invariant.usable t.turn));
-      places = omega (arith, c.loop-count.invariant.places, place, fewer, left);
-      room = omega (arith, c.loop-count.invariant.room, more, fewer, left);
+      able = record {
+        usable =
+            subst (λ s. AreUsable s new.attachments.waiting) (sym t.state)
+            (subst (λ w. AreUsable (after self.state e) w) (sym t.waiting) (turn_usable self.state self.attachments.waiting e c.loop-count.invariant.able.usable t.turn));
+        places = omega (arith, c.loop-count.invariant.able.places, place, fewer, left);
+        room = omega (arith, c.loop-count.invariant.able.room, more, fewer, left);
+      };
       within = λ key w waits. c.loop-count.invariant.within key w (turn_within self.state self.attachments.waiting e t.turn key w (subst (λ m. get m key ≡ Some w) t.waiting waits));
       beside = λ b j differs quiet.
           subst (λ s. IsQuietAt s new.attachments.waiting b j) (sym t.state)
