@@ -1,6 +1,6 @@
 -- What an event that is not refused finds.
 use Rattle.std.proofs.Common.{◌≡◌, ℕ, ◌+◌, ◌-◌, ◌^◌, ◌<◌, ◌≤◌, Bool, true, false, not, ◌||◌, Option, Some, None, IsSome, refl, sym, ap, subst, ◌∙◌, arith, rules}
-use Rattle.std.specs.Prelude.{IsSomeAnd, nat_lt, if◌then◌else◌, Result, Ok, Err, option_and_then}
+use Rattle.std.specs.Prelude.{IsSomeAnd, nat_lt, if◌then◌else◌, Result, Ok, Err, IsTrue, option_and_then}
 use Rattle.std.specs.Option.{option_map, option_map_or}
 use Rattle.std.specs.FinMap.{get}
 use Rattle.std.proofs.lemmas.Bool.Decides.{nat_tests}
@@ -17,10 +17,11 @@ use Rattle.fe_service.specs.Events.{MaySettle, IsFree, floor_of}
 use Rattle.fe_mail.specs.Connections.{session_on}
 use Rattle.fe_mail.specs.declared.refusal.Refusal.{Refusal}
 use Rattle.fe_mail.specs.declared.refusal.Refusal.TheVariants.{NotAttached, Closing, BelowFloor, BeyondWindow, StillWaiting, Spent}
-use Rattle.fe_front.specs.Front.{FrontState, IsFront, is_spent}
+use Rattle.fe_front.specs.Front.{FrontState, IsFront, has_room, is_spent}
 use Rattle.fe_front.specs.Refusals.{and_then, own, unclosing, unspent, in_window, addressed, may_settle, settling, leaving, waits_below}
 use Rattle.fe_front.specs.Call.{kept_at, request_at}
 use Rattle.fe_front.proofs.Agreement.{Agree}
+use Rattle.fe_front.proofs.Attaching.{room_for}
 use Rattle.fe_front.proofs.Below.{below-clear}
 
 err_ok : {P : Type 0} (refusal : Refusal) (session : ℕ) → ◌≡◌ {A = Result ℕ Refusal} (Err refusal) (Ok session) → P
@@ -116,11 +117,9 @@ settles f conn session floor e =
       },
     )
 
-pub may_settle_to : (f : FrontState) (session floor : ℕ) → IsSome (get f.service.state.sessions session) → Settles f session floor → MaySettle f.service session floor
-may_settle_to f session floor there s = record {
-  rises = by (get f.service.state.sessions session) refl there;
-  above = below-clear f.service.waiting session floor s.none;
-}
+-- the floor of its session may rise so far
+pub may_rise_to : (f : FrontState) (session floor : ℕ) → IsSome (get f.service.state.sessions session) → Settles f session floor → IsSomeAnd (get f.service.state.sessions session) (λ x. MayRise x.floor floor)
+may_rise_to f session floor there s = by (get f.service.state.sessions session) refl there
   where
     by : (o : Option Session) → get f.service.state.sessions session ≡ o → IsSome o → IsSomeAnd o (λ x. MayRise x.floor floor)
     by None is there = none_there there
@@ -130,6 +129,13 @@ may_settle_to f session floor there s = record {
     by (Some x) is there =
         let at : floor_of f.service session ≡ x.floor = ap (λ (o : Option Session). option_map_or (λ x. x.floor) o 1) is in
         record { no_lower = omega (arith, at, s.least); within_window = omega (arith, at, s.most); within_limit = s.limit }
+
+pub may_settle_to : (f : FrontState) (session floor : ℕ) → IsSome (get f.service.state.sessions session) → Settles f session floor → IsTrue (has_room f) → MaySettle f.service session floor
+may_settle_to f session floor there s room = record {
+  rises = may_rise_to f session floor there s;
+  above = below-clear f.service.waiting session floor s.none;
+  room = room_for f s.unspent room;
+}
 
 -- ---- calls
 

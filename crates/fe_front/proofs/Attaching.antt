@@ -124,6 +124,20 @@ freed-attachable f session q attachable = by (holder_of f.service.attachments se
     by None is = attachable
     by (Some conn) is = attachable-held f.service session None q (attachment_there f.service.attachments session conn is) attachable
 
+pub released-room : (f : FrontState) (conn : ℕ) → HasRoom f.service → HasRoom (released f conn).service
+released-room f conn room = by (session_on f.connections conn)
+  where
+    by : (o : Option ℕ) → HasRoom (option_map_or (parted f conn) o f).service
+    by None = room
+    by (Some session) = record { places = room.places; few = room.few }
+
+pub freed-room : (f : FrontState) (session : ℕ) → HasRoom f.service → HasRoom (freed f session).service
+freed-room f session room = by (holder_of f.service.attachments session)
+  where
+    by : (o : Option ℕ) → HasRoom (option_map_or (λ conn. parted f conn session) o f).service
+    by None = room
+    by (Some conn) = record { places = room.places; few = room.few }
+
 -- ---- events that are not refused
 
 attach_tests : (a b c d : Bool) (session x : ℕ) → (if not a then Err NotAttached else (if b then Err Closing else (if c then Err SessionLimit else (if d then Err Spent else Ok session)))) ≡ Ok x → (a ≡ true) × (b ≡ false) × (c ≡ false) × (d ≡ false)

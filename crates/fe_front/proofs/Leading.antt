@@ -25,7 +25,7 @@ use Rattle.fe_mail.specs.declared.mail.Mail.TheVariants as mail
 use Rattle.fe_state.specs.declared.kept.Kept.{Kept}
 use Rattle.fe_front.specs.declared.outcome.Outcome.{Outcome}
 use Rattle.fe_front.specs.declared.outcome.Outcome.TheVariants as outcome
-use Rattle.fe_front.proofs.Admitted.{leaves, settles, own_there, may_settle_to, free_within}
+use Rattle.fe_front.proofs.Admitted.{leaves, settles, own_there, may_rise_to, free_within}
 use Rattle.fe_front.proofs.Counts.{waiting-served}
 use Rattle.fe_front.proofs.Keeping.{released-keeps, freed-keeps, mailed-keeps, dropped-keeps, posted_all-keeps}
 use Rattle.fe_front.proofs.Attaching.{attaches, left_of}
@@ -109,7 +109,7 @@ settle_leads : (f f' : FrontState) (conn session floor : ℕ) (es : List Entry) 
     → OneEntry f' es (Settled session floor) (settled_to f session floor) → Leads f es f'
 settle_leads f f' conn session floor es front e made =
     let (mine, may) = settles f conn session floor e in
-    let rises = (may_settle_to f session floor (own_there f conn session front.service front.tied.agree mine) may).rises in
+    let rises = may_rise_to f session floor (own_there f conn session front.service front.tied.agree mine) may in
     one f f' (settled_to f session floor) es (Settled session floor) made (record { has_place = place_left f may.unspent; allowed = rises; answered = tt }) refl
 
 bye_leads : (f f' : FrontState) (conn session : ℕ) (es : List Entry) → IsFront f → leaving f conn ≡ Ok session → OneEntry f' es (Closed session) (closed_by f session) → Leads f es f'

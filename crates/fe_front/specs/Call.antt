@@ -12,7 +12,7 @@ use Rattle.fe_state.specs.declared.entry.Entry.TheVariants.{Finished}
 use Rattle.fe_state.specs.declared.kept.Kept.{Kept}
 use Rattle.fe_state.specs.declared.request.Request.{Request}
 use Rattle.fe_service.specs.Service.{request_of}
-use Rattle.fe_service.specs.Events.{Completes, waited}
+use Rattle.fe_service.specs.Events.{Completes, IsFree, waited}
 use Rattle.fe_mail.specs.Books.{Books, call_completed, call_waits, call_repeated, call_refused, waiter_completed}
 use Rattle.fe_mail.specs.declared.mail.Mail.TheVariants as mail
 use Rattle.fe_mail.specs.declared.refusal.Refusal.{Refusal}
@@ -51,6 +51,12 @@ pub record WantsMemory (f : FrontState) (conn number : ℕ) (request : Request) 
   pub unspent : is_spent f ≡ false
   pub answered : reply f.service.state request ≡ Some answer
   pub array : MakesArray (Finished session number request answer)
+
+-- a number begins a new request: its session may finish it, it belongs to no request, and a place is left
+pub record BeginsRequest (f : FrontState) (session number : ℕ) : Type 0 where
+  pub free : IsFree f.service session number
+  pub new : request_at f session number ≡ None
+  pub unspent : is_spent f ≡ false
 
 -- the front after a call was refused: it is booked, and nothing else changes
 abbrev pub call_refused_by : FrontState → FrontState

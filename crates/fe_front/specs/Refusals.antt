@@ -1,6 +1,6 @@
 -- Why an event is refused: the first reason that applies. An event that is not refused belongs to a session.
 -- See `docs/model.md`, "The front".
-use Rattle.std.specs.Prelude.{ℕ, zero, suc, ◌+◌, ◌||◌, ◌&&◌, Bool, false, not, if◌then◌else◌, nat_lt, is_some, is_none, Result, Ok, Err}
+use Rattle.std.specs.Prelude.{◌≡◌, ℕ, zero, suc, ◌+◌, ◌||◌, ◌&&◌, Bool, false, not, if◌then◌else◌, nat_lt, is_some, is_none, Result, Ok, Err, IsTrue}
 use Rattle.std.specs.Option.{option_map_or}
 use Rattle.std.specs.FinMap.{get, len}
 use Rattle.fe_service.specs.AttachmentsState.{is_closing}
@@ -9,7 +9,7 @@ use Rattle.fe_service.specs.Service.{WaitingAccesses}
 use Rattle.fe_mail.specs.Connections.{session_on}
 use Rattle.fe_mail.specs.declared.refusal.Refusal.{Refusal}
 use Rattle.fe_mail.specs.declared.refusal.Refusal.TheVariants.{NotAttached, Closing, SessionLimit, BelowFloor, BeyondWindow, StillWaiting, NotWaiting, Spent}
-use Rattle.fe_front.specs.Front.{FrontState, is_connected, is_spent}
+use Rattle.fe_front.specs.Front.{FrontState, has_room, is_connected, is_spent}
 use Rattle.fe_state.specs.Limits.{greatest_floor, most_sessions, window_length}
 
 -- the result of the next check, unless an earlier one refused the event
@@ -49,6 +49,11 @@ in_window f number session =
 -- the session of a call
 abbrev pub addressed : FrontState → ℕ → ℕ → Result ℕ Refusal
 addressed f conn number = and_then (own f conn) (in_window f number)
+
+-- a call is admitted to a session: the connection's session has the number in its window, and the front has room
+pub record IsAdmitted (f : FrontState) (conn session number : ℕ) : Type 0 where
+  pub room : IsTrue (has_room f)
+  pub addressed : addressed f conn number ≡ Ok session
 
 -- whether a request of the session waits under a number below this one
 abbrev pub waits_below : WaitingAccesses → ℕ → ℕ → Bool

@@ -1,12 +1,11 @@
 //! Calls: requests of clients, each under a number of its session.
 
-ghost use Rattle.std.specs.Prelude.{◌≡◌, ◌+◌, ◌≤◌, ◌⊎◌, ◌↔◌, ℕ, List, [], Some, None, Ok, Err, IsTrue, false, IfOk, IfErr, OnErr};
-ghost use Rattle.fe_front.specs.Call.{request_at, IsCallRefused, WantsMemory, Called, Completed, Waits, repeat_of, repeated, waiters_completed};
-ghost use Rattle.fe_front.specs.Front.{has_room, is_spent};
-ghost use Rattle.fe_front.specs.Refusals.{addressed};
+ghost use Rattle.std.specs.Prelude.{◌≡◌, ◌+◌, ◌⊎◌, ℕ, List, [], Some, None, Err, IfOk, IfErr, OnErr};
+ghost use Rattle.fe_front.specs.Call.{request_at, BeginsRequest, IsCallRefused, WantsMemory, Called, Completed, Waits, repeat_of, repeated, waiters_completed};
+ghost use Rattle.fe_front.specs.Refusals.{addressed, IsAdmitted};
 ghost use Rattle.fe_mail.specs.Books.{Balances};
 ghost use Rattle.fe_mail.specs.declared.refusal.Refusal as refusals;
-ghost use Rattle.fe_service.specs.Events.{IsFree, HasRoom};
+ghost use Rattle.fe_service.specs.Events.{HasRoom};
 ghost use Rattle.fe_state.specs.Effect.{effect_of};
 ghost use Rattle.fe_state.specs.State.{directory_of, reply, MakesArray};
 ghost use Rattle.fe_state.specs.declared.entry.Entry.{Entry};
@@ -21,7 +20,12 @@ use fe_state::{Answer, Effect, Request, WINDOW};
 impl Front {
     /// The session of a call, or why it is refused. The look-ups of the session and of the request's array that follow
     /// take one comparison each.
-    fn addressed(&mut self, conn: u64, number: u64, request: &Request) -> Result<u64, Refusal>
+    pub(crate) fn addressed(
+        &mut self,
+        conn: u64,
+        number: u64,
+        request: &Request,
+    ) -> Result<u64, Refusal>
         ensures session { result ≡ addressed self.old conn number }
         ensures same { self.new ≡ self.old }
     {
@@ -89,9 +93,7 @@ impl Front {
         answer: Answer,
         effect: Effect,
     ) -> Result<Outcome, Refusal>
-        requires free { IsFree self.old.service session number }
-        requires new { request_at self.old session number ≡ None }
-        requires unspent { is_spent self.old ≡ false }
+        requires new { BeginsRequest self.old session number }
         requires answered { reply self.old.service.state request ≡ Some answer }
         requires effect { effect ≡ effect_of (directory_of self.old.service.state) request }
         requires room { HasRoom self.old.service }
@@ -117,9 +119,7 @@ impl Front {
 
     /// Adds a waiting request, which has no reply yet.
     fn wait(&mut self, session: u64, number: u64, request: Request)
-        requires free { IsFree self.old.service session number }
-        requires new { request_at self.old session number ≡ None }
-        requires unspent { is_spent self.old ≡ false }
+        requires new { BeginsRequest self.old session number }
         requires idle { reply self.old.service.state request ≡ None }
         ensures waits { Waits self.old session number request [] self.new }
     {
@@ -136,40 +136,16 @@ impl Front {
         self.books.call_waits();
     }
 
-    /// Makes a call, or says why it is refused. The number has to be in the window, and new or of the same request. A
-    /// refusal is not booked yet.
-    pub(crate) fn try_call(
-        &mut self,
-        conn: u64,
-        number: u64,
-        request: Request,
-    ) -> Result<Outcome, Refusal>
-        requires room { IsTrue (has_room self.old) }
-        ensures called { IfOk result
-            (λ outcome. (session : ℕ) × (entries : List Entry)
-            × (addressed self.old conn number ≡ Ok session)
-            × Called self.old conn session number request outcome entries self.new) }
-        ensures refused { (refusal : refusals.Refusal) → IsCallRefused self.old conn number request refusal
-            → result ≡ Err refusal }
-        ensures refusal { IfErr result
-            (λ refusal. IsCallRefused self.old conn number request refusal
-            ⊎ ((refusal ≡ Refusal.NoMemory) × WantsMemory self.old conn number request)) }
-        ensures err { OnErr result (self.new ≡ self.old) }
-    {
-        let session = self.addressed(conn, number, &request)?;
-        self.call_within(conn, session, number, request)
-    }
-
-    /// Makes a call whose number is in its session's window.
-    fn call_within(
+    /// Makes a call whose number is in its session's window, or says why it is refused. The number has to be new or of
+    /// the same request. A refusal is not booked yet.
+    pub(crate) fn call_within(
         &mut self,
         conn: u64,
         session: u64,
         number: u64,
         request: Request,
     ) -> Result<Outcome, Refusal>
-        requires room { IsTrue (has_room self.old) }
-        requires addressed { addressed self.old conn number ≡ Ok session }
+        requires { IsAdmitted self.old conn session number }
         ensures called { IfOk result
             (λ outcome. (entries : List Entry)
             × Called self.old conn session number request outcome entries self.new) }

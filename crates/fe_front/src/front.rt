@@ -147,11 +147,19 @@ impl Front {
             ⊎ ((refusal ≡ Refusal.NoMemory) × WantsMemory self.old conn number request)) }
         ensures err { OnErr result (self.new ≡ call_refused_by self.old) }
     {
-        let result = self.try_call(conn, number, request);
-        if result.is_err() {
-            self.books.call_refused();
+        match self.addressed(conn, number, &request) {
+            Ok(session) => {
+                let result = self.call_within(conn, session, number, request);
+                if result.is_err() {
+                    self.books.call_refused();
+                }
+                result
+            }
+            Err(refusal) => {
+                self.books.call_refused();
+                Err(refusal)
+            }
         }
-        result
     }
 
     /// Raises the least usable number of the connection's session, with an entry of it.
@@ -233,18 +241,9 @@ impl Front {
 
     /// Takes the batch that is out as stored. Its entries become durable and are mailed to the connections that have
     /// their sessions, and a session that it closes leaves. Any other batch is refused and handed back: one while no
-    /// batch is out, or one with another first place or length.
-    pub fn post(&mut self, batch: Batch) -> Result<(), StrangeBatch>
-        ensures refused { IsErr result ↔ (¬ IsOut self.old.out batch) }
-        ensures returned { IfErr result (λ strange. strange.0 ≡ batch) }
-        ensures posted { OnOk result (self.new ≡ posted self.old batch) }
-        ensures err { OnErr result (self.new ≡ self.old) }
-    {
-        self.post_noting(batch, &mut ConnectionSet::new())
-    }
-
-    /// Posts as `post` does, and adds to the set each connection whose box the batch changed: it got a mail, or its box
-    /// was full and the connection was removed. A connection that the set doesn't have has its old box.
+    /// batch is out, or one with another first place or length. Adds to the set each connection whose box the batch
+    /// changed: it got a mail, or its box was full and the connection was removed. A connection that the set doesn't
+    /// have has its old box.
     pub fn post_noting(
         &mut self,
         batch: Batch,

@@ -7,7 +7,7 @@ ghost use Rattle.fe_front.specs.Refusals.{own, unclosing, attaching, settling, l
 ghost use Rattle.fe_front.specs.Steps.{joined, cancelled_from};
 ghost use Rattle.fe_mail.specs.Connections.{session_on};
 ghost use Rattle.fe_service.specs.AttachmentsState.{holder_of, is_closing};
-ghost use Rattle.fe_service.specs.Events.{floor_of, IsAttachable, HasRoom};
+ghost use Rattle.fe_service.specs.Events.{floor_of, MayAttach};
 
 use crate::front::Front;
 use fe_mail::Refusal;
@@ -106,8 +106,7 @@ impl Front {
         requires free_connection { session_on self.old.connections conn ≡ None }
         requires connected { IsTrue (is_connected self.old conn) }
         requires free_session { holder_of self.old.service.attachments session ≡ None }
-        requires attachable { IsAttachable self.old.service session }
-        requires room { HasRoom self.old.service }
+        requires may { MayAttach self.old.service session }
         ensures joined { self.new ≡ joined self.old conn session }
     {
         self.service.attach(session, conn);

@@ -1,6 +1,6 @@
 //! The end of the history, a batch other than the one that was cut, and a full mailbox.
 
-use fe_front::{Front, StrangeBatch};
+use fe_front::{ConnectionSet, Front, StrangeBatch};
 use fe_mail::Refusal;
 use fe_state::{Batch, Entry, State};
 use std::alloc::{AllocError, Global};
@@ -57,7 +57,7 @@ fn long_batch(alloc: Global) -> Result<Batch, AllocError> {
 
 /// Whether the batch, which begins at place 0 and has these entries, is refused and returned unchanged.
 fn is_strange(front: &mut Front, batch: Batch, entries: &[Entry]) -> bool {
-    match front.post(batch) {
+    match front.post_noting(batch, &mut ConnectionSet::new()) {
         Ok(()) => false,
         Err(StrangeBatch(back)) => {
             let is_same = back.first == 0 && back.entries.as_slice() == entries;
@@ -74,7 +74,8 @@ fn check_batches(rt: &impl Abort, alloc: Global, front: &mut Front) -> Result<()
     let long = long_batch(alloc)?;
     let right = front.cut().expect(rt, "the attach is cut");
     assert!(rt; is_strange(front, long, &LONG) && front.durable() == 0);
-    assert!(rt; front.post(right).is_ok() && front.durable() == 1);
+    let posted = front.post_noting(right, &mut ConnectionSet::new());
+    assert!(rt; posted.is_ok() && front.durable() == 1);
     Ok(())
 }
 
@@ -90,7 +91,8 @@ fn strange_batch(rt: HostRuntime) -> Result<(), Fail> {
 fn check_box(rt: &impl Abort, front: &mut Front) {
     come(rt, front);
     let batch = front.cut().expect(rt, "the attach is cut");
-    assert!(rt; front.post(batch).is_ok());
+    let posted = front.post_noting(batch, &mut ConnectionSet::new());
+    assert!(rt; posted.is_ok());
     for _ in 0..127 {
         front.mail_refusal(1, 5, Refusal::NotWaiting);
     }

@@ -1,21 +1,28 @@
-use Rattle.std.specs.Prelude.{is_some}
 use Rattle.fe_front.specs.Front.{FrontState}
 use Rattle.std.proofs.Common.{◌+◌, length, length-append, sym, ap, subst, ◌∙◌}
-use Rattle.std.specs.FinMap.{get, len}
+use Rattle.std.specs.FinMap.{len}
 use Rattle.fe_service.specs.AttachmentsState.{without_session}
 use Rattle.fe_mail.specs.Books.{Balances}
 use Rattle.fe_mail.specs.Connections.{mails_in}
+use Rattle.fe_service.specs.Events.{MayClose}
+use Rattle.fe_front.proofs.Attaching.{room_for}
 use Rattle.fe_front.proofs.Admitted.{leaves, own_there}
 use Rattle.fe_front.proofs.Agreement.{Agree, agree-closing}
 use Rattle.fe_front.proofs.Counts.{waiting-split}
 use Rattle.fe_front.proofs.Ties.{made_sound}
 use Rattle.fe_front.proofs.front.Front.bye.Goals as goal
 
-pub close-count-requires-clause-open : goal.close-count-requires-clause-open
-close-count-requires-clause-open c =
+pub close-count-requires : goal.close-count-requires
+close-count-requires c =
     let old = c.args.self.now in
     let (mine, left) = leaves old c.args.conn c.in_ok-session.session (sym c.leaving.ensures ∙ c.in_ok-session.was) in
-    ap (λ (f : FrontState). is_some (get f.service.state.sessions c.in_ok-session.session)) c.self.view_is ∙ own_there old c.args.conn c.in_ok-session.session c.state.ensures.front.service c.state.ensures.front.tied.agree mine
+    subst
+    (λ (f : FrontState). MayClose f.service c.in_ok-session.session)
+    (sym c.self.view_is)
+    (record {
+      exists = own_there old c.args.conn c.in_ok-session.session c.state.ensures.front.service c.state.ensures.front.tied.agree mine;
+      room = room_for old left c.requires.room;
+    })
 
 pub invariant_of-self : goal.invariant_of-self
 invariant_of-self c =

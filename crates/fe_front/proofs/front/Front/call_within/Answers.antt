@@ -3,11 +3,23 @@ use Rattle.fe_front.proofs.Admitted.{free_within}
 use Rattle.fe_front.proofs.Repeating.{called_again}
 use Rattle.fe_front.proofs.front.Front.call_within.Goals as goal
 
-pub complete-requires-clause-free : goal.complete-requires-clause-free
-complete-requires-clause-free c = free_within c.args.self.now c.args.conn c.args.session c.args.number c.state.ensures.front c.requires.addressed (sym c.request_at.ensures ∙ c.in-None.is)
+pub complete-requires-clause-new : goal.complete-requires-clause-new
+complete-requires-clause-new c =
+    let new = sym c.request_at.ensures ∙ c.in-None.is in
+    record {
+      free = free_within c.args.self.now c.args.conn c.args.session c.args.number c.state.ensures.front c.requires.addressed new;
+      new = new;
+      unspent = sym c.is_spent.ensures ∙ c.if-is_spent.false;
+    }
 
-pub wait-requires-clause-free : goal.wait-requires-clause-free
-wait-requires-clause-free c = free_within c.args.self.now c.args.conn c.args.session c.args.number c.state.ensures.front c.requires.addressed (sym c.request_at.ensures ∙ c.in-None.is)
+pub wait-requires-clause-new : goal.wait-requires-clause-new
+wait-requires-clause-new c =
+    let new = sym c.request_at.ensures ∙ c.in-None.is in
+    record {
+      free = free_within c.args.self.now c.args.conn c.args.session c.args.number c.state.ensures.front c.requires.addressed new;
+      new = new;
+      unspent = sym c.is_spent.ensures ∙ c.if-is_spent.false;
+    }
 
 pub returns-then-is_same-clause-called : goal.returns-then-is_same-clause-called
 returns-then-is_same-clause-called c =

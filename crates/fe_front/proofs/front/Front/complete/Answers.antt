@@ -2,6 +2,7 @@ use Rattle.std.proofs.Common.{◌≡◌, ◌+◌, ◌-◌, ◌∷◌, length, le
 use Rattle.std.specs.FinMap.{len}
 use Rattle.fe_state.specs.State.{after, reply}
 use Rattle.fe_state.specs.declared.entry.Entry.TheVariants.{Finished}
+use Rattle.fe_service.specs.Events.{MayComplete}
 use Rattle.fe_service.proofs.Turns.{turns_place}
 use Rattle.fe_mail.specs.Books.{Balances}
 use Rattle.fe_mail.specs.Connections.{mails_in}
@@ -12,6 +13,13 @@ use Rattle.fe_front.proofs.Agreement.{Agree}
 use Rattle.fe_front.proofs.Counts.{waiting-served}
 use Rattle.fe_front.proofs.Ties.{made_sound}
 use Rattle.fe_front.proofs.front.Front.complete.Goals as goal
+
+pub complete-requires : goal.complete-requires
+complete-requires c =
+    subst
+    (λ (f : FrontState). MayComplete f.service c.args.session c.args.number c.args.request c.args.answer c.args.effect)
+    (sym c.self.view_is)
+    (record { free = c.requires.new.free; answered = c.requires.answered; changes = sym c.requires.effect; room = c.requires.room })
 
 pub invariant_of-self : goal.invariant_of-self
 invariant_of-self c =
@@ -43,8 +51,8 @@ returns-in-Ok-clause-completed c =
     let completed : Completed (front_of old) c.args.session c.args.number c.args.request c.in-Ok.entries entries new = record {
       answer = c.args.answer;
       served = served;
-      new = ap (λ f. request_at f c.args.session c.args.number) is ∙ c.requires.new;
-      unspent = ap is_spent is ∙ c.requires.unspent;
+      new = ap (λ f. request_at f c.args.session c.args.number) is ∙ c.requires.new.new;
+      unspent = ap is_spent is ∙ c.requires.new.unspent;
       answered = ap (λ f. reply f.service.state c.args.request) is ∙ c.requires.answered;
       completes = completes;
       entries = refl;

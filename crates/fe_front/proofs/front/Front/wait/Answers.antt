@@ -12,7 +12,7 @@ pub invariant_of-self : goal.invariant_of-self
 invariant_of-self c =
     let old = c.self.inside in
     let is = c.wait.ensures in
-    let more = ap (λ s. len s.waiting) is ∙ len-insert_new old.service.waiting (c.args.session, c.args.number) _ (ap (λ (f : FrontState). get f.service.waiting (c.args.session, c.args.number)) c.self.view_is ∙ c.requires.free.new) in
+    let more = ap (λ s. len s.waiting) is ∙ len-insert_new old.service.waiting (c.args.session, c.args.number) _ (ap (λ (f : FrontState). get f.service.waiting (c.args.session, c.args.number)) c.self.view_is ∙ c.requires.new.free.new) in
     let books = c.call_waits.ensures.balance (len old.service.waiting) (mails_in old.connections) c.self.invariant.tied.balance in
     quiet_sound old c.wait.new.self old.connections c.call_waits.new.self c.self.invariant
     (ap (λ s. s.state.place) is)
