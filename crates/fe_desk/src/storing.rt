@@ -94,7 +94,7 @@ impl<D: Disk> DeskInner<D> {
         match mem::replace(&mut self.handed, Handed::Nothing) {
             // The batch that was cut is the one that is out.
             Handed::Stored(batch) => {
-                let _ = self.front.post_noting(batch, changed);
+                let _ = self.front.post(batch, changed);
                 self.making = None;
             }
             handed => self.handed = handed,

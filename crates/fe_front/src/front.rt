@@ -244,11 +244,7 @@ impl Front {
     /// batch is out, or one with another first place or length. Adds to the set each connection whose box the batch
     /// changed: it got a mail, or its box was full and the connection was removed. A connection that the set doesn't
     /// have has its old box.
-    pub fn post_noting(
-        &mut self,
-        batch: Batch,
-        changed: &mut ConnectionSet,
-    ) -> Result<(), StrangeBatch>
+    pub fn post(&mut self, batch: Batch, changed: &mut ConnectionSet) -> Result<(), StrangeBatch>
         ensures refused { IsErr result ↔ (¬ IsOut self.old.out batch) }
         ensures returned { IfErr result (λ strange. strange.0 ≡ batch) }
         ensures posted { OnOk result (self.new ≡ posted self.old batch) }

@@ -57,7 +57,7 @@ fn long_batch(alloc: Global) -> Result<Batch, AllocError> {
 
 /// Whether the batch, which begins at place 0 and has these entries, is refused and returned unchanged.
 fn is_strange(front: &mut Front, batch: Batch, entries: &[Entry]) -> bool {
-    match front.post_noting(batch, &mut ConnectionSet::new()) {
+    match front.post(batch, &mut ConnectionSet::new()) {
         Ok(()) => false,
         Err(StrangeBatch(back)) => {
             let is_same = back.first == 0 && back.entries.as_slice() == entries;
@@ -74,7 +74,7 @@ fn check_batches(rt: &impl Abort, alloc: Global, front: &mut Front) -> Result<()
     let long = long_batch(alloc)?;
     let right = front.cut().expect(rt, "the attach is cut");
     assert!(rt; is_strange(front, long, &LONG) && front.durable() == 0);
-    let posted = front.post_noting(right, &mut ConnectionSet::new());
+    let posted = front.post(right, &mut ConnectionSet::new());
     assert!(rt; posted.is_ok() && front.durable() == 1);
     Ok(())
 }
@@ -91,7 +91,7 @@ fn strange_batch(rt: HostRuntime) -> Result<(), Fail> {
 fn check_box(rt: &impl Abort, front: &mut Front) {
     come(rt, front);
     let batch = front.cut().expect(rt, "the attach is cut");
-    let posted = front.post_noting(batch, &mut ConnectionSet::new());
+    let posted = front.post(batch, &mut ConnectionSet::new());
     assert!(rt; posted.is_ok());
     for _ in 0..127 {
         front.mail_refusal(1, 5, Refusal::NotWaiting);

@@ -147,7 +147,7 @@ impl<C: Tally, M: Tally> Shared<C, M> {
             return Err(Unposted::Full(FullBook(())));
         }
         let _ = self.front.state();
-        match self.front.post_noting(batch, changed) {
+        match self.front.post(batch, changed) {
             Ok(()) => {
                 self.history.learn(seat.history());
                 self.posted += 1;

@@ -14,12 +14,12 @@ returns-in-Stored-clause-stays g c =
     let batch = c.in-Stored.batch in
     let tied = c.requires.tied in
     let out = subst (λ (h : Handed). IsHanded h old.front.out) (sym c.in-Stored.ensures.value) tied.handed in
-    let is = posts c.post_noting.result old.front c.post_noting.new.self batch c.post_noting.ensures.refused c.post_noting.ensures.posted out in
+    let is = posts c.post.result old.front c.post.new.self batch c.post.ensures.refused c.post.ensures.posted out in
     record {
       desk = λ desk.
           desk_as g.D.Disk (desk_of old) _ desk (record { keeper = refl; groups = refl; synced = refl })
           (tied_posted (run_state_of old) _ old.keeper.state batch (sym c.in-Stored.ensures.value) c.replace.ensures.after is tied)
-          (λ conn there. desk.known conn (none-posted old.front c.post_noting.new.self batch is conn there));
+          (λ conn there. desk.known conn (none-posted old.front c.post.new.self batch is conn there));
       store = record { keeper = refl; groups = refl; synced = refl };
       owes = refl;
     }

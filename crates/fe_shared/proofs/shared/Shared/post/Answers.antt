@@ -17,18 +17,18 @@ overflow_add-self g c =
 pub invariant_of-self-inside-in-Ok : goal.invariant_of-self-inside-in-Ok
 invariant_of-self-inside-in-Ok g c =
     let s = c.self.inside in
-    let e = c.post_noting.ensures in
+    let e = c.post.ensures in
     let more : IsTrue (posts_more s.front.books c.args.batch) = search rules in
-    let goes = posted_goes s.front c.post_noting.new.self c.args.batch c.post_noting.result c.state.ensures.front s.open more e.refused e.posted e.err in
+    let goes = posted_goes s.front c.post.new.self c.args.batch c.post.result c.state.ensures.front s.open more e.refused e.posted e.err in
     (goes.books, (omega (arith, s.calls_agree, goes.calls), (omega (arith, s.mails_agree, goes.taken), (s.few, (s.call_parts, (s.mail_parts, tt))))))
 
 pub invariant_of-self-in-Ok : goal.invariant_of-self-in-Ok
 invariant_of-self-in-Ok g c =
     let s = c.self.inside in
-    let e = c.post_noting.ensures in
-    let steps = posted_steps s.front c.post_noting.new.self c.args.batch c.post_noting.result e.refused e.posted in
+    let e = c.post.ensures in
+    let steps = posted_steps s.front c.post.new.self c.args.batch c.post.result e.refused e.posted in
     let step = rw c.in-Ok.is at steps in (
-      posted_marked s.front c.post_noting.new.self c.args.batch s.posted s.history c.history.result.now c.learn.new.self c.learn.ensures.legal c.learn.ensures.this c.learn.ensures.that
+      posted_marked s.front c.post.new.self c.args.batch s.posted s.history c.history.result.now c.learn.new.self c.learn.ensures.legal c.learn.ensures.this c.learn.ensures.that
           (rw c.history.ensures c.requires.stored) c.state.ensures.front step.0 step.1.front c.self.invariant.0,
       c.self.invariant.1,
     )

@@ -6,8 +6,8 @@ use Rattle.fe_front.specs.Front.{FrontState, out_length}
 use Rattle.fe_front.specs.Posting.{IsOut}
 use Rattle.fe_front.specs.declared.out.Out.{Out}
 use Rattle.fe_front.proofs.Keeping.{posted_all-keeps}
-use Rattle.fe_front.proofs.front.Front.post_noting.Goals.{in-None, in-Some+then-batch-out, in-Some+else-batch-out}
-use Rattle.fe_front.proofs.front.Front.post_noting.Goals as goal
+use Rattle.fe_front.proofs.front.Front.post.Goals.{in-None, in-Some+then-batch-out, in-Some+else-batch-out}
+use Rattle.fe_front.proofs.front.Front.post.Goals as goal
 
 out_first : (o : Option Out) (batch : Batch) (mark : ℕ) → IsOut o batch → IfSome o (λ x. x.first ≡ mark) → batch.first ≡ mark
 out_first None batch mark h e = absurd h
