@@ -66,6 +66,7 @@ impl<C: Tally, M: Tally> Hall<C, M> {
             Ok(bells) => {
                 let (history_words, begun) = history.named::<M>();
                 let (seen, stored) = (begun.again(), begun.again());
+                seen.shows_legal();
                 let (shared, right, holds) = Shared::new(alloc, front, calls, mails, seen);
                 let hall = Hall {
                     lock: Lock::new(shared, holds),

@@ -69,7 +69,7 @@ pub fn write_side<C: Tally, M: Tally, H: WriteHalf, R: Wait>(
         ..
     } = writing;
     let conn = seat.conn();
-    let history = history.legal();
+    history.shows_legal();
     (seat, Receipts::of(conn, receipts, history), end)
 }
 

@@ -304,6 +304,10 @@ store_may v (Began begun ∷ log) count moment batch (before, size, cut) pre leg
 pub stores_same : (xs ys : List Act) → IsPrefix xs ys → length (stores_in ys) ≡ length (stores_in xs) → stores_in ys ≡ stores_in xs
 stores_same xs ys p same = prefix_whole (stores_in xs) (stores_in ys) (stores_rise xs ys p) same
 
+-- what was appended comes after what was there
+pub appended_rise : (old new : List Act) (act : Act) → WasAppended old act new → IsPrefix old new
+appended_rise old new act a = prefix_trans old a.earlier new a.seen (act ∷ [], sym a.is)
+
 -- a batch that is stored next is noted
 pub note_adds : (old new : List Act) (batch : Batch) (moment stored : ℕ) → stored ≡ length (stores_in old) → (c : WasAppended old (Stored batch moment) new) → length (stores_in c.earlier) ≡ stored
     → stores_in new ≡ stores_in old ++ (batch, moment) ∷ []

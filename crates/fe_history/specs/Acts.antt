@@ -130,6 +130,14 @@ pub record GatheredReceipts : Type 0 where
   pub whole : Bool
   pub history : List Act
 
+-- these acts go on from both of the others
+abbrev pub GoesOnFrom : List Act → List Act → List Act → Type 0
+GoesOnFrom one other acts = IsPrefix one acts × IsPrefix other acts
+
+-- the later acts go on from the earlier ones, and this batch, at this moment, is the one that was stored between them
+abbrev pub HasStoredNext : List Act → Batch → ℕ → List Act → Type 0
+HasStoredNext before batch moment after = IsPrefix before after × (stores_in after ≡ stores_in before ++ (batch, moment) ∷ [])
+
 -- the second list begins with the first, and has more
 abbrev pub HasMore : List (Batch × ℕ) → List (Batch × ℕ) → Type 0
 HasMore stores all = (other : Batch × ℕ) × (others : List (Batch × ℕ)) × (all ≡ stores ++ other ∷ others)

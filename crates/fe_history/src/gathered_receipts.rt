@@ -1,13 +1,48 @@
 ghost use Rattle.std.specs.Prelude.{◌≡◌, ◌++◌, [], true, false, OnOk, OnErr};
-ghost use mathlib.Core.List.{IsPrefix};
-ghost use Rattle.fe_history.specs.Acts.{EachIssued, GatheredReceipts};
+ghost use Rattle.fe_history.specs.Acts.{EachIssued, GatheredReceipts, GoesOnFrom, Receipts};
 
 use crate::history::History;
+use crate::receipt::Receipt;
 use crate::receipt_list::ReceiptList;
-use crate::receipts::Receipts;
 use crate::tally::Tally;
 use std::alloc::{AllocError, Global};
 use std::marker::Model;
+
+/// The receipts of one write side, and the history in which each of their answers was issued.
+#[derive(Drop)]
+pub struct Receipts<M: Tally> {
+    conn: u64,
+    items: Vec<Receipt>,
+    history: History<M>,
+}
+
+impl<M: Tally> Model for Receipts<M> {
+    ghost use Rattle.std.specs.Coded.{codes};
+    ghost use Rattle.fe_history.specs.contracts.act.Act as acts;
+    ghost use Rattle.fe_history.specs.Acts.{EachIssued, Receipts};
+
+    ghost Value = { Receipts };
+
+    ghost coded = { Prim.hlevel (codes, acts.the_row.coded) };
+
+    ghost view = { λ r. record { conn = r.conn; items = r.items.items; history = r.history } };
+
+    ghost invariant = { λ r. EachIssued r.items.items r.history };
+}
+
+impl<M: Tally> Receipts<M> {
+    /// The receipts of the write side of this connection.
+    pub fn of(conn: u64, items: Vec<Receipt>, history: History<M>) -> Receipts<M>
+        requires { EachIssued items.items history }
+        ensures { result ≡ record { conn = conn; items = items.items; history = history } }
+    {
+        Receipts {
+            conn,
+            items,
+            history,
+        }
+    }
+}
 
 /// The receipts of the write sides of a hall that ended, and the history in which each of their answers was issued.
 #[derive(Drop)]
@@ -46,10 +81,9 @@ impl<M: Tally> GatheredReceipts<M> {
         ensures ok { OnOk result
             ((self.new.items ≡ self.old.items ++ other.items) × (self.new.whole ≡ self.old.whole)) }
         ensures err { OnErr result ((self.new.items ≡ self.old.items) × (self.new.whole ≡ false)) }
-        ensures this { IsPrefix self.old.history self.new.history }
-        ensures that { IsPrefix other.history self.new.history }
+        ensures history { GoesOnFrom self.old.history other.history self.new.history }
     {
-        let (items, history) = other.into_parts();
+        let Receipts { items, history, .. } = other;
         self.history.learn(&history);
         drop(history);
         let added = self.list.add(items.as_slice());
@@ -61,10 +95,9 @@ impl<M: Tally> GatheredReceipts<M> {
     pub fn learn(&mut self, other: Receipts<M>)
         ensures items { self.new.items ≡ self.old.items }
         ensures whole { self.new.whole ≡ false }
-        ensures this { IsPrefix self.old.history self.new.history }
-        ensures that { IsPrefix other.history self.new.history }
+        ensures history { GoesOnFrom self.old.history other.history self.new.history }
     {
-        let (items, history) = other.into_parts();
+        let Receipts { items, history, .. } = other;
         drop(items);
         self.history.learn(&history);
         drop(history);

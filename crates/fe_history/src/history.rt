@@ -3,7 +3,7 @@
 ghost use Rattle.std.specs.Prelude.{◌≡◌, ◌^◌, ◌==◌, ◌<◌, ◌≤◌, ◌∷◌, ◌++◌, [], true, length, IsTrue};
 ghost use mathlib.Core.List.{IsPrefix};
 ghost use Rattle.fe_history.specs.declared.act.Act.TheVariants as act;
-ghost use Rattle.fe_history.specs.Acts.{IsLegal, IsStored, MayBeAppended, WasCut, cuts_in, stores_in};
+ghost use Rattle.fe_history.specs.Acts.{GoesOnFrom, IsLegal, IsStored, MayBeAppended, WasCut, cuts_in, stores_in};
 ghost use Rattle.fe_history.specs.Rules.{WasAppended, CutsAfter, Hears, cuts_of, pending_batch, stores_of};
 
 use crate::account::Account;
@@ -287,8 +287,7 @@ impl<M: Tally> Model for History<M> {
 impl<M: Tally> History<M> {
     /// A copy of what was seen.
     pub fn again(&self) -> History<M>
-        ensures same { result ≡ self.now }
-        ensures legal { IsLegal result }
+        ensures { result ≡ self.now }
     {
         History {
             seen: self.seen.again(),
@@ -296,20 +295,16 @@ impl<M: Tally> History<M> {
         }
     }
 
-    /// Returns the same history, and shows that it is legal.
-    pub fn legal(self) -> History<M>
-        ensures same { result ≡ self }
-        ensures legal { IsLegal result }
+    /// Shows that it is legal, as each history is.
+    pub fn shows_legal(&self)
+        ensures legal { IsLegal self.now }
     {
-        let History { seen, of } = self;
-        History { seen, of }
+        let _ = &self.seen;
     }
 
     /// Learns what another copy of the history has seen.
     pub fn learn(&mut self, other: &History<M>)
-        ensures this { IsPrefix self.old self.new }
-        ensures that { IsPrefix other.now self.new }
-        ensures legal { IsLegal self.new }
+        ensures { GoesOnFrom self.old other.now self.new }
     {
         self.seen.learn(&other.seen);
     }
@@ -331,7 +326,6 @@ impl<M: Tally> History<M> {
     /// of the program under the hall's lock has the book.
     pub fn hear(&mut self, history_words: &HistoryWords<M>, _mails: &Book<M>, took: Took)
         ensures heard { Hears self.old took.conn took.message self.new }
-        ensures legal { IsLegal self.new }
     {
         // The reference to the field says what is always true of a history.
         let _ = &self.seen;
@@ -352,7 +346,6 @@ impl<M: Tally> History<M> {
         requires few { count < 2 ^ 63 }
         requires next { CutsAfter self.old count (pending_batch front.now) }
         ensures this { IsPrefix self.old self.new }
-        ensures legal { IsLegal self.new }
         ensures cut { IsTrue result
             → (c : WasAppended self.old (act.Cut (pending_batch front.now)) self.new)
             × (length (cuts_in c.earlier) ≡ count) }
@@ -384,8 +377,6 @@ impl<M: Tally> History<M> {
         requires few { stored < 2 ^ 63 }
         requires cut { WasCut self.old stored batch.now }
         requires stored { IsStored batch.now keeper.now.state }
-        ensures this { IsPrefix self.old self.new }
-        ensures legal { IsLegal self.new }
         ensures stored { IsTrue result
             → (c : WasAppended self.old (act.Stored batch.now (D.moment keeper.now.store.disk)) self.new)
             × (length (stores_in c.earlier) ≡ stored) }
@@ -411,7 +402,6 @@ impl<M: Tally> History<M> {
     pub(crate) fn count(&mut self, history_words: &HistoryWords<M>) -> u64
         ensures count { result ≡ length (stores_in self.new) }
         ensures this { IsPrefix self.old self.new }
-        ensures legal { IsLegal self.new }
     {
         let none = Receipt {
             conn: 0,

@@ -1,6 +1,5 @@
-ghost use Rattle.std.specs.Prelude.{◌≡◌, ◌∷◌, ◌++◌, [], MatchBool, OnOk, OnErr};
-ghost use mathlib.Core.List.{IsPrefix};
-ghost use Rattle.fe_history.specs.Acts.{HasMore, IsLegal, IsStored, WasCut, stores_in};
+ghost use Rattle.std.specs.Prelude.{◌≡◌, [], MatchBool, OnOk, OnErr};
+ghost use Rattle.fe_history.specs.Acts.{GoesOnFrom, HasMore, HasStoredNext, IsStored, WasCut, stores_in};
 
 use crate::history::{History, HistoryWords};
 use crate::tally::Tally;
@@ -61,9 +60,7 @@ impl<M: Tally> StoreSeat<M> {
     ) -> Result<(), Unnoted>
         requires cut { WasCut cuts.now count batch.now }
         requires stored { IsStored batch.now keeper.now.state }
-        ensures this { IsPrefix self.old self.new }
-        ensures noted { OnOk result
-            (stores_in self.new ≡ stores_in self.old ++ (batch.now, D.moment keeper.now.store.disk) ∷ []) }
+        ensures noted { OnOk result (HasStoredNext self.old batch.now (D.moment keeper.now.store.disk) self.new) }
         ensures unnoted { OnErr result (self.new ≡ self.old) }
     {
         if self.stored >= BATCHES || self.stored != count {
@@ -91,9 +88,7 @@ impl<M: Tally> StoreSeat<M> {
         history_words: &HistoryWords<M>,
         seen: History<M>,
     ) -> (History<M>, bool)
-        ensures this { IsPrefix self result.0 }
-        ensures seen { IsPrefix seen result.0 }
-        ensures legal { IsLegal result.0 }
+        ensures seen { GoesOnFrom self seen result.0 }
         ensures own { MatchBool result.1 (stores_in result.0 ≡ stores_in self)
             (HasMore (stores_in self) (stores_in result.0)) }
     {

@@ -8,8 +8,7 @@ ghost use Rattle.fe_mail.specs.Books.{AddUp};
 ghost use Rattle.fe_front.specs.Event as event;
 ghost use Rattle.fe_front.specs.Step.{FrontStep};
 ghost use Rattle.fe_messages.specs.Taking.{Takes};
-ghost use mathlib.Core.List.{IsPrefix};
-ghost use Rattle.fe_history.specs.Acts.{IsLegal};
+ghost use Rattle.fe_history.specs.Acts.{GoesOnFrom, IsLegal};
 ghost use Rattle.fe_history.specs.Rules.{Hears};
 ghost use Rattle.fe_shared.specs.Marks.{IsBegun, MayBeIssued};
 ghost use Rattle.fe_shared.specs.Holds.{Ends, IsDrained, IsOver, IsUnconnected, Leaves, MakesEvent, MakesNoEvent, TakesMail};
@@ -317,6 +316,7 @@ impl<C: Tally, M: Tally> Shared<C, M> {
         let took = take_message(alloc, &mut self.front, conn, *message);
         seat.take(&mut self.calls, message, self.front.state().place());
         self.history.hear(history_words, &self.mails, took);
+        self.history.shows_legal();
         self.paces.note_message(conn);
         Some(LastAnswer::Served)
     }
@@ -465,8 +465,7 @@ impl<C: Tally, M: Tally> Shared<C, M> {
 
     /// Adds to a thread's history what was cut, what connections asked for, and what was stored, at least as far as it is posted.
     pub fn teach(&self, history: &mut History<M>)
-        ensures this { IsPrefix history.old history.new }
-        ensures that { IsPrefix self.now.history history.new }
+        ensures { GoesOnFrom history.old self.now.history history.new }
     {
         history.learn(&self.history);
     }

@@ -111,6 +111,7 @@ impl<C: Tally, M: Tally> Shared<C, M> {
         if !history.cut(history_words, count, &self.front) {
             return Some(CutOutcome::Strange(Uncut(())));
         }
+        history.shows_legal();
         let Some(batch) = self.front.cut() else {
             unreachable!()
         };
@@ -150,6 +151,7 @@ impl<C: Tally, M: Tally> Shared<C, M> {
         match self.front.post(batch, changed) {
             Ok(()) => {
                 self.history.learn(seat.history());
+                self.history.shows_legal();
                 self.posted += 1;
                 Ok(Posted {
                     durable: self.front.durable(),

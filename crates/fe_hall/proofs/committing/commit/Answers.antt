@@ -1,6 +1,6 @@
 use Rattle.std.proofs.Common.{◌≡◌, ℕ, Some, None, [], ◌∷◌, ◌++◌, sym, ap, subst, rules}
 use Rattle.fe_state.specs.declared.batch.Batch.{Batch}
-use Rattle.fe_history.specs.Acts.{IsStored, stores_in}
+use Rattle.fe_history.specs.Acts.{HasStoredNext, IsStored, stores_in}
 use Rattle.fe_hall.specs.Commits.{AppendsAreNoted, Commits, EndsAs, end_of}
 use Rattle.fe_hall.specs.declared.commit_end.CommitEnd.{CommitEnd}
 use Rattle.fe_hall.specs.declared.commit_end.CommitEnd.TheVariants.{Strange}
@@ -22,11 +22,11 @@ returns-in-Ok-post-clause-commits g c =
     let new = c.append.new.self in
     let batch : Batch = c.into_batch-batch.result.0 in
     let moment : ℕ = g.D.Disk.moment new.store.disk in
-    let noted : stores_in c.note.new.self ≡ stores_in c.args.seat.now ++ (c.in-Ok.batch, moment) ∷ [] = search rules in
+    let noted : HasStoredNext c.args.seat.now c.in-Ok.batch moment c.note.new.self = search rules in
     group_noted g.D.Disk g.met.D.Disk.only_now old new None batch c.args.seat.now c.note.new.self e.continues.some e.continues.legal e.state
     (appended_works old.store new.store batch.entries new.store.disk e.store) c.append.ensures.honesty c.append.ensures.durable c.append.ensures.any_moment
-    (one_noted g.D.Disk (record { batch = batch; before = old; after = new }) _ c.args.seat.now c.note.new.self c.note.ensures.this
-    (subst (λ (b : Batch). stores_in c.note.new.self ≡ stores_in c.args.seat.now ++ (b, moment) ∷ []) c.in-Ok.ensures.returned noted))
+    (one_noted g.D.Disk (record { batch = batch; before = old; after = new }) _ c.args.seat.now c.note.new.self noted.0
+    (subst (λ (b : Batch). stores_in c.note.new.self ≡ stores_in c.args.seat.now ++ (b, moment) ∷ []) c.in-Ok.ensures.returned noted.1))
 
 pub returns-in-Ok-clause-commits : goal.returns-in-Ok-clause-commits
 returns-in-Ok-clause-commits g c =
@@ -35,11 +35,11 @@ returns-in-Ok-clause-commits g c =
     let new = c.append.new.self in
     let batch : Batch = c.into_batch-batch.result.0 in
     let moment : ℕ = g.D.Disk.moment new.store.disk in
-    let noted : stores_in c.note.new.self ≡ stores_in c.args.seat.now ++ (c.in-Ok.batch, moment) ∷ [] = search rules in
+    let noted : HasStoredNext c.args.seat.now c.in-Ok.batch moment c.note.new.self = search rules in
     group_noted g.D.Disk g.met.D.Disk.only_now old new (Some c.of_post.result) batch c.args.seat.now c.note.new.self e.continues.some e.continues.legal e.state
     (appended_works old.store new.store batch.entries new.store.disk e.store) c.append.ensures.honesty c.append.ensures.durable c.append.ensures.any_moment
-    (one_noted g.D.Disk (record { batch = batch; before = old; after = new }) _ c.args.seat.now c.note.new.self c.note.ensures.this
-    (subst (λ (b : Batch). stores_in c.note.new.self ≡ stores_in c.args.seat.now ++ (b, moment) ∷ []) c.in-Ok.ensures.returned noted))
+    (one_noted g.D.Disk (record { batch = batch; before = old; after = new }) _ c.args.seat.now c.note.new.self noted.0
+    (subst (λ (b : Batch). stores_in c.note.new.self ≡ stores_in c.args.seat.now ++ (b, moment) ∷ []) c.in-Ok.ensures.returned noted.1))
 
 pub returns-in-Err-note-clause-commits : goal.returns-in-Err-note-clause-commits
 returns-in-Err-note-clause-commits g c =

@@ -5,4 +5,4 @@ use Rattle.fe_hall.proofs.hall.Hall.new.Goals as goal
 
 pub new-shared-requires-clause-begun : goal.new-shared-requires-clause-begun
 new-shared-requires-clause-begun g c =
-    subst (λ (h : List Act). IsBegun c.args.front h) (sym (c.again-seen.ensures.same ∙ c.named-history_words.ensures)) c.requires.begun
+    subst (λ (h : List Act). IsBegun c.args.front h) (sym (c.again-seen.ensures ∙ c.named-history_words.ensures)) c.requires.begun

@@ -25,7 +25,8 @@ heard_none acts conn (Settle floor) other = refl
 heard_none acts conn Bye other = refl
 heard_none acts conn Report other = refl
 
-pub returns-in_default-clause-heard : goal.returns-in_default-clause-heard
-returns-in_default-clause-heard g c =
-    subst (λ (m : ClientMessage). Hears c.args.self.now c.args.took.conn m c.args.self.now) (ap (λ (p : ℕ × ClientMessage). p.1) c.into_parts-conn.ensures)
-    (heard_none c.args.self.now c.args.took.conn c.into_parts-conn.result.1 c.in_default.not-Attach)
+pub returns-in_default : goal.returns-in_default
+returns-in_default g c =
+    let heard = subst (λ (m : ClientMessage). Hears c.args.self.now c.args.took.conn m c.args.self.now) (ap (λ (p : ℕ × ClientMessage). p.1) c.into_parts-conn.ensures)
+    (heard_none c.args.self.now c.args.took.conn c.into_parts-conn.result.1 c.in_default.not-Attach) in
+    record { heard = heard }

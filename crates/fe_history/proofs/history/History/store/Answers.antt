@@ -16,7 +16,9 @@ compare_exchange-found-requires g c =
           (stores_moves c.self.inside.seen.log c.args.batch.now (g.D.Disk.moment keeper.store.disk) c.args.stored (rw c.self.view_is c.requires.cut)),
     )
 
-pub returns-clause-stored : goal.returns-clause-stored
-returns-clause-stored g c = λ is.
-    let then = rw (c.plain-offer.ensures.1, is) at c.compare_exchange-found.ensures.7 in
-    rw (← c.self.view_is) then.0
+pub returns : goal.returns
+returns g c = record {
+  stored = λ is.
+      let then = rw (c.plain-offer.ensures.1, is) at c.compare_exchange-found.ensures.7 in
+      rw (← c.self.view_is) then.0;
+}

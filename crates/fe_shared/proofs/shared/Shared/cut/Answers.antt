@@ -24,25 +24,25 @@ pub cut-requires-clause-next : goal.cut-requires-clause-next
 cut-requires-clause-next g c =
     let s = c.self.inside in
     let some = some_pending (has_no_cut s.front) c.has_cut.result c.has_cut.ensures (search rules) in
-    let marked = subst (λ (h : List Act). IsMarked s.front s.posted h) (sym c.again-history.ensures.same) c.self.invariant.0 in
+    let marked = subst (λ (h : List Act). IsMarked s.front s.posted h) (sym c.again-history.ensures) c.self.invariant.0 in
     cut_next s.front s.posted c.again-history.result marked some
 
 pub invariant_of-self-2 : goal.invariant_of-self-2
 invariant_of-self-2 g c =
     let s = c.self.inside in
     let some = some_pending (has_no_cut s.front) c.has_cut.result c.has_cut.ensures (search rules) in
-    let marked = subst (λ (h : List Act). IsMarked s.front s.posted h) (sym c.again-history.ensures.same) c.self.invariant.0 in
+    let marked = subst (λ (h : List Act). IsMarked s.front s.posted h) (sym c.again-history.ensures) c.self.invariant.0 in
     let noted = c.cut.ensures.cut (search rules) in
-    (cut_marked s.front s.posted c.again-history.result marked some c.cut.new.self c.cut.ensures.legal noted.0 noted.1 c.cut-2.new.self c.cut-2.ensures.cut, c.self.invariant.1)
+    (cut_marked s.front s.posted c.again-history.result marked some c.cut.new.self c.shows_legal.ensures.legal noted.0 noted.1 c.cut-2.new.self c.cut-2.ensures.cut, c.self.invariant.1)
 
 pub returns-clause-noted : goal.returns-clause-noted
 returns-clause-noted g c =
     let s = c.self.inside in
     let some = some_pending (has_no_cut s.front) c.has_cut.result c.has_cut.ensures (search rules) in
-    let marked = subst (λ (h : List Act). IsMarked s.front s.posted h) (sym c.again-history.ensures.same) c.self.invariant.0 in
+    let marked = subst (λ (h : List Act). IsMarked s.front s.posted h) (sym c.again-history.ensures) c.self.invariant.0 in
     let noted = c.cut.ensures.cut (search rules) in
-    let was = cut_was s.front s.posted c.again-history.result marked some c.cut.new.self c.cut.ensures.legal noted.0 noted.1 in
+    let was = cut_was s.front s.posted c.again-history.result marked some c.cut.new.self c.shows_legal.ensures.legal noted.0 noted.1 in
     let next : Some c.in-Some.batch ≡ Some (pending_batch s.front) =
     sym c.in-Some.is ∙ c.cut-2.ensures.batch ∙ ap (λ (b : Bool). if b then None else Some (pending_batch s.front)) some in
     subst (λ (b : Batch). WasCut c.learn.new.self s.posted b) (sym (same_Some _ _ next))
-    (cut_later c.cut.new.self c.learn.new.self s.posted (pending_batch s.front) c.learn.ensures.that was)
+    (cut_later c.cut.new.self c.learn.new.self s.posted (pending_batch s.front) c.learn.ensures.1 was)

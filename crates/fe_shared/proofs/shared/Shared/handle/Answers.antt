@@ -20,4 +20,4 @@ invariant_of-self-2 g c =
     let s = c.self.inside in
     let t = c.take_message-took.ensures.taken in
     let heard = subst (λ (t : Took). Hears s.history t.conn t.message c.hear.new.self) c.take_message-took.ensures.took c.hear.ensures.heard in
-    (heard_marked s.front c.take_message-took.new.front c.conn-conn.result c.args.message.now t.0 s.posted s.history c.hear.new.self heard c.hear.ensures.legal t.2 t.1 c.self.invariant.0, c.self.invariant.1)
+    (heard_marked s.front c.take_message-took.new.front c.conn-conn.result c.args.message.now t.0 s.posted s.history c.hear.new.self heard c.shows_legal.ensures.legal t.2 t.1 c.self.invariant.0, c.self.invariant.1)

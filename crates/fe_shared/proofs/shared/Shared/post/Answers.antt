@@ -28,7 +28,7 @@ invariant_of-self-in-Ok g c =
     let e = c.post.ensures in
     let steps = posted_steps s.front c.post.new.self c.args.batch c.post.result e.refused e.posted in
     let step = rw c.in-Ok.is at steps in (
-      posted_marked s.front c.post.new.self c.args.batch s.posted s.history c.history.result.now c.learn.new.self c.learn.ensures.legal c.learn.ensures.this c.learn.ensures.that
+      posted_marked s.front c.post.new.self c.args.batch s.posted s.history c.history.result.now c.learn.new.self c.shows_legal.ensures.legal c.learn.ensures.0 c.learn.ensures.1
           (rw c.history.ensures c.requires.stored) c.state.ensures.front step.0 step.1.front c.self.invariant.0,
       c.self.invariant.1,
     )
