@@ -6,6 +6,7 @@ use Rattle.fe_front.specs.Event as event
 use Rattle.fe_front.specs.Front.{FrontState, is_connected}
 use Rattle.fe_front.specs.Step.{FrontStep}
 use Rattle.fe_state.specs.declared.batch.Batch.{Batch}
+use Rattle.fe_state.specs.declared.entry.Entry.{Entry}
 use Rattle.fe_front.specs.Posting.{IsOut}
 use Rattle.fe_history.specs.Acts.{WasCut}
 use Rattle.fe_history.specs.declared.act.Act.{Act}
@@ -24,9 +25,17 @@ use Rattle.fe_shared.specs.declared.unconnected.Unconnected.TheVariants as uncon
 abbrev pub MakesEvent : SharedState → SharedState → Type 0
 MakesEvent s t = (t.used ≡ true) × (t.stopped ≡ s.stopped)
 
--- No event was made in this hold, and the hall neither stopped nor started again.
+-- No event was made in this hold: the front is as it was, and the hall neither stopped nor started again.
 abbrev pub MakesNoEvent : SharedState → SharedState → Type 0
-MakesNoEvent s t = (t.used ≡ s.used) × (t.stopped ≡ s.stopped)
+MakesNoEvent s t = (t.front ≡ s.front) × (t.used ≡ s.used) × (t.stopped ≡ s.stopped)
+
+-- the event of this hold was this one of the front, which made these entries
+abbrev pub MakesStep : SharedState → event.Event → List Entry → SharedState → Type 0
+MakesStep s e es t = FrontStep s.front e es t.front × MakesEvent s t
+
+-- the event of this hold changed nothing of the front
+abbrev pub MakesNothing : SharedState → SharedState → Type 0
+MakesNothing s t = (t.front ≡ s.front) × MakesEvent s t
 
 -- whether a mail is in a connection's box
 abbrev pub has_mail : FrontState → ℕ → Bool
@@ -39,8 +48,8 @@ IsUnconnected f connections_made conn (unconnected.NoMemory short) = is_connecte
 IsUnconnected f connections_made conn (unconnected.Spent all) = (is_connected f conn ≡ false) × (connections_made ≡ most_connections)
 
 -- the connection is removed, with its box and what waits of its session
-abbrev pub Leaves : FrontState → ℕ → FrontState → Type 0
-Leaves f conn g = (count : ℕ) × FrontStep f (event.Gone conn count) [] g
+abbrev pub Leaves : SharedState → ℕ → SharedState → Type 0
+Leaves s conn t = ((count : ℕ) × FrontStep s.front (event.Gone conn count) [] t.front) × MakesEvent s t
 
 -- Why no mail comes any more for a connection whose box is empty. `None` says that one may come.
 abbrev pub Ends : FrontState → Bool → ℕ → Option Taking → Type 0
@@ -50,13 +59,17 @@ Ends f stopped conn (Some taking.Stopped) = (is_connected f conn ≡ true) × (s
 Ends f stopped conn (Some taking.Spent) = most_counted ≤ f.books.taken
 Ends f stopped conn None = (is_connected f conn ≡ true) × (stopped ≡ false)
 
--- A mail of a connection was taken; or its box was empty, and this is why none comes any more.
-abbrev pub TakesMail : FrontState → Bool → ℕ → Option Taking → FrontState → Type 0
-TakesMail f stopped conn (Some (taking.Mail mail more)) g = FrontStep f (event.TakeMail conn (Some mail)) [] g × (more ≡ has_mail g conn)
-TakesMail f stopped conn (Some taking.Gone) g = FrontStep f (event.TakeMail conn None) [] g × Ends g stopped conn (Some taking.Gone)
-TakesMail f stopped conn (Some taking.Stopped) g = FrontStep f (event.TakeMail conn None) [] g × Ends g stopped conn (Some taking.Stopped)
-TakesMail f stopped conn (Some taking.Spent) g = FrontStep f (event.TakeMail conn None) [] g × Ends g stopped conn (Some taking.Spent)
-TakesMail f stopped conn None g = FrontStep f (event.TakeMail conn None) [] g × Ends g stopped conn None
+-- A look into a connection's box took its first mail; or the box was empty, and this is why none comes any more.
+abbrev pub LooksInto : FrontState → Bool → ℕ → Option Taking → FrontState → Type 0
+LooksInto f stopped conn (Some (taking.Mail mail more)) g = FrontStep f (event.TakeMail conn (Some mail)) [] g × (more ≡ has_mail g conn)
+LooksInto f stopped conn (Some taking.Gone) g = FrontStep f (event.TakeMail conn None) [] g × Ends g stopped conn (Some taking.Gone)
+LooksInto f stopped conn (Some taking.Stopped) g = FrontStep f (event.TakeMail conn None) [] g × Ends g stopped conn (Some taking.Stopped)
+LooksInto f stopped conn (Some taking.Spent) g = FrontStep f (event.TakeMail conn None) [] g × Ends g stopped conn (Some taking.Spent)
+LooksInto f stopped conn None g = FrontStep f (event.TakeMail conn None) [] g × Ends g stopped conn None
+
+-- the event of this hold was such a look
+abbrev pub TakesMail : SharedState → ℕ → Option Taking → SharedState → Type 0
+TakesMail s conn taken t = LooksInto s.front s.stopped conn taken t.front × MakesEvent s t
 
 -- Nothing more comes for a connection: it is not connected, or the hall is stopped.
 abbrev pub IsOver : FrontState → Bool → ℕ → Type 0
@@ -73,11 +86,15 @@ IsUnposted f batch (unposted.Strange strange) = (posts_more f.books batch ≡ tr
 
 -- A batch was cut; or none was, and if the hall is stopped all that was made is durable, so nothing is left to store;
 -- or another side cut batches, and nothing happens.
-abbrev pub Cuts : FrontState → Bool → Option CutOutcome → FrontState → Type 0
-Cuts f stopped (Some (cutting.Batch cut)) g = FrontStep f (event.Cut (Some cut.batch)) [] g
-Cuts f stopped (Some (cutting.Stopped all)) g = FrontStep f (event.Cut None) [] g × (stopped ≡ true) × (g.durable ≡ g.service.state.place)
-Cuts f stopped (Some (cutting.Strange uncut)) g = g ≡ f
-Cuts f stopped None g = FrontStep f (event.Cut None) [] g
+abbrev pub HandsOut : FrontState → Bool → Option CutOutcome → FrontState → Type 0
+HandsOut f stopped (Some (cutting.Batch cut)) g = FrontStep f (event.Cut (Some cut.batch)) [] g
+HandsOut f stopped (Some (cutting.Stopped all)) g = FrontStep f (event.Cut None) [] g × (stopped ≡ true) × (g.durable ≡ g.service.state.place)
+HandsOut f stopped (Some (cutting.Strange uncut)) g = g ≡ f
+HandsOut f stopped None g = FrontStep f (event.Cut None) [] g
+
+-- the event of this hold was such a cut
+abbrev pub Cuts : SharedState → Option CutOutcome → SharedState → Type 0
+Cuts s cutting t = HandsOut s.front s.stopped cutting t.front × MakesEvent s t
 
 -- the batch that was cut was cut in this history
 abbrev pub IsCutIn : CutOutcome → List Act → Type 0

@@ -70,6 +70,10 @@ most_connections = 2 ^ 62
 abbrev pub IsWholeLedger : ℕ → ℕ → Type 0
 IsWholeLedger all parts = (all ≡ parts) × (all ≡ most_connections + 1)
 
+-- one connection's part of such a ledger, which has counted nothing yet
+abbrev pub IsNewPart : ℕ → ℕ → ℕ → ℕ → Type 0
+IsNewPart all parts_in_ledger parts amount = (parts ≡ 1) × (amount ≡ 0) × IsWholeLedger all parts_in_ledger
+
 -- a blank makes the ledger of this name, which has all its parts
 abbrev pub IsBlankOf : ℕ → ℕ → ℕ → ℕ → ℕ → Type 0
 IsBlankOf ledger_name parts_in_ledger all name parts = (name ≡ ledger_name) × (parts ≡ parts_in_ledger) × IsWholeLedger all parts_in_ledger

@@ -1,5 +1,5 @@
 ghost use Rattle.std.specs.Prelude.{◌≡◌, ◌+◌, true};
-ghost use Rattle.fe_shared.specs.Seats.{calls_in, first_call_seat, message_taken, IsWholeLedger, one_seat};
+ghost use Rattle.fe_shared.specs.Seats.{calls_in, first_call_seat, message_taken, IsNewPart, one_seat};
 
 use crate::last_answer::LastAnswer;
 use crate::message_log::MessageLog;
@@ -51,9 +51,7 @@ impl<C: Tally> Model for CallSeat<C> {
 impl<C: Tally> CallSeat<C> {
     /// The seat of a connection just made: one part of the ledger.
     pub(crate) fn new(share: Share<C>, conn: u64) -> CallSeat<C>
-        requires part { share.parts ≡ 1 }
-        requires nothing { share.amount ≡ 0 }
-        requires all { IsWholeLedger C.all C.parts }
+        requires { IsNewPart C.all C.parts share.parts share.amount }
         ensures { result ≡ first_call_seat conn }
     {
         CallSeat {

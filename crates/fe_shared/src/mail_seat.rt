@@ -1,5 +1,5 @@
 ghost use Rattle.std.specs.Prelude.{◌≡◌, ◌+◌, true};
-ghost use Rattle.fe_shared.specs.Seats.{first_mail_seat, mail_taken, IsWholeLedger, one_seat};
+ghost use Rattle.fe_shared.specs.Seats.{first_mail_seat, mail_taken, IsNewPart, one_seat};
 
 use crate::last_answer::LastAnswer;
 use crate::mail_log::MailLog;
@@ -47,9 +47,7 @@ impl<M: Tally> Model for MailSeat<M> {
 impl<M: Tally> MailSeat<M> {
     /// The seat of a connection just made: one part of the ledger.
     pub(crate) fn new(share: Share<M>, conn: u64) -> MailSeat<M>
-        requires part { share.parts ≡ 1 }
-        requires nothing { share.amount ≡ 0 }
-        requires all { IsWholeLedger M.all M.parts }
+        requires { IsNewPart M.all M.parts share.parts share.amount }
         ensures { result ≡ first_mail_seat conn }
     {
         MailSeat {

@@ -1,5 +1,5 @@
 ghost use Rattle.std.specs.Prelude.{◌≡◌, ◌+◌};
-ghost use Rattle.fe_shared.specs.Seats.{first_call_seat, first_mail_seat, IsWholeLedger};
+ghost use Rattle.fe_shared.specs.Seats.{first_call_seat, first_mail_seat, IsNewPart};
 
 use crate::call_seat::CallSeat;
 use crate::mail_seat::MailSeat;
@@ -17,21 +17,21 @@ pub struct NewSeats<C: Tally, M: Tally> {
 
 impl<C: Tally, M: Tally> Model for NewSeats<C, M> {
     ghost use Rattle.std.specs.Prelude.{◌≡◌, ◌+◌, ℕ};
-    ghost use Rattle.fe_shared.specs.Seats.{IsWholeLedger};
+    ghost use Rattle.fe_shared.specs.Seats.{IsNewPart};
 
     ghost Value = { ℕ };
 
     ghost view = { λ s. s.conn };
 
-    ghost invariant = { λ s. ((s.calls.parts ≡ 1) × (s.calls.amount ≡ 0) × IsWholeLedger C.all C.parts)
-        × ((s.mails.parts ≡ 1) × (s.mails.amount ≡ 0) × IsWholeLedger M.all M.parts) };
+    ghost invariant = { λ s. IsNewPart C.all C.parts s.calls.parts s.calls.amount
+        × IsNewPart M.all M.parts s.mails.parts s.mails.amount };
 }
 
 impl<C: Tally, M: Tally> NewSeats<C, M> {
     /// The seats of a new connection: one part of each ledger.
     pub(crate) fn new(calls: Share<C>, mails: Share<M>, conn: u64) -> NewSeats<C, M>
-        requires calls { (calls.parts ≡ 1) × (calls.amount ≡ 0) × IsWholeLedger C.all C.parts }
-        requires mails { (mails.parts ≡ 1) × (mails.amount ≡ 0) × IsWholeLedger M.all M.parts }
+        requires calls { IsNewPart C.all C.parts calls.parts calls.amount }
+        requires mails { IsNewPart M.all M.parts mails.parts mails.amount }
         ensures { result ≡ conn }
     {
         NewSeats { calls, mails, conn }

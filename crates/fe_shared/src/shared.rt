@@ -6,12 +6,11 @@ ghost use Rattle.fe_state.specs.declared.entry.Entry.{Entry};
 ghost use Rattle.fe_front.specs.Front.{has_room, is_connected};
 ghost use Rattle.fe_mail.specs.Books.{AddUp};
 ghost use Rattle.fe_front.specs.Event as event;
-ghost use Rattle.fe_front.specs.Step.{FrontStep};
 ghost use Rattle.fe_messages.specs.Taking.{Takes};
 ghost use Rattle.fe_history.specs.Acts.{GoesOnFrom, IsLegal};
 ghost use Rattle.fe_history.specs.Rules.{Hears};
 ghost use Rattle.fe_shared.specs.Marks.{IsBegun, MayBeIssued};
-ghost use Rattle.fe_shared.specs.Holds.{Ends, IsDrained, IsOver, IsUnconnected, Leaves, MakesEvent, MakesNoEvent, TakesMail};
+ghost use Rattle.fe_shared.specs.Holds.{IsDrained, IsOver, IsUnconnected, Leaves, MakesStep, MakesEvent, MakesNoEvent, MakesNothing, TakesMail};
 ghost use Rattle.fe_shared.specs.Watching.{waits};
 ghost use Rattle.fe_shared.specs.Seats.{HasRested, IsOpen, TookNoMessage, message_answered, taking_answered, takes_more, most_connections, IsBlankOf};
 
@@ -240,13 +239,12 @@ impl<C: Tally, M: Tally> Shared<C, M> {
         conn: u64,
     ) -> Result<NewSeats<C, M>, Unconnected>
         requires fresh { self.old.used ≡ false }
-        ensures step { OnOk result (FrontStep self.old.front (event.Connect conn) [] self.new.front) }
-        ensures err { OnErr result (self.new.front ≡ self.old.front) }
+        ensures step { OnOk result (MakesStep self.old (event.Connect conn) [] self.new) }
+        ensures err { OnErr result (MakesNothing self.old self.new) }
         ensures in_use { is_connected self.old.front conn ≡ true → IsErr result }
         ensures why { IfErr result (IsUnconnected self.old.front self.old.connections_made conn) }
         ensures connections_made { OnOk result (self.new.connections_made ≡ self.old.connections_made + 1) }
         ensures unmade { OnErr result (self.new.connections_made ≡ self.old.connections_made) }
-        ensures event { MakesEvent self.old self.new }
         ensures seats { IfOk result (λ seats. seats ≡ conn) }
     {
         self.used = true;
@@ -278,8 +276,9 @@ impl<C: Tally, M: Tally> Shared<C, M> {
     ) -> Option<LastAnswer>
         requires fresh { self.old.used ≡ false }
         ensures taken { result ≡ Some LastAnswer.Served
-            → (es : List Entry) × Takes self.old.front seat.old.conn message.now es self.new.front }
-        ensures other { result ≢ Some LastAnswer.Served → self.new.front ≡ self.old.front }
+            → (es : List Entry) × Takes self.old.front seat.old.conn message.now es self.new.front
+            × MakesEvent self.old self.new }
+        ensures other { result ≢ Some LastAnswer.Served → MakesNothing self.old self.new }
         ensures heard { result ≡ Some LastAnswer.Served
             → Hears self.old.history seat.old.conn message.now self.new.history }
         ensures unheard { result ≢ Some LastAnswer.Served → self.new.history ≡ self.old.history }
@@ -290,7 +289,6 @@ impl<C: Tally, M: Tally> Shared<C, M> {
         ensures gone { result ≡ Some LastAnswer.Gone → is_connected self.old.front seat.old.conn ≡ false }
         ensures spent { result ≡ Some LastAnswer.Spent → takes_more self.old.front.books ≡ false }
         ensures full { result ≡ None → has_room self.old.front ≡ false }
-        ensures event { MakesEvent self.old self.new }
     {
         self.used = true;
         if self.stopped {
@@ -324,7 +322,6 @@ impl<C: Tally, M: Tally> Shared<C, M> {
     /// Notes that the read side of a connection waits for its box. Fails if there is no memory for that.
     pub fn watch(&mut self, conn: u64) -> Result<(), Short>
         ensures watched { OnOk result (IsTrue (waits self.new.watched conn)) }
-        ensures front { self.new.front ≡ self.old.front }
         ensures still { MakesNoEvent self.old self.new }
     {
         self.watchers.add(conn)
@@ -333,7 +330,6 @@ impl<C: Tally, M: Tally> Shared<C, M> {
     /// Notes that the read side of a connection waits no more. Returns whether it was noted as waiting.
     pub fn unwatch(&mut self, conn: u64) -> bool
         ensures watched { result ≡ waits self.old.watched conn }
-        ensures front { self.new.front ≡ self.old.front }
         ensures still { MakesNoEvent self.old self.new }
     {
         self.watchers.remove(conn)
@@ -388,7 +384,6 @@ impl<C: Tally, M: Tally> Shared<C, M> {
         ensures own { IfSome result (λ rest. rest.conn ≡ seat.now.conn) }
         ensures drained { IfSome result (λ rest. rest.short ≡ false
             → IsDrained self.old.front self.old.stopped seat.now.conn seat.now.place) }
-        ensures front { self.new.front ≡ self.old.front }
         ensures still { MakesNoEvent self.old self.new }
     {
         let conn = seat.conn();
@@ -408,7 +403,6 @@ impl<C: Tally, M: Tally> Shared<C, M> {
     pub fn may_go_on(&mut self, conn: u64, place_then: &PlaceThen) -> bool
         ensures waits { result ≡ false → ¬ IsDrained self.old.front self.old.stopped conn place_then.now }
         ensures watched { result ≡ false → IsTrue (waits self.new.watched conn) }
-        ensures front { self.new.front ≡ self.old.front }
         ensures still { MakesNoEvent self.old self.new }
     {
         if self.paces.is_close(conn) || self.is_drained(conn, place_then.place) {
@@ -443,39 +437,21 @@ impl<C: Tally, M: Tally> Shared<C, M> {
     /// Takes the first mail out of a connection's box, or records in its seat why none comes. `None` says that one may come.
     pub fn take_mail(&mut self, seat: &mut MailSeat<M>) -> Option<Taking>
         requires fresh { self.old.used ≡ false }
-        ensures takes { TakesMail self.old.front self.old.stopped seat.old.conn result self.new.front }
+        ensures takes { TakesMail self.old seat.old.conn result self.new }
         ensures seat { MatchOption result (seat.new ≡ seat.old) (λ taking. seat.new ≡ taking_answered seat.old taking) }
         ensures stored { IfSome result (λ taking. MayBeIssued seat.old.conn taking self.new.history) }
-        ensures event { MakesEvent self.old self.new }
     {
         self.used = true;
         let _ = self.front.state();
         let conn = seat.conn();
-        match self.front.take_mail(conn) {
-            Some(mail) => {
-                let more = self.front.connections().has_mail(conn);
-                seat.take(&mut self.mails, &mail, more);
-                self.watchers.note_move(conn);
-                self.paces.note_mail(conn);
-                Some(Taking::Mail { mail, more })
-            }
-            None => self.end_of_mails(seat),
+        if let Some(mail) = self.front.take_mail(conn) {
+            let more = self.front.connections().has_mail(conn);
+            seat.take(&mut self.mails, &mail, more);
+            self.watchers.note_move(conn);
+            self.paces.note_mail(conn);
+            return Some(Taking::Mail { mail, more });
         }
-    }
-
-    /// Adds to a thread's history what was cut, what connections asked for, and what was stored, at least as far as it is posted.
-    pub fn teach(&self, history: &mut History<M>)
-        ensures { GoesOnFrom history.old self.now.history history.new }
-    {
-        history.learn(&self.history);
-    }
-
-    /// Why no mail comes any more for a connection whose box is empty. `None` says that one may come.
-    fn end_of_mails(&self, seat: &mut MailSeat<M>) -> Option<Taking>
-        ensures ends { Ends self.now.front self.now.stopped seat.old.conn result }
-        ensures seat { MatchOption result (seat.new ≡ seat.old) (λ taking. seat.new ≡ taking_answered seat.old taking) }
-    {
-        if !self.front.connected(seat.conn()) {
+        if !self.front.connected(conn) {
             seat.set_last_answer(&self.mails, LastAnswer::Gone);
             return Some(Taking::Gone);
         }
@@ -490,11 +466,18 @@ impl<C: Tally, M: Tally> Shared<C, M> {
         None
     }
 
-    /// Removes a connection, with its box and what waits of its session.
-    fn drop_connection(&mut self, conn: u64)
-        ensures step { Leaves self.old.front conn self.new.front }
-        ensures still { MakesNoEvent self.old self.new }
+    /// Adds to a thread's history what was cut, what connections asked for, and what was stored, at least as far as it is posted.
+    pub fn teach(&self, history: &mut History<M>)
+        ensures { GoesOnFrom history.old self.now.history history.new }
     {
+        history.learn(&self.history);
+    }
+
+    /// Removes a connection, with its box and what waits of its session: the event of this hold.
+    fn drop_connection(&mut self, conn: u64)
+        ensures { Leaves self.old conn self.new }
+    {
+        self.used = true;
         let _ = self.front.state();
         let _ = self.front.gone(conn);
     }
@@ -502,11 +485,9 @@ impl<C: Tally, M: Tally> Shared<C, M> {
     /// Removes the connection of a read side.
     pub fn leave_by_reader(&mut self, seat: &mut CallSeat<C>)
         requires fresh { self.old.used ≡ false }
-        ensures step { Leaves self.old.front seat.old.conn self.new.front }
+        ensures step { Leaves self.old seat.old.conn self.new }
         ensures seat { seat.new ≡ record seat.old { departed = true } }
-        ensures event { MakesEvent self.old self.new }
     {
-        self.used = true;
         self.drop_connection(seat.conn());
         seat.depart(&self.calls);
     }
@@ -514,11 +495,9 @@ impl<C: Tally, M: Tally> Shared<C, M> {
     /// Removes the connection of a write side.
     pub fn leave_by_writer(&mut self, seat: &mut MailSeat<M>)
         requires fresh { self.old.used ≡ false }
-        ensures step { Leaves self.old.front seat.old.conn self.new.front }
+        ensures step { Leaves self.old seat.old.conn self.new }
         ensures seat { seat.new ≡ record seat.old { departed = true } }
-        ensures event { MakesEvent self.old self.new }
     {
-        self.used = true;
         self.drop_connection(seat.conn());
         seat.depart(&self.mails);
     }
@@ -530,12 +509,11 @@ impl<C: Tally, M: Tally> Shared<C, M> {
         requires own { rest.conn ≡ seat.old.conn }
         ensures rested { HasRested seat.new }
         ensures untaken { TookNoMessage seat.old seat.new }
-        ensures step { self.old.stopped ≡ false → Leaves self.old.front seat.old.conn self.new.front }
-        ensures stopped { self.old.stopped ≡ true → self.new.front ≡ self.old.front }
-        ensures event { MakesEvent self.old self.new }
+        ensures step { self.old.stopped ≡ false → Leaves self.old seat.old.conn self.new }
+        ensures stopped { self.old.stopped ≡ true → MakesNothing self.old self.new }
     {
-        self.used = true;
         if self.stopped {
+            self.used = true;
             seat.set_last_answer(&self.calls, LastAnswer::Stopped);
             return;
         }

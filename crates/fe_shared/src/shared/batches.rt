@@ -4,9 +4,8 @@ ghost use Rattle.std.specs.Prelude.{◌≡◌, ◌+◌, ℕ, [], Some, false, If
 ghost use Rattle.fe_front.specs.ConnectionSet.{may_have};
 ghost use Rattle.fe_front.specs.Event as event;
 ghost use Rattle.fe_front.specs.Noting.{Notes};
-ghost use Rattle.fe_front.specs.Step.{FrontStep};
 ghost use Rattle.fe_history.specs.Acts.{WasStoredLast};
-ghost use Rattle.fe_shared.specs.Holds.{Cuts, IsCutIn, IsUnposted, MakesEvent};
+ghost use Rattle.fe_shared.specs.Holds.{Cuts, IsCutIn, IsUnposted, MakesStep, MakesNothing};
 ghost use Rattle.fe_shared.specs.Watching.{waits};
 
 use super::{MOST_COUNTED, Shared};
@@ -94,9 +93,8 @@ impl<C: Tally, M: Tally> Shared<C, M> {
         cuts: &mut History<M>,
     ) -> Option<CutOutcome>
         requires fresh { self.old.used ≡ false }
-        ensures cuts { Cuts self.old.front self.old.stopped result self.new.front }
+        ensures cuts { Cuts self.old result self.new }
         ensures noted { IfSome result (λ cutting. IsCutIn cutting cuts.new) }
-        ensures event { MakesEvent self.old self.new }
     {
         self.used = true;
         if !self.front.has_cut() {
@@ -132,12 +130,11 @@ impl<C: Tally, M: Tally> Shared<C, M> {
         requires fresh { self.old.used ≡ false }
         requires stored { WasStoredLast seat.now batch }
         ensures refused { IfErr result (IsUnposted self.old.front batch) }
-        ensures step { OnOk result (FrontStep self.old.front (event.Post batch) [] self.new.front) }
+        ensures step { OnOk result (MakesStep self.old (event.Post batch) [] self.new) }
         ensures durable { IfOk result (λ posted. posted ≡ batch.first + length batch.entries) }
         ensures notes { Notes self.old.front self.new.front changed.old changed.new }
         ensures added { (conn : ℕ) → IsTrue (waits self.new.watched conn) → IsTrue (may_have changed.new conn) }
-        ensures err { OnErr result (self.new.front ≡ self.old.front) }
-        ensures event { MakesEvent self.old self.new }
+        ensures err { OnErr result (MakesNothing self.old self.new) }
     {
         self.used = true;
         self.watchers.add_to(changed);
