@@ -17,7 +17,9 @@ use Rattle.fe_keeper.specs.Stands.{StandsFor, StandsForEither, EachStandsFor}
 use Rattle.fe_keeper.specs.declared.fault.Fault.{Fault}
 use Rattle.fe_keeper.specs.declared.fault.Fault.TheVariants.{Device, Failed, NoMemory, Mismatch, Damaged, Unformatted}
 use Rattle.fe_hall.proofs.Noted.{none_noted, both_noted, turn_noted}
-use Rattle.fe_hall.specs.Commits.{Append, AreAppends, AppendsAreNoted, HoldsSince, Commits, EndsAs, end_of}
+use Rattle.fe_shared.specs.declared.shared.batches.Unposted.{Unposted}
+use Rattle.fe_shared.specs.declared.shared.batches.Unposted.TheVariants as unposted
+use Rattle.fe_hall.specs.Commits.{Append, AreAppends, AppendsAreNoted, HoldsSince, Commits, EndsAs, end_of, end_of_post}
 use Rattle.fe_history.specs.declared.act.Act.{Act}
 use Rattle.fe_hall.specs.declared.commit_end.CommitEnd.{CommitEnd}
 use Rattle.fe_hall.specs.declared.commit_end.CommitEnd.TheVariants.{Store, Strange}
@@ -388,6 +390,11 @@ module _ {D : Type 0} (model : Ghosts D) (old new : KeeperState D) where
   -- the disk works on
   pub still_works : Works model old new → IsStill model old new
   still_works works = record { works = works.after ∙ sym works.before; still = works.still }
+
+  -- a batch was not posted, and the disk works on
+  pub post_tells : (why : Unposted) → IsStill model old new → EndsAs model old new (Some (end_of_post why))
+  post_tells (unposted.Full full) still = still
+  post_tells (unposted.Strange strange) still = still
 
   -- a fault of a checkpoint that takes no memory, or has it
   pub device_alone : (Cause : Fault → Type 0) (fault : Fault) → old.store.has_failed ≡ false → (fault ≡ NoMemory → Cause NoMemory → ⊥) → ((place : ℕ) → Cause (Mismatch place) → ⊥) → Fails model Cause old new fault

@@ -4,3 +4,4 @@ pub mod Handling
 pub mod Written
 pub mod Noted
 pub mod Turns
+pub mod Issuing

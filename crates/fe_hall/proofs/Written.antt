@@ -20,6 +20,9 @@ use Rattle.fe_shared.specs.declared.taking.Taking.{Taking}
 use Rattle.fe_shared.specs.declared.taking.Taking.TheVariants as taking
 use Rattle.fe_shared.specs.Seats.{MailSeatState, TookNoMail, mail_taken, taking_answered}
 use Rattle.fe_history.specs.Receipts.{receipt_of}
+use Rattle.fe_hall.specs.within.Writing.{IssuesOn}
+use Rattle.fe_history.specs.declared.act.Act.{Act}
+use Rattle.fe_history.proofs.Acts.{issued_both, prefix_trans}
 use Rattle.fe_hall.specs.Writes.{receipts_with, IsBatch, BreaksOff, MayLackLast, IsWritten, AreTaken, TakesOn, IsNoFault, IsEndAfter, AreSpelled, end_for}
 
 -- ---- lists
@@ -93,6 +96,12 @@ takes_one a b c d kept same all m more seat receipts taken as_it_was keeps =
 pub as_taken : {before after left : MailSeatState} {none kept : List Receipt} {mails : List Mail} → TakesOn before after none kept mails → none ≡ [] → TookNoMail after left → AreTaken before left kept mails
 as_taken {before} {mails} takes is still =
     record { conn = still.conn ∙ takes.conn; count = still.mails ∙ takes.count; taken = still.taken ∙ takes.taken; receipts = takes.receipts ∙ ap (λ (rs : List Receipt). receipts_with before.conn rs mails) is }
+
+-- ---- what was issued
+
+-- answers that were issued to a connection, and then others
+pub issues_on : (n k : ℕ) (ms ns : List Mail) (xs ys zs : List Act) → k ≡ n → IssuesOn n ms xs ys → IssuesOn k ns ys zs → IssuesOn n (ms ++ ns) xs zs
+issues_on n k ms ns xs ys zs same one two = (prefix_trans xs ys zs one.0 two.0, issued_both n k ms ns ys zs same two.0 one.1 two.1)
 
 -- ---- what the hall told
 
@@ -212,6 +221,24 @@ breaks_off taken before frames bytes after mails n same batch spelling few got =
           ∙ ap (λ (f : List ℕ). before ++ take n f) same
           ∙ ap (λ t. before ++ t) (sym (ap (λ t. take n t) rest.1 ∙ take-append-le n frames rest.0 (subst (λ (f : List ℕ). n ≤ length f) same few)));
     }
+
+-- what was spelled is written: all of it, or what the side had when it ended
+pub written_so : (before frames bytes after : List ℕ) (mails : List Mail) → frames ≡ spelled mails → bytes ≡ frames → after ≡ before ++ bytes → after ≡ before ++ spelled mails
+written_so before frames bytes after mails spelling same got = got ∙ ap (λ t. before ++ t) (same ∙ spelling)
+
+pub written_as : {A : Type 0} (end : WriteEnd) (before frames bytes after : List ℕ) (mails : List Mail) → AreSpelled {A = A} [] (Err end) mails frames → bytes ≡ frames → after ≡ before ++ bytes
+    → IsWritten before mails end after
+written_as Gone before frames bytes after mails spelling same got = written_so before frames bytes after mails spelling same got
+written_as Stopped before frames bytes after mails spelling same got = written_so before frames bytes after mails spelling same got
+written_as Spent before frames bytes after mails spelling same got = written_so before frames bytes after mails spelling same got
+written_as Device before frames bytes after mails spelling same got = absurd spelling
+written_as (NoMemory short) before frames bytes after mails w same got = record {
+  earlier = w.earlier;
+  last = w.last;
+  all = w.all;
+  few = w.few;
+  got = written_so before frames bytes after w.earlier w.got same got;
+}
 
 pub wrote_more : (before mid after : List ℕ) (ms ns : List Mail) → mid ≡ before ++ spelled ms → after ≡ mid ++ spelled ns → after ≡ before ++ spelled (ms ++ ns)
 wrote_more before mid after ms ns so_far got =

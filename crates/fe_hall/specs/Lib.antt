@@ -4,3 +4,4 @@ pub mod Reads
 pub mod Writes
 pub mod Audits
 pub mod Counts
+pub mod within

@@ -1,4 +1,4 @@
-ghost use Rattle.std.specs.Prelude.{◌≡◌, ◌≢◌};
+ghost use Rattle.std.specs.Prelude.{◌≡◌};
 ghost use Rattle.fe_hall.specs.Commits.{end_of, end_of_post};
 ghost use Rattle.fe_hall.specs.declared.commit_end.CommitEnd.{CommitEnd as Ends};
 
@@ -27,8 +27,7 @@ impl Model for Break {
 impl Break {
     /// The batch was not stored: a device call failed, memory was short, or the keeper found that the batch does not follow its state.
     pub(crate) fn of_store(fault: Fault) -> Break
-        ensures end { result ≡ end_of fault }
-        ensures unstopped { result ≢ Ends.Stopped }
+        ensures { result ≡ end_of fault }
     {
         let end = match fault {
             Fault::Mismatch { .. } => CommitEnd::Strange,
@@ -57,8 +56,7 @@ impl Break {
 
     /// The batch could not be posted.
     pub(crate) fn of_post(why: Unposted) -> Break
-        ensures end { result ≡ end_of_post why }
-        ensures unstopped { result ≢ Ends.Stopped }
+        ensures { result ≡ end_of_post why }
     {
         let end = match why {
             Unposted::Full(_) => CommitEnd::Spent,

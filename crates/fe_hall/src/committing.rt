@@ -1,12 +1,12 @@
 //! The committing side of a hall, a thread of its own: it stores the batches, each as a group, and posts them.
 
-ghost use Rattle.std.specs.Prelude.{◌≡◌, ◌≢◌, ◌↔◌, ◌+◌, false, Some, IfOk, IfErr, OnOk, length};
-ghost use Rattle.fe_keeper.specs.Ends.{Rests, IsStill, Breaks};
+ghost use Rattle.std.specs.Prelude.{◌≡◌, ◌↔◌, ◌+◌, false, Some, IfOk, IfErr, OnOk, length};
+ghost use Rattle.fe_keeper.specs.Ends.{IsStill, Breaks};
 ghost use Rattle.fe_keeper.specs.Stands.{EachStandsFor};
 ghost use Rattle.fe_keeper.specs.declared.fault.Fault.TheVariants.{Device};
 ghost use Rattle.fe_history.specs.Acts.{IsStored, WasCut};
 ghost use Rattle.fe_hall.specs.Commits.{AppendsAreNoted, Commits, EndsAs, end_in};
-ghost use Rattle.fe_hall.specs.declared.commit_end.CommitEnd.{CommitEnd};
+ghost use Rattle.fe_hall.specs.within.Committing.{StoresOn, KeepsStanding};
 
 use crate::breaking::Break;
 use crate::ended::Ended;
@@ -68,18 +68,11 @@ fn commit<C: Tally, M: Tally, D: Disk, R: Wait>(
     cuts: &History<M>,
 ) -> Result<Posted, Break>
     requires cut { WasCut cuts.now cut.count cut.batch }
-    ensures commits { (all : Commits D.Disk keeper.old keeper.new (end_in result))
-        × AppendsAreNoted D.Disk all.appends (end_in result) seat.old seat.new }
-    ensures stands { D.honest keeper.new.store.disk → keeper.new.store.has_failed ≡ false
-        → EachStandsFor D.Disk keeper.new.store.disk keeper.new.state }
-    ensures ended_as { EndsAs D.Disk keeper.old keeper.new (end_in result) }
+    ensures commits { StoresOn D.Disk keeper.old keeper.new (end_in result) seat.old seat.new }
     ensures works { OnOk result (keeper.old.store.has_failed ≡ false) }
     // It goes on only if it stored what was cut, and posted it.
     ensures stored { OnOk result (IsStored cut.batch keeper.new.state) }
     ensures posted { IfOk result (λ posted. posted ≡ cut.batch.first + length cut.batch.entries) }
-    // A side that did not store or post everything does not end as stopped.
-    ensures unstopped { IfErr result (λ end. end ≢ CommitEnd.Stopped) }
-    ensures honesty { D.honest keeper.new.store.disk ↔ D.honest keeper.old.store.disk }
 {
     let (batch, count) = cut.into_batch(keeper);
     match keeper.append(batch) {
@@ -98,12 +91,11 @@ fn commit<C: Tally, M: Tally, D: Disk, R: Wait>(
 }
 
 /// Goes on with the checkpoint, after a batch: writes a slice of it, or finishes it; if none is under way, begins one
-/// when it is due. `slices` says whether slices were left of it, and so does the answer. The fault is `Device`.
+/// when it is due, or later if there is no memory for it. `slices` says whether slices were left of it, and so does the
+/// answer. The fault is `Device`.
 fn tend<D: Disk>(keeper: &mut Keeper<D>, slices: bool) -> Result<bool, Fault>
     requires works { keeper.old.store.has_failed ≡ false }
-    ensures rests { Rests D.Disk keeper.old keeper.new }
-    ensures stands { D.honest keeper.new.store.disk → keeper.new.store.has_failed ≡ false
-        → EachStandsFor D.Disk keeper.new.store.disk keeper.new.state }
+    ensures keeps { KeepsStanding D.Disk keeper.old keeper.new }
     ensures still { OnOk result (IsStill D.Disk keeper.old keeper.new) }
     ensures device { IfErr result (λ fault. (fault ≡ Device) × Breaks D.Disk keeper.old keeper.new) }
 {
@@ -112,23 +104,9 @@ fn tend<D: Disk>(keeper: &mut Keeper<D>, slices: bool) -> Result<bool, Fault>
             return Ok(true);
         }
         // Its last slice was just written, and none is begun beside it; or an append finished it.
-        return begin_when_due(keeper);
-    }
-    if keeper.checkpoint_finish()? {
+    } else if keeper.checkpoint_finish()? {
         return Ok(false);
     }
-    begin_when_due(keeper)
-}
-
-/// Begins a checkpoint if it is due and none is under way. One that finds no memory is begun later. Returns whether it was begun.
-fn begin_when_due<D: Disk>(keeper: &mut Keeper<D>) -> Result<bool, Fault>
-    requires works { keeper.old.store.has_failed ≡ false }
-    ensures rests { Rests D.Disk keeper.old keeper.new }
-    ensures stands { D.honest keeper.new.store.disk → keeper.new.store.has_failed ≡ false
-        → EachStandsFor D.Disk keeper.new.store.disk keeper.new.state }
-    ensures still { OnOk result (IsStill D.Disk keeper.old keeper.new) }
-    ensures device { IfErr result (λ fault. (fault ≡ Device) × Breaks D.Disk keeper.old keeper.new) }
-{
     // It names what is always true of the keeper (`docs/DECISIONS.md`, "Toolchain").
     let _ = keeper.state();
     if keeper.used() <= MOST_USED {

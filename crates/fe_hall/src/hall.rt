@@ -3,7 +3,7 @@ ghost use Rattle.fe_shared.specs.Seats.{HasRested, TookNoMessage, message_answer
 ghost use mathlib.Core.List.{IsPrefix};
 ghost use Rattle.fe_history.specs.Acts.{WasStoredLast};
 ghost use Rattle.fe_shared.specs.Holds.{IsCutIn};
-ghost use Rattle.fe_shared.specs.Marks.{IsBegun, MayBeIssued, TakingIssued};
+ghost use Rattle.fe_shared.specs.Marks.{IsBegun, TakingIssued};
 
 use crate::baton::{Baton, BatonGuard};
 use crate::hold::Lock;
@@ -252,7 +252,11 @@ impl<C: Tally, M: Tally> Hall<C, M> {
                 if is_awaited {
                     self.ring(conn);
                 }
-                issue(&self.history_words, history, conn, &taking);
+                if let Taking::Mail { mail, .. } = &taking {
+                    if let Some(receipt) = Receipt::of(conn, mail) {
+                        history.issue(&self.history_words, receipt);
+                    }
+                }
                 return taking;
             }
             if hold.unwatch(conn) {
@@ -341,25 +345,6 @@ impl<C: Tally, M: Tally> Hall<C, M> {
         } = self;
         drop(begun);
         (lock.into_shared(), history_words)
-    }
-}
-
-/// Adds what was taken out of the box of a connection to the history, if it is an answer.
-fn issue<M: Tally>(
-    history_words: &HistoryWords<M>,
-    history: &mut History<M>,
-    conn: u64,
-    taking: &Taking,
-)
-    requires { MayBeIssued conn taking.now history.old }
-    ensures this { IsPrefix history.old history.new }
-    ensures issued { TakingIssued conn taking.now history.new }
-{
-    let Taking::Mail { mail, .. } = taking else {
-        return;
-    };
-    if let Some(receipt) = Receipt::of(conn, mail) {
-        history.issue(history_words, receipt);
     }
 }
 

@@ -1,9 +1,9 @@
 //! The read side of a connection, the thread that reads: the messages of its client's stream go to the hall, one after another.
 
-ghost use Rattle.std.specs.Prelude.{◌≡◌, ◌≢◌, ◌+◌, ◌<◌, ◌≤◌, ◌++◌, [], ℕ, List, length, Option, Some, IsTrue, false, IfNone, IfSome, OnSome, MatchOption};
-ghost use Rattle.fe_wire.specs.declared.client_message.ClientMessage.{ClientMessage as Message};
+ghost use Rattle.std.specs.Prelude.{◌≡◌, ◌≢◌, ◌+◌, ◌≤◌, ◌++◌, [], ℕ, List, Some, IfNone, IfSome, OnSome, MatchOption};
 ghost use Rattle.fe_shared.specs.Seats.{HasDeparted, HasRested, CallSeatState, TookNoMessage, message_taken};
-ghost use Rattle.fe_hall.specs.Reads.{IsQuietEnd, listed_with, AreHandled, AreLeft, EndsEarly, EndsAmong, HandlesStream, IsAt, IsOfMessages, IsEndAfter};
+ghost use Rattle.fe_hall.specs.Reads.{IsQuietEnd, listed_with, EndsEarly, HandlesStream, IsAt, IsOfMessages, IsEndAfter};
+ghost use Rattle.fe_hall.specs.within.Reading.{KeepsTurns};
 
 use crate::baton::BatonGuard;
 use crate::ends::ReadEnd;
@@ -95,14 +95,11 @@ impl<C: Tally> Reading<C> {
         gate: &G,
         turns: Option<u64>,
     ) -> ReadEnd
-        ensures handled { H.is_known half.old → H.known half.old ≡ []
+        ensures handled { H.is_known half.old → H.is_known half.new × (H.known half.old ≡ []
             → IsAt [] self.old.seat self.old.decoder self.old.seat self.old.listed.items
-            → HandlesStream (H.known half.new) self.old.seat self.new.seat self.new.listed.items result }
+            → HandlesStream (H.known half.new) self.old.seat self.new.seat self.new.listed.items result) }
         ensures own { self.new.seat.conn ≡ self.old.seat.conn }
-        ensures is_known { H.is_known half.old → H.is_known half.new }
-        ensures turns { result ≡ ReadEnd.Turns
-            → (most : ℕ) × (turns ≡ Some most) × (H.reads half.new ≡ H.reads half.old + most) }
-        ensures reads { IfSome turns (λ most. H.reads half.new ≤ H.reads half.old + most) }
+        ensures turns { KeepsTurns turns result (H.reads half.old) (H.reads half.new) }
         ensures ended { result ≡ ReadEnd.Closed → H.ended half.new }
         ensures failed { result ≡ ReadEnd.Device → H.failed half.new }
         ensures ended_as { IsEndAfter result self.new.seat.last_answer }
@@ -114,46 +111,24 @@ impl<C: Tally> Reading<C> {
         let piece = buffer.as_mut_slice();
         let mut left = turns;
         for _ in rt.forever() {
-            if !take_turn(&mut left) {
-                return ReadEnd::Turns;
+            match &mut left {
+                Some(0) => return ReadEnd::Turns,
+                Some(count) => *count -= 1,
+                None => {}
             }
-            if let Some(end) = self.read(rt, hall, half, gate, piece) {
+            let count = match half.read(piece) {
+                Err(_) => return ReadEnd::Device,
+                Ok(0) => return ReadEnd::Closed,
+                Ok(count) => count,
+            };
+            if let Some(end) = self.take_piece(rt, hall, gate, &piece[..count]) {
                 return end;
             }
         }
         unreachable!()
     }
 
-    /// Reads once, and takes the messages that came whole. Returns why the side ends, if it does.
-    fn read<M: Tally, H: ReadHalf, G: Gate, R: Clock + Wait>(
-        &mut self,
-        rt: &R,
-        hall: &Hall<C, M>,
-        half: &mut H,
-        gate: &G,
-        buffer: &mut [u8],
-    ) -> Option<ReadEnd>
-        requires { 0 < length buffer.old }
-        ensures handled { (before : CallSeatState) → H.is_known half.old
-            → IsAt (H.known half.old) before self.old.decoder self.old.seat self.old.listed.items
-            → MatchOption result (IsAt (H.known half.new) before self.new.decoder self.new.seat self.new.listed.items)
-            (HandlesStream (H.known half.new) before self.new.seat self.new.listed.items) }
-        ensures own { self.new.seat.conn ≡ self.old.seat.conn }
-        ensures is_known { H.is_known half.old → H.is_known half.new }
-        ensures turns { IfSome result (λ end. end ≢ ReadEnd.Turns) }
-        ensures reads { H.reads half.new ≡ H.reads half.old + 1 }
-        ensures ended { IfSome result (λ end. end ≡ ReadEnd.Closed → H.ended half.new) }
-        ensures failed { IfSome result (λ end. end ≡ ReadEnd.Device → H.failed half.new) }
-        ensures ended_as { IfSome result (λ end. IsEndAfter end self.new.seat.last_answer) }
-    {
-        match half.read(buffer) {
-            Err(_) => Some(ReadEnd::Device),
-            Ok(0) => Some(ReadEnd::Closed),
-            Ok(count) => self.take_piece(rt, hall, gate, &buffer[..count]),
-        }
-    }
-
-    /// Takes the messages that the next piece of the stream completes. Returns why the side ends, if it does.
+    /// Takes the messages that the next piece of the stream completes, in their order. Returns why the side ends, if it does.
     fn take_piece<M: Tally, G: Gate, R: Clock + Wait>(
         &mut self,
         rt: &R,
@@ -173,32 +148,7 @@ impl<C: Tally> Reading<C> {
             Ok(fed) => fed,
             Err(short) => return Some(ReadEnd::NoMemory(short)),
         };
-        if let Some(end) = self.take_all(rt, hall, gate, fed.messages.as_slice()) {
-            return Some(end);
-        }
-        let fault = fed.fault?;
-        Some(ReadEnd::BadFrame {
-            offset: fault.offset,
-        })
-    }
-
-    /// Takes messages in their order. Returns why the side ends, if it does.
-    fn take_all<M: Tally, G: Gate, R: Clock + Wait>(
-        &mut self,
-        rt: &R,
-        hall: &Hall<C, M>,
-        gate: &G,
-        messages: &[ClientMessage],
-    ) -> Option<ReadEnd>
-        ensures handled { (before : CallSeatState) (earlier : List Message)
-            → AreHandled before self.old.seat self.old.listed.items earlier
-            → MatchOption result (AreHandled before self.new.seat self.new.listed.items (earlier ++ messages.now))
-            (EndsAmong before self.new.seat self.new.listed.items earlier messages.now) }
-        ensures own { self.new.seat.conn ≡ self.old.seat.conn }
-        ensures of { IfSome result IsOfMessages }
-        ensures ended_as { IfSome result (λ end. IsEndAfter end self.new.seat.last_answer) }
-        ensures decoder { self.new.decoder ≡ self.old.decoder }
-    {
+        let messages = fed.messages.as_slice();
         let mut baton_guard = BatonGuard::none();
         for message in messages {
             // A message that had to wait has given the baton up.
@@ -209,10 +159,14 @@ impl<C: Tally> Reading<C> {
                 return Some(end);
             }
         }
-        None
+        let fault = fed.fault?;
+        Some(ReadEnd::BadFrame {
+            offset: fault.offset,
+        })
     }
 
-    /// Takes a message. Returns why the side ends before it, if it does.
+    /// Takes a message. After each run of them it waits first until what came of the run before was taken, so that a client
+    /// that reads does not find its box full. Returns why the side ends before the message, if it does.
     fn take<M: Tally, G: Gate, R: Clock + Wait>(
         &mut self,
         rt: &R,
@@ -221,7 +175,6 @@ impl<C: Tally> Reading<C> {
         message: &ClientMessage,
         baton_guard: &mut BatonGuard<'_>,
     ) -> Option<ReadEnd>
-        ensures own { self.new.seat.conn ≡ self.old.seat.conn }
         ensures seat { IfNone result ((place : ℕ) × (self.new.seat ≡ message_taken self.old.seat message.now place)) }
         ensures listed { IfNone result (self.new.listed.items ≡ listed_with self.old.listed.items message.now) }
         ensures untaken { OnSome result (TookNoMessage self.old.seat self.new.seat
@@ -243,7 +196,16 @@ impl<C: Tally> Reading<C> {
             baton_guard.give_up();
             gate.pass(rt, self.seat.conn());
         }
-        self.keep_pace(rt, hall, baton_guard);
+        if self.run < RUN_LENGTH {
+            self.run += 1;
+        } else {
+            let place_then = match &self.place_then {
+                Some(place_then) => hall.await_room(rt, self.seat.conn(), place_then, baton_guard),
+                None => hall.place_then(rt),
+            };
+            self.run = 1;
+            self.place_then = Some(place_then);
+        }
         // A report may be long, and a client may ask for many and read none.
         if matches!(message, ClientMessage::Report) {
             baton_guard.give_up();
@@ -259,46 +221,6 @@ impl<C: Tally> Reading<C> {
             unreachable!();
         }
         None
-    }
-
-    /// Counts one more message. After each run of them, waits until what came of the run before was taken, so that a
-    /// client that reads does not find its box full.
-    fn keep_pace<M: Tally, R: Clock + Wait>(
-        &mut self,
-        rt: &R,
-        hall: &Hall<C, M>,
-        baton_guard: &mut BatonGuard<'_>,
-    )
-        ensures seat { self.new.seat ≡ self.old.seat }
-        ensures listed { self.new.listed ≡ self.old.listed }
-        ensures decoder { self.new.decoder ≡ self.old.decoder }
-    {
-        if self.run < RUN_LENGTH {
-            self.run += 1;
-            return;
-        }
-        let place_then = match &self.place_then {
-            Some(place_then) => hall.await_room(rt, self.seat.conn(), place_then, baton_guard),
-            None => hall.place_then(rt),
-        };
-        self.run = 1;
-        self.place_then = Some(place_then);
-    }
-}
-
-/// Takes one of the reads that are left, `None` for any number. Returns whether there was one.
-fn take_turn(left: &mut Option<u64>) -> bool
-    ensures none { result ≡ false → left.old ≡ Some 0 }
-    ensures next { IsTrue result → (turns : Option ℕ) (reads : ℕ) → AreLeft turns left.old reads
-        → AreLeft turns left.new (reads + 1) }
-{
-    match left {
-        Some(0) => false,
-        Some(count) => {
-            *count -= 1;
-            true
-        }
-        None => true,
     }
 }
 

@@ -1,22 +1,19 @@
 //! The write side of a connection, the thread that writes: the mails of its box go to its client as frames, in their order.
 
-ghost use Rattle.std.specs.Prelude.{◌≡◌, ◌≢◌, ◌⊎◌, true, Some, ◌<◌, ◌≤◌, ◌∷◌, ◌++◌, [], ℕ, List, length, take, vec_len, vec_capacity, OnOk, OnErr, IfOk, IfErr, IfNone, IfSome, MatchOption};
+ghost use Rattle.std.specs.Prelude.{◌≡◌, ◌≢◌, ◌⊎◌, true, ◌≤◌, ◌++◌, [], ℕ, List, length, take, OnErr, IfOk, IfErr, MatchResult};
 ghost use Rattle.fe_mail.specs.declared.mail.Mail.{Mail as TakenMail};
-ghost use Rattle.fe_messages.specs.Mails.{spelled};
-ghost use Rattle.fe_hall.specs.Writes.{AreTaken, IsWritten, IsEndAfter, TakesOn, IsBatch, AreSpelled, end_for, receipts_with};
-ghost use mathlib.Core.List.{IsPrefix};
+ghost use Rattle.fe_hall.specs.Writes.{AreTaken, IsWritten, IsEndAfter, TakesOn, IsBatch, AreSpelled};
+ghost use Rattle.fe_hall.specs.within.Writing.{IssuesOn};
 ghost use Rattle.fe_history.specs.Acts.{AreIssued, IsLegal};
 ghost use Rattle.fe_shared.specs.Seats.{TookNoMail};
-ghost use Rattle.fe_shared.specs.declared.taking.Taking.TheVariants as Taken;
 
 use crate::baton::BatonGuard;
 use crate::hall::Hall;
 use crate::halves::{HalfFault, WriteHalf};
 use crate::write_end::WriteEnd;
-use fe_front::Mail;
 use fe_history::{History, Receipt, Receipts, Tally};
 use fe_messages::Reply;
-use fe_shared::{MailSeat, Short, Taking, put, reserve_one};
+use fe_shared::{MailSeat, Taking, put, reserve_one};
 use std::alloc::Global;
 use std::sync::Wait;
 
@@ -97,45 +94,22 @@ impl<M: Tally> Writing<M> {
         requires { self.old.frames.items ≡ [] }
         ensures wrote { (mails : List TakenMail)
             × TakesOn self.old.seat self.new.seat self.old.receipts.items self.new.receipts.items mails
-            × (H.is_known half.old → IsWritten (H.got half.old) mails result (H.got half.new))
+            × (H.is_known half.old → H.is_known half.new × IsWritten (H.got half.old) mails result (H.got half.new))
             × AreIssued self.old.seat.conn mails self.new.history }
-        ensures is_known { H.is_known half.old → H.is_known half.new }
         ensures failed { result ≡ WriteEnd.Device → H.failed half.new }
         ensures ended_as { IsEndAfter result self.new.seat.last_answer }
     {
         for _ in rt.forever() {
-            if let Some(end) = self.write_box(rt, hall, half) {
+            let taken = self.take_mails(rt, hall);
+            if let Err(_) = write_whole(half, self.frames.as_slice()) {
+                return WriteEnd::Device;
+            }
+            self.frames.clear();
+            if let Err(end) = taken {
                 return end;
             }
         }
         unreachable!()
-    }
-
-    /// Waits for mail, takes what is in the box, or enough of it for a write, and writes it. The error is why the side ends.
-    fn write_box<C: Tally, H: WriteHalf, R: Wait>(
-        &mut self,
-        rt: &R,
-        hall: &Hall<C, M>,
-        half: &mut H,
-    ) -> Option<WriteEnd>
-        requires { self.old.frames.items ≡ [] }
-        ensures wrote { (mails : List TakenMail)
-            × TakesOn self.old.seat self.new.seat self.old.receipts.items self.new.receipts.items mails
-            × (H.is_known half.old → MatchOption result (H.got half.new ≡ H.got half.old ++ spelled mails)
-            (λ end. IsWritten (H.got half.old) mails end (H.got half.new)))
-            × AreIssued self.old.seat.conn mails self.new.history }
-        ensures frames { IfNone result (self.new.frames.items ≡ []) }
-        ensures is_known { H.is_known half.old → H.is_known half.new }
-        ensures failed { IfSome result (λ end. end ≡ WriteEnd.Device → H.failed half.new) }
-        ensures this { IsPrefix self.old.history self.new.history }
-        ensures ended_as { IfSome result (λ end. IsEndAfter end self.new.seat.last_answer) }
-    {
-        let taken = self.take_mails(rt, hall);
-        if let Err(_) = write_whole(half, self.frames.as_slice()) {
-            return Some(WriteEnd::Device);
-        }
-        self.frames.clear();
-        taken.err()
     }
 
     /// Waits for a mail, and takes and spells mails until the box is empty or enough bytes are spelled for a write. If
@@ -145,8 +119,7 @@ impl<M: Tally> Writing<M> {
         ensures took { (mails : List TakenMail)
             × TakesOn self.old.seat self.new.seat self.old.receipts.items self.new.receipts.items mails
             × IsBatch mails × AreSpelled [] result mails self.new.frames.items
-            × AreIssued self.old.seat.conn mails self.new.history }
-        ensures this { IsPrefix self.old.history self.new.history }
+            × IssuesOn self.old.seat.conn mails self.old.history self.new.history }
         ensures ended_as { IfErr result (λ end. IsEndAfter end self.new.seat.last_answer) }
     {
         let mut baton_guard = BatonGuard::none();
@@ -175,72 +148,34 @@ impl<M: Tally> Writing<M> {
         ensures took { (mails : List TakenMail)
             × TakesOn self.old.seat self.new.seat self.old.receipts.items self.new.receipts.items mails
             × (length mails ≤ 1) × AreSpelled self.old.frames.items result mails self.new.frames.items
-            × AreIssued self.old.seat.conn mails self.new.history }
+            × IssuesOn self.old.seat.conn mails self.old.history self.new.history }
         ensures more { IfOk result (λ more. more ≡ self.new.seat.more) }
-        ensures this { IsPrefix self.old.history self.new.history }
         ensures ended_as { IfErr result (λ end. IsEndAfter end self.new.seat.last_answer) }
     {
-        if let Err(short) = self.make_room() {
-            return Err(WriteEnd::NoMemory(short));
+        let keeps = self.receipts.len() < RECEIPTS;
+        if keeps {
+            if let Err(short) = reserve_one(&mut self.receipts) {
+                return Err(WriteEnd::NoMemory(short));
+            }
         }
-        let (mail, more) = mail_in(hall.take_mail(
-            rt,
-            &mut self.seat,
-            &mut self.history,
-            baton_guard,
-        ))?;
-        self.keep_receipt(&mail);
+        let taking = hall.take_mail(rt, &mut self.seat, &mut self.history, baton_guard);
+        let (mail, more) = match taking {
+            Taking::Mail { mail, more } => (mail, more),
+            Taking::Gone => return Err(WriteEnd::Gone),
+            Taking::Stopped => return Err(WriteEnd::Stopped),
+            Taking::Spent => return Err(WriteEnd::Spent),
+        };
+        if keeps {
+            if let Some(receipt) = Receipt::of(self.seat.conn(), &mail) {
+                if self.receipts.push(receipt).is_err() {
+                    unreachable!();
+                }
+            }
+        }
         match put(&Reply::of(mail), &mut self.frames) {
             Ok(()) => Ok(more),
             Err(short) => Err(WriteEnd::NoMemory(short)),
         }
-    }
-
-    /// Makes room for the receipt of the next mail, if one may be kept.
-    fn make_room(&mut self) -> Result<(), Short>
-        ensures room { OnOk result (vec_len self.new.receipts < 1024
-            → vec_len self.new.receipts < vec_capacity self.new.receipts) }
-        ensures receipts { self.new.receipts.items ≡ self.old.receipts.items }
-        ensures seat { self.new.seat ≡ self.old.seat }
-        ensures history { self.new.history ≡ self.old.history }
-        ensures frames { self.new.frames.items ≡ self.old.frames.items }
-    {
-        if self.receipts.len() < RECEIPTS {
-            reserve_one(&mut self.receipts)?;
-        }
-        Ok(())
-    }
-
-    /// Keeps the receipt of a mail, if it is an answer and among the first.
-    fn keep_receipt(&mut self, mail: &Mail)
-        requires { vec_len self.old.receipts < 1024 → vec_len self.old.receipts < vec_capacity self.old.receipts }
-        ensures receipts { self.new.receipts.items
-            ≡ receipts_with self.old.seat.conn self.old.receipts.items (mail.now ∷ []) }
-        ensures seat { self.new.seat ≡ self.old.seat }
-        ensures history { self.new.history ≡ self.old.history }
-        ensures frames { self.new.frames.items ≡ self.old.frames.items }
-    {
-        if self.receipts.len() >= RECEIPTS {
-            return;
-        }
-        if let Some(receipt) = Receipt::of(self.seat.conn(), mail) {
-            if self.receipts.push(receipt).is_err() {
-                unreachable!();
-            }
-        }
-    }
-}
-
-/// The mail that was taken, and whether more are in the box; or why the side ends.
-fn mail_in(taking: Taking) -> Result<(Mail, bool), WriteEnd>
-    ensures mail { IfOk result (λ taken. taking ≡ Taken.Mail taken.0 taken.1) }
-    ensures end { IfErr result (λ end. end_for taking ≡ Some end) }
-{
-    match taking {
-        Taking::Mail { mail, more } => Ok((mail, more)),
-        Taking::Gone => Err(WriteEnd::Gone),
-        Taking::Stopped => Err(WriteEnd::Stopped),
-        Taking::Spent => Err(WriteEnd::Spent),
     }
 }
 
@@ -263,10 +198,9 @@ fn depart<C: Tally, M: Tally, R: Wait>(
 
 /// Writes all of these bytes, in one write if the half takes them at once.
 fn write_whole<H: WriteHalf>(half: &mut H, bytes: &[u8]) -> Result<(), HalfFault>
-    ensures is_known { H.is_known half.old → H.is_known half.new }
-    ensures ok { H.is_known half.old → OnOk result (H.got half.new ≡ H.got half.old ++ bytes.now) }
-    ensures err { H.is_known half.old
-        → OnErr result ((n : ℕ) × (n ≤ length bytes.now) × (H.got half.new ≡ H.got half.old ++ take n bytes.now)) }
+    ensures wrote { H.is_known half.old → H.is_known half.new
+        × MatchResult result (λ _. H.got half.new ≡ H.got half.old ++ bytes.now)
+        (λ _. (n : ℕ) × (n ≤ length bytes.now) × (H.got half.new ≡ H.got half.old ++ take n bytes.now)) }
     ensures failed { OnErr result (H.failed half.new) }
 {
     let mut next = 0;

@@ -1,5 +1,6 @@
 use Rattle.std.proofs.Common.{◌≡◌, sym, inl, inr, Option, Some, None, refl, subst, ◌∙◌, rules}
-use Rattle.fe_hall.specs.Commits.{AppendsAreNoted, Commits, EndsAs, end_in}
+use Rattle.fe_hall.specs.Commits.{AppendsAreNoted, Commits, end_in}
+use Rattle.fe_hall.specs.within.Committing.{StoresOn}
 use Rattle.fe_keeper.specs.Ends.{IsStill}
 use Rattle.fe_hall.specs.declared.commit_end.CommitEnd.{CommitEnd}
 use Rattle.fe_hall.proofs.Committed.{kept_noted, both_commits, turn_commits, ended_noted, rests_itself, still_itself, still_both}
@@ -22,7 +23,7 @@ loop-init g c =
 pub returns-in-Err-clause-commits : goal.returns-in-Err-clause-commits
 returns-in-Err-clause-commits g c =
     let here = c.loop.invariant in
-    let stored = c.in-Err.ensures.commits in
+    let stored = c.in-Err.ensures.commits.commits in
     let old = c.args.keeper.now in
     let new = c.commit.new.keeper in
     subst (λ (end : CommitEnd). (all : Commits g.D.Disk old new (Some end)) × AppendsAreNoted g.D.Disk all.appends (Some end) c.args.seat.now c.commit.new.seat)
@@ -37,21 +38,21 @@ loop-preserved g c =
     let after = c.commit.new.keeper in
     let new = c.tend.new.keeper in
     let here = c.loop.invariant in
-    let rests = c.tend.ensures.rests in
+    let rests = c.tend.ensures.keeps.0 in
     let none : end_in c.commit.result ≡ None = search rules in
-    let stored : (all : Commits g.D.Disk before after None) × AppendsAreNoted g.D.Disk all.appends None c.loop.seat c.commit.new.seat =
-    subst (λ (end : Option CommitEnd). (all : Commits g.D.Disk before after end) × AppendsAreNoted g.D.Disk all.appends end c.loop.seat c.commit.new.seat) none
-    c.commit.ensures.commits in
-    let still : IsStill g.D.Disk before after = subst (λ (end : Option CommitEnd). EndsAs g.D.Disk before after end) none c.commit.ensures.ended_as in
+    let went : StoresOn g.D.Disk before after None c.loop.seat c.commit.new.seat =
+    subst (λ (end : Option CommitEnd). StoresOn g.D.Disk before after end c.loop.seat c.commit.new.seat) none c.commit.ensures.commits in
+    let stored = went.commits in
+    let still : IsStill g.D.Disk before after = went.ended_as in
     let later : IsStill g.D.Disk after new = c.in-Ok.ensures.still in
     record {
       commits =
           turn_commits g.D.Disk old before after new None c.args.seat.now c.loop.seat c.commit.new.seat here.still.works still.works here.honesty
-          c.commit.ensures.honesty here.commits.0 here.commits.1 stored.0 stored.1 rests;
-      stands = c.tend.ensures.stands;
+          went.honesty here.commits.0 here.commits.1 stored.0 stored.1 rests;
+      stands = c.tend.ensures.keeps.1;
       still = still_both g.D.Disk old after new (still_both g.D.Disk old before after here.still still) later;
       begun = inr (later.works ∙ still.works ∙ c.in_default.ensures.works);
-      honesty = (λ h. here.honesty.0 (c.commit.ensures.honesty.0 (rests.honesty.0 h)), λ h. rests.honesty.1 (c.commit.ensures.honesty.1 (here.honesty.1 h)));
+      honesty = (λ h. here.honesty.0 (went.honesty.0 (rests.honesty.0 h)), λ h. rests.honesty.1 (went.honesty.1 (here.honesty.1 h)));
       next = search rules;
       finite = search rules;
     }
@@ -62,12 +63,12 @@ returns-in-Err-tend-clause-commits g c =
     let after = c.commit.new.keeper in
     let here = c.loop.invariant in
     let none : end_in c.commit.result ≡ None = search rules in
-    let stored : (all : Commits g.D.Disk before after None) × AppendsAreNoted g.D.Disk all.appends None c.loop.seat c.commit.new.seat =
-    subst (λ (end : Option CommitEnd). (all : Commits g.D.Disk before after end) × AppendsAreNoted g.D.Disk all.appends end c.loop.seat c.commit.new.seat) none
-    c.commit.ensures.commits in
-    let still : IsStill g.D.Disk before after = subst (λ (end : Option CommitEnd). EndsAs g.D.Disk before after end) none c.commit.ensures.ended_as in
+    let went : StoresOn g.D.Disk before after None c.loop.seat c.commit.new.seat =
+    subst (λ (end : Option CommitEnd). StoresOn g.D.Disk before after end c.loop.seat c.commit.new.seat) none c.commit.ensures.commits in
+    let stored = went.commits in
+    let still : IsStill g.D.Disk before after = went.ended_as in
     turn_commits g.D.Disk c.args.keeper.now before after c.tend.new.keeper (Some c.broken-in-Err-tend.result) c.args.seat.now c.loop.seat c.commit.new.seat
-    here.still.works still.works here.honesty c.commit.ensures.honesty here.commits.0 here.commits.1 stored.0 stored.1 c.tend.ensures.rests
+    here.still.works still.works here.honesty went.honesty here.commits.0 here.commits.1 stored.0 stored.1 c.tend.ensures.keeps.0
 
 pub returns-in-Stopped-clause-commits : goal.returns-in-Stopped-clause-commits
 returns-in-Stopped-clause-commits g c =

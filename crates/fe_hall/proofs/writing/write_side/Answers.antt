@@ -12,4 +12,7 @@ of-requires g c =
 pub returns-clause-wrote : goal.returns-clause-wrote
 returns-clause-wrote g c =
     let w = c.write_all-end.ensures.wrote in
-    rw c.of.ensures (w.0, as_taken w.1 (search rules) c.depart.ensures.untaken, w.2, w.3)
+    rw c.of.ensures (w.0, as_taken w.1 (search rules) c.depart.ensures.untaken, (λ known. (w.2 known).1), w.3)
+
+pub returns-clause-is_known : goal.returns-clause-is_known
+returns-clause-is_known g c = λ known. (c.write_all-end.ensures.wrote.2 known).0

@@ -1,7 +1,8 @@
 use Rattle.std.proofs.Common.{[], ◌++◌, sym}
 use Rattle.std.proofs.lemmas.List.{append-nil}
 use Rattle.fe_history.proofs.Acts.{issued_both}
-use Rattle.fe_hall.proofs.Written.{takes_none, takes_on, wrote_more, written_more}
+use Rattle.fe_hall.specs.declared.write_end.WriteEnd.TheVariants.{Device}
+use Rattle.fe_hall.proofs.Written.{breaks_off, takes_none, takes_on, written_as, written_more, written_so, wrote_more}
 use Rattle.fe_hall.proofs.writing.Writing.write_all.Goals as goal
 
 pub loop-init : goal.loop-init
@@ -9,35 +10,57 @@ loop-init g c =
     let s = c.args.self.now in
     (([], takes_none s.seat s.receipts.items s.few, (λ known. sym (append-nil (g.H.WriteHalf.got c.args.half.now))), tt), c.requires, (λ known. known), (tt, tt))
 
-pub returns-in-Some-write_box-clause-wrote : goal.returns-in-Some-write_box-clause-wrote
-returns-in-Some-write_box-clause-wrote g c =
+pub returns-in-Err-clause-wrote : goal.returns-in-Err-clause-wrote
+returns-in-Err-clause-wrote g c =
     let s = c.args.self.now in
     let l = c.loop.self in
-    let n = c.write_box.new.self in
+    let n = c.take_mails-taken.new.self in
     let i = c.loop.invariant.0 in
-    let w = c.in-Some-write_box.ensures.wrote in
+    let t = c.take_mails-taken.ensures.took in
     let got = g.H.WriteHalf.got in (
-      i.0 ++ w.0,
-      takes_on s.seat l.seat n.seat s.receipts.items l.receipts.items n.receipts.items i.0 w.0 i.1 w.1,
-      (λ known. written_more c.in-Some-write_box.end (got c.args.half.now) (got c.loop.half) (got c.write_box.new.half) i.0 w.0 (i.2 known) (w.2 (c.loop.invariant.2 known))),
-      issued_both s.seat.conn l.seat.conn i.0 w.0 l.history n.history i.1.conn c.write_box.ensures.this i.3 w.3,
+      i.0 ++ t.0,
+      takes_on s.seat l.seat n.seat s.receipts.items l.receipts.items n.receipts.items i.0 t.0 i.1 t.1,
+      (λ known.
+          let w = c.in-Err.ensures.wrote (c.loop.invariant.2 known) in
+          let breaks = breaks_off c.take_mails-taken.result (got c.loop.half) n.frames.items c.as_slice.result.now (got c.write_whole.new.half) t.0 w.1.0 c.as_slice.ensures.value t.2 t.3 w.1.1 w.1.2 in
+          (w.0, written_more Device (got c.args.half.now) (got c.loop.half) (got c.write_whole.new.half) i.0 t.0 (i.2 known) breaks)),
+      issued_both s.seat.conn l.seat.conn i.0 t.0 l.history n.history i.1.conn t.4.0 i.3 t.4.1,
+    )
+
+pub returns-in-Err-taken-clause-wrote : goal.returns-in-Err-taken-clause-wrote
+returns-in-Err-taken-clause-wrote g c =
+    let s = c.args.self.now in
+    let l = c.loop.self in
+    let n = c.take_mails-taken.new.self in
+    let i = c.loop.invariant.0 in
+    let t = c.in-Err-taken.ensures.took in
+    let got = g.H.WriteHalf.got in (
+      i.0 ++ t.0,
+      takes_on s.seat l.seat n.seat s.receipts.items l.receipts.items n.receipts.items i.0 t.0 i.1 t.1,
+      (λ known.
+          let w = c.in_default.ensures.wrote (c.loop.invariant.2 known) in
+          let as = written_as c.in-Err-taken.end (got c.loop.half) n.frames.items c.as_slice.result.now (got c.write_whole.new.half) t.0 t.3 c.as_slice.ensures.value w.1 in
+          (w.0, written_more c.in-Err-taken.end (got c.args.half.now) (got c.loop.half) (got c.write_whole.new.half) i.0 t.0 (i.2 known) as)),
+      issued_both s.seat.conn l.seat.conn i.0 t.0 l.history n.history i.1.conn t.4.0 i.3 t.4.1,
     )
 
 pub loop-preserved : goal.loop-preserved
 loop-preserved g c =
     let s = c.args.self.now in
     let l = c.loop.self in
-    let n = c.write_box.new.self in
+    let n = c.take_mails-taken.new.self in
     let i = c.loop.invariant.0 in
-    let w = c.in_default.ensures.wrote in
-    let got = g.H.WriteHalf.got in (
+    let t = c.in_default-taken.ensures.took in
+    let got = g.H.WriteHalf.got in
+    let written = λ known. c.in_default.ensures.wrote (c.loop.invariant.2 known) in (
       (
-        i.0 ++ w.0,
-        takes_on s.seat l.seat n.seat s.receipts.items l.receipts.items n.receipts.items i.0 w.0 i.1 w.1,
-        (λ known. wrote_more (got c.args.half.now) (got c.loop.half) (got c.write_box.new.half) i.0 w.0 (i.2 known) (w.2 (c.loop.invariant.2 known))),
-        issued_both s.seat.conn l.seat.conn i.0 w.0 l.history n.history i.1.conn c.write_box.ensures.this i.3 w.3,
+        i.0 ++ t.0,
+        takes_on s.seat l.seat n.seat s.receipts.items l.receipts.items n.receipts.items i.0 t.0 i.1 t.1,
+        (λ known. wrote_more (got c.args.half.now) (got c.loop.half) (got c.write_whole.new.half) i.0 t.0 (i.2 known)
+            (written_so (got c.loop.half) n.frames.items c.as_slice.result.now (got c.write_whole.new.half) t.0 t.3 c.as_slice.ensures.value (written known).1)),
+        issued_both s.seat.conn l.seat.conn i.0 t.0 l.history n.history i.1.conn t.4.0 i.3 t.4.1,
       ),
-      c.in_default.ensures.frames,
-      (λ known. c.write_box.ensures.is_known (c.loop.invariant.2 known)),
+      c.clear.ensures,
+      (λ known. (written known).0),
       (tt, tt),
     )

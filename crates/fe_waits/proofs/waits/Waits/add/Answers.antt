@@ -104,9 +104,11 @@ returns c =
     let row : Row = record { slot = c.args.slot; number = c.args.number; array = c.args.array; index = c.args.index; op = c.args.op } in
     let linked = c.push_back.ensures in
     let added = c.push_back-2.ensures in
-    record { added = rw (← c.self.view_is) (record {
-      members =
-          ap members_of (items_added _ _ _ _ c.self.invariant row asked.slot asked.new _ free _ took _ _ _ c.chain-word.ensures linked.changes.list linked.changes.chain linked.changes.other_chains linked.changes.other_family linked.changes.items _ _ _ c.at-session.ensures added.changes.list added.changes.chain added.length added.changes.other_chains added.changes.other_family added.changes.items asked.room)
-          ∙ members-added _ _ _ _ c.self.invariant row asked.slot asked.new _ free;
-      arrays = ap lengths c.set_chain.ensures ∙ lengths-with _ c.args.array c.args.index c.push_back.new.chain (ap is_some c.chain-word.ensures);
-    }) }
+    record {
+      added = rw (← c.self.view_is) (record {
+        members =
+            ap members_of (items_added _ _ _ _ c.self.invariant row asked.slot asked.new _ free _ took _ _ _ c.chain-word.ensures linked.changes.list linked.changes.chain linked.changes.other_chains linked.changes.other_family linked.changes.items _ _ _ c.at-session.ensures added.changes.list added.changes.chain added.length added.changes.other_chains added.changes.other_family added.changes.items asked.room)
+            ∙ members-added _ _ _ _ c.self.invariant row asked.slot asked.new _ free;
+        arrays = ap lengths c.set_chain.ensures ∙ lengths-with _ c.args.array c.args.index c.push_back.new.chain (ap is_some c.chain-word.ensures);
+      });
+    }

@@ -2,7 +2,7 @@ use Rattle.std.proofs.Common.{◌≡◌, List, ◌++◌, take}
 use Rattle.fe_wire.specs.declared.client_message.ClientMessage.{ClientMessage}
 use Rattle.fe_shared.specs.Seats.{CallSeatState}
 use Rattle.fe_hall.specs.Reads.{AreHandled}
-use Rattle.fe_hall.proofs.reading.Reading.take_all.Given as goal
+use Rattle.fe_hall.proofs.reading.Reading.take_piece.Given as goal
 
 abbrev pub invariant-loop-message : goal.invariant-loop-message
 invariant-loop-message g l = record {

@@ -1,0 +1,3 @@
+pub mod Committing
+pub mod Reading
+pub mod Writing
