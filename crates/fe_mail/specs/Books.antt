@@ -53,6 +53,11 @@ counting b count counted =
 abbrev pub moving : Books → Books → Books
 moving b moved = if b.spent then b else moved
 
+-- the books changed in this way, and as many calls wait and as many mails are in boxes as before
+pub record IsCounted (change : Books → Books) (old new : Books) : Type 0 where
+  pub books : new ≡ change old
+  pub balance : (waiting left : ℕ) → Balances old waiting left → Balances new waiting left
+
 -- a call that completed is counted
 abbrev pub call_completed : Books → Books
 call_completed b = counting b b.calls (record b { calls = b.calls + 1; completed = b.completed + 1 })

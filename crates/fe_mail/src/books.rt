@@ -1,5 +1,5 @@
 ghost use Rattle.std.specs.Prelude.{◌≡◌, ◌+◌, ◌&&◌, ◌||◌, ℕ, not, nat_lt, min};
-ghost use Rattle.fe_mail.specs.Books.{first_books, Balances, call_completed, call_waits, call_repeated, call_refused, waiter_completed, waiters_withdrawn, mail_boxed, mail_refused_by_box, mail_taken, box_dropped};
+ghost use Rattle.fe_mail.specs.Books.{first_books, Balances, IsCounted, call_completed, call_waits, call_repeated, call_refused, waiter_completed, waiters_withdrawn, mail_boxed, mail_refused_by_box, mail_taken, box_dropped};
 ghost use Rattle.fe_mail.specs.Limits.{most_booked};
 
 use std::marker::Model;
@@ -75,8 +75,7 @@ impl Books {
 
     /// Counts a call that completed.
     pub fn call_completed(&mut self)
-        ensures books { self.new ≡ call_completed self.old }
-        ensures balance { (waiting left : ℕ) → Balances self.old waiting left → Balances self.new waiting left }
+        ensures { IsCounted call_completed self.old self.new }
     {
         if can_count(self.calls, &mut self.spent) {
             self.calls += 1;
@@ -97,8 +96,7 @@ impl Books {
 
     /// Counts a call that was made before.
     pub fn call_repeated(&mut self)
-        ensures books { self.new ≡ call_repeated self.old }
-        ensures balance { (waiting left : ℕ) → Balances self.old waiting left → Balances self.new waiting left }
+        ensures { IsCounted call_repeated self.old self.new }
     {
         if can_count(self.calls, &mut self.spent) {
             self.calls += 1;
@@ -108,8 +106,7 @@ impl Books {
 
     /// Counts a call that was refused.
     pub fn call_refused(&mut self)
-        ensures books { self.new ≡ call_refused self.old }
-        ensures balance { (waiting left : ℕ) → Balances self.old waiting left → Balances self.new waiting left }
+        ensures { IsCounted call_refused self.old self.new }
     {
         if can_count(self.calls, &mut self.spent) {
             self.calls += 1;
@@ -154,8 +151,7 @@ impl Books {
 
     /// Counts a mail that was dropped because its box was full.
     pub fn mail_refused_by_box(&mut self)
-        ensures books { self.new ≡ mail_refused_by_box self.old }
-        ensures balance { (waiting left : ℕ) → Balances self.old waiting left → Balances self.new waiting left }
+        ensures { IsCounted mail_refused_by_box self.old self.new }
     {
         if can_count(self.mails, &mut self.spent) {
             self.mails += 1;
