@@ -1,7 +1,6 @@
 //! What a line asks of a server.
 
-ghost use Rattle.std.specs.Prelude.{◌≡◌, IfSome};
-ghost use Rattle.fe_wire.specs.Spelling.{Fits};
+ghost use Rattle.std.specs.Prelude.{◌≡◌};
 ghost use Rattle.fe_client.specs.Asking.{asked};
 
 use fe_text::{LONGEST_LINE, message_in};
@@ -14,7 +13,6 @@ pub(crate) const LONGEST_ASKED: usize = LONGEST_LINE - 5;
 #[tactic(auto, unfolding(crate::specs::Asking::asked))]
 pub(crate) fn asked(line: &[u8]) -> Option<ClientMessage>
     ensures message { result ≡ asked line.now }
-    ensures fits { IfSome result Fits }
 {
     if line.len() > LONGEST_ASKED {
         return None;

@@ -1,7 +1,7 @@
 //! What a line says to a schedule.
 
 ghost use Rattle.std.specs.Prelude.{◌≡◌, ◌≢◌, [], None, IfNone, IfSome};
-ghost use Rattle.fe_text.specs.Line.{parsed, LineFits};
+ghost use Rattle.fe_text.specs.Line.{parsed};
 ghost use Rattle.fe_schedules.specs.Runs.{SaysLine};
 ghost use Rattle.fe_schedules.specs.Schedule.{holds_after};
 
@@ -13,7 +13,6 @@ use fe_wire::ClientMessage;
 pub(crate) fn line_in(bytes: &[u8]) -> Option<Option<Line>>
     ensures stray { IfNone result ((bytes.now ≢ []) × (parsed bytes.now ≡ None)) }
     ensures said { IfSome result (SaysLine bytes.now) }
-    ensures fits { IfSome result (λ line. IfSome line LineFits) }
 {
     named::<Request>();
     named::<ClientMessage>();

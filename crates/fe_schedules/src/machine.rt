@@ -1,10 +1,8 @@
 //! What a schedule runs on: a desk over a store in memory. It keeps what a line does only until that is printed.
 
 ghost use Rattle.std.specs.Prelude.{◌≡◌, [], ◌∷◌, string_bytes, OnOk, IfOk, IfErr};
-ghost use Rattle.fe_wire.specs.Spelling.{Fits};
 ghost use Rattle.fe_desk.specs.DeskRunState.{IsFirstRunState};
 ghost use Rattle.fe_state.specs.State.{first_state};
-ghost use Rattle.fe_text.specs.Line.{LineFits};
 ghost use Rattle.fe_schedules.specs.Fault.{TellsDisk};
 ghost use Rattle.fe_schedules.specs.Ready.{HoldsStore};
 ghost use Rattle.fe_schedules.specs.Schedule.{endings};
@@ -70,7 +68,6 @@ impl Machine {
     /// Does what a line says. What is pending stays so.
     pub fn act(&mut self, line: &Line) -> Result<(), MachineFault>
         requires machine { IsMachine self.old }
-        requires fits { LineFits line.now }
         ensures acts { OnOk result (ActsOn self.old line.now self.new) }
         ensures fault { IfErr result (TellsDisk (last_disk self.new)) }
     {
@@ -90,7 +87,6 @@ impl Machine {
     /// A message of a connection comes as a frame. The connection is made where it is not there.
     fn receive(&mut self, conn: u64, message: &ClientMessage) -> Result<(), MachineFault>
         requires machine { IsMachine self.old }
-        requires fits { Fits message.now }
         ensures acts { OnOk result (ActsOn self.old (Line.Message conn message.now) self.new) }
         ensures fault { IfErr result (TellsDisk (last_disk self.new)) }
     {

@@ -1,7 +1,6 @@
 //! A run of a schedule: its lines as they come in pieces, and what they print.
 
-ghost use Rattle.std.specs.Prelude.{◌≡◌, ◌+◌, ◌++◌, ℕ, List, Option, [], ◌∷◌, string_bytes, IfOk, IfErr, IfSome, OnOk, OnErr, MatchResult};
-ghost use Rattle.fe_text.specs.Line.{LineFits};
+ghost use Rattle.std.specs.Prelude.{◌≡◌, ◌+◌, ◌++◌, ℕ, List, Option, [], ◌∷◌, string_bytes, IfOk, IfErr, OnOk, OnErr, MatchResult};
 ghost use Rattle.fe_text.specs.Lines.{HasNoFeed};
 ghost use Rattle.fe_schedules.specs.Fault.{TellsDisk, TellsOfDisk, TellsDiskOrWriter};
 ghost use Rattle.fe_schedules.specs.Ready.{HoldsStore};
@@ -193,7 +192,6 @@ impl Run {
         ensures same { self.new ≡ record self.old { begun = self.new.begun } }
         ensures begun { OnOk result (self.new.begun.items ≡ []) }
         ensures said { IfOk result (SaysLine (self.old.begun.items ++ bytes.now)) }
-        ensures fits { IfOk result (λ line. IfSome line LineFits) }
         ensures err { IfErr result (IsStray (self.old.lines + 1) (self.old.begun.items ++ bytes.now)) }
     {
         named::<Request>();
@@ -211,7 +209,6 @@ impl Run {
     /// Runs a line, and prints its replies.
     fn run_line(&mut self, line: &Line) -> Result<(), MachineFault>
         requires run { IsRun self.old }
-        requires fits { LineFits line.now }
         ensures ran { OnOk result (RanLine self.old line.now self.new) }
         ensures fault { IfErr result (TellsDisk (last_disk self.new.machine)) }
         ensures text { OnErr result (string_bytes self.new.text ≡ string_bytes self.old.text) }

@@ -2,7 +2,6 @@
 use Rattle.std.specs.Prelude.{ℕ, length, List, [], ◌∷◌, codes, Option, Some, None, nat_lt, ◌==◌, if◌then◌else◌}
 use Rattle.std.specs.Option.{option_map_or}
 use Rattle.std.specs.Str.{bytes_eq}
-use Rattle.fe_wire.specs.Spelling.{Fits}
 use Rattle.fe_wire.specs.declared.client_message.ClientMessage.{ClientMessage}
 use Rattle.fe_wire.specs.declared.client_message.ClientMessage.TheVariants as message
 use Rattle.fe_codes.specs.Binding.{◌>>=◌}
@@ -82,12 +81,3 @@ unfoldable pub parsed : List ℕ → Option Line
 parsed bytes =
     if nat_lt longest_line (length bytes) then None
     else option_map_or (λ parts. named_in parts.0 parts.1) (words_at bytes) (control_in bytes)
-
--- the line's message has a frame
-abbrev pub LineFits : Line → Type 0
-LineFits (Message conn one) = Fits one
-LineFits (Gone conn) = Unit {0}
-LineFits Hold = Unit {0}
-LineFits Flush = Unit {0}
-LineFits Stop = Unit {0}
-LineFits Check = Unit {0}

@@ -1,12 +1,11 @@
 -- The requests of a schedule's lines (`docs/schedules.md`, "Lines"). A definition `.._in` reads the bytes that its comment shows.
-use Rattle.std.specs.Prelude.{ℕ, ◌^◌, ◌<◌, ◌≤◌, length, List, codes, Bool, true, false, Option, Some, None, if◌then◌else◌}
+use Rattle.std.specs.Prelude.{ℕ, List, codes, Bool, true, false, Option, Some, None, if◌then◌else◌}
 use Rattle.std.specs.Option.{option_map_or}
 use Rattle.std.specs.Str.{bytes_eq}
 use Rattle.fe_words.specs.declared.op.Op.{Op}
 use Rattle.fe_words.specs.declared.op.Op.TheVariants.{ReadFe, ReadFf, ReadXx, WriteEf, WriteFf, WriteXf, Purge, IntFetchAdd}
 use Rattle.fe_state.specs.declared.request.Request.{Request}
 use Rattle.fe_state.specs.declared.request.Request.TheVariants.{Create, Find, Remove, Access}
-use Rattle.fe_codes.specs.Codes.{operand_of}
 use Rattle.fe_codes.specs.Binding.{◌>>=◌}
 use Rattle.fe_text.specs.Words.{words_at, number_of, small_number_of, name_in, tag_named}
 
@@ -27,13 +26,6 @@ writing_op_named word operand =
     else if bytes_eq word (codes "writexf") then Some (WriteXf operand)
     else if bytes_eq word (codes "int_fetch_add") then Some (IntFetchAdd operand)
     else None
-
--- each field of the request fits into its bytes in the frame
-abbrev pub RequestFits : Request → Type 0
-RequestFits (Create name size tag) = (length name ≤ 32) × (size < 2 ^ 32)
-RequestFits (Find name) = length name ≤ 32
-RequestFits (Remove array) = array < 2 ^ 64
-RequestFits (Access array index op no_wait) = (array < 2 ^ 64) × (index < 2 ^ 32) × (operand_of op < 2 ^ 64)
 
 -- NAME LENGTH full, or NAME LENGTH empty
 unfoldable pub create_in : List ℕ → Option Request

@@ -1,8 +1,7 @@
 //! The lines of a schedule (`docs/schedules.md`).
 
-ghost use Rattle.std.specs.Prelude.{◌≡◌, IfSome};
-ghost use Rattle.fe_text.specs.Line.{parsed, conn_of, control_in, plain_in, numbered_in, message_in, conn_line_in, LineFits};
-ghost use Rattle.fe_wire.specs.Spelling.{Fits};
+ghost use Rattle.std.specs.Prelude.{◌≡◌};
+ghost use Rattle.fe_text.specs.Line.{parsed, conn_of, control_in, plain_in, numbered_in, message_in, conn_line_in};
 
 use crate::request::request_in;
 use crate::word::{number_of, says, word_at};
@@ -68,7 +67,6 @@ fn control_in(word: &[u8]) -> Option<Line>
 #[tactic(auto, unfolding(crate::specs::Line::plain_in))]
 fn plain_in(word: &[u8]) -> Option<ClientMessage>
     ensures message { result ≡ plain_in word.now }
-    ensures fits { IfSome result Fits }
 {
     if says(word, "bye") {
         Some(ClientMessage::Bye)
@@ -83,7 +81,6 @@ fn plain_in(word: &[u8]) -> Option<ClientMessage>
 #[tactic(auto, unfolding(crate::specs::Line::numbered_in))]
 fn numbered_in(first: &[u8], words: &[u8]) -> Option<ClientMessage>
     ensures message { result ≡ numbered_in first.now words.now }
-    ensures fits { IfSome result Fits }
 {
     if says(first, "attach") {
         let session = number_of(words)?;
@@ -107,7 +104,6 @@ fn numbered_in(first: &[u8], words: &[u8]) -> Option<ClientMessage>
 #[tactic(auto, unfolding(crate::specs::Line::message_in))]
 pub fn message_in(words: &[u8]) -> Option<ClientMessage>
     ensures message { result ≡ message_in words.now }
-    ensures fits { IfSome result Fits }
 {
     match word_at(words) {
         Some((first, words)) => numbered_in(first, words),
@@ -119,7 +115,6 @@ pub fn message_in(words: &[u8]) -> Option<ClientMessage>
 #[tactic(auto, unfolding(crate::specs::Line::conn_line_in))]
 fn conn_line_in(conn: u64, words: &[u8]) -> Option<Line>
     ensures line { result ≡ conn_line_in conn words.now }
-    ensures fits { IfSome result LineFits }
 {
     if says(words, "gone") {
         return Some(Line::Gone { conn });
@@ -133,7 +128,6 @@ fn conn_line_in(conn: u64, words: &[u8]) -> Option<Line>
 #[tactic(auto, unfolding(crate::specs::Line::parsed))]
 pub fn parse(bytes: &[u8]) -> Option<Line>
     ensures line { result ≡ parsed bytes.now }
-    ensures fits { IfSome result LineFits }
 {
     if bytes.len() > LONGEST_LINE {
         return None;

@@ -2,7 +2,7 @@
 
 ghost use Rattle.std.specs.Prelude.{◌≡◌, IfSome};
 ghost use Rattle.std.specs.Option.{option_map};
-ghost use Rattle.fe_text.specs.Requests.{op_named, writing_op_named, create_in, find_in, remove_in, last_in, access_in, writing_access_in, request_in, RequestFits};
+ghost use Rattle.fe_text.specs.Requests.{op_named, writing_op_named, create_in, find_in, remove_in, last_in, access_in, writing_access_in, request_in};
 
 use crate::word::{name_in, number_of, says, small_number_of, tag_named, word_at};
 use fe_state::Request;
@@ -47,8 +47,7 @@ fn writing_op_named(word: &[u8], operand: u64) -> Option<Op>
 /// `NAME LENGTH full|empty`.
 #[tactic(auto, unfolding(crate::specs::Requests::create_in))]
 fn create_in(words: &[u8]) -> Option<Request>
-    ensures request { result ≡ create_in words.now }
-    ensures fits { IfSome result RequestFits }
+    ensures { result ≡ create_in words.now }
 {
     let (name, words) = word_at(words)?;
     let (length, tag) = word_at(words)?;
@@ -61,8 +60,7 @@ fn create_in(words: &[u8]) -> Option<Request>
 /// `NAME`, which is one word.
 #[tactic(auto, unfolding(crate::specs::Requests::find_in))]
 fn find_in(words: &[u8]) -> Option<Request>
-    ensures request { result ≡ find_in words.now }
-    ensures fits { IfSome result RequestFits }
+    ensures { result ≡ find_in words.now }
 {
     match word_at(words) {
         Some(_) => None,
@@ -76,8 +74,7 @@ fn find_in(words: &[u8]) -> Option<Request>
 /// `A`, the number of an array.
 #[tactic(auto, unfolding(crate::specs::Requests::remove_in))]
 fn remove_in(words: &[u8]) -> Option<Request>
-    ensures request { result ≡ remove_in words.now }
-    ensures fits { IfSome result RequestFits }
+    ensures { result ≡ remove_in words.now }
 {
     let array = number_of(words)?;
     Some(Request::Remove { array })
@@ -103,8 +100,7 @@ fn last_in(words: &[u8]) -> Option<(&[u8], bool)>
 /// `A I`, or `A I nowait`.
 #[tactic(auto, unfolding(crate::specs::Requests::access_in))]
 fn access_in(op: Op, words: &[u8]) -> Option<Request>
-    ensures request { result ≡ access_in op words.now }
-    ensures fits { IfSome result RequestFits }
+    ensures { result ≡ access_in op words.now }
 {
     let (array, words) = word_at(words)?;
     let (index, no_wait) = last_in(words)?;
@@ -121,8 +117,7 @@ fn access_in(op: Op, words: &[u8]) -> Option<Request>
 /// `A I V`, or `A I V nowait`.
 #[tactic(auto, unfolding(crate::specs::Requests::writing_access_in))]
 fn writing_access_in(name: &[u8], words: &[u8]) -> Option<Request>
-    ensures request { result ≡ writing_access_in name.now words.now }
-    ensures fits { IfSome result RequestFits }
+    ensures { result ≡ writing_access_in name.now words.now }
 {
     let (array, words) = word_at(words)?;
     let (index, words) = word_at(words)?;
@@ -143,8 +138,7 @@ fn writing_access_in(name: &[u8], words: &[u8]) -> Option<Request>
 /// `nowait`.
 #[tactic(auto, unfolding(crate::specs::Requests::request_in, crate::specs::Requests::access_named))]
 pub(crate) fn request_in(words: &[u8]) -> Option<Request>
-    ensures request { result ≡ request_in words.now }
-    ensures fits { IfSome result RequestFits }
+    ensures { result ≡ request_in words.now }
 {
     let (kind, words) = word_at(words)?;
     if says(kind, "create") {
