@@ -2,7 +2,7 @@
 use Rattle.std.proofs.Common.{◌≡◌, ℕ, suc, ◌-◌, ◌+◌, ◌≤◌, ◌<◌, Result, Ok, Err, refl, sym, ◌∙◌, arith}
 use Rattle.fe_codec.specs.declared.fault.Fault.{Fault}
 use Rattle.fe_codec.specs.declared.fault.Fault.TheVariants.{Left, NoMemory}
-use Rattle.fe_codec.specs.FirstFault.{repeated}
+use Rattle.fe_codec.specs.FirstFault.{◌followed_by◌, repeated}
 use Rattle.fe_codec.specs.Given.{GivesFault}
 
 module _ {X : Type 0} (step : X → Result X ℕ) (count i : ℕ) (x : X) (total : Result X ℕ) (so_far : repeated step (count - i) x ≡ total) where
@@ -27,6 +27,11 @@ module _ {X : Type 0} (step : X → Result X ℕ) (count i : ℕ) (x : X) (total
       let k : count - i ≡ 0 = omega arith in
       let one : repeated step (count - i) x ≡ Ok x = rw k refl in
       sym so_far ∙ one
+
+-- a fault in the first of two steps is the fault of both
+pub stopped : {A B : Type 0} (fault : Fault) (given : Result A ℕ) (f : A → Result B ℕ) → GivesFault fault given → GivesFault fault (given followed_by f)
+stopped NoMemory given f h = tt
+stopped (Left left) given f h = rw h refl
 
 -- before the first step
 pub begins : {X : Type 0} (step : X → Result X ℕ) (count : ℕ) (x : X) → repeated step (count - 0) x ≡ repeated step count x

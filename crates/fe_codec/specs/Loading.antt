@@ -1,8 +1,9 @@
 -- What loading a part of an image, the bytes of a server state, leaves as it was (`docs/model.md`, "Records, groups and images").
-use Rattle.std.specs.Prelude.{◌≡◌, ℕ, Option, None, IsSome, true}
+use Rattle.std.specs.Prelude.{◌≡◌, ℕ, ◌+◌, ◌≤◌, Option, Some, None, IsSome, true}
 use Rattle.std.specs.Ordering.{nat_cmp}
 use Rattle.std.specs.FinMap.{FinMap, get, len}
 use Rattle.fe_state.specs.Directory.{word_in}
+use Rattle.fe_state.specs.State.{ServerState}
 use Rattle.fe_state.specs.declared.array.Array.{Array}
 use Rattle.fe_codec.specs.FirstFault.{is_after}
 
@@ -19,3 +20,14 @@ pub record KeepsKeys {X : Type 0} (old new : FinMap nat_cmp X) : Type 0 where
 pub record KeepsIds (old new : FinMap nat_cmp Array) : Type 0 where
   pub keys : KeepsKeys old new
   pub words : (id i : ℕ) → IsSome (word_in (get old id) i) → IsSome (word_in (get new id) i)
+
+-- words of arrays changed, and nothing else
+pub record ChangesWords (old new : ServerState) : Type 0 where
+  pub ids : KeepsIds old.arrays new.arrays
+  pub sessions : new.sessions ≡ old.sessions
+
+-- an array was added, whose id is above those of the others, and the sessions stayed
+pub record AddsArray (id : ℕ) (old new : ServerState) : Type 0 where
+  pub fresh : HasNoneAfter (Some id) new.arrays
+  pub few : len new.arrays ≤ len old.arrays + 1
+  pub sessions : new.sessions ≡ old.sessions

@@ -7,9 +7,9 @@ ghost use Rattle.std.specs.FinMap.{get, len};
 ghost use Rattle.fe_state.specs.Name.{is_plain};
 ghost use Rattle.fe_state.specs.Directory.{named, word_in, word_count};
 ghost use Rattle.fe_format.specs.Layout.{name_bytes};
-ghost use Rattle.fe_codec.specs.FirstFault.{number_in, is_after, id_at, name_length_at, is_name_row, name_at, new_name_at, tag_at, word_at, next_word, next_array, repeated, with_new_array};
+ghost use Rattle.fe_codec.specs.FirstFault.{number_in, is_after, id_at, name_length_at, is_name_row, new_name_at, tag_at, word_at, next_word, next_array, repeated, with_new_array};
 ghost use Rattle.fe_codec.specs.Given.{Gives};
-ghost use Rattle.fe_codec.specs.Loading.{KeepsIds, HasNoneAfter};
+ghost use Rattle.fe_codec.specs.Loading.{ChangesWords, AddsArray, HasNoneAfter};
 ghost use Rattle.fe_state.specs.Limits.{most_arrays, most_words};
 
 use crate::Format;
@@ -22,8 +22,7 @@ use fe_words::{Tag, Word};
 #[tactic(auto, unfolding(crate::specs::FirstFault::id_at))]
 fn id_at(previous: Option<u64>, next_id: u64, bytes: &[u8]) -> Result<(u64, &[u8]), Fault>
     ensures given { Gives (λ x. (x.0, x.1.now)) result (id_at previous next_id bytes.now) }
-    ensures least { IfOk result (λ x. 1 ≤ x.0) }
-    ensures older { IfOk result (λ x. x.0 < next_id) }
+    ensures range { IfOk result (λ x. (1 ≤ x.0) × (x.0 < next_id)) }
     ensures after { IfOk result (λ x. is_after previous x.0 ≡ true) }
 {
     let (id, rest) = u64_in(1, next_id, bytes)?;
@@ -71,19 +70,6 @@ fn name_in(len: usize, cells: &[u8]) -> Option<Name>
     }
 }
 
-#[tactic(auto, unfolding(crate::specs::FirstFault::name_at))]
-fn name_at(format: Format, bytes: &[u8]) -> Result<(Name, &[u8]), Fault>
-    ensures given { Gives (λ x. (x.0, x.1.now)) result (name_at format bytes.now) }
-    ensures plain { IfOk result (λ x. is_plain x.0 ≡ true) }
-{
-    let (len, rest) = name_length_at(format, bytes)?;
-    let (cells, behind) = row(format.name_bytes(), rest)?;
-    match name_in(len, cells) {
-        Some(name) => Ok((name, behind)),
-        None => Err(Fault::Left(rest.len())),
-    }
-}
-
 /// Whether no array has this name, which is plain.
 fn is_new(state: &State, name: &Name) -> bool
     requires { is_plain name.now ≡ true }
@@ -93,7 +79,7 @@ fn is_new(state: &State, name: &Name) -> bool
     found == Some(Answer::NoArray)
 }
 
-#[tactic(auto, unfolding(crate::specs::FirstFault::new_name_at))]
+#[tactic(auto, unfolding(crate::specs::FirstFault::new_name_at, crate::specs::FirstFault::name_at))]
 fn new_name_at<'a>(
     format: Format,
     state: &State,
@@ -103,10 +89,12 @@ fn new_name_at<'a>(
     ensures plain { IfOk result (λ x. is_plain x.0 ≡ true) }
     ensures free { IfOk result (λ x. is_some (named state.now.arrays x.0) ≡ false) }
 {
-    match name_at(format, bytes) {
-        Ok((name, rest)) if is_new(state, &name) => Ok((name, rest)),
-        Ok(_) => Err(Fault::Left(bytes.len())),
-        Err(fault) => Err(fault),
+    let (len, rest) = name_length_at(format, bytes)?;
+    let (cells, behind) = row(format.name_bytes(), rest)?;
+    match name_in(len, cells) {
+        Some(name) if is_new(state, &name) => Ok((name, behind)),
+        Some(_) => Err(Fault::Left(bytes.len())),
+        None => Err(Fault::Left(rest.len())),
     }
 }
 
@@ -117,8 +105,7 @@ fn length_at<'a>(state: &State, name: &Name, bytes: &'a [u8]) -> Result<(u32, &'
     requires few { len state.now.arrays < most_arrays }
     ensures given { Gives
         (λ x. (x.0, x.1.now)) result (number_in w32 1 (most_words + 1 - word_count state.now.arrays) bytes.now) }
-    ensures least { IfOk result (λ x. 1 ≤ x.0) }
-    ensures room { IfOk result (λ x. word_count state.now.arrays + x.0 ≤ most_words) }
+    ensures range { IfOk result (λ x. (1 ≤ x.0) × (word_count state.now.arrays + x.0 ≤ most_words)) }
 {
     let (length, rest) = u32_next(bytes)?;
     let request = Request::Create {
@@ -156,24 +143,7 @@ fn word_at(bytes: &[u8]) -> Result<(Word, &[u8]), Fault>
     Ok((Word { value, tag }, rest))
 }
 
-#[tactic(auto, unfolding(crate::specs::FirstFault::next_word))]
-fn next_word<'a>(
-    array: u64,
-    index: u32,
-    state: &mut State,
-    bytes: &'a [u8],
-) -> Result<&'a [u8], Fault>
-    requires { IsSome (word_in (get state.old.arrays array) index) }
-    ensures given { Gives
-        (λ rest. (index + 1, state.new, rest.now)) result (next_word array (index, state.old, bytes.now)) }
-    ensures ids { OnOk result (KeepsIds state.old.arrays state.new.arrays) }
-    ensures sessions { OnOk result (state.new.sessions ≡ state.old.sessions) }
-{
-    let (word, rest) = word_at(bytes)?;
-    state.load_word(array, index, word);
-    Ok(rest)
-}
-
+/// Loads the words of an array that is there, from the first on.
 fn load_words<'a>(
     array: u64,
     count: u32,
@@ -183,12 +153,13 @@ fn load_words<'a>(
     requires { (i : ℕ) → i < count → IsSome (word_in (get state.old.arrays array) i) }
     ensures given { Gives
         (λ rest. (count, state.new, rest.now)) result (repeated (next_word array) count (0, state.old, bytes.now)) }
-    ensures ids { OnOk result (KeepsIds state.old.arrays state.new.arrays) }
-    ensures sessions { OnOk result (state.new.sessions ≡ state.old.sessions) }
+    ensures words { OnOk result (ChangesWords state.old state.new) }
 {
     let mut rest = bytes;
     for index in 0..count {
-        rest = next_word(array, index, state, rest)?;
+        let (word, behind) = word_at(rest)?;
+        state.load_word(array, index, word);
+        rest = behind;
     }
     Ok(rest)
 }
@@ -205,9 +176,7 @@ fn next_array<'a>(
     requires few { len state.old.arrays < most_arrays }
     ensures given { Gives
         (λ x. (Some x.0, state.new, x.1.now)) result (next_array format (previous, state.old, bytes.now)) }
-    ensures fresh { IfOk result (λ x. HasNoneAfter (Some x.0) state.new.arrays) }
-    ensures few { OnOk result (len state.new.arrays ≤ len state.old.arrays + 1) }
-    ensures sessions { OnOk result (state.new.sessions ≡ state.old.sessions) }
+    ensures added { IfOk result (λ x. AddsArray x.0 state.old state.new) }
 {
     let (id, rest) = id_at(previous, state.next_id(), bytes)?;
     let (name, rest) = match new_name_at(format, state, rest) {

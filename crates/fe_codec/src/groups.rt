@@ -53,32 +53,6 @@ fn next_entry(format: Format, bytes: &[u8]) -> Option<(Entry, &[u8])>
     Some((entry, behind))
 }
 
-/// The entries in the bytes, which have the length of a group.
-fn read_entries(
-    alloc: Global,
-    format: Format,
-    bytes: &[u8],
-) -> Result<Option<Vec<Entry>>, AllocError>
-    requires { IsGroupSize format (length bytes.now) }
-    ensures found { IfOk result (λ read. IfSome read (λ entries. IsGroupOf format entries.items bytes.now)) }
-    ensures only { (entries : List Step) → IsGroupOf format entries bytes.now
-        → IfOk result (λ read. option_map (λ v. v.items) read ≡ Some entries) }
-{
-    let count = bytes.len() / format.record_bytes();
-    let mut entries = Vec::with_capacity(alloc, count)?;
-    let mut rest = bytes;
-    for _ in 0..count {
-        match next_entry(format, rest) {
-            Some((entry, behind)) => {
-                entries.push(entry)?;
-                rest = behind;
-            }
-            None => return Ok(None),
-        }
-    }
-    Ok(Some(entries))
-}
-
 /// The entries of a group: 1 to `group_records` records of the format, one after another. `None` if the bytes are no
 /// group. `AllocError` if memory runs out.
 pub fn read_group(
@@ -94,9 +68,20 @@ pub fn read_group(
     // Memory can run out only if a group may have this length.
     ensures memory { OnErr result (IsGroupSize format (length bytes.now)) }
 {
-    if is_group_size(format, bytes.len()) {
-        read_entries(alloc, format, bytes)
-    } else {
-        Ok(None)
+    if !is_group_size(format, bytes.len()) {
+        return Ok(None);
     }
+    let count = bytes.len() / format.record_bytes();
+    let mut entries = Vec::with_capacity(alloc, count)?;
+    let mut rest = bytes;
+    for _ in 0..count {
+        match next_entry(format, rest) {
+            Some((entry, behind)) => {
+                entries.push(entry)?;
+                rest = behind;
+            }
+            None => return Ok(None),
+        }
+    }
+    Ok(Some(entries))
 }

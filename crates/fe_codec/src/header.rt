@@ -1,9 +1,9 @@
 //! Reading numbers at the front of bytes, and the header of an image (`docs/formats.md`, "Image").
 
-ghost use Rattle.std.specs.Prelude.{◌≡◌, ◌+◌, ◌^◌, ◌≤◌, ◌<◌, ◌≢◌, IfOk, IfErr, length};
+ghost use Rattle.std.specs.Prelude.{◌≡◌, ◌+◌, ◌^◌, ◌≤◌, ◌<◌, IfOk, length};
 ghost use Rattle.std.specs.Int.{w32, w64};
-ghost use Rattle.fe_codec.specs.FirstFault.{row, number, number_in, is_after, session_at, header_at};
-ghost use Rattle.fe_codec.specs.Given.{Gives};
+ghost use Rattle.fe_codec.specs.FirstFault.{row, number, is_after, header_at};
+ghost use Rattle.fe_codec.specs.Given.{Gives, Reads, ReadsNumberIn};
 ghost use Rattle.fe_state.specs.Limits.{most_arrays, most_sessions};
 
 use crate::fault::Fault;
@@ -39,16 +39,14 @@ pub fn row(count: usize, bytes: &[u8]) -> Result<(&[u8], &[u8]), Fault>
 
 #[tactic(auto, unfolding(crate::specs::FirstFault::number))]
 pub fn u32_next(bytes: &[u8]) -> Result<(u32, &[u8]), Fault>
-    ensures given { Gives (λ x. (x.0, x.1.now)) result (number w32 bytes.now) }
-    ensures memory { IfErr result (λ fault. fault ≢ Fault.NoMemory) }
+    ensures { Reads (λ x. (x.0, x.1.now)) result (number w32 bytes.now) }
 {
     next_u32(bytes).ok_or(Fault::Left(0))
 }
 
 #[tactic(auto, unfolding(crate::specs::FirstFault::number))]
 pub fn u64_next(bytes: &[u8]) -> Result<(u64, &[u8]), Fault>
-    ensures given { Gives (λ x. (x.0, x.1.now)) result (number w64 bytes.now) }
-    ensures memory { IfErr result (λ fault. fault ≢ Fault.NoMemory) }
+    ensures { Reads (λ x. (x.0, x.1.now)) result (number w64 bytes.now) }
 {
     next_u64(bytes).ok_or(Fault::Left(0))
 }
@@ -56,10 +54,7 @@ pub fn u64_next(bytes: &[u8]) -> Result<(u64, &[u8]), Fault>
 /// A number from the least on, and below the limit.
 #[tactic(auto, unfolding(crate::specs::FirstFault::number_in))]
 pub fn u32_in(least: u32, limit: u32, bytes: &[u8]) -> Result<(u32, &[u8]), Fault>
-    ensures given { Gives (λ x. (x.0, x.1.now)) result (number_in w32 least limit bytes.now) }
-    ensures least { IfOk result (λ x. least ≤ x.0) }
-    ensures limit { IfOk result (λ x. x.0 < limit) }
-    ensures memory { IfErr result (λ fault. fault ≢ Fault.NoMemory) }
+    ensures { ReadsNumberIn w32 least limit result bytes.now }
 {
     let (number, rest) = u32_next(bytes)?;
     if least <= number && number < limit {
@@ -72,10 +67,7 @@ pub fn u32_in(least: u32, limit: u32, bytes: &[u8]) -> Result<(u32, &[u8]), Faul
 /// A number from the least on, and below the limit.
 #[tactic(auto, unfolding(crate::specs::FirstFault::number_in))]
 pub fn u64_in(least: u64, limit: u64, bytes: &[u8]) -> Result<(u64, &[u8]), Fault>
-    ensures given { Gives (λ x. (x.0, x.1.now)) result (number_in w64 least limit bytes.now) }
-    ensures least { IfOk result (λ x. least ≤ x.0) }
-    ensures limit { IfOk result (λ x. x.0 < limit) }
-    ensures memory { IfErr result (λ fault. fault ≢ Fault.NoMemory) }
+    ensures { ReadsNumberIn w64 least limit result bytes.now }
 {
     let (number, rest) = u64_next(bytes)?;
     if least <= number && number < limit {
@@ -98,14 +90,13 @@ pub fn is_after(previous: Option<u64>, number: u64) -> bool
 /// The first fields of an image.
 #[tactic(auto, unfolding(crate::specs::FirstFault::header_at))]
 pub fn header_at(bytes: &[u8]) -> Result<(ImageHeader, &[u8]), Fault>
-    ensures given { Gives (λ x. (x.0, x.1.now)) result (header_at bytes.now) }
+    // Nothing is allocated here.
+    ensures given { Reads (λ x. (x.0, x.1.now)) result (header_at bytes.now) }
     ensures place { IfOk result (λ x. x.0.place < 2 ^ 63) }
     ensures least { IfOk result (λ x. 1 ≤ x.0.next_id) }
     ensures most { IfOk result (λ x. x.0.next_id ≤ x.0.place + 1) }
     ensures arrays { IfOk result (λ x. x.0.arrays ≤ most_arrays) }
     ensures sessions { IfOk result (λ x. x.0.sessions ≤ most_sessions) }
-    // Nothing is allocated here.
-    ensures memory { IfErr result (λ fault. fault ≢ Fault.NoMemory) }
 {
     let (place, rest) = u64_in(0, PLACE_LIMIT, bytes)?;
     let (next_id, rest) = u64_in(1, place + 2, rest)?;

@@ -33,27 +33,10 @@ fn state_at(alloc: Global, format: Format, bytes: &[u8]) -> Result<State, Fault>
     }
 }
 
-#[tactic(auto, unfolding(crate::specs::FirstFault::image_at))]
-fn image_of(alloc: Global, format: Format, bytes: &[u8]) -> Result<State, ImageFault>
-    ensures given { ImageGives result (image_at format bytes.now) }
-    ensures limits { IfOk result IsWithinLimits }
-    ensures within { (offset : ℕ) → result ≡ Err (ImageFault.Damaged offset) → offset ≤ length bytes.now }
-    ensures memory { result ≡ Err ImageFault.NoMemory → IsOk (header_at bytes.now) }
-{
-    match state_at(alloc, format, bytes) {
-        Ok(state) => Ok(state),
-        Err(Fault::Left(left)) => {
-            Err(ImageFault::Damaged {
-                offset: bytes.len().saturating_sub(left),
-            })
-        }
-        Err(Fault::NoMemory) => Err(ImageFault::NoMemory),
-    }
-}
-
 /// The state whose image the bytes are. `Damaged` with the offset of the first fault, in bytes, if they are no
 /// image (`docs/formats.md`, "Image"), and `NoMemory` if memory runs out for the state or the words of an
 /// array.
+#[tactic(auto, unfolding(crate::specs::FirstFault::image_at))]
 pub fn read_image(alloc: Global, format: Format, bytes: &[u8]) -> Result<State, ImageFault>
     // What is read has this image.
     ensures found { IfOk result (λ state. FitsImage format state × (bytes.now ≡ image_spelling format state)) }
@@ -67,5 +50,12 @@ pub fn read_image(alloc: Global, format: Format, bytes: &[u8]) -> Result<State, 
     // Memory can run out only if the first four fields are right.
     ensures memory { result ≡ Err ImageFault.NoMemory → IsOk (header_at bytes.now) }
 {
-    image_of(alloc, format, bytes)
+    match state_at(alloc, format, bytes) {
+        Ok(state) => Ok(state),
+        Err(Fault::Left(left)) => {
+            let offset = bytes.len().saturating_sub(left);
+            Err(ImageFault::Damaged { offset })
+        }
+        Err(Fault::NoMemory) => Err(ImageFault::NoMemory),
+    }
 }

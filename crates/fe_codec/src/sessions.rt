@@ -4,7 +4,7 @@ ghost use Rattle.std.specs.Prelude.{◌≡◌, ℕ, ◌+◌, ◌-◌, ◌^◌, �
 ghost use Rattle.std.specs.Option.{option_map};
 ghost use Rattle.std.specs.FinMap.{get, len};
 ghost use Rattle.fe_state.specs.Sessions.{IsInWindow};
-ghost use Rattle.fe_codec.specs.FirstFault.{is_after, is_next_number, kept_of, kept_at, next_kept, session_at, next_session, repeated};
+ghost use Rattle.fe_codec.specs.FirstFault.{is_after, kept_of, kept_at, next_kept, next_session, repeated};
 ghost use Rattle.fe_codec.specs.Given.{Gives};
 ghost use Rattle.fe_codec.specs.Loading.{KeepsKeys, HasNoneAfter};
 ghost use Rattle.fe_state.specs.Limits.{most_sessions};
@@ -20,14 +20,6 @@ const FLOOR_LIMIT: u64 = GREATEST_FLOOR + 1;
 
 /// Fewer answers than this are kept.
 const KEPT_LIMIT: u32 = WINDOW as u32 + 1;
-
-/// Whether a number is in the window, and above the previous one.
-fn is_next_number(floor: u64, previous: Option<u64>, number: u64) -> bool
-    requires { floor < 2 ^ 63 }
-    ensures { result ≡ is_next_number floor previous number }
-{
-    floor <= number && number < floor + WINDOW && is_after(previous, number)
-}
 
 /// What an entry keeps for a number of a session, at its place.
 fn kept_of(
@@ -51,7 +43,8 @@ fn kept_of(
                 answer,
             },
         ) => {
-            if owner == session && is_next_number(floor, previous, number) {
+            let is_in_window = floor <= number && number < floor + WINDOW;
+            if owner == session && is_in_window && is_after(previous, number) {
                 Some((
                     number,
                     Kept {
@@ -90,32 +83,6 @@ fn kept_at(
     }
 }
 
-/// Loads the next answer that a session keeps, and returns its number.
-#[tactic(auto, unfolding(crate::specs::FirstFault::next_kept))]
-fn next_kept<'a>(
-    format: Format,
-    session: u64,
-    floor: u64,
-    previous: Option<u64>,
-    state: &mut State,
-    bytes: &'a [u8],
-) -> Result<(u64, &'a [u8]), Fault>
-    requires floor { option_map (λ x. x.floor) (get state.old.sessions session) ≡ Some floor }
-    requires small { floor < 2 ^ 63 }
-    ensures given { Gives
-        (λ x. (Some x.0, state.new, x.1.now)) result (next_kept format session floor (previous, state.old, bytes.now)) }
-    ensures floor { OnOk result (option_map (λ x. x.floor) (get state.new.sessions session) ≡ Some floor) }
-    ensures keys { OnOk result (KeepsKeys state.old.sessions state.new.sessions) }
-{
-    match kept_at(format, state.place(), session, floor, previous, bytes) {
-        Ok((number, kept, rest)) => {
-            state.load_kept(session, number, kept);
-            Ok((number, rest))
-        }
-        Err(fault) => Err(fault),
-    }
-}
-
 /// Loads this many answers, and returns the number of the last one.
 fn load_window<'a>(
     format: Format,
@@ -135,28 +102,20 @@ fn load_window<'a>(
     let mut previous = None;
     let mut rest = bytes;
     for _ in 0..count {
-        let (number, behind) = next_kept(format, session, floor, previous, state, rest)?;
-        previous = Some(number);
-        rest = behind;
+        match kept_at(format, state.place(), session, floor, previous, rest) {
+            Ok((number, kept, behind)) => {
+                state.load_kept(session, number, kept);
+                previous = Some(number);
+                rest = behind;
+            }
+            Err(fault) => return Err(fault),
+        }
     }
     Ok((previous, rest))
 }
 
-#[tactic(auto, unfolding(crate::specs::FirstFault::session_at))]
-fn session_at(previous: Option<u64>, bytes: &[u8]) -> Result<(u64, &[u8]), Fault>
-    ensures given { Gives (λ x. (x.0, x.1.now)) result (session_at previous bytes.now) }
-    ensures after { IfOk result (λ x. is_after previous x.0 ≡ true) }
-{
-    let (session, rest) = u64_next(bytes)?;
-    if is_after(previous, session) {
-        Ok((session, rest))
-    } else {
-        Err(Fault::Left(bytes.len()))
-    }
-}
-
 /// Loads the next session, whose number is above that of the previous one.
-#[tactic(auto, unfolding(crate::specs::FirstFault::next_session))]
+#[tactic(auto, unfolding(crate::specs::FirstFault::next_session, crate::specs::FirstFault::session_at))]
 fn next_session<'a>(
     format: Format,
     previous: Option<u64>,
@@ -170,7 +129,10 @@ fn next_session<'a>(
     ensures fresh { IfOk result (λ x. HasNoneAfter (Some x.0) state.new.sessions) }
     ensures few { OnOk result (len state.new.sessions ≤ len state.old.sessions + 1) }
 {
-    let (session, rest) = session_at(previous, bytes)?;
+    let (session, rest) = u64_next(bytes)?;
+    if !is_after(previous, session) {
+        return Err(Fault::Left(bytes.len()));
+    }
     let (floor, rest) = u64_in(1, FLOOR_LIMIT, rest)?;
     let (count, rest) = u32_in(0, KEPT_LIMIT, rest)?;
     state.load_session(session, floor);

@@ -18,9 +18,9 @@ next_array-requires-clause-few c = omega (arith, c.loop.invariant.2, c.requires.
 pub loop-preserved : goal.loop-preserved
 loop-preserved c = (
   goes_on (next_array c.args.format) c.args.count c.loop.counter (c.loop.previous, c.loop.state, c.loop.rest.now) _ c.loop.invariant.0 _ (omega arith) c.in_ok-id.ensures.given,
-  c.in_ok-id.ensures.fresh,
-  omega (arith, c.in_ok-id.ensures.few, c.loop.invariant.2),
-  c.in_ok-id.ensures.sessions ∙ c.loop.invariant.3,
+  c.in_ok-id.ensures.added.fresh,
+  omega (arith, c.in_ok-id.ensures.added.few, c.loop.invariant.2),
+  c.in_ok-id.ensures.added.sessions ∙ c.loop.invariant.3,
 )
 
 pub returns : goal.returns
