@@ -16,7 +16,7 @@ use Rattle.fe_state.specs.declared.batch.Batch.{Batch}
 use Rattle.fe_keeper.specs.Ends.{Works, Breaks, Refuses, Fails, Ends, ForBatch, AppendEnds}
 use Rattle.fe_keeper.specs.Keeper.{KeeperState}
 use Rattle.fe_keeper.specs.Stands.{StandsFor}
-use Rattle.fe_keeper.specs.within.Ends.{WorksOn, BreaksOff, StoreEnds, CountsBatch, Carries}
+use Rattle.fe_keeper.specs.within.Ends.{WorksOn, BreaksOff, StoreEnds, StepEnds, CountsBatch, Carries}
 use Rattle.fe_keeper.specs.within.Faults.{fault_of_journal, fault_of_refused}
 use Rattle.fe_keeper.specs.within.Kept.{kept_of}
 use Rattle.fe_keeper.specs.within.Upholds.{store_of}
@@ -46,6 +46,40 @@ pub then_carries : {T D : Type 0} (model : Ghosts D) (result : Result T JournalF
     → LeavesOnly model old.journal.disk mid.journal.disk (λ image. StandsFor image s) → Carries model result mid new s → Carries model result old new s
 then_carries model result old mid new s first second =
     record { any_moment = joined model old.journal.disk mid.journal.disk new.journal.disk (λ image. StandsFor image s) first second.any_moment; upheld = second.upheld }
+
+-- a step after one that succeeded
+pub then_step : {T U D : Type 0} (model : Ghosts D) (P Q R : ServerState → Type 0) (x : U) (result : Result T JournalFault) (old mid new : KeeperStore D) → ((s : ServerState) → R s → P s) → ((s : ServerState) → R s → Q s)
+    → StepEnds model P (Ok x) old mid → StepEnds model Q result mid new → StepEnds model R result old new
+then_step model P Q R x result old mid new p q first second =
+    record {
+      stays = record { sound = second.stays.sound; place = second.stays.place ∙ first.stays.place };
+      ends = then_ends model result old.journal mid.journal new.journal first.ends.outcome first.ends.honesty second.ends;
+      carries = λ honest s upholds needs.
+          let carried = first.carries honest s upholds (p s needs) in
+          then_carries model result old mid new s carried.any_moment (second.carries (first.ends.honesty.1 honest) s carried.upheld (q s needs));
+    }
+
+-- a call of a journal whose fault is passed on
+pub passed_ends : {T U D : Type 0} (model : Ghosts D) (result : Result T JournalFault) (fault : JournalFault) (old new : JournalState D) → IsErrAnd result (λ f. f ≡ fault)
+    → StoreEnds {T = U} model (Err fault) old new → StoreEnds model result old new
+passed_ends model (Ok x) fault old new is ends = absurd is
+passed_ends model (Err f) fault old new is ends = record { outcome = (is ∙ ends.outcome.0, ends.outcome.1); honesty = ends.honesty }
+
+-- a step whose fault is passed on
+pub passed_step : {T U D : Type 0} (model : Ghosts D) (P R : ServerState → Type 0) (result : Result T JournalFault) (fault : JournalFault) (old new : KeeperStore D) → IsErrAnd result (λ f. f ≡ fault) → ((s : ServerState) → R s → P s)
+    → StepEnds {T = U} model P (Err fault) old new → StepEnds model R result old new
+passed_step model P R (Ok x) fault old new is p step = absurd is
+passed_step model P R (Err f) fault old new is p step =
+    record {
+      stays = step.stays;
+      ends = passed_ends model (Err f) fault old.journal new.journal is step.ends;
+      carries = λ honest s upholds needs. record { any_moment = (step.carries honest s upholds (p s needs)).any_moment; upheld = tt };
+    }
+
+-- a step that needs no less
+pub step_by : {T D : Type 0} (model : Ghosts D) (P R : ServerState → Type 0) (result : Result T JournalFault) (old new : KeeperStore D) → ((s : ServerState) → R s → P s) → StepEnds model P result old new → StepEnds model R result old new
+step_by model P R result old new p step =
+    record { stays = step.stays; ends = step.ends; carries = λ honest s upholds needs. step.carries honest s upholds (p s needs) }
 
 -- a batch that is stored once there is room for it
 pub then_counts : {T D : Type 0} (result : Result T JournalFault) (old mid new : KeeperStore D) (n : ℕ) → mid.place ≡ old.place → CountsBatch result mid new n → CountsBatch result old new n

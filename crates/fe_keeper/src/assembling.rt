@@ -1,13 +1,12 @@
-ghost use Rattle.std.specs.Prelude.{◌≡◌, IfOk, IfErr};
+ghost use Rattle.std.specs.Prelude.{◌≡◌, IfOk};
 ghost use Rattle.fe_journal.specs.Journal.{IsIdle};
 ghost use Rattle.fe_keeper.specs.within.Upholds.{IsNumbered};
 ghost use Rattle.fe_keeper.specs.Opened.{keeper_over, KeepsState};
 ghost use Rattle.fe_keeper.specs.within.Rooms.{AreRooms};
-ghost use Rattle.fe_keeper.specs.declared.fault.Fault.TheVariants.{NoMemory};
 
+use crate::Format;
 use crate::keeper::Keeper;
 use crate::keeper_store::KeeperStore;
-use crate::{Fault, Format};
 use fe_disk::Disk;
 use fe_journal::Journal;
 use fe_state::{BATCH_ENTRIES, State, UndoLog};
@@ -59,23 +58,5 @@ pub(crate) fn keeper_over<D: Disk>(
         state,
         log,
         alloc,
-    }
-}
-
-/// The keeper of a state over a journal that keeps it. Allocates the memory for the batches to come.
-pub(crate) fn keeper_with_room<D: Disk>(
-    alloc: Global,
-    journal: Journal<D>,
-    state: State,
-) -> Result<Keeper<D>, (Fault, D)>
-    requires ready { IsIdle journal }
-    requires numbered { IsNumbered state.place journal }
-    requires keeps { D.honest journal.disk → KeepsState D.Disk journal state }
-    ensures made { IfOk result (λ keeper. keeper ≡ keeper_over journal state) }
-    ensures refused { IfErr result (λ e. (e.0 ≡ NoMemory) × (e.1 ≡ journal.disk)) }
-{
-    match Rooms::new(alloc) {
-        Err(_) => Err((Fault::NoMemory, journal.into_disk())),
-        Ok(rooms) => Ok(keeper_over(alloc, rooms, journal, state)),
     }
 }

@@ -1,15 +1,14 @@
 //! Checkpoints: the image of the state is written to the slot that does not count, slice by slice. Then the entries
 //! that came meanwhile, the catch-up, go there as a group, and the slot counts (`docs/store.md`).
 
-ghost use Rattle.std.specs.Prelude.{◌≡◌, ◌+◌, false, vec_len, IsTrue, IfOk, IfSome, OnOk};
+ghost use Rattle.std.specs.Prelude.{◌≡◌, ◌+◌, false, vec_len, IsTrue, IfOk, OnOk};
 ghost use Rattle.fe_disk.specs.Disk.{MakesAtMost};
-ghost use Rattle.fe_state.specs.State.{ServerState};
 ghost use Rattle.fe_keeper.specs.Keeper as effect;
 ghost use Rattle.fe_keeper.specs.Keeper.{fits, has_slices, slices_of, slices_left, finished, renewed, made_room};
-ghost use Rattle.fe_keeper.specs.within.Ends.{StoreEnds, StaysSound, IsStepped, Carries, MakesRoom};
-ghost use Rattle.fe_keeper.specs.within.Fresh.{IsImageOf, whole_slices};
-ghost use Rattle.fe_keeper.specs.within.Ready.{HasCheckpoint, CanTake, CanStore, IsWholeFor};
-ghost use Rattle.fe_keeper.specs.within.Upholds.{Upholds, store_of};
+ghost use Rattle.fe_keeper.specs.within.Ends.{StepEnds, Always, IsStepped, MakesRoom};
+ghost use Rattle.fe_keeper.specs.within.Fresh.{IsImageOf, IsImageIfSome, whole_slices};
+ghost use Rattle.fe_keeper.specs.within.Ready.{HasCheckpoint, CanTake, CanStoreWith};
+ghost use Rattle.fe_keeper.specs.within.Upholds.{store_of};
 
 use crate::Format;
 use crate::checkpoint::Checkpoint;
@@ -22,15 +21,11 @@ impl<D: Disk> KeeperStore<D> {
     /// Begins a checkpoint: begins the other slot for it.
     pub(crate) fn begin(&mut self, checkpoint: Checkpoint) -> Result<(), JournalFault>
         requires can { CanTake self.old checkpoint }
-        ensures stays { StaysSound self.old self.new }
-        ensures carries { D.honest self.old.journal.disk → (s : ServerState) → Upholds D.Disk self.old s
-            → IsImageOf checkpoint s
-            → Carries D.Disk result self.old self.new s }
+        ensures step { StepEnds D.Disk (IsImageOf checkpoint) result self.old self.new }
         ensures value { OnOk result (store_of self.new
             ≡ record (effect.begun (store_of self.old)
             (vec_len checkpoint.image)) { disk = self.new.journal.disk }) }
         ensures ready { OnOk result (HasCheckpoint self.new) }
-        ensures ends { StoreEnds D.Disk result self.old.journal self.new.journal }
         ensures calls { MakesAtMost 1 2 1 (D.calls self.old.journal.disk) (D.calls self.new.journal.disk) }
     {
         let generation = self.journal.generation() + 1;
@@ -43,12 +38,9 @@ impl<D: Disk> KeeperStore<D> {
     /// Writes the next slice of the image, if one is left. Returns whether slices are left after it.
     pub(crate) fn step(&mut self) -> Result<bool, JournalFault>
         requires ready { HasCheckpoint self.old }
-        ensures stays { StaysSound self.old self.new }
-        ensures carries { D.honest self.old.journal.disk → (s : ServerState) → Upholds D.Disk self.old s
-            → Carries D.Disk result self.old self.new s }
+        ensures step { StepEnds D.Disk Always result self.old self.new }
         ensures stepped { IfOk result (IsStepped self.old self.new) }
         ensures rests { has_slices (store_of self.old).checkpoint ≡ false → self.new ≡ self.old }
-        ensures ends { StoreEnds D.Disk result self.old.journal self.new.journal }
         ensures calls { MakesAtMost 0 1 0 (D.calls self.old.journal.disk) (D.calls self.new.journal.disk) }
     {
         let Some(checkpoint) = &mut self.checkpoint else {
@@ -61,12 +53,9 @@ impl<D: Disk> KeeperStore<D> {
     /// Finishes the checkpoint under way: writes the slices left and the catch-up, and opens the gate.
     pub(crate) fn finish(&mut self) -> Result<(), JournalFault>
         requires ready { HasCheckpoint self.old }
-        ensures stays { StaysSound self.old self.new }
-        ensures carries { D.honest self.old.journal.disk → (s : ServerState) → Upholds D.Disk self.old s
-            → Carries D.Disk result self.old self.new s }
+        ensures step { StepEnds D.Disk Always result self.old self.new }
         ensures value { OnOk result (store_of self.new
             ≡ record (finished (store_of self.old)) { disk = self.new.journal.disk }) }
-        ensures ends { StoreEnds D.Disk result self.old.journal self.new.journal }
         ensures calls { MakesAtMost 0 (slices_left (store_of self.old).checkpoint + 2) 2
             (D.calls self.old.journal.disk) (D.calls self.new.journal.disk) }
     {
@@ -82,13 +71,9 @@ impl<D: Disk> KeeperStore<D> {
     /// Begins and finishes a checkpoint to which no entry has come.
     fn renew(&mut self, whole: Checkpoint) -> Result<(), JournalFault>
         requires can { CanTake self.old whole }
-        ensures stays { StaysSound self.old self.new }
-        ensures carries { D.honest self.old.journal.disk → (s : ServerState) → Upholds D.Disk self.old s
-            → IsImageOf whole s
-            → Carries D.Disk result self.old self.new s }
+        ensures step { StepEnds D.Disk (IsImageOf whole) result self.old self.new }
         ensures value { OnOk result (store_of self.new
             ≡ record (renewed (store_of self.old)) { disk = self.new.journal.disk }) }
-        ensures ends { StoreEnds D.Disk result self.old.journal self.new.journal }
         ensures calls { MakesAtMost 1 (slices_of (vec_len whole.image) + 4) 3 (D.calls self.old.journal.disk)
             (D.calls self.new.journal.disk) }
     {
@@ -103,16 +88,11 @@ impl<D: Disk> KeeperStore<D> {
         entries: &[Entry],
         whole: Option<Checkpoint>,
     ) -> Result<(), JournalFault>
-        requires can { CanStore self.old entries.now }
-        requires whole { IsWholeFor self.old entries.now whole }
-        ensures stays { StaysSound self.old self.new }
-        ensures carries { D.honest self.old.journal.disk → (s : ServerState) → Upholds D.Disk self.old s
-            → IfSome whole (λ made. IsImageOf made s)
-            → Carries D.Disk result self.old self.new s }
+        requires can { CanStoreWith self.old entries.now whole }
+        ensures step { StepEnds D.Disk (IsImageIfSome whole) result self.old self.new }
         ensures value { OnOk result (store_of self.new
             ≡ record (made_room (store_of self.old) entries.now) { disk = self.new.journal.disk }) }
         ensures fits { OnOk result (IsTrue (fits (store_of self.new) entries.now)) }
-        ensures ends { StoreEnds D.Disk result self.old.journal self.new.journal }
         ensures calls { MakesRoom (store_of self.old) entries.now (whole_slices whole) (D.calls self.old.journal.disk)
             (D.calls self.new.journal.disk) }
     {

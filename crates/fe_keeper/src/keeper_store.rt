@@ -1,23 +1,21 @@
 //! The bytes side of a keeper: batches of entries become groups in the store's journal, and checkpoints go on between them.
 
-ghost use Rattle.std.specs.Prelude.{◌≡◌, ◌+◌, ◌≤◌, ◌*◌, ◌++◌, length, IsTrue, IfSome, OnOk, vec_len, vec_capacity};
+ghost use Rattle.std.specs.Prelude.{◌≡◌, ◌+◌, ◌≤◌, length, IsTrue, OnOk, vec_capacity};
 ghost use Rattle.std.specs.List.{AllByRecursion, list_all};
 ghost use Rattle.fe_disk.specs.Disk.{MakesAtMost};
 ghost use Rattle.fe_state.specs.Format.{entry_fits_format_1};
-ghost use Rattle.fe_state.specs.History.{AreLegal};
-ghost use Rattle.fe_state.specs.State.{ServerState, after_all};
 ghost use Rattle.fe_state.specs.Limits.{most_batch_entries};
 ghost use Rattle.fe_codec.specs.Record.{CanPut, FitsGroup, group_spelling};
-ghost use Rattle.fe_format.specs.Layout.{record_bytes, group_records};
+ghost use Rattle.fe_format.specs.Layout.{group_records};
 ghost use Rattle.fe_format.specs.declared.format.Format.TheVariants.{Two};
 ghost use Rattle.fe_journal.specs.Groups.{room_at};
 ghost use Rattle.fe_keeper.specs.Ends.{MakesToAppend};
-ghost use Rattle.fe_keeper.specs.Keeper.{fits, is_spellable, catches_up, caught_up_bytes, can_begin, appended, made_room, must_begin};
+ghost use Rattle.fe_keeper.specs.Keeper.{fits, is_spellable, caught_up_bytes, can_begin, appended, made_room, must_begin};
 ghost use Rattle.fe_keeper.specs.within.CatchUp.{batch_bytes, HasRoomFor, CatchesUp, IsSpelledBatch};
-ghost use Rattle.fe_keeper.specs.within.Ends.{StoreEnds, CountsBatch, Leads};
-ghost use Rattle.fe_keeper.specs.within.Fresh.{IsImageOf, whole_slices};
-ghost use Rattle.fe_keeper.specs.within.Ready.{CanStore, IsWholeFor};
-ghost use Rattle.fe_keeper.specs.within.Upholds.{IsStore, Upholds, store_of};
+ghost use Rattle.fe_keeper.specs.within.Ends.{Always, BatchEnds};
+ghost use Rattle.fe_keeper.specs.within.Fresh.{IsImageIfSome, whole_slices};
+ghost use Rattle.fe_keeper.specs.within.Ready.{CanStore, CanStoreWith};
+ghost use Rattle.fe_keeper.specs.within.Upholds.{IsStore, store_of};
 
 use crate::Format;
 use crate::checkpoint::Checkpoint;
@@ -56,30 +54,18 @@ fn spell(format: Format, entries: &[Entry], group: &mut Vec<u8>)
     let _ = put_group(format, entries, group);
 }
 
-/// Adds the records of entries in format 2, for which there is room. If the group has the records in that format, they
-/// are copied.
-fn put_records(format: Format, group: &[u8], entries: &[Entry], out: &mut Vec<u8>)
-    requires batch { IsSpelledBatch format group.now entries.now }
-    requires room { vec_len out.old + length entries.now * record_bytes Two ≤ vec_capacity out.old }
-    ensures items { out.new.items ≡ out.old.items ++ group_spelling Two entries.now }
-    ensures fits { FitsGroup Two entries.now }
-    ensures capacity { vec_capacity out.old ≤ vec_capacity out.new }
-{
-    let _ = match format {
-        Format::One => put_group(Format::Two, entries, out),
-        Format::Two => out.extend_from_slice(group),
-    };
-}
-
 /// Adds entries, for which there is room, to those that a checkpoint under way catches up with. The group has their
-/// records in the store's format.
+/// records in the store's format, which are copied if that is format 2.
 fn catch_up(checkpoint: &mut Option<Checkpoint>, format: Format, group: &[u8], entries: &[Entry])
     requires batch { IsSpelledBatch format group.now entries.now }
     requires room { HasRoomFor checkpoint.old (length entries.now) }
     ensures { CatchesUp entries.now checkpoint.old checkpoint.new }
 {
     if let Some(checkpoint) = checkpoint {
-        put_records(format, group, entries, &mut checkpoint.catch_up);
+        let _ = match format {
+            Format::One => put_group(Format::Two, entries, &mut checkpoint.catch_up),
+            Format::Two => checkpoint.catch_up.extend_from_slice(group),
+        };
     }
 }
 
@@ -114,7 +100,11 @@ impl<D: Disk> KeeperStore<D> {
         let format = self.journal.store_format();
         is_spellable(format, entries)
             && entries.len() * format.record_bytes() <= self.journal.room() as usize
-            && self.catches_up(entries.len())
+            && match &self.checkpoint {
+                None => true,
+                Some(checkpoint) => (self.place - checkpoint.place) as usize + entries.len()
+                    <= Format::Two.group_records(),
+            }
     }
 
     /// Whether a checkpoint can be begun: none is under way, and an entry came since the image, or the slot
@@ -127,18 +117,6 @@ impl<D: Disk> KeeperStore<D> {
             Format::Two => self.journal.used() > 0,
         };
         self.checkpoint.is_none() && is_behind
-    }
-
-    fn catches_up(&self, entries: usize) -> bool
-        requires sound { IsStore self.now }
-        requires few { entries ≤ most_batch_entries }
-        ensures { result ≡ catches_up self.now.place entries (store_of self.now).checkpoint }
-    {
-        match &self.checkpoint {
-            None => true,
-            Some(checkpoint) => (self.place - checkpoint.place) as usize + entries
-                <= Format::Two.group_records(),
-        }
     }
 
     /// Whether a whole checkpoint has to be made for a batch: the batch does not fit, and would not once the checkpoint
@@ -164,13 +142,9 @@ impl<D: Disk> KeeperStore<D> {
     pub(crate) fn append(&mut self, entries: &[Entry]) -> Result<(), JournalFault>
         requires can { CanStore self.old entries.now }
         requires fits { IsTrue (fits (store_of self.old) entries.now) }
-        ensures counts { CountsBatch result self.old self.new (length entries.now) }
-        ensures leads { D.honest self.old.journal.disk → (s : ServerState) → Upholds D.Disk self.old s
-            → AreLegal s entries.now
-            → Leads D.Disk result self.old self.new s (after_all s entries.now) }
+        ensures stored { BatchEnds D.Disk Always result self.old self.new entries.now }
         ensures value { OnOk result (store_of self.new
             ≡ record (appended (store_of self.old) entries.now) { disk = self.new.journal.disk }) }
-        ensures ends { StoreEnds D.Disk result self.old.journal self.new.journal }
         ensures calls { MakesAtMost 0 2 2 (D.calls self.old.journal.disk) (D.calls self.new.journal.disk) }
     {
         let format = self.journal.store_format();
@@ -188,16 +162,11 @@ impl<D: Disk> KeeperStore<D> {
         entries: &[Entry],
         whole: Option<Checkpoint>,
     ) -> Result<(), JournalFault>
-        requires can { CanStore self.old entries.now }
-        requires whole { IsWholeFor self.old entries.now whole }
-        ensures counts { CountsBatch result self.old self.new (length entries.now) }
-        ensures leads { D.honest self.old.journal.disk → (s : ServerState) → Upholds D.Disk self.old s
-            → IfSome whole (λ made. IsImageOf made s) → AreLegal s entries.now
-            → Leads D.Disk result self.old self.new s (after_all s entries.now) }
+        requires can { CanStoreWith self.old entries.now whole }
+        ensures stored { BatchEnds D.Disk (IsImageIfSome whole) result self.old self.new entries.now }
         ensures value { OnOk result (store_of self.new
             ≡ record (appended
             (made_room (store_of self.old) entries.now) entries.now) { disk = self.new.journal.disk }) }
-        ensures ends { StoreEnds D.Disk result self.old.journal self.new.journal }
         ensures calls { MakesToAppend (store_of self.old) entries.now (whole_slices whole)
             (D.calls self.old.journal.disk) (D.calls self.new.journal.disk) }
     {

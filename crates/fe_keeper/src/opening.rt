@@ -14,7 +14,7 @@ ghost use Rattle.fe_keeper.specs.within.Rooms.{AreRooms};
 ghost use Rattle.fe_keeper.specs.declared.fault.Fault.TheVariants.{Device, NoMemory, Unformatted};
 
 use crate::Fault;
-use crate::assembling::{Rooms, keeper_over, keeper_with_room};
+use crate::assembling::{Rooms, keeper_over};
 use crate::keeper::Keeper;
 use crate::recovering::recovered;
 use fe_disk::Disk;
@@ -62,7 +62,10 @@ impl<D: Disk> Keeper<D> {
         );
         match recovered(alloc, format, generation, slot, &image, &mut groups) {
             Err(fault) => Err((fault, journal.into_disk())),
-            Ok(state) => keeper_with_room(alloc, journal, state),
+            Ok(state) => match Rooms::new(alloc) {
+                Err(_) => Err((Fault::NoMemory, journal.into_disk())),
+                Ok(rooms) => Ok(keeper_over(alloc, rooms, journal, state)),
+            },
         }
     }
 

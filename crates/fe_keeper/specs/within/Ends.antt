@@ -1,9 +1,10 @@
 -- How a call of a store, the bytes side of a keeper, ends, and what it keeps (`docs/model.md`, "The keeper").
-use Rattle.std.specs.Prelude.{◌≡◌, ◌↔◌, ℕ, ◌+◌, Bool, true, false, IsTrue, List, Result, MatchResult, OnOk}
+use Rattle.std.specs.Prelude.{◌≡◌, ◌↔◌, ℕ, ◌+◌, Bool, true, false, IsTrue, List, length, Result, MatchResult, OnOk}
 use Rattle.fe_disk.specs.Disk.{Rises, MakesAtMost}
 use Rattle.fe_disk.specs.Runs.{LeavesOnly}
 use Rattle.fe_disk.specs.declared.calls.Calls.{Calls}
-use Rattle.fe_state.specs.State.{ServerState}
+use Rattle.fe_state.specs.State.{ServerState, after_all}
+use Rattle.fe_state.specs.History.{AreLegal}
 use Rattle.fe_state.specs.declared.entry.Entry.{Entry}
 use Rattle.fe_journal.specs.Contents.{Contents, Holds}
 use Rattle.fe_journal.specs.Journal.{JournalState}
@@ -62,6 +63,24 @@ pub record Carries {T D : Type 0} (model : Ghosts D) (result : Result T JournalF
 pub record Leads {T D : Type 0} (model : Ghosts D) (result : Result T JournalFault) (old new : KeeperStore D) (s t : ServerState) : Type 0 where
   pub any_moment : LeavesOnly model old.journal.disk new.journal.disk (StandsForEither s t)
   pub upheld : OnOk result (Upholds model new t)
+
+-- nothing more is needed of a state
+abbrev pub Always : ServerState → Type 0
+Always s = Unit {0}
+
+-- How a step of a checkpoint ends: only the device fails, no entry comes, and a state that the store upheld is carried
+-- on, if it is as the step needs it.
+pub record StepEnds {T D : Type 0} (model : Ghosts D) (Needs : ServerState → Type 0) (result : Result T JournalFault) (old new : KeeperStore D) : Type 0 where
+  pub stays : StaysSound old new
+  pub ends : StoreEnds model result old.journal new.journal
+  pub carries : model.honest old.journal.disk → (s : ServerState) → Upholds model old s → Needs s → Carries model result old new s
+
+-- How storing a batch ends: only the device fails, the store counts the entries exactly if they are stored, and a state
+-- that the store upheld leads to the state after them, if it is as the call needs it and the entries are legal there.
+pub record BatchEnds {T D : Type 0} (model : Ghosts D) (Needs : ServerState → Type 0) (result : Result T JournalFault) (old new : KeeperStore D) (entries : List Entry) : Type 0 where
+  pub counts : CountsBatch result old new (length entries)
+  pub ends : StoreEnds model result old.journal new.journal
+  pub leads : model.honest old.journal.disk → (s : ServerState) → Upholds model old s → Needs s → AreLegal s entries → Leads model result old new s (after_all s entries)
 
 -- Each image that a stop leaves holds the contents, and if the call succeeds, the journal keeps them and the checkpoint's draft.
 pub record CarriesDraft {T D : Type 0} (model : Ghosts D) (result : Result T JournalFault) (old new : JournalState D) (contents : Contents) (c : Checkpoint) (s : ServerState) : Type 0 where

@@ -1,6 +1,6 @@
 -- A checkpoint, an image to be written into the other slot, that has all its memory and is not begun.
 -- See `docs/model.md`, "The keeper".
-use Rattle.std.specs.Prelude.{◌≡◌, ℕ, ◌≤◌, [], Option, vec_len, vec_capacity}
+use Rattle.std.specs.Prelude.{◌≡◌, ℕ, ◌≤◌, [], Option, IfSome, vec_len, vec_capacity}
 use Rattle.std.specs.Option.{option_map_or}
 use Rattle.fe_state.specs.State.{ServerState}
 use Rattle.fe_codec.specs.Image.{image_spelling, FitsImage}
@@ -22,6 +22,10 @@ pub record IsImageOf (c : Checkpoint) (s : ServerState) : Type 0 where
   pub fits : FitsImage Two s
   pub image_is : c.image.items ≡ image_spelling Two s
   pub place_is : c.place ≡ s.place
+
+-- the checkpoint's image, if there is one, is that of the state
+abbrev pub IsImageIfSome : Option Checkpoint → ServerState → Type 0
+IsImageIfSome whole s = IfSome whole (λ made. IsImageOf made s)
 
 -- how many slices the image of a checkpoint takes, if there is one
 abbrev pub whole_slices : Option Checkpoint → ℕ

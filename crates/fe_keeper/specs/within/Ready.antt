@@ -45,3 +45,8 @@ pub record CanStore {D : Type 0} (store : KeeperStore D) (entries : List Entry) 
 pub record IsWholeFor {D : Type 0} (store : KeeperStore D) (entries : List Entry) (whole : Option Checkpoint) : Type 0 where
   pub must : is_some whole ≡ must_begin (store_of store) entries
   pub fresh : IfSome whole (λ made. IsFresh made store.place)
+
+-- The entries are a batch for the store, with a whole checkpoint exactly if the batch needs one.
+pub record CanStoreWith {D : Type 0} (store : KeeperStore D) (entries : List Entry) (whole : Option Checkpoint) : Type 0 where
+  pub batch : CanStore store entries
+  pub made : IsWholeFor store entries whole

@@ -14,8 +14,8 @@ use Rattle.fe_keeper.proofs.Ends.{append_fails, take_fails, device_fails, memory
 use Rattle.fe_keeper.proofs.Taking.{each_stands, same_kept, none_put, calls_there}
 use Rattle.fe_keeper.proofs.keeper.Keeper.append.Goals as goal
 
-pub put-requires-clause-can : goal.put-requires-clause-can
-put-requires-clause-can g c =
+pub put-requires : goal.put-requires
+put-requires g c =
     let before = c.self.inside.state in
     let entries = c.as_slice-entries.result.now in
     let continues = c.in_default.ensures.continues in
@@ -23,12 +23,17 @@ put-requires-clause-can g c =
     let stored : c.whole_before.new.state ≡ after_all before entries = c.in-Ok.ensures.taken.state_is ∙ ap (λ (s : ServerState). after_all s entries) c.in_default.ensures.beginning in
     let there : c.whole_before.new.state.place ≡ _ = ap (λ (s : ServerState). s.place) stored in
     record {
-      sound = c.self.invariant.store;
-      works = sym c.has_failed.ensures ∙ c.if-has_failed.false;
-      some = continues.some;
-      few = c.as_slice-entries.ensures.most;
-      each = legal_can_be_put before entries c.limits.ensures continues.legal;
-      place = omega (arith, now, there, c.self.invariant.place, c.limits-2.ensures.place);
+      can = record {
+        batch = record {
+          sound = c.self.invariant.store;
+          works = sym c.has_failed.ensures ∙ c.if-has_failed.false;
+          some = continues.some;
+          few = c.as_slice-entries.ensures.most;
+          each = legal_can_be_put before entries c.limits.ensures continues.legal;
+          place = omega (arith, now, there, c.self.invariant.place, c.limits-2.ensures.place);
+        };
+        made = c.in-Ok.ensures.made.made;
+      };
     }
 
 pub returns-in-Err-clause-ends : goal.returns-in-Err-clause-ends
@@ -62,7 +67,7 @@ returns-in-Err-put-clause-ends g c =
     let batch = c.args.batch in
     let entries = c.as_slice-entries.result.now in
     let fault = c.in-Err-put.fault in
-    let failed = c.in-Err-put.ensures.ends.outcome in
+    let failed = c.in-Err-put.ensures.stored.ends.outcome in
     let works : old.store.journal.has_failed ≡ false = sym c.has_failed.ensures ∙ c.if-has_failed.false in
     let breaks : Breaks g.D.Disk (kept_of old) (kept_of new) = record { before = works; failed = failed.1.failed; rises = failed.1.rises } in
     append_fails g.D.Disk (kept_of old) c.args.self.now (kept_of new) batch batch c.from-in-Err-put.result (fault_of_journal fault) entries c.from-in-Err-put.ensures c.self.view_is c.as_slice-entries.ensures.entries
@@ -90,14 +95,14 @@ invariant_of-self-in-Ok-put g c =
     let there : c.whole_before.new.state.place ≡ _ = ap (λ (s : ServerState). s.place) stored in
     let now = place_after old.state entries in
     record {
-      store = c.in-Ok-put.ensures.counts.sound;
-      place = omega (arith, now, there, c.self.invariant.place, c.in-Ok-put.ensures.counts.place);
+      store = c.in-Ok-put.ensures.stored.counts.sound;
+      place = omega (arith, now, there, c.self.invariant.place, c.in-Ok-put.ensures.stored.counts.place);
       log = search rules;
       room = search rules;
       upheld = λ honest still.
-          let before = c.put.ensures.ends.honesty.0 honest in
+          let before = c.put.ensures.stored.ends.honesty.0 honest in
           subst (λ (s : ServerState). Upholds g.D.Disk c.put.new.self s) (sym stored)
-          (c.in-Ok-put.ensures.leads before old.state (c.self.invariant.upheld before works) image c.in_default.ensures.continues.legal).upheld;
+          (c.in-Ok-put.ensures.stored.leads before old.state (c.self.invariant.upheld before works) image c.in_default.ensures.continues.legal).upheld;
     }
 
 pub returns-in-Ok-put-clause-durable : goal.returns-in-Ok-put-clause-durable
@@ -107,10 +112,10 @@ returns-in-Ok-put-clause-durable g c = λ honest still.
     let works : old.store.journal.has_failed ≡ false = sym c.has_failed.ensures ∙ c.if-has_failed.false in
     let image : IfSome c.in-Ok.whole (λ made. IsImageOf made old.state) = subst (λ (s : ServerState). IfSome c.in-Ok.whole (λ made. IsImageOf made s)) c.in_default.ensures.beginning c.in-Ok.ensures.made.image in
     let stored : c.whole_before.new.state ≡ after_all old.state entries = c.in-Ok.ensures.taken.state_is ∙ ap (λ (s : ServerState). after_all s entries) c.in_default.ensures.beginning in
-    let before = c.put.ensures.ends.honesty.0 honest in
+    let before = c.put.ensures.stored.ends.honesty.0 honest in
     subst (λ (s : ServerState). EachStandsFor g.D.Disk c.put.new.self.journal.disk s) (sym stored)
     (each_stands g.D.Disk c.put.new.self (after_all old.state entries)
-    (c.in-Ok-put.ensures.leads before old.state (c.self.invariant.upheld before works) image c.in_default.ensures.continues.legal).upheld)
+    (c.in-Ok-put.ensures.stored.leads before old.state (c.self.invariant.upheld before works) image c.in_default.ensures.continues.legal).upheld)
 
 pub returns-in-Ok-put-clause-calls : goal.returns-in-Ok-put-clause-calls
 returns-in-Ok-put-clause-calls g c =

@@ -12,7 +12,7 @@ returns-in_err-begin-clause-ends g c =
     let old = c.args.self.now in
     let cause : IsTrue (can_begin old.store) = search rules in
     device_told g.D.Disk (ForDeviceAndMemory (IsTrue (can_begin old.store))) c.from_residual-in_err-begin.result c.in_err-begin.field-0.0 c.self.inside c.begin.new.self old c.self.view_is c.from_residual-in_err-begin.ensures.1
-    (sym c.has_failed.ensures ∙ c.if-has_failed.false) c.in_err-begin.ensures.ends.outcome cause
+    (sym c.has_failed.ensures ∙ c.if-has_failed.false) c.in_err-begin.ensures.step.ends.outcome cause
 
 pub returns-in_err-checkpoint-clause-ends : goal.returns-in_err-checkpoint-clause-ends
 returns-in_err-checkpoint-clause-ends g c =
@@ -29,14 +29,14 @@ returns-in_err-checkpoint-clause-ends g c =
 pub returns-in_err-begin-clause-rests : goal.returns-in_err-begin-clause-rests
 returns-in_err-begin-clause-rests g c =
     carries_rest g.D.Disk c.begin.result c.self.inside c.begin.new.self c.args.self.now c.self.invariant c.self.view_is
-    (λ honest kept. c.begin.ensures.carries honest c.self.inside.state kept c.in_ok-checkpoint.ensures.image) c.begin.ensures.ends.honesty
+    (λ honest kept. c.begin.ensures.step.carries honest c.self.inside.state kept c.in_ok-checkpoint.ensures.image) c.begin.ensures.step.ends.honesty
 
 pub returns-clause-rests : goal.returns-clause-rests
 returns-clause-rests g c =
     carries_rest g.D.Disk c.begin.result c.self.inside c.begin.new.self c.args.self.now c.self.invariant c.self.view_is
-    (λ honest kept. c.begin.ensures.carries honest c.self.inside.state kept c.in_ok-checkpoint.ensures.image) c.begin.ensures.ends.honesty
+    (λ honest kept. c.begin.ensures.step.carries honest c.self.inside.state kept c.in_ok-checkpoint.ensures.image) c.begin.ensures.step.ends.honesty
 
 pub returns-clause-durable : goal.returns-clause-durable
 returns-clause-durable g c =
-    carries_durable g.D.Disk c.self.inside c.begin.new.self c.self.invariant (sym c.has_failed.ensures ∙ c.if-has_failed.false) c.begin.ensures.ends.honesty
-    (λ honest kept. (c.in_ok-begin.ensures.carries honest c.self.inside.state kept c.in_ok-checkpoint.ensures.image).upheld)
+    carries_durable g.D.Disk c.self.inside c.begin.new.self c.self.invariant (sym c.has_failed.ensures ∙ c.if-has_failed.false) c.begin.ensures.step.ends.honesty
+    (λ honest kept. (c.in_ok-begin.ensures.step.carries honest c.self.inside.state kept c.in_ok-checkpoint.ensures.image).upheld)

@@ -12,7 +12,7 @@ pub returns-in_err-more-clause-ends : goal.returns-in_err-more-clause-ends
 returns-in_err-more-clause-ends g c =
     let old = c.args.self.now in
     let inside = c.self.inside in
-    let failed = c.in_err-more.ensures.ends.outcome in
+    let failed = c.in_err-more.ensures.step.ends.outcome in
     let works : inside.store.journal.has_failed ≡ false = sym c.has_failed.ensures ∙ c.if-has_failed.false in
     let must : IsTrue (has_slices (kept_of inside).store.checkpoint) =
     must_be (has_slices (kept_of inside).store.checkpoint)
@@ -23,14 +23,14 @@ returns-in_err-more-clause-ends g c =
 pub returns-in_err-more-clause-rests : goal.returns-in_err-more-clause-rests
 returns-in_err-more-clause-rests g c =
     carries_rest g.D.Disk c.step.result c.self.inside c.step.new.self c.args.self.now c.self.invariant c.self.view_is
-    (λ honest kept. c.step.ensures.carries honest c.self.inside.state kept) c.step.ensures.ends.honesty
+    (λ honest kept. c.step.ensures.step.carries honest c.self.inside.state kept tt) c.step.ensures.step.ends.honesty
 
 pub returns-clause-rests : goal.returns-clause-rests
 returns-clause-rests g c =
     carries_rest g.D.Disk c.step.result c.self.inside c.step.new.self c.args.self.now c.self.invariant c.self.view_is
-    (λ honest kept. c.step.ensures.carries honest c.self.inside.state kept) c.step.ensures.ends.honesty
+    (λ honest kept. c.step.ensures.step.carries honest c.self.inside.state kept tt) c.step.ensures.step.ends.honesty
 
 pub returns-clause-durable : goal.returns-clause-durable
 returns-clause-durable g c =
-    carries_durable g.D.Disk c.self.inside c.step.new.self c.self.invariant (sym c.has_failed.ensures ∙ c.if-has_failed.false) c.step.ensures.ends.honesty
-    (λ honest kept. (c.in_ok-more.ensures.carries honest c.self.inside.state kept).upheld)
+    carries_durable g.D.Disk c.self.inside c.step.new.self c.self.invariant (sym c.has_failed.ensures ∙ c.if-has_failed.false) c.step.ensures.step.ends.honesty
+    (λ honest kept. (c.in_ok-more.ensures.step.carries honest c.self.inside.state kept tt).upheld)

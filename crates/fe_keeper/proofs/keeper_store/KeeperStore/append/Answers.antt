@@ -36,35 +36,38 @@ catch_up-requires-clause-room g c =
     let entries = c.args.entries.now in
     room_to_catch_up old.place (length entries) old.journal old.checkpoint c.requires.can.sound.checkpoint (fits_parts (store_of old) entries c.requires.fits).catches_up
 
-pub returns-in_err-append_group-clause-leads : goal.returns-in_err-append_group-clause-leads
-returns-in_err-append_group-clause-leads g c = λ honest s upheld legal.
+pub returns-in_err-append_group-clause-stored : goal.returns-in_err-append_group-clause-stored
+returns-in_err-append_group-clause-stored g c = record {
+  counts = search rules;
+  ends = search rules;
+  leads = λ honest s upheld always legal.
+      let old = c.args.self.now in
+      let entries = c.args.entries.now in
+      let is = batch_group c.store_format-format.result old.journal.format entries c.deref.result.now c.spell.new.group.items c.deref.ensures.value c.spell.ensures.spelled c.spell.ensures.fits c.store_format-format.ensures c.requires.can.some c.requires.can.few in
+      record {
+        any_moment = append_leaves g.D.Disk old c.append_group.new.self.disk s entries c.deref.result.now upheld is legal (c.append_group.ensures.any_moment honest);
+        upheld = search rules;
+      };
+}
+
+pub returns-clause-stored : goal.returns-clause-stored
+returns-clause-stored g c =
     let old = c.args.self.now in
     let entries = c.args.entries.now in
-    let is = batch_group c.store_format-format.result old.journal.format entries c.deref.result.now c.spell.new.group.items c.deref.ensures.value c.spell.ensures.spelled c.spell.ensures.fits c.store_format-format.ensures c.requires.can.some c.requires.can.few in
-    record {
-      any_moment = append_leaves g.D.Disk old c.append_group.new.self.disk s entries c.deref.result.now upheld is legal (c.append_group.ensures.any_moment honest);
-      upheld = search rules;
-    }
-
-pub returns-clause-counts : goal.returns-clause-counts
-returns-clause-counts g c =
-    let old = c.args.self.now in
     let new : KeeperStore g.row.D.Denot = record { journal = c.append_group.new.self; group = c.spell.new.group; place = old.place + length c.args.entries.now; checkpoint = c.catch_up.new.checkpoint } in
     record {
-      sound =
-          sound_then old new c.args.entries.now c.append_group.new.self.disk (old.journal.used + (5 + length c.deref.result.now)) c.requires.can.sound c.requires.fits c.in_ok-append_group.ensures.value c.requires.can.some refl c.requires.can.place c.spell.ensures.room c.catch_up.ensures;
-      place = refl;
-    }
-
-pub returns-clause-leads : goal.returns-clause-leads
-returns-clause-leads g c = λ honest s upheld legal.
-    let old = c.args.self.now in
-    let entries = c.args.entries.now in
-    let new : KeeperStore g.row.D.Denot = record { journal = c.append_group.new.self; group = c.spell.new.group; place = old.place + length entries; checkpoint = c.catch_up.new.checkpoint } in
-    let is = batch_group c.store_format-format.result old.journal.format entries c.deref.result.now c.spell.new.group.items c.deref.ensures.value c.spell.ensures.spelled c.spell.ensures.fits c.store_format-format.ensures c.requires.can.some c.requires.can.few in
-    record {
-      any_moment = append_leaves g.D.Disk old c.append_group.new.self.disk s entries c.deref.result.now upheld is legal (c.append_group.ensures.any_moment honest);
-      upheld = append_upholds g.D.Disk old new s entries c.deref.result.now upheld is legal (c.in_ok-append_group.ensures.appended honest) c.catch_up.ensures;
+      counts = record {
+        sound =
+            sound_then old new c.args.entries.now c.append_group.new.self.disk (old.journal.used + (5 + length c.deref.result.now)) c.requires.can.sound c.requires.fits c.in_ok-append_group.ensures.value c.requires.can.some refl c.requires.can.place c.spell.ensures.room c.catch_up.ensures;
+        place = refl;
+      };
+      ends = search rules;
+      leads = λ honest s upheld always legal.
+          let is = batch_group c.store_format-format.result old.journal.format entries c.deref.result.now c.spell.new.group.items c.deref.ensures.value c.spell.ensures.spelled c.spell.ensures.fits c.store_format-format.ensures c.requires.can.some c.requires.can.few in
+          record {
+            any_moment = append_leaves g.D.Disk old c.append_group.new.self.disk s entries c.deref.result.now upheld is legal (c.append_group.ensures.any_moment honest);
+            upheld = append_upholds g.D.Disk old new s entries c.deref.result.now upheld is legal (c.in_ok-append_group.ensures.appended honest) c.catch_up.ensures;
+          };
     }
 
 pub returns-clause-value : goal.returns-clause-value

@@ -1,17 +1,12 @@
-use Rattle.std.proofs.Common.{rules}
-use Rattle.fe_keeper.proofs.Ends.{then_carries, then_ends}
+use Rattle.fe_keeper.specs.within.Ends.{Always}
+use Rattle.fe_keeper.specs.within.Fresh.{IsImageOf}
+use Rattle.fe_keeper.proofs.Ends.{passed_step, then_step}
 use Rattle.fe_keeper.proofs.keeper_store.KeeperStore.renew.Goals as goal
 
-pub returns-in_err-begin-clause-carries : goal.returns-in_err-begin-clause-carries
-returns-in_err-begin-clause-carries g c = λ honest s upholds image. record { any_moment = (c.begin.ensures.carries honest s upholds image).any_moment; upheld = search rules }
+pub returns-in_err-begin-clause-step : goal.returns-in_err-begin-clause-step
+returns-in_err-begin-clause-step g c =
+    passed_step g.D.Disk (IsImageOf c.args.whole) (IsImageOf c.args.whole) c.from_residual.result c.in_err-begin.field-0.0 c.args.self.now c.begin.new.self c.from_residual.ensures.1 (λ s needs. needs) c.in_err-begin.ensures.step
 
-pub returns-clause-carries : goal.returns-clause-carries
-returns-clause-carries g c = λ honest s upholds image.
-    let begun = c.in_ok-begin.ensures.carries honest s upholds image in
-    then_carries g.D.Disk c.finish.result c.args.self.now c.begin.new.self c.finish.new.self s begun.any_moment
-    (c.finish.ensures.carries (c.begin.ensures.ends.honesty.1 honest) s begun.upheld)
-
-pub returns-clause-ends : goal.returns-clause-ends
-returns-clause-ends g c =
-    let first = c.in_ok-begin.ensures.ends in
-    then_ends g.D.Disk c.finish.result c.args.self.now.journal c.begin.new.self.journal c.finish.new.self.journal first.outcome first.honesty c.finish.ensures.ends
+pub returns-clause-step : goal.returns-clause-step
+returns-clause-step g c =
+    then_step g.D.Disk (IsImageOf c.args.whole) Always (IsImageOf c.args.whole) _ c.finish.result c.args.self.now c.begin.new.self c.finish.new.self (λ s needs. needs) (λ s needs. tt) c.in_ok-begin.ensures.step c.finish.ensures.step
