@@ -6,9 +6,9 @@ ghost use Rattle.fe_front.specs.ConnectionSet.{may_have};
 ghost use Rattle.fe_front.specs.Noting.{HasItsBox};
 ghost use Rattle.fe_desk.specs.declared.handed.Handed.TheVariants.{Cut};
 ghost use Rattle.fe_desk.specs.Storing as way;
-ghost use Rattle.fe_desk.specs.Storing.{stored, posted, cleared, made, committed, begun_room, roomy};
+ghost use Rattle.fe_desk.specs.Storing.{stored, posted, cleared, begun_room, roomy};
 ghost use Rattle.fe_desk.specs.Crash.{with_handed};
-ghost use Rattle.fe_desk.specs.Stopping.{MayBegin, StopsMaking};
+ghost use Rattle.fe_desk.specs.Stopping.{StopsMaking};
 ghost use Rattle.fe_desk.specs.within.Desk.{desk_of, run_state_of, IsDesk, IsReady};
 ghost use Rattle.fe_desk.specs.within.Goes.{Goes, GoesTo, Is, IsUnstored, WasBegun};
 ghost use Rattle.fe_desk.specs.within.Keeping.{Stays};
@@ -123,7 +123,13 @@ impl<D: Disk> DeskInner<D> {
         if self.front.room() {
             return Ok(());
         }
-        self.commit(conn)
+        // What is out is stored and posted, and then what is pending.
+        self.clear()?;
+        self.cut();
+        self.making = Some(conn);
+        self.clear()?;
+        self.making = None;
+        Ok(())
     }
 
     /// Goes on with the room that was begun for a message of this connection, if it was.
@@ -136,21 +142,6 @@ impl<D: Disk> DeskInner<D> {
             self.clear()?;
             self.making = None;
         }
-        Ok(())
-    }
-
-    /// Stores and posts what is out, and then what is pending. If memory is short after the cut, room is begun for
-    /// this connection.
-    fn commit(&mut self, conn: u64) -> Result<(), Fault>
-        requires { IsReady D.Disk (desk_of self.old) }
-        ensures { GoesTo D.Disk (made (committed (cleared (run_state_of self.old))))
-            (MayBegin (run_state_of self.old) conn) result (desk_of self.old) (desk_of self.new) }
-    {
-        self.clear()?;
-        self.cut();
-        self.making = Some(conn);
-        self.clear()?;
-        self.making = None;
         Ok(())
     }
 }
