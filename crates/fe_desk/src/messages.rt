@@ -1,14 +1,12 @@
 //! The bytes that a desk reads from a connection, and the messages in them.
 
-ghost use Rattle.std.specs.Prelude.{◌≡◌, ◌<◌, ◌∷◌, length, IsTrue};
-ghost use Rattle.fe_front.specs.Front.{has_room};
+ghost use Rattle.std.specs.Prelude.{◌≡◌, ◌<◌, ◌∷◌, length};
 ghost use Rattle.fe_desk.specs.Steps.{with_left};
 ghost use Rattle.fe_desk.specs.within.Places.{IsFirstAt};
-ghost use Rattle.fe_desk.specs.Messages.{left_of, outputs, desk_fault_of, TakesNext, EndsWith};
+ghost use Rattle.fe_desk.specs.Messages.{left_of, outputs, desk_fault_of, EndsWith};
 ghost use Rattle.fe_desk.specs.Stopping.{StopsBefore};
 ghost use Rattle.fe_desk.specs.within.Desk.{client_of, desk_of, run_state_of, IsReady};
 ghost use Rattle.fe_desk.specs.within.Goes.{Goes, GoesPiece, LeavesSome, LeavesStream, StopsStream, TakesLeft, TakesStream};
-ghost use Rattle.fe_desk.specs.within.Keeping.{Stays};
 
 use crate::connections::place_of;
 use crate::desk_inner::DeskInner;
@@ -65,21 +63,10 @@ impl<D: Disk> DeskInner<D> {
     {
         while self.trace.ports[at].has_left() {
             self.make_room(conn)?;
-            self.take_next(at, conn);
+            let message = first_left(&mut self.trace.ports[at]);
+            take_message(self.alloc, &mut self.front, conn, message);
         }
         Ok(())
-    }
-
-    /// Takes the first message of a connection that is left, where there is room.
-    fn take_next(&mut self, at: usize, conn: u64)
-        requires room { IsTrue (has_room self.old.front) }
-        requires place { IsFirstAt (run_state_of self.old).clients conn at }
-        requires some { 0 < length (left_of (run_state_of self.old) conn) }
-        ensures next { TakesNext (run_state_of self.old) conn (run_state_of self.new) }
-        ensures stays { Stays D.Disk (desk_of self.old) (desk_of self.new) }
-    {
-        let message = first_left(&mut self.trace.ports[at]);
-        take_message(self.alloc, &mut self.front, conn, message);
     }
 }
 
