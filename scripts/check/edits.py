@@ -123,8 +123,8 @@ def has_clause(text, function, name, part):
 
 def has_invariant(text, kind, field):
     """Whether a source has a type with that ghost field."""
-    found = re.finditer(rf"^(?:pub )?struct {kind}\b.*?^}}|^impl[^\n]*\bModel for {kind}\b.*?^}}", text, re.M | re.S)
-    return any(re.search(rf"ghost \w+ = .*\b{field}\b", it[0]) for it in found)
+    found = re.finditer(rf"^(?:pub(?:\([a-z]+\))? )?struct {kind}\b.*?^}}|^impl[^\n]*\bModel for {kind}\b.*?^}}", text, re.M | re.S)
+    return any(re.search(rf"ghost \w+(?: =|:) .*\b{field}\b", it[0]) for it in found)
 
 
 def edits():

@@ -1,7 +1,9 @@
 -- How serving a store ends.
-use Rattle.std.proofs.Common.{◌≡◌, ◌⊎◌, ℕ, ◌<◌, Bool, true, false, refl, List, [], ◌∷◌, Some, None, Result, Ok, Err, sym, ◌∙◌}
+use Rattle.std.proofs.Common.{◌≡◌, ◌⊎◌, inl, inr, ℕ, ◌<◌, Bool, true, false, refl, List, [], ◌∷◌, Some, None, Result, Ok, Err, sym, ◌∙◌}
 use Rattle.std.proofs.lemmas.Bool.{lt-ltb}
-use Rattle.std.specs.Prelude.{IfOk, IsTrue, nat_lt}
+use Rattle.std.specs.Prelude.{All, IfOk, IsTrue, nat_lt}
+use Rattle.fe_mail.specs.Books.{AddUp}
+use Rattle.fe_history.specs.Receipts.{IsBorneOut}
 use Rattle.fe_keeper.specs.Keeper.{KeeperState}
 use Rattle.fe_keeper.specs.Stands.{EachStandsFor}
 use Rattle.fe_hall.proofs.Committed.{kept_noted, rests_itself, still_itself}
@@ -11,7 +13,7 @@ use Rattle.fe_hall.specs.declared.commit_end.CommitEnd.TheVariants.{Stopped, Sto
 use Rattle.fe_server.specs.declared.served.Served.{Served}
 use Rattle.fe_server.specs.declared.stop_fault.StopFault.{StopFault}
 use Rattle.fe_server.specs.declared.stop_fault.StopFault.TheVariants as fault
-use Rattle.fe_server.specs.FinishedConnections.{lacks}
+use Rattle.fe_server.specs.FinishedConnections.{IsSettled, lacks}
 use Rattle.fe_server.specs.Serving.{HasCommittedAndNoted, IsAnswerAt, fault_of_end}
 use Rattle.fe_disk.specs.declared.disk.Disk.{Ghosts}
 
@@ -38,6 +40,11 @@ unclosed_answers (Store fault) given none why = absurd (cc none)
 unclosed_answers Strange given none why = absurd (cc none)
 unclosed_answers Spent given none why = absurd (cc none)
 
+-- whichever it was, whether something lacked is left out
+pub unclosed_fault : (given : StopFault) (short : Bool) → ((given ≡ fault.Memory) × (short ≡ true)) ⊎ ((given ≡ fault.Strange) × (short ≡ false)) → (given ≡ fault.Memory) ⊎ (given ≡ fault.Strange)
+unclosed_fault given short (inl memory) = inl memory.0
+unclosed_fault given short (inr strange) = inr strange.0
+
 -- a fault of the end is the answer
 pub fault_answers : (end : CommitEnd) (given : StopFault) → fault_of_end end ≡ Some given → IsAnswerAt end (Some given)
 fault_answers Stopped given is = absurd (cc is)
@@ -45,11 +52,25 @@ fault_answers (Store why) given is = sym is
 fault_answers Strange given is = sym is
 fault_answers Spent given is = sym is
 
+-- an audit that is settled is settled in each part
+pub settled_books : {D E : Type 0} (answer : Result (Served D) E) (keeps : Bool) → IfOk answer (λ (s : Served D). IsSettled keeps s.keeper.state s.audit) → IfOk answer (λ (s : Served D). AddUp s.audit.books)
+settled_books (Err e) keeps all = tt
+settled_books (Ok s) keeps all = all.add_up
+
+pub settled_unspent : {D E : Type 0} (answer : Result (Served D) E) (keeps : Bool) → IfOk answer (λ (s : Served D). IsSettled keeps s.keeper.state s.audit) → IfOk answer (λ (s : Served D). s.audit.books.spent ≡ false)
+settled_unspent (Err e) keeps all = tt
+settled_unspent (Ok s) keeps all = all.unspent
+
+pub settled_receipts : {D E : Type 0} (answer : Result (Served D) E) (keeps : Bool) → IfOk answer (λ (s : Served D). IsSettled keeps s.keeper.state s.audit)
+    → IfOk answer (λ (s : Served D). All (IsBorneOut s.keeper.state s.audit.sent) s.audit.receipts)
+settled_receipts (Err e) keeps all = tt
+settled_receipts (Ok s) keeps all = all.borne_out
+
 -- where the number of connections is bounded, receipts are kept, and are whole
-pub all_whole : {D E : Type 0} (answer : Result (Served D) E) (keeps : Bool) (accepts : ℕ) → keeps ≡ nat_lt 0 accepts → IfOk answer (λ (s : Served D). IsTrue keeps → IsTrue s.audit.whole)
+pub settled_whole : {D E : Type 0} (answer : Result (Served D) E) (accepts : ℕ) → IfOk answer (λ (s : Served D). IsSettled (nat_lt 0 accepts) s.keeper.state s.audit)
     → IfOk answer (λ (s : Served D). 0 < accepts → IsTrue s.audit.whole)
-all_whole (Err e) keeps accepts is all = tt
-all_whole (Ok s) keeps accepts is all = λ some. all (is ∙ lt-ltb 0 accepts some)
+settled_whole (Err e) accepts all = tt
+settled_whole (Ok s) accepts all = λ some. all.whole (lt-ltb 0 accepts some)
 
 -- where nothing lacks and receipts are kept, they are whole
 pub kept_whole : (short keeps whole : Bool) → lacks short keeps whole ≡ false → IsTrue keeps → IsTrue whole

@@ -1,7 +1,9 @@
 -- Whether more connections come, and how many places (a server has a fixed number) are kept for clients that wait for one.
 -- See `docs/model.md`, "The hall".
-use Rattle.std.specs.Prelude.{◌≡◌, ◌⊎◌, ◌-◌, ◌<◌, ◌≤◌, ℕ, true, Option, None, Some}
+use Rattle.std.specs.Prelude.{◌≡◌, ◌⊎◌, ◌-◌, ◌<◌, ◌≤◌, ℕ, true, Option, None, Some, Result, Ok, Err}
+use Rattle.fe_server.specs.declared.register.Admission.{Admission}
 use Rattle.fe_server.specs.declared.register.Expected.{Expected}
+use Rattle.fe_server.specs.declared.register.Full.{Full}
 use Rattle.fe_server.specs.declared.register.NoMore.{NoMore}
 
 -- No connection comes any more: the server has ended, or as many came as `accepts` allows; 0 sets no bound.
@@ -18,3 +20,8 @@ awaited_after (Some expected) awaited = awaited - 1
 abbrev pub kept_from : Option Expected → ℕ → ℕ
 kept_from None awaited = awaited
 kept_from (Some expected) awaited = 0
+
+-- A connection was admitted, or refused, under these bounds: at most `most` are there at once, and at most `accepts` come in all.
+abbrev pub IsBoundBy : ℕ → ℕ → Result Admission Full → Type 0
+IsBoundBy most accepts (Ok admission) = (admission.most ≡ most) × (admission.accepts ≡ accepts)
+IsBoundBy most accepts (Err full) = (full.most ≡ most) × (full.accepts ≡ accepts)

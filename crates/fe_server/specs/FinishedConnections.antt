@@ -1,7 +1,9 @@
 -- What the connections leave that ended: seats (what each side counted), lists of messages, and receipts of answers.
 -- See `docs/model.md`, "The hall".
-use Rattle.std.specs.Prelude.{◌≡◌, ℕ, Bool, false, ◌&&◌, ◌||◌, not, ◌==◌, filter, List, [], ◌∷◌, ◌++◌, Option, Some, None}
+use Rattle.std.specs.Prelude.{◌≡◌, ℕ, Bool, false, ◌&&◌, ◌||◌, not, ◌==◌, filter, List, [], ◌∷◌, ◌++◌, Option, Some, None, All, IsTrue}
+use Rattle.fe_state.specs.State.{ServerState}
 use Rattle.fe_mail.specs.Books.{AddUp}
+use Rattle.fe_history.specs.Receipts.{IsBorneOut}
 use Rattle.fe_hall.specs.Audits.{Audited}
 use Rattle.fe_shared.specs.Seats.{Seats, both_seats, one_seat}
 use Rattle.fe_server.specs.declared.socket_handle.SocketHandle.{SocketHandle}
@@ -23,7 +25,10 @@ without conn handles = filter (λ handle. not (handle.conn == conn)) handles
 abbrev pub lacks : Bool → Bool → Bool → Bool
 lacks short keeps whole = short || (keeps && not whole)
 
--- the books of an audit add up, and are not spent
-pub record IsClean (audit : Audited) : Type 0 where
+-- The audit of a server that stored this state: its books add up and are not spent, and neither the state nor what was sent
+-- contradicts a receipt. If receipts were to be kept, they are those of each write side.
+pub record IsSettled (keeps : Bool) (state : ServerState) (audit : Audited) : Type 0 where
   pub add_up : AddUp audit.books
   pub unspent : audit.books.spent ≡ false
+  pub borne_out : All (IsBorneOut state audit.sent) audit.receipts
+  pub whole : IsTrue keeps → IsTrue audit.whole

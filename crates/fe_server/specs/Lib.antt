@@ -6,3 +6,4 @@ pub mod Opened
 pub mod Serving
 pub mod Sides
 pub mod Streams
+pub mod within

@@ -121,7 +121,12 @@ impl<
         let (rt, server) = (self.rt, self.server);
         match server.enter(rt) {
             Ok(admission) => {
-                match server.connect(rt, self.right, Connection::of(accepted, admission)) {
+                match Arrival::of(
+                    rt,
+                    &server.hall,
+                    self.right,
+                    Connection::of(accepted, admission),
+                ) {
                     Ok(arrival) => self.start(scope, arrival),
                     Err(unserved) => server.refuse(rt, unserved),
                 }
@@ -215,7 +220,7 @@ fn serve_late<
         Ok(admission) => admission,
         Err(full) => return ArrivalEnded::away(accepted, full),
     };
-    let arrival = match server.connect(rt, right, Connection::of(accepted, admission)) {
+    let arrival = match Arrival::of(rt, &server.hall, right, Connection::of(accepted, admission)) {
         Ok(arrival) => arrival,
         Err(unserved) => return ArrivalEnded::unserved(rt, server, unserved),
     };

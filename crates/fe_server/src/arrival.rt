@@ -2,7 +2,7 @@
 
 ghost use Rattle.std.specs.Prelude.{◌≡◌, IfOk};
 
-use crate::connection::{Accepted, Connection, Unshared};
+use crate::connection::{Accepted, Connection, ConnectionSeats, Unshared};
 use crate::reads::{ReadLimit, Unstarted};
 use crate::register::{Admission, Full, NoArrival};
 use crate::running_server::RunningServer;
@@ -111,7 +111,7 @@ impl<C: Tally, M: Tally> Arrival<C, M> {
     ) -> Result<Arrival<C, M>, Unserved>
         ensures connection { IfOk result (λ arrival. arrival.connection ≡ connection) }
     {
-        match hall.connect(rt, right, connection.admission.conn()) {
+        match hall.connect(rt, right, connection.admission.conn) {
             Ok(seats) => Ok(Arrival { connection, seats }),
             Err(why) => Err(Unserved { connection, why }),
         }
@@ -130,7 +130,8 @@ impl<C: Tally + Send + Sync, M: Tally + Send + Sync> Arrival<C, M> {
     ) -> ArrivalEnded {
         let Arrival { connection, seats } = self;
         let (calls, mails) = seats.begin();
-        let outcome = connection.serve(rt, alloc, server, gate, calls, mails, reads);
+        let seats = ConnectionSeats { calls, mails };
+        let outcome = connection.serve(rt, alloc, server, gate, seats, reads);
         server.leave(rt, connection, outcome);
         ArrivalEnded(())
     }

@@ -10,11 +10,9 @@ ghost use Rattle.fe_mail.specs.declared.mail.Mail.{Mail as TakenMail};
 ghost use Rattle.fe_streams.specs.Incoming.{bytes_read};
 ghost use Rattle.fe_hall.specs.Reads.{HandlesStream};
 ghost use Rattle.fe_hall.specs.Writes.{AreTaken, IsWritten};
-ghost use Rattle.fe_server.specs.FinishedConnections.{joined_to};
 ghost use Rattle.fe_server.specs.Sides.{HasHandled, HasWritten, ends_stream, most_reads};
 ghost use Rattle.fe_server.specs.Streams.{known_bytes};
 
-use crate::finished_connections::FinishedConnections;
 use crate::reads::{ReadLimit, Unstarted};
 use crate::register::{Admission, Full};
 use crate::running_server::RunningServer;
@@ -57,15 +55,11 @@ struct StreamEnd<'a, E: HangUp> {
 
 /// Whether a side that ended has ended its stream. Only a `StreamEnd` makes it.
 #[derive(Drop)]
-struct Parted {
+pub(crate) struct Parted {
     is_shut: bool,
 }
 
 impl<'a, E: HangUp> StreamEnd<'a, E> {
-    fn of(stream: &'a E) -> StreamEnd<'a, E> {
-        StreamEnd { stream }
-    }
-
     /// Ends the stream.
     fn hang_up(self) -> Parted
         ensures { result.is_shut ≡ true }
@@ -150,7 +144,7 @@ impl Connection {
         ensures { IfOk result (λ handle. handle.conn ≡ self.now.admission.conn) }
     {
         match Arc::try_clone(&self.socket) {
-            Ok(socket) => Ok(SocketHandle::of(self.admission.conn(), socket)),
+            Ok(socket) => Ok(SocketHandle::of(self.admission.conn, socket)),
             Err(_) => Err(Unshared(())),
         }
     }
@@ -167,17 +161,15 @@ impl Connection {
         alloc: Global,
         server: &RunningServer<C, M>,
         gate: &G,
-        calls: CallSeat<C>,
-        mails: MailSeat<M>,
+        seats: ConnectionSeats<C, M>,
         reads: ReadLimit,
     ) -> ConnectionOutcome<C, M>
-        requires calls { calls.conn ≡ self.now.admission.conn }
-        requires mails { mails.conn ≡ self.now.admission.conn }
-        ensures own { result.mails.conn ≡ self.now.admission.conn }
+        requires seats { seats.calls.conn ≡ self.now.admission.conn }
+        ensures own { result.write.seat.conn ≡ self.now.admission.conn }
     {
         let stream: &UnixStream = &self.socket.stream;
         let (_, _, outcome) = serve_streams(
-            rt, alloc, server, gate, calls, mails, stream, stream, stream, reads,
+            rt, alloc, server, gate, seats, stream, stream, stream, reads,
         );
         outcome
     }
@@ -192,77 +184,41 @@ impl Connection {
     }
 }
 
-/// What the two sides of a connection did. Only serving a connection makes one, and only `add_to` uses it up: it is not
-/// `Drop`, so the seats, the list and the receipts of each connection that was served are added.
-pub(crate) struct ConnectionOutcome<C: Tally, M: Tally> {
-    calls: CallSeat<C>,
-    sent: Vec<ClientMessage>,
-    read: ReadEnd,
-    mails: MailSeat<M>,
-    receipts: Receipts<M>,
-    write: WriteEnd,
-    reads: ReadLimit,
+/// The seats of the two sides of one connection.
+#[derive(Drop)]
+pub(crate) struct ConnectionSeats<C: Tally, M: Tally> {
+    pub(crate) calls: CallSeat<C>,
+    pub(crate) mails: MailSeat<M>,
     ghost one: { calls.conn ≡ mails.conn },
-    ghost own: { receipts.conn ≡ mails.conn },
 }
 
-impl<C: Tally, M: Tally> ConnectionOutcome<C, M> {
-    fn of(
-        calls: CallSeat<C>,
-        sent: Vec<ClientMessage>,
-        read: ReadEnd,
-        mails: MailSeat<M>,
-        receipts: Receipts<M>,
-        write: WriteEnd,
-        reads: ReadLimit,
-        _reader: Parted,
-        _writer: Parted,
-    ) -> ConnectionOutcome<C, M>
-        requires one { calls.conn ≡ mails.conn }
-        requires own { receipts.conn ≡ mails.conn }
-        // The write side has ended the stream, and so has the read side, unless the write side could go on.
-        requires reader { _reader.is_shut ≡ ends_stream read }
-        requires writer { _writer.is_shut ≡ true }
-        ensures calls { result.calls ≡ calls }
-        ensures sent { result.sent ≡ sent }
-        ensures read { result.read ≡ read }
-        ensures mails { result.mails ≡ mails }
-        ensures receipts { result.receipts ≡ receipts }
-        ensures write { result.write ≡ write }
-        ensures reads { result.reads ≡ reads }
-    {
-        ConnectionOutcome {
-            calls,
-            sent,
-            read,
-            mails,
-            receipts,
-            write,
-            reads,
-        }
-    }
+/// What the read side of a connection did. It has ended the stream, unless the write side could go on.
+pub(crate) struct ReadOutcome<C: Tally> {
+    pub(crate) seat: CallSeat<C>,
+    pub(crate) sent: Vec<ClientMessage>,
+    pub(crate) end: ReadEnd,
+    pub(crate) parted: Parted,
+    ghost shut: { parted.is_shut ≡ ends_stream end },
+}
 
-    /// Adds it to what earlier connections did. The list and the receipts are added only if `keeps`.
-    pub(crate) fn add_to(self, finished: &mut FinishedConnections<C, M>, keeps: bool)
-        ensures calls { finished.new.calls ≡ joined_to finished.old.calls self.calls.calls }
-        ensures mails { finished.new.mails ≡ joined_to finished.old.mails self.mails.mails }
-        // What has to be kept is kept, or `short` says that memory was short for it.
-        ensures kept { IsTrue keeps → finished.new.short ≡ false
-            → (finished.new.sent.items ≡ finished.old.sent.items ++ self.sent ∷ [])
-            × (finished.new.receipts.items ≡ finished.old.receipts.items ++ self.receipts.items) }
-    {
-        let ConnectionOutcome {
-            calls,
-            sent,
-            read: _,
-            mails,
-            receipts,
-            write: _,
-            reads: _,
-        } = self;
-        finished.add_calls(calls, sent, keeps);
-        finished.add_mails(mails, receipts, keeps);
-    }
+/// What the write side of a connection did and saw. It has ended the stream.
+#[derive(Drop)]
+pub(crate) struct WriteOutcome<M: Tally> {
+    pub(crate) seat: MailSeat<M>,
+    pub(crate) receipts: Receipts<M>,
+    pub(crate) end: WriteEnd,
+    pub(crate) parted: Parted,
+    ghost own: { receipts.conn ≡ seat.conn },
+    ghost shut: { parted.is_shut ≡ true },
+}
+
+/// What the two sides of a connection did. Only serving a connection makes one, and only `FinishedConnections::add` uses it up: it
+/// is not `Drop`, so the seats, the list and the receipts of each connection that was served are added.
+pub(crate) struct ConnectionOutcome<C: Tally, M: Tally> {
+    pub(crate) read: ReadOutcome<C>,
+    pub(crate) write: WriteOutcome<M>,
+    pub(crate) reads: ReadLimit,
+    ghost one: { read.seat.conn ≡ write.seat.conn },
 }
 
 /// What the writing thread returns. Its clauses are what that thread promises.
@@ -272,13 +228,11 @@ struct Wrote<W: WriteHalf + Drop, M: Tally> {
     seat: Snapshot<MailSeat<M>>,
 }
 
-impl<W: WriteHalf + Drop, M: Tally> Promise<(MailSeat<M>, Receipts<M>, WriteEnd, W, Parted)>
-    for Wrote<W, M> {
-    ghost use Rattle.std.specs.Prelude.{◌≡◌, true};
+impl<W: WriteHalf + Drop, M: Tally> Promise<(W, WriteOutcome<M>)> for Wrote<W, M> {
     ghost use Rattle.fe_server.specs.Sides.{HasWritten};
 
-    ghost kept_by = { λ p r. HasWritten W.is_known W.got p.before.value r.3 p.seat.value r.0 r.1 r.2
-        × (r.4.is_shut ≡ true) };
+    ghost kept_by = { λ p r. HasWritten W.is_known W.got p.before.value r.0 p.seat.value
+        r.1.seat r.1.receipts r.1.end };
 }
 
 /// Serves a connection over a reader and a writer, until both its sides have ended. If the reader's bytes are known,
@@ -296,28 +250,28 @@ fn serve_streams<
     alloc: Global,
     server: &RunningServer<C, M>,
     gate: &G,
-    calls: CallSeat<C>,
-    mails: MailSeat<M>,
+    seats: ConnectionSeats<C, M>,
     reader: I,
     writer: O,
     ends: &E,
     reads: ReadLimit,
 ) -> (StreamRead<I>, StreamWrite<O>, ConnectionOutcome<C, M>)
-    requires one { calls.conn ≡ mails.conn }
-    ensures own { result.2.mails.conn ≡ mails.conn }
+    ensures own { result.2.write.seat.conn ≡ seats.mails.conn }
     ensures handled { let incoming = result.0.incoming in IsSome (I.remaining reader)
         → HandlesStream (known_bytes (bytes_read (I.remaining incoming.began.value) (I.remaining incoming.reader)))
-        calls result.2.calls result.2.sent.items result.2.read }
-    ensures wrote { (all : List TakenMail) × AreTaken mails result.2.mails result.2.receipts.items all
+        seats.calls result.2.read.seat result.2.read.sent.items result.2.read.end }
+    ensures wrote { let write = result.2.write in
+        (all : List TakenMail) × AreTaken seats.mails write.seat write.receipts.items all
         × (IsSome (O.contents writer)
-        → IsWritten (known_bytes (O.contents writer)) all result.2.write (known_bytes (O.contents result.1.writer)))
-        × AreIssued mails.conn all result.2.receipts.history }
-    ensures departed { result.2.write ≢ WriteEnd.Stopped → result.2.mails.departed ≡ true }
+        → IsWritten (known_bytes (O.contents writer)) all write.end (known_bytes (O.contents result.1.writer)))
+        × AreIssued seats.mails.conn all write.receipts.history }
+    ensures departed { result.2.write.end ≢ WriteEnd.Stopped → result.2.write.seat.departed ≡ true }
     // The read side ends for the number of its reads only after all of them.
-    ensures turns { result.2.read ≡ ReadEnd.Turns → result.0.reads ≡ most_reads result.2.reads server.now.turns }
+    ensures turns { result.2.read.end ≡ ReadEnd.Turns
+        → result.0.reads ≡ most_reads result.2.reads server.now.turns }
 {
     let (from, to) = (StreamRead::new(reader), StreamWrite::new(writer));
-    serve_over(rt, alloc, server, gate, calls, mails, from, to, ends, reads)
+    serve_over(rt, alloc, server, gate, seats, from, to, ends, reads)
 }
 
 /// Serves a connection over the two directions of its stream, in two threads, until both its sides have ended.
@@ -334,33 +288,28 @@ fn serve_over<
     alloc: Global,
     server: &RunningServer<C, M>,
     gate: &G,
-    calls: CallSeat<C>,
-    mails: MailSeat<M>,
+    seats: ConnectionSeats<C, M>,
     from: H,
     to: W,
     ends: &E,
     reads: ReadLimit,
 ) -> (H, W, ConnectionOutcome<C, M>)
-    requires one { calls.conn ≡ mails.conn }
     // The front of the client's stream was handled.
     ensures handled { HasHandled H.is_known H.known H.reads (most_reads result.2.reads server.now.turns)
-        from result.0 calls result.2.calls result.2.sent.items result.2.read }
+        from result.0 seats.calls result.2.read.seat result.2.read.sent.items result.2.read.end }
     // The client got the frames of the mails that were taken.
-    ensures wrote { HasWritten W.is_known W.got to result.1 mails result.2.mails result.2.receipts result.2.write }
+    ensures wrote { HasWritten W.is_known W.got to result.1 seats.mails
+        result.2.write.seat result.2.write.receipts result.2.write.end }
 {
     thread::scope(
         thread::scope_env(),
         rt,
         move |scope| -> (H, W, ConnectionOutcome<C, M>)
-            requires { calls.conn ≡ mails.conn }
             ensures { HasHandled H.is_known H.known H.reads (most_reads result.2.reads server.entry.now.turns)
-                from result.0 calls result.2.calls result.2.sent.items result.2.read
-                × HasWritten W.is_known W.got to result.1 mails result.2.mails result.2.receipts result.2.write }
-        {
-            serve_in(
-                rt, alloc, scope, server, gate, calls, mails, from, to, ends, reads,
-            )
-        },
+                from result.0 seats.calls result.2.read.seat result.2.read.sent.items result.2.read.end
+                × HasWritten W.is_known W.got to result.1 seats.mails
+                result.2.write.seat result.2.write.receipts result.2.write.end }
+        { serve_in(rt, alloc, scope, server, gate, seats, from, to, ends, reads) },
     )
 }
 
@@ -381,59 +330,43 @@ fn serve_in<
     scope: &Scope<'s, Z>,
     server: &'s RunningServer<C, M>,
     gate: &G,
-    calls: CallSeat<C>,
-    mails: MailSeat<M>,
+    seats: ConnectionSeats<C, M>,
     from: H,
     to: W,
     ends: &'s E,
     reads: ReadLimit,
 ) -> (H, W, ConnectionOutcome<C, M>)
-    requires one { calls.conn ≡ mails.conn }
     ensures { HasHandled H.is_known H.known H.reads (most_reads result.2.reads server.now.turns)
-        from result.0 calls result.2.calls result.2.sent.items result.2.read
-        × HasWritten W.is_known W.got to result.1 mails result.2.mails result.2.receipts result.2.write }
+        from result.0 seats.calls result.2.read.seat result.2.read.sent.items result.2.read.end
+        × HasWritten W.is_known W.got to result.1 seats.mails
+        result.2.write.seat result.2.write.receipts result.2.write.end }
 {
+    let ConnectionSeats { calls, mails } = seats;
     let promise = Wrote {
         before: Snapshot::of(&to),
         seat: Snapshot::of(&mails),
     };
-    let own = StreamEnd::of(ends);
+    let own = StreamEnd { stream: ends };
     let writing = Stack::new().stack_size(STACK).spawn_scoped_with(
         scope,
         promise,
-        move || -> (MailSeat<M>, Receipts<M>, WriteEnd, W, Parted)
-            ensures { HasWritten W.is_known W.got to result.3 mails result.0 result.1 result.2
-                × (result.4.is_shut ≡ true) }
-        { run_write_side(rt, alloc, server, mails, to, StreamEnd::of(ends)) },
+        move || -> (W, WriteOutcome<M>)
+            ensures { HasWritten W.is_known W.got to result.0 mails
+                result.1.seat result.1.receipts result.1.end }
+        { run_write_side(rt, alloc, server, mails, to, StreamEnd { stream: ends }) },
     );
     match writing {
         Ok(thread) => {
-            let (from, calls, sent, read, reader) = run_read_side(
-                rt, alloc, server, gate, calls, from, own, &reads,
-            );
-            let (mails, receipts, write, to, writer) = thread.join(rt);
-            (
-                from,
-                to,
-                ConnectionOutcome::of(
-                    calls, sent, read, mails, receipts, write, reads, reader, writer,
-                ),
-            )
+            let (from, read) = run_read_side(rt, alloc, server, gate, calls, from, own, &reads);
+            let (to, write) = thread.join(rt);
+            (from, to, ConnectionOutcome { read, write, reads })
         }
         Err(refused) => {
             // Without a writing thread, nothing is read.
             let reads = ReadLimit::None(Unstarted::refused(&refused));
-            let (from, calls, sent, read, reader) = run_read_side(
-                rt, alloc, server, gate, calls, from, own, &reads,
-            );
-            let (mails, receipts, write, to, writer) = (refused.value)();
-            (
-                from,
-                to,
-                ConnectionOutcome::of(
-                    calls, sent, read, mails, receipts, write, reads, reader, writer,
-                ),
-            )
+            let (from, read) = run_read_side(rt, alloc, server, gate, calls, from, own, &reads);
+            let (to, write) = (refused.value)();
+            (from, to, ConnectionOutcome { read, write, reads })
         }
     }
 }
@@ -449,14 +382,13 @@ fn run_read_side<C: Tally, M: Tally, G: Gate, R: Clock + Wait, H: ReadHalf + Dro
     from: H,
     stream: StreamEnd<'_, E>,
     reads: &ReadLimit,
-) -> (H, CallSeat<C>, Vec<ClientMessage>, ReadEnd, Parted)
+) -> (H, ReadOutcome<C>)
     ensures handled { HasHandled H.is_known H.known H.reads (most_reads reads.now server.now.turns)
-        from result.0 seat result.1 result.2.items result.3 }
-    ensures parted { result.4.is_shut ≡ ends_stream result.3 }
+        from result.0 seat result.1.seat result.1.sent.items result.1.end }
 {
     let mut from = from;
-    let turns = Some(server.most_reads(reads));
-    let (seat, sent, end) = read_side(rt, alloc, server.hall(), seat, &mut from, gate, turns);
+    let turns = Some(reads.most(server.turns));
+    let (seat, sent, end) = read_side(rt, alloc, &server.hall, seat, &mut from, gate, turns);
     if end == ReadEnd::Spent {
         server.spend_calls(rt, &seat);
     }
@@ -464,7 +396,13 @@ fn run_read_side<C: Tally, M: Tally, G: Gate, R: Clock + Wait, H: ReadHalf + Dro
         ReadEnd::Closed | ReadEnd::Turns => stream.leave(),
         _ => stream.hang_up(),
     };
-    (from, seat, sent, end, parted)
+    let outcome = ReadOutcome {
+        seat,
+        sent,
+        end,
+        parted,
+    };
+    (from, outcome)
 }
 
 /// Runs the write side of a connection. At its end the stream is ended, which ends the read side too.
@@ -475,14 +413,20 @@ fn run_write_side<C: Tally, M: Tally, R: Wait, W: WriteHalf + Drop, E: HangUp>(
     seat: MailSeat<M>,
     to: W,
     stream: StreamEnd<'_, E>,
-) -> (MailSeat<M>, Receipts<M>, WriteEnd, W, Parted)
-    ensures { HasWritten W.is_known W.got to result.3 seat result.0 result.1 result.2
-        × (result.4.is_shut ≡ true) }
+) -> (W, WriteOutcome<M>)
+    ensures { HasWritten W.is_known W.got to result.0 seat
+        result.1.seat result.1.receipts result.1.end }
 {
     let mut to = to;
-    let (seat, receipts, end) = write_side(rt, alloc, server.hall(), seat, &mut to);
+    let (seat, receipts, end) = write_side(rt, alloc, &server.hall, seat, &mut to);
     if end == WriteEnd::Spent {
         server.spend_mails(rt, &seat);
     }
-    (seat, receipts, end, to, stream.hang_up())
+    let outcome = WriteOutcome {
+        seat,
+        receipts,
+        end,
+        parted: stream.hang_up(),
+    };
+    (to, outcome)
 }

@@ -4,17 +4,15 @@ ghost use Rattle.std.specs.Prelude.{◌≡◌, ◌⊎◌, ◌∷◌, ◌++◌, [
 ghost use mathlib.Core.List.{IsPrefix};
 ghost use Rattle.fe_history.specs.Acts.{EachIssued, IsAccountOf};
 ghost use Rattle.fe_hall.specs.Audits.{IsAudit, account_left};
-ghost use Rattle.fe_history.specs.Receipts.{IsBorneOut};
 ghost use Rattle.fe_shared.specs.Seats.{Seats as Totals};
 ghost use Rattle.fe_server.specs.declared.stop_fault.StopFault.TheVariants as fault;
-ghost use Rattle.fe_server.specs.FinishedConnections.{IsClean, joined_to, lacks};
-ghost use Rattle.fe_server.specs.Serving.{fault_of_end};
+ghost use Rattle.fe_server.specs.FinishedConnections.{IsSettled, joined_to, lacks};
 
-use crate::register::ServerEnded;
+use crate::connection::{ConnectionOutcome, ReadOutcome, WriteOutcome};
 use crate::stop_fault::StopFault;
 use fe_hall::{
-    Account, Audit, CallSeat, ConnectRight, GatheredReceipts, Hall, MailSeat, Receipts, Seats,
-    StoreSeat, Tally, account_of, settle,
+    Account, Audit, ConnectRight, GatheredReceipts, Hall, Seats, StoreSeat, Tally, account_of,
+    settle,
 };
 use fe_state::State;
 use fe_wire::ClientMessage;
@@ -52,65 +50,63 @@ impl<C: Tally, M: Tally> FinishedConnections<C, M> {
         }
     }
 
-    /// Adds what the read side of a connection did; what it sent only if `keeps`.
-    pub(crate) fn add_calls(&mut self, seat: CallSeat<C>, sent: Vec<ClientMessage>, keeps: bool)
-        ensures joined { self.new.calls ≡ joined_to self.old.calls seat.calls }
-        // A list that has to be kept is kept, or `short` says that memory was short for it.
-        ensures sent { IsTrue keeps → self.new.short ≡ false → self.new.sent.items ≡ self.old.sent.items ++ sent ∷ [] }
-        ensures none { keeps ≡ false → self.new.sent.items ≡ self.old.sent.items }
-        ensures short { IsTrue self.old.short → IsTrue self.new.short }
-        ensures mails { self.new.mails ≡ self.old.mails }
-        ensures receipts { self.new.receipts ≡ self.old.receipts }
-    {
-        match &mut self.calls {
-            Some(calls) => calls.add(seat.into_seats()),
-            None => self.calls = Some(seat.into_seats()),
-        }
-        if keeps && self.sent.push(sent).is_err() {
-            self.short = true;
-        }
-    }
-
-    /// Adds what the write side of a connection did and saw; its receipts only if `keeps`.
-    pub(crate) fn add_mails(&mut self, seat: MailSeat<M>, receipts: Receipts<M>, keeps: bool)
-        requires own { receipts.conn ≡ seat.conn }
-        ensures joined { self.new.mails ≡ joined_to self.old.mails seat.mails }
-        // Receipts that have to be kept are kept, or `short` says that memory was short for them.
+    /// Adds what the sides of a connection did and saw. What was sent and the receipts are added only if `keeps`.
+    pub(crate) fn add(&mut self, outcome: ConnectionOutcome<C, M>, keeps: bool)
+        ensures calls { self.new.calls ≡ joined_to self.old.calls outcome.read.seat.calls }
+        ensures mails { self.new.mails ≡ joined_to self.old.mails outcome.write.seat.mails }
+        // What has to be kept is kept, or `short` says that memory was short for it.
+        ensures sent { IsTrue keeps → self.new.short ≡ false
+            → self.new.sent.items ≡ self.old.sent.items ++ outcome.read.sent ∷ [] }
         ensures receipts { IsTrue keeps → self.new.short ≡ false
-            → (self.new.receipts.items ≡ self.old.receipts.items ++ receipts.items)
+            → (self.new.receipts.items ≡ self.old.receipts.items ++ outcome.write.receipts.items)
             × (self.new.receipts.whole ≡ self.old.receipts.whole) }
-        ensures none { keeps ≡ false → self.new.receipts.items ≡ self.old.receipts.items }
+        ensures none { keeps ≡ false → (self.new.sent.items ≡ self.old.sent.items)
+            × (self.new.receipts.items ≡ self.old.receipts.items) }
         ensures saw { IsPrefix self.old.receipts.history self.new.receipts.history
-            × IsPrefix receipts.history self.new.receipts.history }
+            × IsPrefix outcome.write.receipts.history self.new.receipts.history }
         ensures short { IsTrue self.old.short → IsTrue self.new.short }
-        ensures calls { self.new.calls ≡ self.old.calls }
-        ensures sent { self.new.sent.items ≡ self.old.sent.items }
     {
+        let ConnectionOutcome {
+            read,
+            write,
+            reads: _,
+        } = outcome;
+        let ReadOutcome {
+            seat: call_seat,
+            sent,
+            end: _,
+            parted: _,
+        } = read;
+        let WriteOutcome {
+            seat: mail_seat,
+            receipts,
+            end: _,
+            parted: _,
+        } = write;
+        match &mut self.calls {
+            Some(calls) => calls.add(call_seat.into_seats()),
+            None => self.calls = Some(call_seat.into_seats()),
+        }
         match &mut self.mails {
-            Some(mails) => mails.add(seat.into_seats()),
-            None => self.mails = Some(seat.into_seats()),
+            Some(mails) => mails.add(mail_seat.into_seats()),
+            None => self.mails = Some(mail_seat.into_seats()),
         }
         if !keeps {
             self.receipts.learn(receipts);
             return;
+        }
+        if self.sent.push(sent).is_err() {
+            self.short = true;
         }
         if self.receipts.add(receipts).is_err() {
             self.short = true;
         }
     }
 
-    /// The account of a hall whose committing side ended with a fault.
-    pub(crate) fn account(self, hall: Hall<C, M>, seat: StoreSeat<M>, over: ServerEnded) -> Account
-        requires fault { IsSome (fault_of_end over.end) }
-        ensures leaves { IsAccountOf seat self.receipts.items self.receipts.history result }
-        ensures issued { EachIssued result.receipts result.history }
-    {
-        drop(over);
-        self.left(hall, seat)
-    }
-
     /// The account of a hall that is not closed.
-    fn left(self, hall: Hall<C, M>, seat: StoreSeat<M>) -> Account
+    // (It is not inlined, for the reason that `fe_keeper::keeper_over` gives.)
+    #[inline(never)]
+    pub(crate) fn account(self, hall: Hall<C, M>, seat: StoreSeat<M>) -> Account
         ensures leaves { IsAccountOf seat self.receipts.items self.receipts.history result }
         ensures issued { EachIssued result.receipts result.history }
     {
@@ -128,6 +124,8 @@ impl<C: Tally, M: Tally> FinishedConnections<C, M> {
 
     /// Closes a hall with what its connections did. `state` is what is stored. `Memory` if not all of that could be
     /// kept; `Strange` if a book is full, a seat is missing or a receipt is strange.
+    // (It is not inlined, for the reason that `fe_keeper::keeper_over` gives.)
+    #[inline(never)]
     pub(crate) fn close(
         self,
         hall: Hall<C, M>,
@@ -139,9 +137,7 @@ impl<C: Tally, M: Tally> FinishedConnections<C, M> {
         ensures audit { IfOk result (λ audit. (calls : Totals) × (mails : Totals)
             × ((self.calls ≡ Some calls) × (self.mails ≡ Some mails) × (self.spent ≡ false))
             × IsAudit calls mails (map (λ v. v.items) self.sent.items) self.receipts.whole audit) }
-        ensures clean { IfOk result IsClean }
-        ensures borne_out { IfOk result (λ audit. All (IsBorneOut state.now audit.sent) audit.receipts) }
-        ensures whole { IfOk result (λ audit. IsTrue keeps → IsTrue audit.whole) }
+        ensures settled { IfOk result (IsSettled keeps state.now) }
         ensures leaves { IsAccountOf seat self.receipts.items self.receipts.history (account_left result) }
         ensures issued { EachIssued (account_left result).receipts (account_left result).history }
         ensures faults { IfErr result
@@ -149,10 +145,10 @@ impl<C: Tally, M: Tally> FinishedConnections<C, M> {
             ⊎ ((e.0 ≡ fault.Strange) × (lacks self.short keeps self.receipts.whole ≡ false))) }
     {
         if self.lacks(keeps) {
-            return Err((StopFault::Memory, self.left(hall, seat)));
+            return Err((StopFault::Memory, self.account(hall, seat)));
         }
         if self.spent || self.calls.is_none() || self.mails.is_none() {
-            return Err((StopFault::Strange, self.left(hall, seat)));
+            return Err((StopFault::Strange, self.account(hall, seat)));
         }
         let FinishedConnections {
             calls,

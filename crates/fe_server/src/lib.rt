@@ -1,7 +1,7 @@
 //! The server: a hall served at a Unix socket, over the store in a file.
 //!
-//! Each connection has two threads, and one more thread stores. They share the hall under one lock, and under a second one the
-//! register: which connections are there, and what those that ended did.
+//! Each connection has two threads, and one more thread stores. They share the hall under one lock, under a second one the
+//! register, which says which connections are there, and under a third what those that ended did.
 #![tactic(auto)]
 
 mod accepting;
@@ -25,9 +25,9 @@ mod stream;
 
 pub use books::books_text;
 pub use failed::Failed;
-pub use opening::Unopened;
+pub use opening::{Unopened, serve};
 pub use serve_fault::ServeFault;
 pub use served::Served;
-pub use server::{serve, serve_store};
+pub use server::serve_store;
 pub use stop_fault::StopFault;
 pub use stream::{StreamRead, StreamWrite};

@@ -1,16 +1,15 @@
-//! The register: which connections a server has, and what those did that have ended.
+//! The register: which connections a server has.
 
 ghost use Rattle.std.specs.Prelude.{◌≡◌, ◌↔◌, ◌⊎◌, ◌+◌, ◌-◌, ◌^◌, ◌<◌, ◌≤◌, ◌∷◌, ◌++◌, [], true, false, IfOk, IfErr, OnErr, OnOk, IsTrue};
-ghost use Rattle.fe_server.specs.FinishedConnections.{IsAdded, joined_to, without};
-ghost use Rattle.fe_server.specs.Arrivals.{HasEnded, awaited_after, kept_from};
+ghost use Rattle.fe_server.specs.FinishedConnections.{IsAdded, without};
+ghost use Rattle.fe_server.specs.Arrivals.{HasEnded, IsBoundBy, awaited_after, kept_from};
 ghost use Rattle.fe_server.specs.Serving.{fault_of_end};
 
 use crate::arrival::{Arrival, ArrivalEnded, Bar, Unkept, Unserved};
-use crate::connection::{Accepted, ConnectionOutcome};
-use crate::finished_connections::FinishedConnections;
+use crate::connection::Accepted;
 use crate::socket_handle::SocketHandle;
 use crate::stop_fault::StopFault;
-use fe_hall::{CommitEnd, ConnectRight, GatheredReceipts, Tally, reserve_one};
+use fe_hall::{CommitEnd, Tally, reserve_one};
 use std::alloc::Global;
 use std::net::Shutdown;
 use std::os::unix::net::UnixStream;
@@ -20,17 +19,9 @@ use std::thread::JoinHandle;
 /// `Register::enter` makes it. It is not `Drop`: a connection cannot end without giving it back to `Register::leave`.
 pub(crate) struct Admission {
     /// The number of the connection, which no other one has.
-    conn: u64,
+    pub(crate) conn: u64,
     most: u64,
     accepts: u64,
-}
-
-impl Admission {
-    pub(crate) fn conn(&self) -> u64
-        ensures { result ≡ self.now.conn }
-    {
-        self.conn
-    }
 }
 
 /// Shows why no more connections could come: `most` were there, `accepts` came in all, or the server had ended. Only a
@@ -105,7 +96,7 @@ impl ServerEnded {
     }
 }
 
-/// The register, which the second lock of a server guards.
+/// The register, which a lock of the server guards.
 pub(crate) struct Register<C: Tally, M: Tally> {
     /// The connections whose threads have not begun.
     arrivals: Vec<Arrival<C, M>>,
@@ -125,18 +116,12 @@ pub(crate) struct Register<C: Tally, M: Tally> {
     listening_socket: Option<UnixStream>,
     /// Whether the committing side has ended, so that nothing is stored any more.
     over: bool,
-    pub(crate) finished: FinishedConnections<C, M>,
     ghost few: { came ≤ admitted },
 }
 
 impl<C: Tally, M: Tally> Register<C, M> {
     /// A register to which no connection came.
-    pub(crate) fn new(
-        alloc: Global,
-        right: &ConnectRight,
-        listening_socket: UnixStream,
-        receipts: GatheredReceipts<M>,
-    ) -> Register<C, M> {
+    pub(crate) fn new(alloc: Global, listening_socket: UnixStream) -> Register<C, M> {
         Register {
             arrivals: Vec::new(alloc),
             admitted: 0,
@@ -147,7 +132,6 @@ impl<C: Tally, M: Tally> Register<C, M> {
             handles: Vec::new(alloc),
             listening_socket: Some(listening_socket),
             over: false,
-            finished: FinishedConnections::new(alloc, right, receipts),
         }
     }
 
@@ -157,7 +141,6 @@ impl<C: Tally, M: Tally> Register<C, M> {
         ensures handle { OnOk result (IsAdded (λ handle. handle.conn ≡ arrival.connection.admission.conn)
             self.old.handles.items self.new.handles.items) }
         ensures back { IfErr result (λ back. back.arrival ≡ arrival) }
-        ensures finished { self.new.finished ≡ self.old.finished }
     {
         if let Err(short) = reserve_one(&mut self.arrivals) {
             return Err(Unkept::of(arrival, Bar::Memory(short)));
@@ -179,7 +162,6 @@ impl<C: Tally, M: Tally> Register<C, M> {
     pub(crate) fn take(&mut self) -> Result<Arrival<C, M>, NoArrival>
         ensures taken { IfOk result (λ arrival. self.old.arrivals.items ≡ self.new.arrivals.items ++ arrival ∷ []) }
         ensures none { OnErr result (self.old.arrivals.items ≡ []) }
-        ensures finished { self.new.finished ≡ self.old.finished }
     {
         match self.arrivals.pop() {
             Some(arrival) => Ok(arrival),
@@ -213,10 +195,9 @@ impl<C: Tally, M: Tally> Register<C, M> {
             (IsAdded (λ late. late.0 ≡ accepted) self.old.waiting_clients.items self.new.waiting_clients.items) }
         ensures awaited { OnOk result (self.new.awaited ≡ self.old.awaited + 1) }
         ensures back { IfErr result (λ back. (back.0 ≡ accepted) × (back.1 ≡ full)) }
-        ensures admitted { self.new.admitted ≡ self.old.admitted }
-        ensures came { self.new.came ≡ self.old.came }
-        ensures present { self.new.present ≡ self.old.present }
-        ensures finished { self.new.finished ≡ self.old.finished }
+        // A client who waits is not counted yet.
+        ensures counts { (self.new.admitted ≡ self.old.admitted) × (self.new.came ≡ self.old.came)
+            × (self.new.present ≡ self.old.present) }
     {
         if self.over || self.awaited >= full.most || self.waiting_clients.reserve(1).is_err() {
             return Err((accepted, full));
@@ -236,7 +217,6 @@ impl<C: Tally, M: Tally> Register<C, M> {
         ensures taken { IfOk result
             (λ late. self.old.waiting_clients.items ≡ self.new.waiting_clients.items ++ late ∷ []) }
         ensures none { OnErr result (self.old.waiting_clients.items ≡ []) }
-        ensures finished { self.new.finished ≡ self.old.finished }
     {
         match self.waiting_clients.pop() {
             Some(late) => Ok(late),
@@ -252,16 +232,14 @@ impl<C: Tally, M: Tally> Register<C, M> {
         most: u64,
         accepts: u64,
     ) -> Result<Admission, Full>
-        ensures limits { IfOk result (λ admission. (admission.most ≡ most) × (admission.accepts ≡ accepts)) }
+        ensures bounds { IsBoundBy most accepts result }
         ensures number { IfOk result (λ admission. (admission.conn ≡ self.old.admitted)
             × (self.new.admitted ≡ admission.conn + 1)) }
         ensures few { OnOk result ((self.new.present ≡ self.old.present + 1) × (self.new.present ≤ most)) }
         ensures came { OnOk result ((self.new.came ≡ self.old.came + 1) × (0 < accepts → self.new.came ≤ accepts)) }
         ensures running { OnOk result (self.old.over ≡ false) }
-        ensures full { IfErr result (λ full. (full.most ≡ most) × (full.accepts ≡ accepts)) }
         ensures refused { OnErr result ((self.new.admitted ≡ self.old.admitted) × (self.new.came ≡ self.old.came)
             × (self.new.present ≡ self.old.present)) }
-        ensures finished { self.new.finished ≡ self.old.finished }
         ensures awaited { self.new.awaited ≡ awaited_after expected self.old.awaited }
         // Only a full register refuses a connection.
         ensures why { OnErr result ((self.old.over ≡ true)
@@ -285,42 +263,12 @@ impl<C: Tally, M: Tally> Register<C, M> {
         })
     }
 
-    /// Takes what the sides of a connection did that has ended. There is room for another connection then.
-    pub(crate) fn leave(
-        &mut self,
-        admission: Admission,
-        outcome: ConnectionOutcome<C, M>,
-        keeps: bool,
-    )
-        requires own { outcome.mails.conn ≡ admission.conn }
+    /// Removes a connection that has ended. There is room for another connection then.
+    pub(crate) fn leave(&mut self, admission: Admission)
         // Its handle goes, and so its socket is closed.
         ensures handles { self.new.handles.items ≡ without admission.conn self.old.handles.items }
         ensures present { self.new.present ≡ self.old.present - 1 }
-        ensures calls { self.new.finished.calls ≡ joined_to self.old.finished.calls outcome.calls.calls }
-        ensures mails { self.new.finished.mails ≡ joined_to self.old.finished.mails outcome.mails.mails }
-        ensures kept { IsTrue keeps → self.new.finished.short ≡ false
-            → (self.new.finished.sent.items ≡ self.old.finished.sent.items ++ outcome.sent ∷ [])
-            × (self.new.finished.receipts.items ≡ self.old.finished.receipts.items ++ outcome.receipts.items) }
-    {
-        outcome.add_to(&mut self.finished, keeps);
-        self.release(admission);
-    }
-
-    /// Removes a connection that was not served, since the hall made no seats for it. It does not count as one that came.
-    pub(crate) fn refuse(&mut self, unserved: Unserved)
-        ensures came { self.new.came ≡ self.old.came - 1 }
-        ensures present { self.new.present ≡ self.old.present - 1 }
-        ensures finished { self.new.finished ≡ self.old.finished }
-    {
-        self.release(unserved.close());
-        self.came = self.came.saturating_sub(1);
-    }
-
-    fn release(&mut self, admission: Admission)
-        ensures handles { self.new.handles.items ≡ without admission.conn self.old.handles.items }
-        ensures present { self.new.present ≡ self.old.present - 1 }
         ensures came { self.new.came ≡ self.old.came }
-        ensures finished { self.new.finished ≡ self.old.finished }
     {
         let Admission {
             conn,
@@ -328,7 +276,17 @@ impl<C: Tally, M: Tally> Register<C, M> {
             accepts: _,
         } = admission;
         self.present = self.present.saturating_sub(1);
-        self.handles.retain(|handle| handle.conn() != conn);
+        self.handles.retain(|handle| handle.conn != conn);
+    }
+
+    /// Takes a connection off the count of those that came, since the hall made no seats for it. It has still to leave.
+    pub(crate) fn refuse(&mut self, unserved: Unserved) -> Admission
+        ensures came { self.new.came ≡ self.old.came - 1 }
+        ensures present { self.new.present ≡ self.old.present }
+        ensures admission { result ≡ unserved.connection.admission }
+    {
+        self.came = self.came.saturating_sub(1);
+        unserved.close()
     }
 
     /// Notes that the committing side has ended, and how: no connection comes any more.
@@ -382,10 +340,8 @@ impl<C: Tally, M: Tally> Register<C, M> {
         Ok(Running(()))
     }
 
-    /// What the connections did that have ended. Each client was taken right after it was put, so none is dismissed here.
-    pub(crate) fn into_finished(self) -> FinishedConnections<C, M>
-        ensures { result ≡ self.finished }
-    {
+    /// Ends the register of a server that has ended. Each client was taken right after it was put, so none is dismissed here.
+    pub(crate) fn close(self) {
         let Register {
             arrivals,
             admitted: _,
@@ -396,13 +352,11 @@ impl<C: Tally, M: Tally> Register<C, M> {
             handles,
             listening_socket,
             over: _,
-            finished,
         } = self;
         dismiss(arrivals);
         dismiss_late(waiting_clients);
         drop(handles);
         drop(listening_socket);
-        finished
     }
 }
 

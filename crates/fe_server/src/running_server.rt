@@ -1,34 +1,26 @@
-//! What the threads of a server share: the hall, which is one front under a lock, and the register of the connections.
+//! What the threads of a server share: the hall, which is one front under a lock, the register of the connections, and what those
+//! did that have ended.
 
-ghost use Rattle.std.specs.Prelude.{◌≡◌, ◌⊎◌, ◌∷◌, [], IsTrue, All, IfOk, IfErr, IsSome, nat_lt};
+ghost use Rattle.std.specs.Prelude.{◌≡◌, ◌∷◌, [], IfOk, IfErr, nat_lt};
 ghost use Rattle.fe_front.specs.Front.{IsFirst};
-ghost use Rattle.fe_history.specs.Acts.{EachIssued, GatheredReceipts as Kept, IsAccountOf};
-ghost use Rattle.fe_hall.specs.Audits.{account_left};
-ghost use Rattle.fe_history.specs.Receipts.{IsBorneOut};
 ghost use Rattle.fe_history.specs.declared.act.Act.TheVariants as act;
 ghost use Rattle.fe_shared.specs.declared.last_answer.LastAnswer.TheVariants as LastAnswer;
-ghost use Rattle.fe_shared.specs.Seats.{IsBlankOf};
-ghost use Rattle.fe_server.specs.Arrivals.{HasEnded};
-ghost use Rattle.fe_server.specs.FinishedConnections.{IsClean};
-ghost use Rattle.fe_server.specs.Sides.{most_reads};
-ghost use Rattle.fe_server.specs.Serving.{HasCommittedAndNoted, fault_of_end};
-ghost use Rattle.fe_server.specs.declared.stop_fault.StopFault.TheVariants as fault;
+ghost use Rattle.fe_server.specs.Arrivals.{HasEnded, IsBoundBy};
+ghost use Rattle.fe_server.specs.Serving.{HasCommittedAndNoted};
+ghost use Rattle.fe_server.specs.within.Blank.{AreBlank};
 
 use crate::accepting::AllServed;
 use crate::arrival::{Arrival, Unkept, Unserved};
 use crate::connection::{Accepted, Connection, ConnectionOutcome};
 use crate::finished_connections::FinishedConnections;
 use crate::listener::Listener;
-use crate::reads::ReadLimit;
 use crate::register::{
     Admission, Expected, Full, NoArrival, NoMore, Register, Running, ServerEnded, Waiting,
 };
-use crate::stop_fault::StopFault;
 use fe_disk::Disk;
 use fe_front::Front;
 use fe_hall::{
-    Account, Audit, CallSeat, CommitEnd, ConnectRight, Hall, MailSeat, NewHistory, StoreSeat,
-    Tally, commit_side,
+    CallSeat, CommitEnd, ConnectRight, Hall, MailSeat, NewHistory, StoreSeat, Tally, commit_side,
 };
 use fe_keeper::Keeper;
 use fe_options::Settings;
@@ -45,8 +37,10 @@ const LAST_WAIT: u64 = 400;
 
 /// What the threads of a server share. `C` counts calls, and `M` mails.
 pub(crate) struct RunningServer<C: Tally, M: Tally> {
-    hall: Hall<C, M>,
+    pub(crate) hall: Hall<C, M>,
     register: Mutex<Register<C, M>>,
+    /// What the connections did that have ended.
+    finished: Mutex<FinishedConnections<C, M>>,
     /// The condition variable that is rung when a place may be free, when a client who waited for one waits no more, and when the
     /// server ends.
     freed: Condvar,
@@ -55,14 +49,14 @@ pub(crate) struct RunningServer<C: Tally, M: Tally> {
     /// How many connections may come; 0 sets no bound.
     accepts: u64,
     /// How many reads are made from each connection at most.
-    turns: u64,
+    pub(crate) turns: u64,
     /// Whether what was sent and the receipts are kept, to be compared when the hall is closed. They are if `accepts` bounds them.
     keeps: bool,
 }
 
 /// A server, and the state that its hall's front began with. The threads share only the server.
 pub(crate) struct Opened<C: Tally, M: Tally> {
-    server: RunningServer<C, M>,
+    pub(crate) server: RunningServer<C, M>,
     begun: Snapshot<State>,
 }
 
@@ -77,10 +71,8 @@ impl<C: Tally, M: Tally> Opened<C, M> {
         listener: &Listener,
         settings: &Settings,
     ) -> Result<(Opened<C, M>, StoreSeat<M>, ConnectRight), AllocError>
-        requires calls { IsBlankOf C.name C.parts C.all calls.name calls.parts }
-        requires mails { IsBlankOf M.name M.parts M.all mails.name mails.parts }
-        requires history { history.book ≡ M.book }
-        requires acts { history.acts ≡ act.Began state.now ∷ [] }
+        requires { AreBlank C.name C.parts C.all calls.name calls.parts M.name M.parts M.all mails.name mails.parts
+            M.book history.book history.acts state.now }
         ensures begun { IfOk result (λ opened. opened.0.begun.value ≡ state.now) }
         ensures most { IfOk result (λ opened. opened.0.server.most ≡ settings.now.connections) }
         ensures accepts { IfOk result (λ opened. opened.0.server.accepts ≡ settings.now.accepts) }
@@ -103,7 +95,8 @@ impl<C: Tally, M: Tally> Opened<C, M> {
                 let receipts = hall.no_receipts(alloc);
                 let server = RunningServer {
                     hall,
-                    register: Mutex::new(Register::new(alloc, &right, listening_socket, receipts)),
+                    register: Mutex::new(Register::new(alloc, listening_socket)),
+                    finished: Mutex::new(FinishedConnections::new(alloc, &right, receipts)),
                     freed: Condvar::new(),
                     most: settings.connections,
                     accepts: settings.accepts,
@@ -119,20 +112,20 @@ impl<C: Tally, M: Tally> Opened<C, M> {
         }
     }
 
-    pub(crate) fn server(&self) -> &RunningServer<C, M>
-        ensures { result.now ≡ self.now.server }
-    {
-        &self.server
-    }
-
-    fn into_parts(self) -> (Hall<C, M>, FinishedConnections<C, M>, bool)
+    /// The hall of a server that has ended, what its connections did, and whether receipts were to be kept.
+    pub(crate) fn into_parts(
+        self,
+        over: ServerEnded,
+    ) -> (Hall<C, M>, FinishedConnections<C, M>, bool)
         ensures keeps { result.2 ≡ self.server.keeps }
     {
+        drop(over);
         let Opened { server, begun } = self;
         drop(begun);
         let RunningServer {
             hall,
             register,
+            finished,
             freed,
             most: _,
             accepts: _,
@@ -140,51 +133,16 @@ impl<C: Tally, M: Tally> Opened<C, M> {
             keeps,
         } = server;
         drop(freed);
-        (hall, register.into_inner().into_finished(), keeps)
-    }
-
-    /// The account of the hall, whose committing side ended with a fault.
-    // (It is not inlined, for the reason that `fe_keeper::keeper_over` gives.)
-    #[inline(never)]
-    pub(crate) fn account(self, over: ServerEnded, seat: StoreSeat<M>) -> Account
-        requires fault { IsSome (fault_of_end over.end) }
-        ensures leaves { (kept : Kept) × IsAccountOf seat kept.items kept.history result }
-        ensures issued { EachIssued result.receipts result.history }
-    {
-        let (hall, finished, _) = self.into_parts();
-        finished.account(hall, seat, over)
-    }
-
-    /// Closes the hall with what is in the register. `state` is what is stored.
-    // (It is not inlined, for the reason that `fe_keeper::keeper_over` gives.)
-    #[inline(never)]
-    pub(crate) fn close(
-        self,
-        over: ServerEnded,
-        seat: StoreSeat<M>,
-        state: &State,
-    ) -> Result<Audit, (StopFault, Account)>
-        ensures clean { IfOk result IsClean }
-        ensures borne_out { IfOk result (λ audit. All (IsBorneOut state.now audit.sent) audit.receipts) }
-        // If they are to be kept, no receipt is missing.
-        ensures whole { IfOk result (λ audit. IsTrue self.server.keeps → IsTrue audit.whole) }
-        ensures leaves { (kept : Kept) × IsAccountOf seat kept.items kept.history (account_left result) }
-        ensures issued { EachIssued (account_left result).receipts (account_left result).history }
-        ensures faults { IfErr result (λ e. (e.0 ≡ fault.Memory) ⊎ (e.0 ≡ fault.Strange)) }
-    {
-        drop(over);
-        let (hall, finished, keeps) = self.into_parts();
-        finished.close(hall, seat, state, keeps)
+        register.into_inner().close();
+        (hall, finished.into_inner(), keeps)
     }
 }
 
 impl<C: Tally, M: Tally> RunningServer<C, M> {
     /// Admits one more connection if there is room for it, beside the clients who wait.
     pub(crate) fn enter<R: Wait>(&self, rt: &R) -> Result<Admission, Full>
-        ensures admission { IfOk result
-            (λ admission. (admission.most ≡ self.now.most) × (admission.accepts ≡ self.now.accepts)) }
         // Only the register says that it is full, with as many as the settings say.
-        ensures full { IfErr result (λ full. (full.most ≡ self.now.most) × (full.accepts ≡ self.now.accepts)) }
+        ensures bounds { IsBoundBy self.now.most self.now.accepts result }
     {
         let (most, accepts) = (self.most, self.accepts);
         self.register.lock(rt).enter(None, most, accepts)
@@ -213,9 +171,7 @@ impl<C: Tally, M: Tally> RunningServer<C, M> {
         expected: Expected,
         millis: u64,
     ) -> Result<Admission, Full>
-        ensures admission { IfOk result
-            (λ admission. (admission.most ≡ self.now.most) × (admission.accepts ≡ self.now.accepts)) }
-        ensures full { IfErr result (λ full. (full.most ≡ self.now.most) × (full.accepts ≡ self.now.accepts)) }
+        ensures bounds { IsBoundBy self.now.most self.now.accepts result }
     {
         let (most, accepts) = (self.most, self.accepts);
         let register = self.register.lock(rt);
@@ -245,47 +201,28 @@ impl<C: Tally, M: Tally> RunningServer<C, M> {
         self.register.lock(rt).take()
     }
 
-    /// Gives the register what the sides of a connection did that has ended.
+    /// Adds what the sides of a connection did that has ended, and removes it.
     pub(crate) fn leave<R: Wait>(
         &self,
         rt: &R,
         connection: Connection,
         outcome: ConnectionOutcome<C, M>,
     )
-        requires own { outcome.mails.conn ≡ connection.admission.conn }
+        requires own { outcome.write.seat.conn ≡ connection.admission.conn }
     {
+        self.finished.lock(rt).add(outcome, self.keeps);
         let admission = connection.close();
-        self.register.lock(rt).leave(admission, outcome, self.keeps);
+        self.register.lock(rt).leave(admission);
         self.freed.notify_all();
     }
 
     /// Removes a connection that is not served, since the hall makes no seats for it.
     pub(crate) fn refuse<R: Wait>(&self, rt: &R, unserved: Unserved) {
-        self.register.lock(rt).refuse(unserved);
+        let mut register = self.register.lock(rt);
+        let admission = register.refuse(unserved);
+        register.leave(admission);
+        drop(register);
         self.freed.notify_all();
-    }
-
-    /// Makes the seats of a connection that was admitted.
-    pub(crate) fn connect<R: Wait>(
-        &self,
-        rt: &R,
-        right: &ConnectRight,
-        connection: Connection,
-    ) -> Result<Arrival<C, M>, Unserved>
-        ensures connection { IfOk result (λ arrival. arrival.connection ≡ connection) }
-    {
-        Arrival::of(rt, &self.hall, right, connection)
-    }
-
-    pub(crate) fn hall(&self) -> &Hall<C, M> {
-        &self.hall
-    }
-
-    /// How many reads are made from a connection at most: none, or as many as the settings say.
-    pub(crate) fn most_reads(&self, reads: &ReadLimit) -> u64
-        ensures { result ≡ most_reads reads.now self.now.turns }
-    {
-        reads.most(self.turns)
     }
 
     /// Runs the committing side. At its end the server ends too.
@@ -347,7 +284,7 @@ impl<C: Tally, M: Tally> RunningServer<C, M> {
 
     /// Stops the hall because the committing thread could not be started. The closing reports that as a lack of memory.
     pub(crate) fn fall_short<R: Wait, F>(&self, rt: &R, _refused: &SpawnError<F>) {
-        self.register.lock(rt).finished.short = true;
+        self.finished.lock(rt).short = true;
         self.hall.stop(rt);
     }
 
@@ -366,7 +303,7 @@ impl<C: Tally, M: Tally> RunningServer<C, M> {
     }
 
     fn spend<R: Wait>(&self, rt: &R) {
-        self.register.lock(rt).finished.spent = true;
+        self.finished.lock(rt).spent = true;
         self.hall.stop(rt);
     }
 }

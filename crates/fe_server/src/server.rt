@@ -1,71 +1,39 @@
-//! Serving a store at a socket, from its opening to the books at the end.
+//! Serving an opened store at a listener, up to the books at the end.
 
-ghost use Rattle.std.specs.Prelude.{◌≡◌, ◌≢◌, ◌<◌, ◌∷◌, ℕ, [], false, IsTrue, All, IfOk, IsErrOf, nat_lt};
+ghost use Rattle.std.specs.Prelude.{◌≡◌, ◌<◌, ◌∷◌, [], false, IsTrue, All, IfOk, nat_lt};
 ghost use Rattle.fe_mail.specs.Books.{AddUp};
 ghost use Rattle.fe_history.specs.Acts.{EachIssued, GatheredReceipts as Kept, IsAccountOf};
 ghost use Rattle.fe_history.specs.Receipts.{IsBorneOut};
 ghost use Rattle.fe_history.specs.declared.act.Act.TheVariants as act;
 ghost use Rattle.fe_hall.specs.declared.commit_end.CommitEnd.{CommitEnd};
 ghost use Rattle.fe_hall.specs.declared.commit_end.CommitEnd.TheVariants as hall;
-ghost use Rattle.fe_journal.specs.Layout.{device_bytes};
-ghost use Rattle.fe_store.specs.declared.fault.OpenFault.TheVariants as store;
-ghost use Rattle.fe_shared.specs.Seats.{IsBlankOf};
 ghost use Rattle.fe_server.specs.Acknowledged.{IsAcknowledged};
-ghost use Rattle.fe_server.specs.Opened.{WasServed};
+ghost use Rattle.fe_server.specs.FinishedConnections.{IsSettled};
+ghost use Rattle.fe_server.specs.within.Blank.{AreBlank};
+ghost use Rattle.fe_server.specs.within.HasServed.{HasServed};
 ghost use Rattle.fe_server.specs.Serving.{HasCommitted, HasCommittedAndNoted, IsAnswerAt, account_in, fault_in, keeper_in};
-ghost use Rattle.fe_server.specs.declared.serve_fault.ServeFault.TheVariants as served;
 ghost use Rattle.fe_server.specs.declared.stop_fault.StopFault.TheVariants as fault;
 
 use crate::accepting::serve_clients;
 use crate::failed::Failed;
 use crate::listener::Listener;
-use crate::opening::{Unopened, open};
 use crate::register::ServerEnded;
 use crate::running_server::{Opened, RunningServer};
 use crate::served::Served;
 use crate::stop_fault::StopFault;
-use fe_disk::{Disk, FileDisk};
+use fe_disk::Disk;
 use fe_hall::{Account, ConnectRight, Gate, NewHistory, PARTS, StoreSeat, Tally};
 use fe_keeper::Keeper;
 use fe_options::Settings;
 use std::alloc::Global;
-use std::fs::File;
 use std::marker::Brand;
-use std::net::Net;
 use std::os::unix::net::UnixListener;
-use std::rt::Files;
 use std::snapshot::Snapshot;
 use std::sync::Wait;
 use std::sync::ledger::Blank;
 use std::thread;
 use std::thread::{Promise, Scope, Threads};
 use std::time::Clock;
-
-/// Serves the store that the settings name, at the socket that they name, and gives what the server left. It opens the
-/// store before it makes the socket, so the socket's file means that the server is ready.
-pub fn serve<R: Files<File = File> + Net + Clock + Threads + Wait + Sync, G: Gate + Sync>(
-    rt: &R,
-    alloc: Global,
-    settings: &Settings,
-    gate: &G,
-) -> Result<Result<Served<FileDisk>, Failed<FileDisk>>, Unopened>
-    // The store that was opened was served: its keeper is returned with what was stored since, and its account says
-    // what was issued.
-    ensures served { IfOk result (WasServed ⟦<FileDisk as Disk>⟧) }
-    ensures add_up { IfOk result (λ answer. IfOk answer (λ served. AddUp served.audit.books)) }
-    ensures unspent { IfOk result (λ answer. IfOk answer (λ served. served.audit.books.spent ≡ false)) }
-    ensures borne_out { IfOk result (λ answer. IfOk answer
-        (λ served. All (IsBorneOut served.keeper.state served.audit.sent) served.audit.receipts)) }
-    // A server of a bounded number of connections has compared the receipts of each.
-    ensures whole { IfOk result (λ answer. IfOk answer
-        (λ served. 0 < settings.now.accepts → IsTrue served.audit.whole)) }
-    // A wrong size is reported only of a file that has one, and a missing store only if none was to be made.
-    ensures wrong_size { (found : ℕ) → IsErrOf result (served.Store (store.Size found)) → found ≢ device_bytes }
-    ensures unformatted { IsErrOf result (served.Store store.Unformatted) → settings.now.format ≡ false }
-{
-    let (keeper, listener) = open(rt, alloc, settings)?;
-    Ok(serve_store(rt, alloc, listener, settings, keeper, gate))
-}
 
 /// Serves the clients of a listener over the store of a keeper.
 pub fn serve_store<D: Disk + Drop + Send, G: Gate + Sync, R: Clock + Threads + Wait + Sync>(
@@ -127,20 +95,9 @@ fn serve_as<
     mails: Blank,
     history: NewHistory,
 ) -> Result<Served<D>, Failed<D>>
-    requires calls { IsBlankOf C.name C.parts C.all calls.name calls.parts }
-    requires mails { IsBlankOf M.name M.parts M.all mails.name mails.parts }
-    requires history { history.book ≡ M.book }
-    requires acts { history.acts ≡ act.Began keeper.state ∷ [] }
-    ensures committed { (end : CommitEnd)
-        × HasCommitted D.Disk keeper (keeper_in result) end
-        × IsAnswerAt end (fault_in result) }
-    ensures add_up { IfOk result (λ served. AddUp served.audit.books) }
-    ensures unspent { IfOk result (λ served. served.audit.books.spent ≡ false) }
-    ensures borne_out { IfOk result
-        (λ served. All (IsBorneOut served.keeper.state served.audit.sent) served.audit.receipts) }
-    ensures whole { IfOk result (λ served. 0 < settings.now.accepts → IsTrue served.audit.whole) }
-    ensures acknowledged { (end : CommitEnd) × IsAnswerAt end (fault_in result)
-        × IsAcknowledged D.Disk keeper (keeper_in result) end (account_in result) }
+    requires { AreBlank C.name C.parts C.all calls.name calls.parts M.name M.parts M.all mails.name mails.parts
+        M.book history.book history.acts keeper.state }
+    ensures { HasServed D.Disk keeper settings.now.accepts result }
 {
     let nothing = history.account(alloc);
     let Ok((opened, seat, right)) = Opened::<C, M>::new(
@@ -170,23 +127,22 @@ fn closed<C: Tally, M: Tally, D: Disk>(
 ) -> Result<Served<D>, Failed<D>>
     ensures keeper { keeper_in result ≡ keeper }
     ensures answer { IsAnswerAt over.end (fault_in result) }
-    ensures add_up { IfOk result (λ served. AddUp served.audit.books) }
-    ensures unspent { IfOk result (λ served. served.audit.books.spent ≡ false) }
-    ensures borne_out { IfOk result
-        (λ served. All (IsBorneOut served.keeper.state served.audit.sent) served.audit.receipts) }
-    ensures whole { IfOk result (λ served. IsTrue opened.server.keeps → IsTrue served.audit.whole) }
+    ensures settled { IfOk result
+        (λ served. IsSettled opened.server.keeps served.keeper.state served.audit) }
     ensures leaves { (kept : Kept) × IsAccountOf seat kept.items kept.history (account_in result) }
     ensures issued { EachIssued (account_in result).receipts (account_in result).history }
 {
-    if let Some(fault) = over.fault() {
-        let account = opened.account(over, seat);
+    let ended = over.fault();
+    let (hall, finished, keeps) = opened.into_parts(over);
+    if let Some(fault) = ended {
+        let account = finished.account(hall, seat);
         return Err(Failed {
             fault,
             keeper,
             account,
         });
     }
-    match opened.close(over, seat, keeper.state()) {
+    match finished.close(hall, seat, keeper.state(), keeps) {
         Ok(audit) => Ok(Served { audit, keeper }),
         Err((fault, account)) => Err(Failed {
             fault,
@@ -250,7 +206,7 @@ fn run<
     requires seat { seat ≡ act.Began keeper.state ∷ [] }
     ensures { HasCommittedAndNoted D.Disk keeper result.0 result.1.end result.2 }
 {
-    let server = opened.server();
+    let server = &opened.server;
     thread::scope(
         thread::scope_env(),
         rt,

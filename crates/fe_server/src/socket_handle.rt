@@ -9,7 +9,7 @@ use std::sync::Arc;
 /// Ends the stream of a connection from outside, and sees whether it has ended. It neither reads nor writes.
 #[derive(Drop)]
 pub(crate) struct SocketHandle {
-    conn: u64,
+    pub(crate) conn: u64,
     /// Whether a client waits for this connection's end, or did so in vain.
     is_expected: bool,
     socket: Arc<ClientSocket, Global>,
@@ -25,12 +25,6 @@ impl SocketHandle {
             is_expected: false,
             socket,
         }
-    }
-
-    pub(crate) fn conn(&self) -> u64
-        ensures { result ≡ self.now.conn }
-    {
-        self.conn
     }
 
     /// Whether the connection is about to end, and no client waits or waited for that: its stream takes no more bytes.

@@ -1,43 +1,43 @@
-use Rattle.std.proofs.Common.{inl, sym, subst, ◌∙◌}
+use Rattle.std.proofs.Common.{Bool, inl, sym, subst, ◌∙◌}
+use Rattle.std.specs.Prelude.{IfOk}
 use Rattle.fe_keeper.specs.Keeper.{KeeperState}
 use Rattle.fe_hall.specs.declared.commit_end.CommitEnd.TheVariants.{Stopped}
 use Rattle.fe_server.specs.Acknowledged.{IsAcknowledged}
+use Rattle.fe_server.specs.FinishedConnections.{IsSettled}
 use Rattle.fe_server.specs.Serving.{HasCommitted, account_in}
-use Rattle.fe_server.proofs.Ends.{all_whole}
+use Rattle.fe_server.specs.declared.served.Served.{Served}
 use Rattle.fe_server.proofs.Acknowledged.{ended_acknowledged, unbegun_acknowledged}
 use Rattle.fe_server.proofs.server.serve_as.Goals as goal
 
-pub returns-in_default-clause-committed : goal.returns-in_default-clause-committed
-returns-in_default-clause-committed g c = (Stopped, c.unserved.ensures.committed.0, inl c.unserved.ensures.fault)
+pub returns-in_default : goal.returns-in_default
+returns-in_default g c =
+    let u = c.unserved in record {
+      committed = (Stopped, u.ensures.committed.0, inl u.ensures.fault);
+      acknowledged = (
+        Stopped,
+        inl u.ensures.fault,
+        unbegun_acknowledged g.D.Disk c.args.keeper u.result.keeper Stopped u.result.account c.args.history.acts u.ensures.committed
+            (u.ensures.account ∙ c.account-nothing.ensures.account) c.requires.begun c.account-nothing.ensures.legal,
+      );
+      settled = tt;
+    }
 
-pub returns-in_default-clause-acknowledged : goal.returns-in_default-clause-acknowledged
-returns-in_default-clause-acknowledged g c =
-    let u = c.unserved.result in (
-      Stopped,
-      inl c.unserved.ensures.fault,
-      unbegun_acknowledged g.D.Disk c.args.keeper u.keeper Stopped u.account c.args.history.acts c.unserved.ensures.committed
-          (c.unserved.ensures.account ∙ c.account-nothing.ensures.account) c.requires.acts c.account-nothing.ensures.legal,
-    )
-
-pub returns-clause-committed : goal.returns-clause-committed
-returns-clause-committed g c =
-    let r = c.run-keeper.result in
-    let e = c.closed.ensures in (
-      r.1.end,
-      subst (λ (k : KeeperState g.row.D.Denot). HasCommitted g.D.Disk c.args.keeper k r.1.end) (sym e.keeper) c.run-keeper.ensures.0,
-      e.answer,
-    )
-
-pub returns-clause-acknowledged : goal.returns-clause-acknowledged
-returns-clause-acknowledged g c =
+pub returns : goal.returns
+returns g c =
     let r = c.run-keeper.result in
     let e = c.closed.ensures in
-    let account = account_in c.closed.result in (
-      r.1.end,
-      e.answer,
-      subst (λ (k : KeeperState g.row.D.Denot). IsAcknowledged g.D.Disk c.args.keeper k r.1.end account) (sym e.keeper)
-          (ended_acknowledged g.D.Disk c.args.keeper r.0 r.1.end r.2 account e.leaves.0.items e.leaves.0.history c.run-keeper.ensures e.leaves.1 e.issued),
-    )
-
-pub returns-clause-whole : goal.returns-clause-whole
-returns-clause-whole g c = all_whole c.closed.result _ c.args.settings.now.accepts c.in-Ok.ensures.keeps c.closed.ensures.whole
+    let answer = c.closed.result in
+    let account = account_in answer in record {
+      committed = (
+        r.1.end,
+        subst (λ (k : KeeperState g.row.D.Denot). HasCommitted g.D.Disk c.args.keeper k r.1.end) (sym e.keeper) c.run-keeper.ensures.0,
+        e.answer,
+      );
+      acknowledged = (
+        r.1.end,
+        e.answer,
+        subst (λ (k : KeeperState g.row.D.Denot). IsAcknowledged g.D.Disk c.args.keeper k r.1.end account) (sym e.keeper)
+            (ended_acknowledged g.D.Disk c.args.keeper r.0 r.1.end r.2 account e.leaves.0.items e.leaves.0.history c.run-keeper.ensures e.leaves.1 e.issued),
+      );
+      settled = subst (λ (k : Bool). IfOk answer (λ (s : Served g.row.D.Denot). IsSettled k s.keeper.state s.audit)) c.in-Ok.ensures.keeps e.settled;
+    }

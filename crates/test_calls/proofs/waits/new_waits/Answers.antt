@@ -11,4 +11,4 @@ pub add_array-requires-clause-room : goal.add_array-requires-clause-room
 add_array-requires-clause-room c = rw (c.in_ok-waits.ensures.arrays, len-empty nat_cmp ℕ) (omega arith)
 
 pub returns-in-Ok : goal.returns-in-Ok
-returns-in-Ok c = rw c.in-Ok.ensures.ok (get-insert_here _ 1 8)
+returns-in-Ok c = rw c.in-Ok.ensures.ok.arrays (get-insert_here _ 1 8)

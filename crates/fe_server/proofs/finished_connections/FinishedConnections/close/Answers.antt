@@ -26,7 +26,12 @@ returns-in-Ok-clause-audit g c =
       record { booked_calls = e.booked_calls; booked_mails = e.booked_mails; add_up = e.add_up; unspent = e.unspent; lists = e.lists; all_receipts = e.all_receipts ∙ c.into_parts-receipts.ensures.whole },
     )
 
-pub returns-in-Ok-clause-whole : goal.returns-in-Ok-clause-whole
-returns-in-Ok-clause-whole g c = λ keep.
-    let none : lacks c.args.self.short c.args.keeps c.args.self.receipts.whole ≡ false = search rules in
-    c.in-Ok.ensures.audit.all_receipts ∙ c.into_parts-receipts.ensures.whole ∙ kept_whole _ _ _ none keep
+pub returns-in-Ok-clause-settled : goal.returns-in-Ok-clause-settled
+returns-in-Ok-clause-settled g c =
+    let e = c.in-Ok.ensures in
+    let none : lacks c.args.self.short c.args.keeps c.args.self.receipts.whole ≡ false = search rules in record {
+      add_up = e.audit.add_up;
+      unspent = e.audit.unspent;
+      borne_out = e.borne_out;
+      whole = λ keep. e.audit.all_receipts ∙ c.into_parts-receipts.ensures.whole ∙ kept_whole _ _ _ none keep;
+    }
