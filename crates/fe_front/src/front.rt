@@ -162,7 +162,7 @@ impl Front {
         }
     }
 
-    /// Raises the least usable number of the connection's session, with an entry of it.
+    /// Raises the floor of the connection's session, the least number of its window, with an entry of it.
     pub fn settle(&mut self, conn: u64, floor: u64) -> Result<(), Refusal>
         requires room { IsTrue (has_room self.old) }
         ensures settled { MatchResult (settling self.old conn floor)

@@ -1,4 +1,4 @@
-//! Which session an event of a connection is for, and why the event is refused. A floor is a session's least usable number.
+//! Which session an event of a connection is for, and why the event is refused. A session's floor is the least number of its window.
 
 ghost use Rattle.std.specs.Prelude.{◌≡◌, None, IsTrue, IsSome};
 ghost use Rattle.std.specs.FinMap.{get};
@@ -62,7 +62,7 @@ impl Front {
         }
     }
 
-    /// The least usable number of a session, 1 if the session does not exist.
+    /// The floor of a session, the least number of its window; 1 if the session does not exist.
     pub(crate) fn floor(&self, session: u64) -> u64
         ensures { result ≡ floor_of self.now.service session }
     {

@@ -110,7 +110,7 @@ impl Service {
         self.inner.pending.as_slice().len()
     }
 
-    // The least usable number of a session, 1 if the session is new.
+    // The floor of a session, the least number of its window; 1 if the session is new.
     fn floor(&self, session: u64) -> u64
         ensures { result ≡ floor_of self.now session }
     {
