@@ -4,8 +4,8 @@ ghost use Rattle.std.specs.Prelude.{◌≡◌, ◌<◌, ◌≤◌, length, Some,
 ghost use Rattle.std.specs.Io.KnownBytes.{IsAtEnd, WriteAppends};
 ghost use Rattle.fe_streams.specs.Incoming.{HasRead, bytes_read};
 
-use crate::{StreamFailed, read_some};
-use std::io::Read;
+use crate::{StreamFailed, TRIES};
+use std::io::{ErrorKind, Read};
 use std::snapshot::Snapshot;
 
 /// A reader. Clauses, not the program, also see which bytes were read from it, if `R.remaining` gives its bytes.
@@ -37,6 +37,16 @@ impl<R: Read> Incoming<R> {
         ensures began { self.new.began ≡ self.old.began }
         ensures end { IfOk result (λ count. count ≡ 0 → 0 < length buffer.old → IsAtEnd (R.remaining self.new.reader)) }
     {
-        read_some(&mut self.reader, buffer)
+        for _ in 0..TRIES {
+            match self.reader.read(buffer) {
+                Ok(count) => return Ok(count),
+                Err(error) => {
+                    if error.kind() != ErrorKind::Interrupted {
+                        return Err(StreamFailed(()));
+                    }
+                }
+            }
+        }
+        Err(StreamFailed(()))
     }
 }

@@ -2,12 +2,12 @@
 #![tactic(auto)]
 
 ghost use Rattle.std.specs.Prelude.{◌≡◌, ◌<◌, ◌≤◌, length, IfOk};
-ghost use Rattle.std.specs.Io.KnownBytes.{ReadConsumes, WriteAppends};
+ghost use Rattle.std.specs.Io.KnownBytes.{WriteAppends};
 
 mod incoming;
 
 pub use incoming::Incoming;
-use std::io::{ErrorKind, Read, Write};
+use std::io::{ErrorKind, Write};
 
 /// How often an interrupted call is tried.
 const TRIES: u64 = 1 << 40;
@@ -16,26 +16,6 @@ const TRIES: u64 = 1 << 40;
 /// calls of this crate make it.
 #[derive(Clone, Copy, PartialEq, Eq)]
 pub struct StreamFailed(());
-
-/// Reads bytes into the front of the buffer and returns how many: at least one, except at the end of the stream or if the
-/// buffer is empty.
-pub fn read_some<R: Read>(reader: &mut R, buffer: &mut [u8]) -> Result<usize, StreamFailed>
-    ensures fits { IfOk result (λ count. count ≤ length buffer.old) }
-    ensures room { length buffer.new ≡ length buffer.old }
-    ensures consumed { ReadConsumes (R.remaining reader.old) (R.remaining reader.new) result buffer.new }
-{
-    for _ in 0..TRIES {
-        match reader.read(buffer) {
-            Ok(count) => return Ok(count),
-            Err(error) => {
-                if error.kind() != ErrorKind::Interrupted {
-                    return Err(StreamFailed(()));
-                }
-            }
-        }
-    }
-    Err(StreamFailed(()))
-}
 
 /// Writes at least one byte from the front, and returns how many; returns 0 only if there are none.
 pub fn write_some<W: Write>(writer: &mut W, bytes: &[u8]) -> Result<usize, StreamFailed>
