@@ -2,6 +2,7 @@
 use Rattle.std.proofs.Common.{◌≡◌, inl, inr, ⊎_elim, ℕ, suc, ◌+◌, ◌≤◌, Bool, true, false, Option, Some, None, List, [], ◌∷◌, ◌++◌, length, take, refl, sym, ap, subst, ◌∙◌, zero-add, arith}
 use Rattle.std.specs.Prelude.{◌↔◌, if◌then◌else◌, Result, Ok, Err, IsErrAnd, IfErr}
 use Rattle.std.proofs.lemmas.List.{length-append, take-append-le, take_all}
+use Rattle.fe_disk.specs.Disk.{Rises}
 use Rattle.fe_disk.specs.Runs.{LeavesOnly}
 use Rattle.fe_disk.proofs.Moments.{started, joined, weaker}
 use Rattle.fe_state.specs.State.{ServerState, after_all}
@@ -352,6 +353,14 @@ module _ {D : Type 0} (model : Ghosts D) where
 
   pub still_both : (a b c : KeeperState D) → IsStill model a b → IsStill model b c → IsStill model a c
   still_both a b c ab bc = record { works = bc.works ∙ ab.works; still = bc.still ∙ ab.still }
+
+  -- a call that breaks the device, after calls that did not
+  pub breaks_behind : (a b c : KeeperState D) → IsStill model a b → Breaks model b c → Breaks model a c
+  breaks_behind a b c still breaks = record {
+    before = sym still.works ∙ breaks.before;
+    failed = breaks.failed;
+    rises = subst (λ (n : ℕ). Rises n (model.failures c.store.disk)) still.still breaks.rises;
+  }
 
 -- ---- faults
 

@@ -226,13 +226,13 @@ breaks_off taken before frames bytes after mails n same batch spelling few got =
 pub written_so : (before frames bytes after : List ℕ) (mails : List Mail) → frames ≡ spelled mails → bytes ≡ frames → after ≡ before ++ bytes → after ≡ before ++ spelled mails
 written_so before frames bytes after mails spelling same got = got ∙ ap (λ t. before ++ t) (same ∙ spelling)
 
-pub written_as : {A : Type 0} (end : WriteEnd) (before frames bytes after : List ℕ) (mails : List Mail) → AreSpelled {A = A} [] (Err end) mails frames → bytes ≡ frames → after ≡ before ++ bytes
+pub written_as : (A : Type 0) (end : WriteEnd) (before frames bytes after : List ℕ) (mails : List Mail) → AreSpelled {A = A} [] (Err end) mails frames → bytes ≡ frames → after ≡ before ++ bytes
     → IsWritten before mails end after
-written_as Gone before frames bytes after mails spelling same got = written_so before frames bytes after mails spelling same got
-written_as Stopped before frames bytes after mails spelling same got = written_so before frames bytes after mails spelling same got
-written_as Spent before frames bytes after mails spelling same got = written_so before frames bytes after mails spelling same got
-written_as Device before frames bytes after mails spelling same got = absurd spelling
-written_as (NoMemory short) before frames bytes after mails w same got = record {
+written_as A Gone before frames bytes after mails spelling same got = written_so before frames bytes after mails spelling same got
+written_as A Stopped before frames bytes after mails spelling same got = written_so before frames bytes after mails spelling same got
+written_as A Spent before frames bytes after mails spelling same got = written_so before frames bytes after mails spelling same got
+written_as A Device before frames bytes after mails spelling same got = absurd spelling
+written_as A (NoMemory short) before frames bytes after mails w same got = record {
   earlier = w.earlier;
   last = w.last;
   all = w.all;

@@ -1,66 +1,124 @@
-use Rattle.std.proofs.Common.{ℕ, Bool, List, [], ◌∷◌, sym, ap, subst, ◌∙◌, arith, rules}
-use Rattle.std.proofs.lemmas.Result.{err_from_is_err_and}
-use Rattle.fe_history.specs.Acts.{WasIssued}
+use Rattle.std.proofs.Common.{◌≡◌, ◌<◌, ◌≤◌, ℕ, List, [], ◌∷◌, not, length, refl, sym, ap, subst, ◌∙◌, arith}
+use Rattle.std.proofs.lemmas.List.{append-nil}
+use Rattle.fe_history.specs.Receipts.{receipt_of}
+use Rattle.fe_history.specs.declared.receipt.Receipt.{Receipt}
+use Rattle.fe_history.proofs.Acts.{prefix_self}
 use Rattle.fe_shared.specs.Marks.{TakingIssued}
-use Rattle.fe_shared.specs.Seats.{MailSeatState}
-use Rattle.fe_history.specs.declared.act.Act.{Act}
 use Rattle.fe_shared.specs.declared.taking.Taking.{Taking}
-use Rattle.fe_hall.proofs.Written.{takes_same, takes_one, spelled_one, lacks_one, spells_none, answered_mail, answered_end, none_since}
+use Rattle.fe_hall.specs.Writes.{end_for, receipts_with}
+use Rattle.fe_hall.specs.declared.write_end.WriteEnd.TheVariants.{Gone, Stopped, Spent}
+use Rattle.fe_hall.proofs.Written.{takes_same, takes_one, spelled_one, lacks_one, answered_mail, answered_end, keeps_none, keeps_one, keeps_first}
+use Rattle.fe_hall.proofs.writing.Writing.take_mail.Goals.{then-keeps+in_default, else-keeps, then-keeps-2+in-Some+else-is_err, then-keeps-2+in_default-of, else-keeps-2}
 use Rattle.fe_hall.proofs.writing.Writing.take_mail.Goals as goal
 
 pub returns-in-Err-clause-took : goal.returns-in-Err-clause-took
 returns-in-Err-clause-took g c =
     let s = c.args.self.now in
-    let r = c.make_room.ensures in
-    let n = c.make_room.new.self in
-    let takes = takes_same s.seat n.seat s.receipts.items n.receipts.items s.few (none_since s.seat n.seat n.seat r.seat (search rules)) r.receipts in
-    ([], takes, omega arith, lacks_one s.frames.items n.frames.items [] (omega arith) r.frames, tt)
+    let takes = takes_same s.seat s.seat s.receipts.items c.reserve_one.new.list.items s.few (record { conn = refl; mails = refl; taken = refl }) c.reserve_one.ensures.items in
+    ([], takes, omega arith, lacks_one s.frames.items s.frames.items [] (omega arith) refl, (prefix_self s.history, tt))
 
-pub returns-in_err-mail-clause-took : goal.returns-in_err-mail-clause-took
-returns-in_err-mail-clause-took g c =
+pub returns-in-Gone-clause-took : goal.returns-in-Gone-clause-took
+returns-in-Gone-clause-took g c =
     let s = c.args.self.now in
-    let r = c.make_room.ensures in
-    let n = c.make_room.new.self in
-    let p = err_from_is_err_and c.from_residual.result c.from_residual.ensures.1 in
-    let e = answered_end n.seat c.take_mail.new.seat c.take_mail.result c.in_err-mail.field-0.0 c.take_mail.ensures.seat c.in_err-mail.ensures.end in
-    let takes = takes_same s.seat c.take_mail.new.seat s.receipts.items n.receipts.items s.few (none_since s.seat n.seat c.take_mail.new.seat r.seat e.none) r.receipts in
-    rw (p.1, p.2) ([], takes, omega arith, spells_none Bool c.in_err-mail.field-0.0 s.frames.items n.frames.items e.fine r.frames, tt)
+    let t = c.take_mail-taking.new.seat in
+    let same : c.if-keeps.self.1.1.0.items ≡ s.receipts.items = elim c.if-keeps.branch [
+      | then-keeps+in_default w ↦ rw w.self-is w.reserve_one.ensures.items
+      | else-keeps w ↦ rw w.self-is refl
+    ] in
+    let ends = answered_end s.seat t c.take_mail-taking.result Gone c.take_mail-taking.ensures.seat (ap (λ (t : Taking). end_for t) c.in-Gone.is) in
+    let takes = takes_same s.seat t s.receipts.items c.if-keeps.self.1.1.0.items s.few ends.none same in
+    ([], takes, omega arith, sym (append-nil s.frames.items), (c.take_mail-taking.ensures.this, tt))
 
-pub returns-in_err-mail-clause-ended_as : goal.returns-in_err-mail-clause-ended_as
-returns-in_err-mail-clause-ended_as g c =
-    let p = err_from_is_err_and c.from_residual.result c.from_residual.ensures.1 in
-    let e = answered_end c.make_room.new.self.seat c.take_mail.new.seat c.take_mail.result c.in_err-mail.field-0.0 c.take_mail.ensures.seat c.in_err-mail.ensures.end in
-    rw (p.1, p.2) e.ended_as
+pub returns-in-Stopped-clause-took : goal.returns-in-Stopped-clause-took
+returns-in-Stopped-clause-took g c =
+    let s = c.args.self.now in
+    let t = c.take_mail-taking.new.seat in
+    let same : c.if-keeps.self.1.1.0.items ≡ s.receipts.items = elim c.if-keeps.branch [
+      | then-keeps+in_default w ↦ rw w.self-is w.reserve_one.ensures.items
+      | else-keeps w ↦ rw w.self-is refl
+    ] in
+    let ends = answered_end s.seat t c.take_mail-taking.result Stopped c.take_mail-taking.ensures.seat (ap (λ (t : Taking). end_for t) c.in-Stopped.is) in
+    let takes = takes_same s.seat t s.receipts.items c.if-keeps.self.1.1.0.items s.few ends.none same in
+    ([], takes, omega arith, sym (append-nil s.frames.items), (c.take_mail-taking.ensures.this, tt))
+
+pub returns-in-Spent-clause-took : goal.returns-in-Spent-clause-took
+returns-in-Spent-clause-took g c =
+    let s = c.args.self.now in
+    let t = c.take_mail-taking.new.seat in
+    let same : c.if-keeps.self.1.1.0.items ≡ s.receipts.items = elim c.if-keeps.branch [
+      | then-keeps+in_default w ↦ rw w.self-is w.reserve_one.ensures.items
+      | else-keeps w ↦ rw w.self-is refl
+    ] in
+    let ends = answered_end s.seat t c.take_mail-taking.result Spent c.take_mail-taking.ensures.seat (ap (λ (t : Taking). end_for t) c.in-Spent.is) in
+    let takes = takes_same s.seat t s.receipts.items c.if-keeps.self.1.1.0.items s.few ends.none same in
+    ([], takes, omega arith, sym (append-nil s.frames.items), (c.take_mail-taking.ensures.this, tt))
 
 pub returns-in-Ok-clause-took : goal.returns-in-Ok-clause-took
 returns-in-Ok-clause-took g c =
     let s = c.args.self.now in
-    let r = c.make_room.ensures in
-    let k = c.keep_receipt.ensures in
-    let m = c.in_ok-mail.mail in
-    let took = answered_mail c.make_room.new.self.seat c.take_mail.new.seat c.take_mail.result m c.in_ok-mail.more c.take_mail.ensures.seat c.in_ok-mail.ensures.mail in
-    let takes =
-    takes_one s.seat c.make_room.new.self.seat c.take_mail.new.seat c.keep_receipt.new.self.seat s.receipts.items c.make_room.new.self.receipts.items c.keep_receipt.new.self.receipts.items
-    m c.in_ok-mail.more r.seat r.receipts took k.seat k.receipts in
-    let issued = subst (λ (n : ℕ). WasIssued n m c.keep_receipt.new.self.history) (ap (λ (s : MailSeatState). s.conn) r.seat) (subst (λ (h : List Act). WasIssued c.make_room.new.self.seat.conn m h) (sym k.history)
-    (subst (λ (t : Taking). TakingIssued c.make_room.new.self.seat.conn t c.take_mail.new.history) c.in_ok-mail.ensures.mail c.take_mail.ensures.issued)) in
-    (m ∷ [], takes, omega arith, spelled_one s.frames.items c.keep_receipt.new.self.frames.items c.put-2.new.frames.items m c.of.result (k.frames ∙ r.frames) c.of.ensures c.in-Ok.ensures.ok, (issued, tt))
-
-pub returns-in-Ok-clause-more : goal.returns-in-Ok-clause-more
-returns-in-Ok-clause-more g c =
-    let took = answered_mail c.make_room.new.self.seat c.take_mail.new.seat c.take_mail.result c.in_ok-mail.mail c.in_ok-mail.more c.take_mail.ensures.seat c.in_ok-mail.ensures.mail in
-    sym (ap (λ (w : MailSeatState). w.more) (c.keep_receipt.ensures.seat ∙ took))
+    let t = c.take_mail-taking.new.seat in
+    let m = c.in-Mail.mail in
+    let same : c.if-keeps.self.1.1.0.items ≡ s.receipts.items = elim c.if-keeps.branch [
+      | then-keeps+in_default w ↦ rw w.self-is w.reserve_one.ensures.items
+      | else-keeps w ↦ rw w.self-is refl
+    ] in
+    let kept = c.if-keeps.self.1.1.0.items in
+    let few : length kept ≤ 1024 = subst (λ (rs : List Receipt). length rs ≤ 1024) (sym same) s.few in
+    let took = answered_mail s.seat t c.take_mail-taking.result m c.in-Mail.more c.take_mail-taking.ensures.seat c.in-Mail.is in
+    let seat : c.if-keeps-2.self.1.0 ≡ t = elim c.if-keeps-2.branch [
+      | then-keeps-2+in-Some+else-is_err w ↦ rw w.self-is refl
+      | then-keeps-2+in_default-of w ↦ rw w.self-is refl
+      | else-keeps-2 w ↦ rw w.self-is refl
+    ] in
+    let keeps : c.if-keeps-2.self.1.1.0.items ≡ receipts_with t.conn kept (m ∷ []) = elim c.if-keeps-2.branch [
+      | then-keeps-2+in-Some+else-is_err w ↦
+          let room : length s.receipts.items < 1024 = omega (arith, w.if-keeps-2.true, c.len-keeps.ensures) in
+          let short : length kept < 1024 = subst (λ (rs : List Receipt). length rs < 1024) (sym same) room in
+          rw w.self-is
+          (keeps_one w.push.result t.conn kept w.push.new.self.items m w.in-Some.receipt short (sym w.in-Some.is ∙ w.of.ensures ∙ ap (λ (n : ℕ). receipt_of n m) w.conn.ensures)
+          (w.is_err.ensures.negation ∙ ap not w.if-is_err.false) w.push.ensures.items)
+      | then-keeps-2+in_default-of w ↦
+          rw w.self-is (keeps_none t.conn kept m few (sym w.in_default-of.is ∙ w.of.ensures ∙ ap (λ (n : ℕ). receipt_of n m) w.conn.ensures))
+      | else-keeps-2 w ↦
+          let all : 1024 ≤ length s.receipts.items = omega (arith, w.if-keeps-2.false, c.len-keeps.ensures) in
+          let full : 1024 ≤ length kept = subst (λ (rs : List Receipt). 1024 ≤ length rs) (sym same) all in
+          rw w.self-is (keeps_first t.conn kept m few full)
+    ] in
+    let takes = takes_one s.seat s.seat t c.if-keeps-2.self.1.0 s.receipts.items kept c.if-keeps-2.self.1.1.0.items m c.in-Mail.more refl same took seat keeps in
+    let issued = subst (λ (t : Taking). TakingIssued s.seat.conn t c.take_mail-taking.new.history) c.in-Mail.is c.take_mail-taking.ensures.issued in
+    (m ∷ [], takes, omega arith, spelled_one s.frames.items s.frames.items c.put-2.new.frames.items m c.of-2.result refl c.of-2.ensures c.in-Ok.ensures.ok, (c.take_mail-taking.ensures.this, (issued, tt)))
 
 pub returns-clause-took : goal.returns-clause-took
 returns-clause-took g c =
     let s = c.args.self.now in
-    let r = c.make_room.ensures in
-    let k = c.keep_receipt.ensures in
-    let m = c.in_ok-mail.mail in
-    let took = answered_mail c.make_room.new.self.seat c.take_mail.new.seat c.take_mail.result m c.in_ok-mail.more c.take_mail.ensures.seat c.in_ok-mail.ensures.mail in
-    let takes =
-    takes_one s.seat c.make_room.new.self.seat c.take_mail.new.seat c.keep_receipt.new.self.seat s.receipts.items c.make_room.new.self.receipts.items c.keep_receipt.new.self.receipts.items
-    m c.in_ok-mail.more r.seat r.receipts took k.seat k.receipts in
-    let issued = subst (λ (n : ℕ). WasIssued n m c.keep_receipt.new.self.history) (ap (λ (s : MailSeatState). s.conn) r.seat) (subst (λ (h : List Act). WasIssued c.make_room.new.self.seat.conn m h) (sym k.history)
-    (subst (λ (t : Taking). TakingIssued c.make_room.new.self.seat.conn t c.take_mail.new.history) c.in_ok-mail.ensures.mail c.take_mail.ensures.issued)) in
-    (m ∷ [], takes, omega arith, lacks_one s.frames.items c.put-2.new.frames.items (m ∷ []) (omega arith) (c.in-Err-put.ensures.err ∙ k.frames ∙ r.frames), (issued, tt))
+    let t = c.take_mail-taking.new.seat in
+    let m = c.in-Mail.mail in
+    let same : c.if-keeps.self.1.1.0.items ≡ s.receipts.items = elim c.if-keeps.branch [
+      | then-keeps+in_default w ↦ rw w.self-is w.reserve_one.ensures.items
+      | else-keeps w ↦ rw w.self-is refl
+    ] in
+    let kept = c.if-keeps.self.1.1.0.items in
+    let few : length kept ≤ 1024 = subst (λ (rs : List Receipt). length rs ≤ 1024) (sym same) s.few in
+    let took = answered_mail s.seat t c.take_mail-taking.result m c.in-Mail.more c.take_mail-taking.ensures.seat c.in-Mail.is in
+    let seat : c.if-keeps-2.self.1.0 ≡ t = elim c.if-keeps-2.branch [
+      | then-keeps-2+in-Some+else-is_err w ↦ rw w.self-is refl
+      | then-keeps-2+in_default-of w ↦ rw w.self-is refl
+      | else-keeps-2 w ↦ rw w.self-is refl
+    ] in
+    let keeps : c.if-keeps-2.self.1.1.0.items ≡ receipts_with t.conn kept (m ∷ []) = elim c.if-keeps-2.branch [
+      | then-keeps-2+in-Some+else-is_err w ↦
+          let room : length s.receipts.items < 1024 = omega (arith, w.if-keeps-2.true, c.len-keeps.ensures) in
+          let short : length kept < 1024 = subst (λ (rs : List Receipt). length rs < 1024) (sym same) room in
+          rw w.self-is
+          (keeps_one w.push.result t.conn kept w.push.new.self.items m w.in-Some.receipt short (sym w.in-Some.is ∙ w.of.ensures ∙ ap (λ (n : ℕ). receipt_of n m) w.conn.ensures)
+          (w.is_err.ensures.negation ∙ ap not w.if-is_err.false) w.push.ensures.items)
+      | then-keeps-2+in_default-of w ↦
+          rw w.self-is (keeps_none t.conn kept m few (sym w.in_default-of.is ∙ w.of.ensures ∙ ap (λ (n : ℕ). receipt_of n m) w.conn.ensures))
+      | else-keeps-2 w ↦
+          let all : 1024 ≤ length s.receipts.items = omega (arith, w.if-keeps-2.false, c.len-keeps.ensures) in
+          let full : 1024 ≤ length kept = subst (λ (rs : List Receipt). 1024 ≤ length rs) (sym same) all in
+          rw w.self-is (keeps_first t.conn kept m few full)
+    ] in
+    let takes = takes_one s.seat s.seat t c.if-keeps-2.self.1.0 s.receipts.items kept c.if-keeps-2.self.1.1.0.items m c.in-Mail.more refl same took seat keeps in
+    let issued = subst (λ (t : Taking). TakingIssued s.seat.conn t c.take_mail-taking.new.history) c.in-Mail.is c.take_mail-taking.ensures.issued in
+    (m ∷ [], takes, omega arith, lacks_one s.frames.items c.put-2.new.frames.items (m ∷ []) (omega arith) c.in-Err-put.ensures.err, (c.take_mail-taking.ensures.this, (issued, tt)))

@@ -39,8 +39,8 @@ returns-in-Err-taken-clause-wrote g c =
       takes_on s.seat l.seat n.seat s.receipts.items l.receipts.items n.receipts.items i.0 t.0 i.1 t.1,
       (λ known.
           let w = c.in_default.ensures.wrote (c.loop.invariant.2 known) in
-          let same = written_as c.in-Err-taken.end (got c.loop.half) n.frames.items c.as_slice.result.now (got c.write_whole.new.half) t.0 t.3 c.as_slice.ensures.value w.1 in
-          (w.0, written_more c.in-Err-taken.end (got c.args.half.now) (got c.loop.half) (got c.write_whole.new.half) i.0 t.0 (i.2 known) same)),
+          let ending = written_as (Unit {0}) c.in-Err-taken.end (got c.loop.half) n.frames.items c.as_slice.result.now (got c.write_whole.new.half) t.0 t.3 c.as_slice.ensures.value w.1 in
+          (w.0, written_more c.in-Err-taken.end (got c.args.half.now) (got c.loop.half) (got c.write_whole.new.half) i.0 t.0 (i.2 known) ending)),
       issued_both s.seat.conn l.seat.conn i.0 t.0 l.history n.history i.1.conn t.4.0 i.3 t.4.1,
     )
 
@@ -51,16 +51,15 @@ loop-preserved g c =
     let n = c.take_mails-taken.new.self in
     let i = c.loop.invariant.0 in
     let t = c.in_default-taken.ensures.took in
-    let got = g.H.WriteHalf.got in
-    let written = λ known. c.in_default.ensures.wrote (c.loop.invariant.2 known) in (
+    let got = g.H.WriteHalf.got in (
       (
         i.0 ++ t.0,
         takes_on s.seat l.seat n.seat s.receipts.items l.receipts.items n.receipts.items i.0 t.0 i.1 t.1,
         (λ known. wrote_more (got c.args.half.now) (got c.loop.half) (got c.write_whole.new.half) i.0 t.0 (i.2 known)
-            (written_so (got c.loop.half) n.frames.items c.as_slice.result.now (got c.write_whole.new.half) t.0 t.3 c.as_slice.ensures.value (written known).1)),
+            (written_so (got c.loop.half) n.frames.items c.as_slice.result.now (got c.write_whole.new.half) t.0 t.3 c.as_slice.ensures.value (c.in_default.ensures.wrote (c.loop.invariant.2 known)).1)),
         issued_both s.seat.conn l.seat.conn i.0 t.0 l.history n.history i.1.conn t.4.0 i.3 t.4.1,
       ),
-      c.clear.ensures,
-      (λ known. (written known).0),
+      c.clear.ensures.items,
+      (λ known. (c.in_default.ensures.wrote (c.loop.invariant.2 known)).0),
       (tt, tt),
     )
