@@ -12,7 +12,7 @@ use Rattle.fe_state.specs.declared.entry.Entry.{Entry}
 use Rattle.fe_state.proofs.Histories.{history-append}
 use Rattle.std.specs.Option.{option_map_or}
 use Rattle.fe_keeper.specs.Ends.{Rests, StopsLeave, Works, Breaks, Fails, ForBatch, IsStill}
-use Rattle.fe_keeper.specs.Keeper.{KeeperState, StoreState, Progress, fits, must_begin, made_room, renewed, appended, stepped, stepped_by, finished, finished_by}
+use Rattle.fe_keeper.specs.Keeper.{KeeperState, StoreState, Progress, fits, must_begin, made_room, renewed, appended, finished_by}
 use Rattle.fe_keeper.specs.Prefix.{LeavesPrefix}
 use Rattle.fe_keeper.specs.Stands.{StandsFor, StandsForEither, EachStandsFor}
 use Rattle.fe_keeper.specs.declared.fault.Fault.{Fault}
@@ -296,22 +296,7 @@ module _ {D : Type 0} (model : Ghosts D) where
 
 -- ---- the checkpoint beside
 
--- a slice that is written, and a checkpoint that is finished, leave the disk working
-pub stepped_works : {D : Type 0} (s t : StoreState D) (disk : D) → t ≡ record (stepped s) { disk = disk } → t.has_failed ≡ s.has_failed
-stepped_works {D} s t disk is = ap (λ (u : StoreState D). u.has_failed) is ∙ by s.checkpoint
-  where
-    by : (o : Option Progress) → (option_map_or (stepped_by s) o s).has_failed ≡ s.has_failed
-    by None = refl
-    by (Some p) = refl
-
-pub finished_works : {D : Type 0} (s t : StoreState D) (disk : D) → t ≡ record (finished s) { disk = disk } → t.has_failed ≡ s.has_failed
-finished_works {D} s t disk is = ap (λ (u : StoreState D). u.has_failed) is ∙ by s.checkpoint
-  where
-    by : (o : Option Progress) → (option_map_or (finished_by s) o s).has_failed ≡ s.has_failed
-    by None = refl
-    by (Some p) = refl
-
--- so does a batch that is appended
+-- a batch that is appended leaves the disk working
 pub appended_works : {D : Type 0} (s t : StoreState D) (entries : List Entry) (disk : D) → t ≡ record (appended (made_room s entries) entries) { disk = disk } → t.has_failed ≡ s.has_failed
 appended_works {D} s t entries disk is = ap (λ (u : StoreState D). u.has_failed) is ∙ by (must_begin s entries) (fits s entries) s.checkpoint
   where

@@ -3,5 +3,4 @@ pub mod Streams
 pub mod Handling
 pub mod Written
 pub mod Noted
-pub mod Turns
 pub mod Issuing

@@ -73,10 +73,6 @@ pub takes_same : (a b : MailSeatState) (kept same : List Receipt) → length kep
 takes_same a b kept same few still receipts =
     let none = takes_none a kept few in record { conn = still.conn; count = still.mails ∙ none.count; taken = still.taken ∙ none.taken; receipts = receipts ∙ none.receipts }
 
--- the seat of a side that took none, after one that is the same
-pub none_since : (a b c : MailSeatState) → b ≡ a → TookNoMail b c → TookNoMail a c
-none_since a b c same none = record { conn = none.conn ∙ ap (λ (s : MailSeatState). s.conn) same; mails = none.mails ∙ ap (λ (s : MailSeatState). s.mails) same; taken = none.taken ∙ ap (λ (s : MailSeatState). s.taken) same }
-
 -- a mail is taken, and its receipt kept
 pub takes_one : (a b c d : MailSeatState) (kept same all : List Receipt) (m : Mail) (more : Bool) → b ≡ a → same ≡ kept → c ≡ mail_taken b m more → d ≡ c → all ≡ receipts_with c.conn same (m ∷ [])
     → TakesOn a d kept all (m ∷ [])
@@ -169,16 +165,9 @@ spelled_one frames same after m r is reply put =
 pub spelled_more : (frames after : List ℕ) (mails more : List Mail) → frames ≡ spelled mails → after ≡ frames ++ spelled more → after ≡ spelled (mails ++ more)
 spelled_more frames after mails more so_far is = is ∙ ap (λ t. t ++ spelled more) so_far ∙ sym (spelled-append mails more)
 
--- a mail that was not spelled, and no mail
+-- mails of which the last may not be spelled
 pub lacks_one : (before same : List ℕ) (mails : List Mail) → length mails ≤ 1 → same ≡ before → MayLackLast before mails same
 lacks_one before same mails few is = record { earlier = []; last = mails; all = refl; few = few; got = is ∙ sym (append-nil before) }
-
-pub spells_none : (A : Type 0) (end : WriteEnd) (before same : List ℕ) → IsNoFault end → same ≡ before → AreSpelled {A = A} before (Err end) [] same
-spells_none A Gone before same fine is = is ∙ sym (append-nil before)
-spells_none A Stopped before same fine is = is ∙ sym (append-nil before)
-spells_none A Spent before same fine is = is ∙ sym (append-nil before)
-spells_none A Device before same fine is = absurd fine
-spells_none A (NoMemory short) before same fine is = absurd fine
 
 -- after mails that are spelled others were taken, when the side ends
 pub spells_on : (A B : Type 0) (end : WriteEnd) (frames after : List ℕ) (mails more : List Mail) → frames ≡ spelled mails → AreSpelled {A = A} frames (Err end) more after
