@@ -6,15 +6,18 @@ ghost use Rattle.fe_disk.specs.within.Samples.{Holds, StaysRight, IsOf, Precedes
 use crate::read_back::ReadBack;
 use crate::sample::{LONG, Sample};
 
-/// Two samples of what was written into a file, each the first bytes of a long write, as of a group, and the byte in front of
-/// them, the group's gate. When the next gate is synced, the file must still have the one that was synced before.
+/// Two samples of what was written into a file. Each has the first bytes of a long write, such as that of a group, and, once it is
+/// written, the byte in front of them, the group's gate. When the next gate is synced, the file must still have the sample that was
+/// synced before.
 #[derive(Clone, Copy)]
 pub(crate) struct Samples {
     /// The sample of the last long write. It is empty if a later write overwrote it.
     written: Sample,
-    /// What `written` was at the last sync behind a short write. It is empty if a later write overwrote it.
+    /// What `written` was at the last sync right after a short write that found the file right. It is empty if a later write
+    /// overwrote it.
     synced: Sample,
-    /// Whether the last write was short. So a group is compared once, after its gate.
+    /// Whether the last write was short, as of a gate. Only a sync right after such a write compares the file: of the two syncs
+    /// of an append, the second.
     pub(crate) is_short: bool,
 }
 
@@ -26,7 +29,8 @@ impl Samples {
         is_short: false,
     };
 
-    /// Takes a sample of a write, and forgets the samples that the write overwrote.
+    /// Takes a sample of a long write, adds a gate written in front of the last one, and forgets the samples that any other
+    /// write overwrote.
     pub(crate) fn note(&mut self, at: usize, bytes: &[u8])
         ensures written { StaysRight at bytes.now self.old.written self.new.written }
         ensures synced { StaysRight at bytes.now self.old.synced self.new.synced }
@@ -40,8 +44,9 @@ impl Samples {
         self.is_short = bytes.len() < LONG;
     }
 
-    /// After a sync behind a short write, compares the file with what was synced before, and says whether it still has
-    /// that. If it has, what was written since counts as synced. After any other sync it says yes.
+    /// After a sync right after a short write, compares the file with what was synced before, and says whether it still has
+    /// that. If it has, what was written since counts as synced. A file that can't be read counts as changed. After any other
+    /// sync it says yes.
     pub(crate) fn confirm<F: ReadBack>(&mut self, file: &F) -> bool
         // The file has each byte that was synced before.
         ensures kept { F.honest file.now → IsTrue result → IsTrue self.old.is_short

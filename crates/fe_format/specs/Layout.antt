@@ -1,5 +1,5 @@
 -- The two formats of a store: the sizes in which they differ, and the lengths that they allow. A slot, half of a store,
--- has an image of the server's state, and groups: records of entries, stored at once. A group's payload is its records.
+-- has an image of the server's state, and groups, each the records of entries that were stored together: the group's payload.
 -- See `docs/model.md`, "The two formats".
 use Rattle.std.specs.Prelude.{◌≡◌, ℕ, ◌%◌, ◌≤◌}
 use Rattle.fe_format.specs.declared.format.Format.{Format}
@@ -25,23 +25,24 @@ abbrev pub group_records : Format → ℕ
 group_records One = 16383
 group_records Two = 13107
 
--- the longest payload: this many whole records
+-- the length of the longest payload, in bytes: that of `group_records` records
 abbrev pub longest_payload : Format → ℕ
 longest_payload One = 1048512
 longest_payload Two = 1048560
 
--- the longest image: its first fields, 64 arrays with 65,536 words, and 64 sessions with 32 answers each
+-- the length of the longest image, in bytes: its first fields, 64 arrays with 65,536 words in all, and 64 sessions with 32 answers
+-- each
 abbrev pub longest_image : Format → ℕ
 longest_image One = 740440
 longest_image Two = 774232
 
--- a payload has whole records, one at least
+-- the length of a payload: whole records, one at least, and at most the longest
 pub record IsPayloadLength (format : Format) (length : ℕ) : Type 0 where
   pub some : 1 ≤ length
   pub within : length ≤ longest_payload format
   pub whole : length % record_bytes format ≡ 0
 
--- an image has its first fields at least
+-- an image has its first four fields at least, 24 bytes (`docs/formats.md`, "Image")
 pub record IsImageLength (format : Format) (length : ℕ) : Type 0 where
   pub some : 24 ≤ length
   pub within : length ≤ longest_image format

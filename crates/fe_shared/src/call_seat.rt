@@ -1,3 +1,5 @@
+//! The seat of a connection's read side (`docs/model.md`, "The hall"). A place is a number of entries, the steps of the server's history.
+
 ghost use Rattle.std.specs.Prelude.{◌≡◌, ◌+◌, true};
 ghost use Rattle.fe_shared.specs.Seats.{calls_in, first_call_seat, message_taken, IsNewPart, one_seat};
 
@@ -19,12 +21,13 @@ pub struct CallSeat<C: Tally> {
     share: Share<C>,
     conn: u64,
     messages: MessageLog,
-    /// The place after all entries that were made when its last message was taken.
+    /// The place once its last message was taken: how many entries the history had then, those of the message among them. 0 if
+    /// none was taken.
     place: u64,
     last_answer: LastAnswer,
     /// Whether the side removed its connection.
     departed: bool,
-    /// Whether it did so only once it need not wait for what came of its messages.
+    /// Whether it did so with a `Rest`, which shows that it need not wait for what comes of its messages.
     rested: bool,
 }
 
@@ -49,7 +52,7 @@ impl<C: Tally> Model for CallSeat<C> {
 }
 
 impl<C: Tally> CallSeat<C> {
-    /// The seat of a connection just made: one part of the ledger.
+    /// The seat of a connection just made, with its part of the ledger.
     pub(crate) fn new(share: Share<C>, conn: u64) -> CallSeat<C>
         requires { IsNewPart C.all C.parts share.parts share.amount }
         ensures { result ≡ first_call_seat conn }
@@ -72,14 +75,15 @@ impl<C: Tally> CallSeat<C> {
         self.conn
     }
 
-    /// The place after all entries that were made when its last message was taken.
+    /// The place once its last message was taken, 0 if none was.
     pub(crate) fn place(&self) -> u64
         ensures { result ≡ self.now.place }
     {
         self.place
     }
 
-    /// Notes that a message was taken, and the place after all entries then. Its calls are counted here and in the book.
+    /// Notes that a message was taken, and the place after all entries then. If the message is a call, it is counted here and in the
+    /// book.
     pub(crate) fn take(&mut self, book: &mut Book<C>, message: &ClientMessage, place: u64)
         ensures seat { self.new ≡ message_taken self.old message.now place }
         ensures book { book.new.total ≡ book.old.total + calls_in message.now }
@@ -105,7 +109,7 @@ impl<C: Tally> CallSeat<C> {
         self.departed = true;
     }
 
-    /// Notes that the side removes its connection, since it need not wait.
+    /// Notes that the side removes its connection when it need not wait for what comes of its messages, as `Rest` shows.
     pub(crate) fn rest(&mut self, _book: &Book<C>, _rest: Rest)
         requires own { _rest.conn ≡ self.old.conn }
         ensures { self.new ≡ record self.old { departed = true; rested = true } }
@@ -114,7 +118,7 @@ impl<C: Tally> CallSeat<C> {
         self.rested = true;
     }
 
-    /// The seats of its one connection.
+    /// The seat, as the seats of one connection, to which others can be added.
     pub fn into_seats(self) -> Seats<C>
         ensures { result ≡ one_seat self.calls }
     {
@@ -123,7 +127,7 @@ impl<C: Tally> CallSeat<C> {
     }
 }
 
-/// How many calls a message is.
+/// How many calls a message is: 1 or 0.
 fn calls_in(message: &ClientMessage) -> u64
     ensures { result ≡ calls_in message.now }
 {

@@ -21,7 +21,8 @@ IsToFormat image format = IsUnformatted image × (format ≡ true)
 abbrev pub Opens : List ℕ → Bool → ServerState → Type 0
 Opens image format s = StandsFor image s ⊎ (IsToFormat image format × (s ≡ first_state))
 
--- What the image stands for, or the first state, is the keeper's state, and each image that a stop may leave stands for it.
+-- The keeper has the state that the image stands for, or the first state if a new store was made. Each image that a stop may leave
+-- now stands for the keeper's state.
 pub record IsOpenedAs {D : Type 0} (model : Ghosts D) (image : List ℕ) (format : Bool) (keeper : KeeperState D) : Type 0 where
   pub state : Opens image format keeper.state
   pub durable : EachStandsFor model keeper.store.disk keeper.state
@@ -31,21 +32,21 @@ abbrev pub disk_after : {D : Type 0} → Result (KeeperState D) (OpenFault × D)
 disk_after (Ok keeper) = keeper.store.disk
 disk_after (Err refused) = refused.1
 
--- What a fault says of the image that a disk reads: it is unformatted, or damaged first at this offset. The other
--- faults say nothing of it.
+-- What a fault says of the image that reads of a disk give: that it is unformatted, or that the first damage in it is at this offset.
+-- The other faults say nothing of it.
 abbrev pub TellsImage : OpenFault → List ℕ → Type 0
 TellsImage fault.Unformatted image = IsUnformatted image
 TellsImage (fault.Damaged offset) image = IsDamagedAt image offset
 TellsImage other image = Unit {0}
 
--- Why the store of an image is not opened: what the fault says of the image holds, and one that stands for a state is refused only if the device fails or
--- memory runs out.
+-- Why the store of an image is not opened: what the fault says of the image holds, and an image that stands for a state is refused
+-- only if the device fails or memory runs out.
 pub record IsReason (image : List ℕ) (why : OpenFault) : Type 0 where
   pub tells : TellsImage why image
   pub valid : (s : ServerState) → StandsFor image s → (why ≡ fault.Device) ⊎ (why ≡ fault.Memory)
 
--- How opening the store on a disk ends: the keeper is ready, or the fault is true of what an honest disk reads, and is not `Size`. The
--- disk stays honest, or not, and has its size.
+-- How opening the store on a disk ends: the keeper is ready; or there is a fault, which is not `Size` and, if the disk is honest, is
+-- true of the bytes that the disk gives. The disk is honest afterwards exactly if it was before, and keeps its size.
 pub record EndsOpening {D : Type 0} (model : Ghosts D) (disk : D) (result : Result (KeeperState D) (OpenFault × D)) : Type 0 where
   pub ready : IfOk result IsReady
   pub reason : model.honest disk → IfErr result (λ e. IsReason (model.seen disk) e.0)
@@ -53,7 +54,7 @@ pub record EndsOpening {D : Type 0} (model : Ghosts D) (disk : D) (result : Resu
   pub honesty : model.honest (disk_after result) ↔ model.honest disk
   pub size : model.size (disk_after result) ≡ model.size disk
 
--- A disk over the file of a store has the size of a store. The size of the file is reported only if it is another.
+-- A disk over the file of a store has the size of a store. The fault `Size` is reported only with a size that is not a store's.
 pub record OpensStoreFile (result : Result FileDisk OpenFault) : Type 0 where
   pub size : IfOk result (λ disk. file_size disk ≡ device_bytes)
   pub wrong : (found : ℕ) → IsErrOf result (fault.Size found) → found ≢ device_bytes

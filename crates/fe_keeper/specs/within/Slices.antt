@@ -9,7 +9,7 @@ use Rattle.fe_keeper.specs.within.Upholds.{IsDraftOf, progress_of}
 use Rattle.fe_keeper.specs.declared.checkpoint.Checkpoint.{Checkpoint}
 use Rattle.fe_disk.specs.declared.disk.Disk.{Ghosts}
 
--- the slot that was begun is the checkpoint's
+-- the slot that the journal began is the checkpoint's, and is written as far
 abbrev pub IsBegunFor : {D : Type 0} → JournalState D → Checkpoint → Type 0
 IsBegunFor j c = j.begun ≡ Some (record { format = Two; generation = j.generation + 1; image_length = vec_len c.image; written = c.written })
 
@@ -17,7 +17,7 @@ IsBegunFor j c = j.begun ≡ Some (record { format = Two; generation = j.generat
 abbrev pub sliced : Checkpoint → Checkpoint
 sliced c = record c { written = c.written + slice_size (progress_of c) }
 
--- the journal once that slice is written
+-- the journal, with this disk, once that slice is written; `c` is the checkpoint after it
 abbrev pub journal_sliced : {D : Type 0} → JournalState D → D → Checkpoint → JournalState D
 journal_sliced j disk c =
     record j {
@@ -25,7 +25,7 @@ journal_sliced j disk c =
       begun = Some (record { format = Two; generation = j.generation + 1; image_length = vec_len c.image; written = c.written });
     }
 
--- The journal keeps these contents, and beside them a draft of the checkpoint, which leads to the state.
+-- The journal keeps these contents and a draft. The draft is that of the checkpoint, whose image and catch-up lead to the state.
 pub record KeepsDraft {D : Type 0} (model : Ghosts D) (j : JournalState D) (contents : Contents) (c : Checkpoint) (s : ServerState) : Type 0 where
   pub draft : Draft
   pub keeps : KeepsContents model j contents (Some draft)
