@@ -1,4 +1,4 @@
-//! The lines of a conversation's input.
+//! The lines of a conversation's input (`docs/commands.md`, "Commands").
 
 ghost use Rattle.std.specs.Prelude.{◌≤◌, ◌<◌, ◌≡◌, ◌++◌, length, IfErr, OnOk};
 ghost use Rattle.fe_client.specs.Ends.{IsTooLong};
@@ -12,7 +12,7 @@ use std::alloc::Global;
 /// The lines of an input, one after the other.
 #[derive(Drop)]
 pub(crate) struct Input {
-    /// What the last read gave, up to `end`; the bytes before `next` are taken.
+    /// The buffer: the last read filled it up to `end`, and the bytes before `next` are taken.
     piece: Vec<u8>,
     next: usize,
     end: usize,
@@ -66,9 +66,10 @@ impl Input {
         self.number
     }
 
-    /// Takes the next line, and says whether a line feed ends it. What follows the last line feed, which may be
-    /// nothing, is taken at the end of the input. The error is `Line` as soon as the line is longer than any of the
-    /// syntax. The input is read only while no line feed is left of what was read before.
+    /// Takes the next line, and says whether a line feed ends it. At the end of the input, what follows the last line feed,
+    /// maybe nothing, is taken, and the result is `false`. The input is read only if no line feed is left in what was read
+    /// before. The error is `Line` as soon as the line is longer than any of the syntax, 94 bytes; `Input` if a read fails,
+    /// after 2^40 reads, or after 2^64 - 1 lines; `Memory` if memory runs out.
     pub fn next_line<E: Streams>(&mut self, streams: &mut E) -> Result<bool, CallFault>
         ensures taken { IfOk result (λ fed. MatchBool fed
             (TakesFed E.leads streams.old streams.new (kept_of self.old) (kept_of self.new) self.new.line.items)
@@ -122,7 +123,8 @@ impl Input {
         }
     }
 
-    /// Reads the next piece once the last one is taken. `false` if the input has ended.
+    /// Reads the next piece; the last one must be taken whole. `false` if the input has ended; `true` also if the read was
+    /// interrupted and gave nothing.
     fn fill<E: Streams>(&mut self, streams: &mut E) -> Result<bool, StreamFault>
         requires { kept_of self.old ≡ [] }
         ensures read { IfOk result (λ more. (events : List Event) × Fills more (kept_of self.new) events
@@ -144,7 +146,8 @@ impl Input {
     }
 }
 
-/// Adds bytes to the front of the line with this number.
+/// Appends bytes to what has come of the line with this number. The error is `Line` if it becomes longer than `LONGEST_ASKED`,
+/// `Memory` if memory runs out.
 fn add(line: &mut Vec<u8>, bytes: &[u8], number: u64) -> Result<(), CallFault>
     requires few { length line.old.items ≤ 94 }
     ensures few { length line.new.items ≤ 94 }

@@ -1,4 +1,4 @@
-//! A run of a schedule: its lines as they come in pieces, and what they print.
+//! A run of a schedule: its lines as they come in pieces, and what they print (`docs/schedules.md`).
 
 ghost use Rattle.std.specs.Prelude.{◌≡◌, ◌+◌, ◌++◌, ℕ, List, Option, [], ◌∷◌, string_bytes, IfOk, IfErr, OnOk, OnErr, MatchResult};
 ghost use Rattle.fe_text.specs.Lines.{HasNoFeed};
@@ -17,28 +17,29 @@ use fe_text::{LONGEST_LINE, Line, first_line};
 use fe_wire::ClientMessage;
 use std::alloc::Global;
 
-/// How many bytes are printed at least before they are written within a piece.
+/// Once so many bytes are printed, they are written before the next line of the piece runs.
 const FULL: usize = 65_536;
 
 /// The state of a run.
 #[derive(Drop)]
 pub(crate) struct Run {
     machine: Machine,
+    /// Whether the schedule is on hold: what is pending is not stored after a line.
     is_holding: bool,
-    /// How many lines came whole.
+    /// How many lines were taken, empty ones too.
     lines: u64,
-    /// The front of the line that has not come whole.
+    /// What has come of the line whose line feed has not come.
     begun: Vec<u8>,
     /// What is printed and not yet written.
     text: String,
     /// What the line at hand prints.
     line: String,
-    /// Its replies.
+    /// The replies to the line at hand, in the order in which they are printed.
     printed_replies: Vec<PrintedReply>,
 }
 
 impl Run {
-    /// A run before its first line, over a new store on the disk.
+    /// Makes a new store on the disk, and a run over it before its first line. Fails with the disk.
     pub fn new(alloc: Global, disk: MemoryDisk) -> Result<Run, (MachineFault, MemoryDisk)>
         requires { HoldsStore disk }
         ensures begins { IfOk result (λ run. (now : Option (List ℕ)) → SoFar [] now now run) }
@@ -60,7 +61,7 @@ impl Run {
         })
     }
 
-    /// The disk of a store that could not be opened, or else that of the store.
+    /// The disk of the store or, if a line `stop` failed, the disk at which it failed.
     pub fn into_disk(self) -> MemoryDisk
         ensures { result ≡ last_disk self.machine }
     {
@@ -68,7 +69,7 @@ impl Run {
         machine.into_disk()
     }
 
-    /// Runs each line that this piece ends, and writes what they print.
+    /// Runs all lines that end in this piece, keeps what follows them, and writes what they printed, also if one is at fault.
     pub fn take_piece<W: Sink>(&mut self, piece: &[u8], writer: &mut W) -> Result<(), ScheduleFault>
         requires { IsRun self.old }
         ensures none_kept { string_bytes self.new.text ≡ [] }
@@ -82,7 +83,7 @@ impl Run {
         ended
     }
 
-    /// Runs a last line without a line feed, and writes what it prints.
+    /// Runs what follows the last line feed, if anything does, writes what it prints, and hands on all that was written.
     pub fn finish<W: Sink>(&mut self, writer: &mut W) -> Result<(), ScheduleFault>
         requires { IsRun self.old }
         ensures disk { IfErr result (TellsDiskOrWriter (last_disk self.new.machine) (W.has_failed writer.new)) }
@@ -97,6 +98,7 @@ impl Run {
         Ok(writer.hand_on()?)
     }
 
+    /// Runs all lines that end in this piece, and keeps what follows them.
     fn run_lines<W: Sink>(&mut self, piece: &[u8], writer: &mut W) -> Result<(), ScheduleFault>
         requires { IsRun self.old }
         ensures disk { IfErr result (TellsDiskOrWriter (last_disk self.new.machine) (W.has_failed writer.new)) }
@@ -113,7 +115,7 @@ impl Run {
         self.begin_line(rest)
     }
 
-    /// Runs the line that ends with these bytes and a line feed, and writes what is printed where that is much.
+    /// Runs the line that ends with these bytes and a line feed, and writes what is printed if that is `FULL` bytes or more.
     fn run_whole<W: Sink>(&mut self, bytes: &[u8], writer: &mut W) -> Result<(), ScheduleFault>
         requires { IsRun self.old }
         ensures run { OnOk result (IsRun self.new) }
@@ -131,7 +133,8 @@ impl Run {
         Ok(writer.write_whole(&mut self.text)?)
     }
 
-    /// Adds to the line that has not come whole, for which there is room. A line that is too long is outside the syntax.
+    /// Appends bytes to the line that has not ended; `begun` has room for the longest line. If the line becomes longer, the
+    /// fault is `Line` with its number.
     fn begin_line(&mut self, bytes: &[u8]) -> Result<(), ScheduleFault>
         requires { IsRun self.old }
         ensures run { OnOk result (IsRun self.new) }
@@ -169,7 +172,8 @@ impl Run {
         ensures ran { OnOk result (RanBytes self.old (self.old.begun.items ++ bytes.now) self.new) }
         ensures text { OnErr result (string_bytes self.new.text ≡ string_bytes self.old.text) }
         ensures disk { IfErr result (TellsOfDisk (last_disk self.new.machine)) }
-        // A line outside the syntax ends with its number, and another fault is of a line that says something.
+        // `Line` has the number of a line that does not parse. `Memory` and `Device` come of a line that parses. `Input` comes at
+        // line 2^64 - 1, whatever it says: it is neither counted nor run.
         ensures err { IfErr result (IsFaultOf (self.old.lines + 1) (self.old.begun.items ++ bytes.now)) }
     {
         named::<Request>();
@@ -185,7 +189,7 @@ impl Run {
         }
     }
 
-    /// The line that ends with these bytes, or none where it is empty.
+    /// The line that ends with these bytes, or none if it is empty. The fault is `Line` if it does not parse.
     fn whole_line(&mut self, bytes: &[u8]) -> Result<Option<Line>, ScheduleFault>
         requires { IsRun self.old }
         ensures run { OnOk result (IsRun self.new) }
@@ -206,7 +210,7 @@ impl Run {
         line.ok_or(stray)
     }
 
-    /// Runs a line, and prints its replies.
+    /// Runs a line, stores what is pending unless on hold, and prints the replies.
     fn run_line(&mut self, line: &Line) -> Result<(), MachineFault>
         requires run { IsRun self.old }
         ensures ran { OnOk result (RanLine self.old line.now self.new) }
