@@ -17,7 +17,7 @@ use fe_text::{LONGEST_LINE, Line, first_line};
 use fe_wire::ClientMessage;
 use std::alloc::Global;
 
-/// Once so many bytes are printed, they are written before the next line of the piece runs.
+/// Printed text of this many bytes or more is written before the next line of the piece runs.
 const FULL: usize = 65_536;
 
 /// The state of a run.
