@@ -289,7 +289,8 @@ impl<D: Disk> Journal<D> {
     /// Finishes the slot begun, whose image is whole. What came since it was begun goes into its journal
     /// area as one group, and then its gate is opened. From then on the slot counts. Four device calls.
     pub fn slot_finish(&mut self, catch_up: &[u8]) -> Result<(), JournalFault>
-        requires begun { IsSomeAnd self.old.begun (λ b. (b.written ≡ b.image_length) × IsCatchUp b.format catch_up.now) }
+        requires begun { IsSomeAnd self.old.begun
+            (λ b. (b.written ≡ b.image_length) × IsCatchUp b.format catch_up.now) }
 
         // A stop at any moment of the call leaves the old contents or those of the new slot.
         ensures any_moment { D.honest self.old.disk
