@@ -189,7 +189,7 @@ class Kills(WithFolder):
     # Queues.
 
     def put_under_keys(self, k, make):
-        """A producer with a session file. A value is put once, in however many lives."""
+        """A producer with a session file. A value is put once, in however many lives, and by no other producer."""
         log = self.log(f"put{k}")
         with Client(self.path, session_file=f"{self.path}.{k}", wait_for_server=True) as client:
             queue, chance = make(client), random.Random()
@@ -199,12 +199,12 @@ class Kills(WithFolder):
                     if key != b"%d" % number:
                         client.forget(key)
                 try:
-                    queue.put(1000 * k + number, timeout=chance.choice((None, 0.0, 0.003, 0.2)), key=number)
+                    queue.put(10**6 * k + number, timeout=chance.choice((None, 0.0, 0.003, 0.2)), key=number)
                 except femem.TimedOut:
                     if self.is_enough():
                         break
                     continue
-                log.add("p", 1000 * k + number)
+                log.add("p", 10**6 * k + number)
                 client.forget(number)
                 number += 1
         log.add("end", k)
