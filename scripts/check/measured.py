@@ -71,7 +71,9 @@ def compared_adds_up(_place):
     if not found:
         return "no texts are compared"
     total = found.pop("together")
-    same(list(found), figures.crates(), "crates")
+    here = figures.crates()
+    same(list(found)[: len(here)], here, "crates")
+    same([name for name in list(found)[len(here) :] if found[name][1]], [], "crates of the other text alone that cost something in this one")
     sums = [sum(column) for column in zip(*found.values())]
     holds(all(abs(a - b) <= 0.3 for a, b in zip(sums, total)), f"{total}, not {sums}")
     for name, row in cells(figures.section("The last gate")).items():

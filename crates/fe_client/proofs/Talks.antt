@@ -1,5 +1,5 @@
 -- The parts of an exchange.
-use Rattle.std.proofs.Common.{◌≡◌, ◌≢◌, ℕ, ◌+◌, ◌≤◌, Bool, false, true≢false, List, [], ◌∷◌, ◌++◌, Some, None, Result, Ok, Err, length, take, take_all, refl, sym, ap, ◌∙◌, arith, nat_eq}
+use Rattle.std.proofs.Common.{◌≡◌, ◌≢◌, ℕ, ◌+◌, ◌≤◌, true≢false, List, [], ◌∷◌, ◌++◌, Some, None, Result, Ok, Err, length, take, take_all, refl, sym, ap, ◌∙◌, arith}
 use Rattle.std.specs.Prelude.{OnErr}
 use Rattle.std.proofs.lemmas.Option.{none-some}
 use Rattle.fe_wire.specs.Spelling.{spelling, reply_spelling, ReplyFits}
@@ -88,7 +88,3 @@ line_done leads line m reads now s t says e =
 pub line_ends : {S : Type 0} (leads : S → List Event → S → Type 0) (end : CallFault) (over : Type 0) (number earlier : ℕ) (line : List ℕ) (m : ClientMessage) (s t : S) → asked line ≡ Some m → DoesPart leads s t (ExchangeEnds end over earlier m)
     → DoesPart leads s t (LineEnds end over number earlier line)
 line_ends leads end over number earlier line m s t says d = record { part = d.part; ends = LineEnds.Within m says d.ends; happened = d.happened }
-
-pub not_empty : (xs : List ℕ) (b : Bool) → b ≡ nat_eq (length xs) 0 → b ≡ false → xs ≢ []
-not_empty [] b e f none = true≢false (sym e ∙ f)
-not_empty (x ∷ xs) b e f none = let z = ap (length {A = ℕ}) none in absurd (omega (arith, z))

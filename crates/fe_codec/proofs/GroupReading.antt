@@ -1,6 +1,5 @@
 -- What has been read of a group, and what is left of its bytes.
 use Rattle.std.proofs.Common.{◌≡◌, ℕ, ◌+◌, ◌*◌, ◌/◌, ◌<◌, ◌≤◌, List, [], ◌∷◌, ◌++◌, length, refl, sym, ap, ◌∙◌, append_assoc, arith}
-use Rattle.std.proofs.lemmas.Grind.{flat_map-append}
 use Rattle.std.proofs.lemmas.List.{append-nil, length-append}
 use Rattle.std.proofs.Math.Nat.{add-mul}
 use Rattle.fe_state.specs.declared.entry.Entry.{Entry}
@@ -8,7 +7,6 @@ use Rattle.fe_format.specs.Layout.{record_bytes, group_records}
 use Rattle.fe_codec.specs.Record.{entry_spelling, group_spelling, FitsRecord, FitsGroup, IsGroupSize, IsGroupOf}
 use Rattle.fe_format.specs.declared.format.Format.{Format}
 use Rattle.fe_format.specs.declared.format.Format.TheVariants.{One, Two}
-use Rattle.fe_codec.proofs.Elements.{all_push}
 use Rattle.fe_codec.proofs.RecordLaws.{one_record_first, length-entry_spelling}
 use Rattle.fe_codec.proofs.GroupLaws.{one_group}
 

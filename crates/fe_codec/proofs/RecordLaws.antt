@@ -77,9 +77,6 @@ module _ (format : Format) (kind request answer count tag flag session number : 
   pub session_again : field_at w64 the_text 8 ≡ session
   session_again = wide64.again session fits.session_fits
 
-  pub number_of_again : field_at w64 the_text 16 ≡ number
-  number_of_again = wide64.again number fits.number_fits
-
   pub size_again : field_at w32 the_text (24 + name_bytes format) ≡ size
   size_again =
       ap (λ (t : List ℕ). field_at w32 t (24 + name_bytes format)) (behind_row (codes_field kind request answer count tag flag) (to_be_bytes w64 session) (to_be_bytes w64 number) row (to_be_bytes w32 size) (to_be_bytes w32 answer_size) (to_be_bytes w64 answer_value) (replicate 8 0))
@@ -183,9 +180,6 @@ entry_room One (Finished session number request answer) fits = request_room requ
 entry_room Two (Finished session number request answer) fits = row_of_two request
 
 -- ---- entries
-
-short_fits : (kind session number : ℕ) (row : List ℕ) → session < 2 ^ 64 → number < 2 ^ 63 → Fields kind 0 0 0 0 0 session number row 0 0 0
-short_fits kind session number row s n = record { session_fits = s; number_fits = omega arith; size_fits = omega arith; answer_size_fits = omega arith; answer_value_fits = omega arith }
 
 -- a record of a request that finished, where its request is read again
 finished_as : (format : Format) (code count tag flag session number : ℕ) (row : List ℕ) (size : ℕ) (request : Request) (answer : Answer) → length row ≡ name_bytes format

@@ -1,6 +1,6 @@
 -- Calls that may store batches go one after the other.
 use Rattle.std.proofs.Common.{◌≡◌, ℕ, ◌≤◌, false, List, Result, Ok, Err, refl, sym, ap, subst, ◌∙◌, arith}
-use Rattle.std.specs.Prelude.{eqb, Bool, true, Option, None, Some, nat_eq, ⊤, IsErrAnd, OnOk, MatchResult}
+use Rattle.std.specs.Prelude.{eqb, Bool, true, Option, None, Some, nat_eq, ⊤, IsErrAnd, MatchResult}
 use Rattle.std.specs.Option.{option_eq, option_map_or}
 use Rattle.std.proofs.lemmas.Bool.Decides.{nat_tests}
 use Rattle.fe_disk.specs.Disk.{Rises}
@@ -150,10 +150,6 @@ module _ {D : Type 0} {k : Ghosts D} where
       by : (r : Result (Unit {0}) Fault) → Goes k P Q R r a b → Goes k Done Short Until r a b
       by (Ok x) h = record { desk = h.desk; owes = h.owes; advances = h.advances; ends = (h.ends.0, more h.ends.1) }
       by (Err f) h = record { desk = h.desk; owes = h.owes; advances = h.advances; ends = faults_weaker k Q Short R Until a b f short until h.ends }
-
-  pub when_done : {P : DeskRunState → Type 0} {Q : DeskState D → Type 0} {R : DeskRunState → Type 0} {X : Type 0} {a b : DeskState D} (r : Result (Unit {0}) Fault) → (P b.run_state → X) → Goes k P Q R r a b → OnOk r X
-  when_done (Ok x) more h = more h.ends.1
-  when_done (Err f) more h = tt
 
   -- it is done, which comes to this
   pub done : {P : DeskRunState → Type 0} {Q : DeskState D → Type 0} {R : DeskRunState → Type 0} {x y : Unit {0}} {Done : DeskRunState → Type 0} {Short : DeskState D → Type 0} {Until : DeskRunState → Type 0} {a b : DeskState D}

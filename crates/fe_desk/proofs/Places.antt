@@ -130,12 +130,6 @@ found_there clients conn at p =
     let (c, is) = client_there clients at p.within in
     ap (λ (o : Option Client). is_some o) (found_first clients conn at c p is)
 
-pub not_found : (clients : List Client) (conn : ℕ) → ((i : ℕ) → client_number_at clients i ≢ Some conn) → find conn clients ≡ None
-not_found [] conn none = refl
-not_found (x ∷ xs) conn none =
-    ap (λ (b : Bool). if b then Some x else find conn xs) (other_numbers x.conn conn (λ e. none 0 (ap (λ (n : ℕ). Some n) e)))
-    ∙ not_found xs conn (λ i. none (suc i))
-
 -- a number that is not found is changed nowhere
 pub changed_nowhere : (clients : List Client) (conn : ℕ) (change : Client → Client) → find conn clients ≡ None → on_client conn change clients ≡ clients
 changed_nowhere [] conn change none = refl

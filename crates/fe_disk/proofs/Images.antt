@@ -127,8 +127,3 @@ torn_wider at n from m old new low high torn = record { whole = torn.whole; belo
 pub torn_again : (at n : ℕ) (old mid new : List ℕ) → IsTorn at n old mid → IsTorn at n mid new → IsTorn at n old new
 torn_again at n old mid new first second =
     record { whole = second.whole ∙ first.whole; below = λ i lt. second.below i lt ∙ first.below i lt; above = λ i le. second.above i le ∙ first.above i le }
-
--- a step from images that have P to images that have Q
-pub left_after : (P Q : List ℕ → Type 0) (step : List ℕ → List ℕ → Type 0) (old new : List ℕ → Type 0) → ((was : List ℕ) → old was → P was) → Follows step old new → ((was left : List ℕ) → P was → step was left → Q left)
-    → (left : List ℕ) → new left → Q left
-left_after P Q step old new has follows then left may = let from = follows left may in then from.0 left (has from.0 from.1) from.2

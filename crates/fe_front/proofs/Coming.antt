@@ -21,7 +21,7 @@ use Rattle.fe_mail.specs.declared.mail.Mail.TheVariants as mail
 use Rattle.fe_mail.proofs.Lookups.{is_some-with_session, is_some-with_mails}
 use Rattle.fe_front.specs.Front.{FrontState, is_connected}
 use Rattle.fe_front.specs.Call.{kept_at, repeated}
-use Rattle.fe_front.specs.Steps.{parted, released, freed, departed, withdrawn_from, unboxed, dropped, boxed, overflowed, mailed, attached_to, cancelled_from, cancelled_by, has_no_cut, cut}
+use Rattle.fe_front.specs.Steps.{parted, released, freed, departed, withdrawn_from, unboxed, dropped, boxed, overflowed, mailed, attached_to, cancelled_from, cancelled_by}
 use Rattle.fe_front.specs.Posting.{delivered, vacated, ended, posted_entry, posted_all, posted}
 
 -- what is pending stays, and no connection comes
@@ -124,13 +124,6 @@ posted-stays f batch =
 
 abbrev pub NoneComes : FrontState → FrontState → Type 0
 NoneComes f g = (conn : ℕ) → is_connected g conn ≡ true → is_connected f conn ≡ true
-
-pub cut-comes : (f : FrontState) → NoneComes f (cut f)
-cut-comes f = by (has_no_cut f)
-  where
-    by : (b : Bool) → NoneComes f (if b then f else record f { service = record f.service { pending = [] }; out = Some (record { first = f.durable; length = length f.service.pending }) })
-    by true conn is = is
-    by false conn is = is
 
 pub attached-comes : (f : FrontState) (conn session : ℕ) → NoneComes f (attached_to f conn session)
 attached-comes f conn session q is =

@@ -1,7 +1,6 @@
 -- What a call of the front did is its event's case of the front's step.
 use Rattle.std.proofs.Common.{◌≡◌, ◌⊎◌, ◌↔◌, ℕ, Bool, true, false, not, true≢false, inl, inr, List, [], ◌∷◌, length, Option, Some, None, Result, Ok, Err, MatchResult, IsOk, IsErr, refl, sym, ap, ◌∙◌}
 use Rattle.std.specs.Prelude.{is_ok, is_err, slice_get, if◌then◌else◌}
-use Rattle.std.specs.FinMap.{get}
 use Rattle.std.proofs.lemmas.Bool.{cases_eq}
 use Rattle.fe_state.specs.declared.batch.Batch.{Batch}
 use Rattle.fe_state.specs.declared.entry.Entry.{Entry}
@@ -16,7 +15,7 @@ use Rattle.fe_mail.specs.declared.refusal.Refusal.TheVariants.{NotAttached, Clos
 use Rattle.fe_front.specs.Front.{FrontState, is_connected, is_spent}
 use Rattle.fe_front.specs.Event as event
 use Rattle.fe_front.specs.Step.{FrontStep}
-use Rattle.fe_front.specs.Steps.{connected, attached_to, settled_to, closed_by, cancelled_by, dropped, departing, next_batch, cut, taken, mailed}
+use Rattle.fe_front.specs.Steps.{attached_to, settled_to, closed_by, cancelled_by, taken, mailed}
 use Rattle.fe_front.specs.Refusals.{attaching, settling, leaving, cancelling, has_no_attachment}
 use Rattle.fe_front.specs.Call.{call_refused_by}
 use Rattle.fe_front.specs.Posting.{IsOut, posted}
@@ -97,25 +96,13 @@ module _ (f g : FrontState) (conn : ℕ) where
       let (s, may, is) = when_ok (cancelling f conn number) result (λ s. cancelled_by f conn s number) f g p u ok in
       (s, may, record { entries = refl; front = is })
 
-  pub connect_step : get f.connections conn ≡ None → g ≡ connected f conn → FrontStep f (event.Connect conn) [] g
-  connect_step none is = (none, record { entries = refl; front = is })
-
-  pub gone_step : (count : ℕ) → count ≡ departing f conn → g ≡ dropped f conn → FrontStep f (event.Gone conn count) [] g
-  gone_step count counted is = (counted, record { entries = refl; front = is })
-
   pub take_mail_step : (m : Option Mail) → m ≡ slice_get (mails_on f.connections conn) 0 → g ≡ taken f conn → FrontStep f (event.TakeMail conn m) [] g
   take_mail_step m first is = (first, record { entries = refl; front = is })
-
-  pub report_step : (text : List ℕ) → g ≡ mailed f conn (mail.Report text) → FrontStep f (event.GiveMail conn (mail.Report text)) [] g
-  report_step text is = (tt, record { entries = refl; front = is })
 
   pub refusal_step : (number : ℕ) (r : Refusal) → g ≡ mailed f conn (mail.Refused number r) → FrontStep f (event.GiveMail conn (mail.Refused number r)) [] g
   refusal_step number r is = (tt, record { entries = refl; front = is })
 
 module _ (f g : FrontState) where
-  pub cut_step : (batch : Option Batch) → batch ≡ next_batch f → g ≡ cut f → FrontStep f (event.Cut batch) [] g
-  cut_step batch next is = (next, record { entries = refl; front = is })
-
   out_or_not : (o : Option Out) (batch : Batch) → IsOut o batch ⊎ (¬ IsOut o batch)
   out_or_not None batch = inr (λ no. no)
   out_or_not (Some o) batch = by (cases_eq batch.first o.first) (cases_eq (length batch.entries) o.length)

@@ -2,7 +2,6 @@
 use Rattle.std.proofs.Common.{◌≡◌, ◌≢◌, ◌⊎◌, ℕ, Bool, true, false, length, Option, Some, None, is_some, inl, inr, refl, sym, ap, subst, ◌∙◌}
 use Rattle.std.specs.Prelude.{IsTrue, nat_lt, if◌then◌else◌, ◌++◌, ◌∷◌, []}
 use Rattle.std.specs.Option.{option_map_or}
-use Rattle.std.specs.FinMap.{get}
 use Rattle.fe_state.proofs.Maps.{get_left, same_or_other}
 use Rattle.fe_service.specs.AttachmentsState.{holder_of, is_closing}
 use Rattle.fe_service.specs.Events.{left}
@@ -95,16 +94,6 @@ notes_then f g h a b c one two = record {
       | inl is ↦ inl (two.still conn is)
       | inr first ↦ inr (both conn f g h first later)
     ]
-  ];
-}
-
--- what the boxes are looked up in is all that counts
-pub notes_alike : (f g h : FrontState) (a b : ConnectionSet) → h.connections ≡ g.connections → Notes f g a b → Notes f h a b
-notes_alike f g h a b same notes = record {
-  still = notes.still;
-  noted = λ conn. elim (notes.noted conn) as (λ _. IsTrue (may_have b conn) ⊎ HasItsBox f h conn) [
-    | inl is ↦ inl is
-    | inr box ↦ inr (record { mails = ap (λ m. mails_on m conn) same ∙ box.mails; there = ap (λ m. is_some (get m conn)) same ∙ box.there })
   ];
 }
 

@@ -1,6 +1,6 @@
 -- A call that repeats what its number stands for is neither new nor waits anew.
 use Rattle.std.proofs.Common.{◌≡◌, ℕ, Bool, true, false, Option, Some, None, [], refl}
-use Rattle.std.specs.Prelude.{nat_lt, if◌then◌else◌, Result, Ok, Err, IfOk}
+use Rattle.std.specs.Prelude.{nat_lt, if◌then◌else◌}
 use Rattle.std.specs.Option.{option_map_or}
 use Rattle.fe_state.specs.declared.kept.Kept.{Kept}
 use Rattle.fe_state.specs.declared.request.Request.{Request}
@@ -32,7 +32,3 @@ called_again f conn session number request outcome.Waits f' known is rest = absu
 called_again f conn session number request outcome.AlreadyWaiting f' known is rest = record { known = known; is = is; entries = refl; rest = rest }
 called_again f conn session number request outcome.SentAgain f' known is rest = record { known = known; is = is; entries = refl; rest = rest }
 called_again f conn session number request outcome.NotYetSynced f' known is rest = record { known = known; is = is; entries = refl; rest = rest }
-
-pub if_ok : {T E : Type 0} (r : Result T E) (P Q : T → Type 0) → ((x : T) → P x → Q x) → IfOk r P → IfOk r Q
-if_ok (Ok x) P Q f p = f x p
-if_ok (Err e) P Q f p = tt

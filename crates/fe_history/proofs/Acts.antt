@@ -339,10 +339,6 @@ issued_option (Some r) xs ys p issued = stands_later xs ys (Issued r) p issued
 pub was_later : (n : ℕ) (m : Mail) (xs ys : List Act) → IsPrefix xs ys → WasIssued n m xs → WasIssued n m ys
 was_later n m xs ys p issued = issued_option (receipt_of n m) xs ys p issued
 
-pub issued_later : (n : ℕ) (ms : List Mail) (xs ys : List Act) → IsPrefix xs ys → AreIssued n ms xs → AreIssued n ms ys
-issued_later n [] xs ys p issued = tt
-issued_later n (m ∷ ms) xs ys p issued = (was_later n m xs ys p issued.0, issued_later n ms xs ys p issued.1)
-
 -- what was issued to a connection, and then to the same
 pub issued_both : (n k : ℕ) (ms ns : List Mail) (xs ys : List Act) → k ≡ n → IsPrefix xs ys → AreIssued n ms xs → AreIssued k ns ys → AreIssued n (ms ++ ns) ys
 issued_both n k [] ns xs ys same p one two = subst (λ (j : ℕ). AreIssued j ns ys) same two

@@ -10,7 +10,7 @@ use Rattle.fe_format.specs.Layout.{magic_of, IsImageLength}
 use Rattle.fe_journal.specs.Groups.{IsGroup, StandFrom, HoldsGroups, GroupFits, end_of_groups}
 use Rattle.fe_journal.specs.Contents.{Contents, Holds, IsValidAs, SlotCounts, generation_at, image_length_at}
 use Rattle.fe_journal.specs.Cursor.{Cursor, Lists}
-use Rattle.fe_journal.specs.Damage.{TellsFound, HasSoundHeader, IsUnformatted, IsDamagedAt, NoGeneration, OddImage, OddGroup}
+use Rattle.fe_journal.specs.Damage.{TellsFound, IsUnformatted, IsDamagedAt, NoGeneration, OddImage, OddGroup}
 use Rattle.fe_journal.specs.Found.{IsFound, AsksToOpen}
 use Rattle.fe_journal.specs.Journal.{JournalState, IsLeft, KeepsContents}
 use Rattle.fe_journal.specs.Store.{IsStore, IsWholeStore}
@@ -170,17 +170,6 @@ module _ (c : Contents) (image : List ℕ) (holds : Holds c image) where
   pub formatted : IsUnformatted image → ⊥
   formatted (inl odd) = odd holds.whole
   formatted (inr none) = none c.slot c.format holds.counts.is_slot holds.counts.valid
-
-  pub sound_header : HasSoundHeader image
-  sound_header =
-      record {
-        slot = c.slot;
-        format = c.format;
-        whole = holds.whole;
-        counts = holds.counts;
-        numbered = (let g = holds.generation_is in let n = holds.numbered in omega (arith, g, n));
-        length_fits = subst (λ (n : ℕ). IsImageLength c.format n) (sym holds.length_is) holds.length_fits;
-      }
 
   -- contents are refused only for the device or for memory
   pub refused_only : (fault : StoreFault) → TellsFound fault image → (fault ≡ Device) ⊎ (fault ≡ NoMemory)

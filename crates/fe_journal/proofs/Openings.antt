@@ -1,24 +1,18 @@
 -- What the parts of opening read.
-use Rattle.std.proofs.Common.{◌≡◌, ℕ, ◌+◌, List, [], ◌∷◌, ◌++◌, length, get_or, drop, None, sym, ◌∙◌, ap, subst, refl, arith}
+use Rattle.std.proofs.Common.{◌≡◌, ℕ, ◌+◌, List, [], ◌∷◌, ◌++◌, length, get_or, drop, sym, ◌∙◌, ap, subst, refl, arith}
 use Rattle.byteorder.specs.Endian.{big_number}
 use Rattle.byteorder.specs.Numbers.{big_from-take}
 use Rattle.fe_disk.specs.Disk.{bytes_at}
 use Rattle.fe_disk.proofs.Images.{length-bytes_at}
 use Rattle.fe_journal.specs.Layout.{number_at, IsGateOpen, IsGateShut}
-use Rattle.fe_format.specs.Layout.{magic_of}
 use Rattle.fe_journal.specs.Groups.{IsGroup, HoldsGroups, GroupFits, end_of_groups}
-use Rattle.fe_journal.specs.Reading.{IsFormatOf, Reaches, GroupsEndAt, IsOddAt}
+use Rattle.fe_journal.specs.Reading.{Reaches, GroupsEndAt, IsOddAt}
 use Rattle.fe_format.specs.declared.format.Format.{Format}
-use Rattle.fe_format.specs.declared.format.Format.TheVariants.{One, Two}
 use Rattle.fe_journal.proofs.Frames.{stand_more, end_of_groups-more}
 
 -- the number that a reader of a slice gives
 pub number_read : (bytes : List ℕ) (at n : ℕ) → number_at bytes at n ≡ big_number n (drop at bytes)
 number_read bytes at n = big_from-take 0 n n (drop at bytes) (omega arith)
-
-pub no_format : (magic : ℕ) → IsFormatOf magic None → (format : Format) → magic ≡ magic_of format → ⊥
-no_format magic none One is = none.0 is
-no_format magic none Two is = none.1 is
 
 pub reaches_none : (format : Format) (bytes : List ℕ) → Reaches format bytes 0
 reaches_none format bytes = record { groups = []; stand = tt; at_is = refl }

@@ -1,5 +1,5 @@
 -- What opening reads of the slots of a store.
-use Rattle.std.proofs.Common.{◌≡◌, ◌⊎◌, ◌↔◌, OnOk, ℕ, ◌+◌, ◌<◌, ◌≤◌, List, length, Option, Some, None, Result, Ok, Err, inl, inr, ⊎_elim, sym, ◌∙◌, subst, refl, arith}
+use Rattle.std.proofs.Common.{◌≡◌, ◌⊎◌, ◌↔◌, ℕ, ◌+◌, ◌<◌, ◌≤◌, List, length, Option, Some, None, Result, Ok, Err, inl, inr, ⊎_elim, sym, ◌∙◌, subst, refl, arith}
 use Rattle.std.proofs.lemmas.Bool.{cases_lt}
 use Rattle.fe_disk.specs.Disk.{AddsNone, Rises, bytes_at}
 use Rattle.fe_disk.specs.Runs.{HasElapsed}
@@ -170,7 +170,3 @@ counted (Err (Damaged offset)) before since now stood none fault still =
     (λ e. absurd (cc), λ rises. absurd (none (subst (λ (n : ℕ). Rises before n) (still (λ e. cc)) rises)))
 counted (Err NoMemory) before since now stood none fault still =
     (λ e. absurd (cc), λ rises. absurd (none (subst (λ (n : ℕ). Rises before n) (still (λ e. cc)) rises)))
-
-pub still_after : {T : Type 0} (r : Result T StoreFault) (before since now : ℕ) → since ≡ before → ((r ≡ Err Device → ⊥) → now ≡ since) → OnOk r (now ≡ before)
-still_after (Ok x) before since now stood still = still (λ e. cc) ∙ stood
-still_after (Err fault) before since now stood still = tt

@@ -5,7 +5,6 @@ use Rattle.std.proofs.lemmas.Grind.{flat_map-append}
 use Rattle.std.proofs.lemmas.List.{length-append}
 use Rattle.std.proofs.lemmas.Bool.{leb-true}
 use Rattle.std.proofs.Math.Nat.{add-mul}
-use Rattle.std.specs.Prelude.{Result, Ok, Err, IsOk, OnOk}
 use Rattle.fe_disk.specs.Runs.{LeavesOnly}
 use Rattle.fe_disk.proofs.Moments.{weaker}
 use Rattle.fe_state.specs.State.{ServerState, after_all}
@@ -22,7 +21,7 @@ use Rattle.fe_format.specs.declared.format.Format.TheVariants.{One, Two}
 use Rattle.fe_journal.specs.Contents.{Contents, Holds, HoldsEither, with_group}
 use Rattle.fe_journal.specs.Journal.{JournalState, Draft, KeepsContents}
 use Rattle.fe_keeper.specs.within.CatchUp.{batch_bytes, HasRoomFor, HasMoreToCatchUp, CatchesUp}
-use Rattle.fe_keeper.specs.Keeper.{Progress, StoreState, is_spellable, catches_up, fits, appended}
+use Rattle.fe_keeper.specs.Keeper.{StoreState, is_spellable, catches_up, fits, appended}
 use Rattle.fe_journal.specs.Groups.{room_at}
 use Rattle.fe_keeper.specs.Stands.{AreGroups, Stands, StandsForEither}
 use Rattle.fe_keeper.specs.within.Upholds.{IsDraftOf, IsDrafted, Upholds, IsCheckpoint, IsStore, progress_of, store_of}
@@ -164,9 +163,6 @@ fits_parts store entries is =
     record { spellable = second.0; room = leb-true _ _ second.1; catches_up = first.1 }
 
 -- ---- the store after a batch
-
-progress_made : ℕ → ℕ → ℕ → Progress
-progress_made size written place = record { size = size; written = written; place = place }
 
 -- to callers a checkpoint that caught up is what it was
 pub same_progress : (entries : List Entry) (old new : Option Checkpoint) → CatchesUp entries old new → option_map progress_of new ≡ option_map progress_of old

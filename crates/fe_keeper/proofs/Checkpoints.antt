@@ -1,5 +1,5 @@
 -- What the calls that begin a checkpoint and write its slices keep, over an honest disk.
-use Rattle.std.proofs.Common.{◌≡◌, ℕ, ◌+◌, ◌-◌, ◌≤◌, List, [], ◌++◌, take, drop, Option, Some, None, Result, Ok, Err, OnOk, Bool, IsTrue, is_none, ◌&&◌, sym, ◌∙◌, ap, subst, refl, arith}
+use Rattle.std.proofs.Common.{◌≡◌, ℕ, ◌+◌, ◌-◌, ◌≤◌, List, [], ◌++◌, take, drop, Option, Some, None, Bool, IsTrue, is_none, ◌&&◌, sym, ◌∙◌, ap, subst, refl, arith}
 use Rattle.std.proofs.Math.Seq.{take-add}
 use Rattle.std.specs.Option.{option_map}
 use Rattle.fe_disk.specs.Runs.{LeavesOnly}
@@ -113,14 +113,6 @@ module _ {D : Type 0} (model : Ghosts D) where
       → LeavesOnly model store.journal.disk new (λ image. StandsFor image s)
   step_moments store s c new some u run =
       weaker model store.journal.disk new (Holds u.contents) (λ image. StandsFor image s) (holds_stand u.contents s u.stands) (run u.contents (draft_kept store s c some u))
-
-  pub step_upheld : {T E : Type 0} (result : Result T E) (store : KeeperStore D) (s : ServerState) (c made : Checkpoint) (j : JournalState D) → store.checkpoint ≡ Some c → Upholds model store s
-      → ((k : Contents) → KeepsDraft model store.journal k c s → OnOk result (KeepsDraft model j k made s))
-      → OnOk result (Upholds model (record { journal = j; group = store.group; place = store.place; checkpoint = Some made }) s)
-  step_upheld (Ok x) store s c made j some u goes =
-      let kept = goes u.contents (draft_kept store s c some u) in
-      record { contents = u.contents; draft = Some kept.draft; keeps = kept.keeps; stands = u.stands; drafted = kept.is_draft }
-  step_upheld (Err e) store s c made j some u goes = tt
 
   -- where no slice is left
   pub none_written : (j : JournalState D) (k : Contents) (c : Checkpoint) (s : ServerState) → ((image : List ℕ) → model.left_since j.disk (model.moment j.disk) image → model.may_leave j.disk image) → KeepsDraft model j k c s

@@ -24,7 +24,6 @@ use Rattle.fe_keeper.specs.declared.fault.Fault.{Fault}
 use Rattle.fe_keeper.specs.declared.fault.Fault.TheVariants.{Device, NoMemory}
 use Rattle.fe_keeper.specs.declared.keeper.Keeper.TheInside.{Inside}
 use Rattle.fe_keeper.specs.declared.keeper_store.KeeperStore.{KeeperStore}
-use Rattle.fe_keeper.specs.declared.keeper_store.KeeperStore.{KeeperStore}
 use Rattle.fe_disk.specs.declared.disk.Disk.{Ghosts}
 
 -- ---- calls one after the other

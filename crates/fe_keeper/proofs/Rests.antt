@@ -1,12 +1,12 @@
 -- What holds as the slices that are left are written.
-use Rattle.std.proofs.Common.{◌≡◌, ◌↔◌, ℕ, ◌+◌, ◌-◌, ◌<◌, ◌≤◌, List, Option, Some, None, Bool, true, false, not, nat_le, if◌then◌else◌, ◌∙◌, ap, subst, refl, sym, arith, inl, inr}
+use Rattle.std.proofs.Common.{◌≡◌, ◌↔◌, ℕ, ◌+◌, ◌-◌, ◌<◌, ◌≤◌, Option, Some, None, Bool, true, false, not, nat_le, if◌then◌else◌, ◌∙◌, ap, subst, refl, sym, arith, inl, inr}
 use Rattle.std.proofs.lemmas.Bool.{cases_lt}
 use Rattle.std.proofs.lemmas.Bool.Decides.{nat_tests}
 use Rattle.std.specs.Option.{option_map_or}
 use Rattle.std.specs.Prelude.{Result, Ok}
 use Rattle.fe_journal.specs.Layout.{slice_bytes}
 use Rattle.fe_journal.specs.declared.fault.JournalFault.{JournalFault}
-use Rattle.fe_disk.specs.Disk.{Rises, MakesAtMost}
+use Rattle.fe_disk.specs.Disk.{MakesAtMost}
 use Rattle.fe_disk.specs.Runs.{LeavesOnly}
 use Rattle.fe_disk.specs.declared.calls.Calls.{Calls}
 use Rattle.fe_disk.proofs.Moments.{joined}
@@ -52,29 +52,8 @@ stepped_parts : {D : Type 0} (disk new : D) (place : ℕ) (format : Format) (use
 stepped_parts disk new place format used failed None = refl
 stepped_parts disk new place format used failed (Some p) = refl
 
-finished_parts : {D : Type 0} (disk : D) (place : ℕ) (format : Format) (used : ℕ) (failed : Bool) (checkpoint : Option Progress)
-    → finished (of_parts disk place format used failed checkpoint) ≡ record (finished (of_parts disk place format used failed checkpoint)) { disk = disk }
-finished_parts disk place format used failed None = refl
-finished_parts disk place format used failed (Some p) = refl
-
 above : (a b : ℕ) → not (nat_le a b) ≡ true → b < a
 above a b is = grind (arith, nat_tests)
-
-slice_less : (size written : ℕ) (short : Bool) → not (nat_le size (written + (if short then size - written else slice_bytes))) ≡ true → size - (written + (if short then size - written else slice_bytes)) < size - written
-slice_less size written true more = let far = above size (written + (size - written)) more in omega arith
-slice_less size written false more = let far = above size (written + slice_bytes) more in omega arith
-
-less_parts : {D : Type 0} (disk : D) (place : ℕ) (format : Format) (used : ℕ) (failed : Bool) (checkpoint : Option Progress)
-    → has_slices (stepped (of_parts disk place format used failed checkpoint)).checkpoint ≡ true → bytes_left (stepped (of_parts disk place format used failed checkpoint)).checkpoint < bytes_left checkpoint
-less_parts disk place format used failed None more = cc
-less_parts disk place format used failed (Some p) more = slice_less p.size p.written (nat_le (p.size - p.written) slice_bytes) more
-
--- fewer bytes are left after a slice
-pub fewer_left : {D : Type 0} (store new : StoreState D) (disk : D) (more : Bool) → new ≡ record (stepped store) { disk = disk } → more ≡ has_slices new.checkpoint → more ≡ true → bytes_left new.checkpoint < bytes_left store.checkpoint
-fewer_left {D = D} store new disk more is more_is has =
-    let same : new.checkpoint ≡ (stepped store).checkpoint = ap (λ (t : StoreState D). t.checkpoint) is in
-    subst (λ (o : Option Progress). bytes_left o < bytes_left store.checkpoint) (sym same)
-    (less_parts store.disk store.place store.format store.used store.has_failed store.checkpoint (ap has_slices (sym same) ∙ sym more_is ∙ has))
 
 below : (a b : ℕ) → a ≤ b → not (nat_le a b) ≡ false
 below a b is = grind (arith, nat_tests)
@@ -105,28 +84,7 @@ counted {D = D} store new disk before after is one rests =
     subst (λ (o : Option Progress). after + slices_left o ≤ before + slices_left store.checkpoint) (sym same)
     (counted_parts store.disk store.place store.format store.used store.has_failed store.checkpoint before after one rests)
 
-some_left : (checkpoint : Option Progress) → has_slices checkpoint ≡ true → 1 ≤ slices_left checkpoint
-some_left None is = cc
-some_left (Some p) is = let far = above p.size p.written is in omega (arith, far)
-
 module _ {D : Type 0} (model : Ghosts D) where
-  -- before the first slice
-  pub none_yet : (old : KeeperStore D) → ((image : List ℕ) → model.honest old.journal.disk → model.left_since old.journal.disk (model.moment old.journal.disk) image → model.may_leave old.journal.disk image) → HasCheckpoint old
-      → IsWriting model old old
-  none_yet old only_now ready =
-      record {
-        ready = ready;
-        goes_on = λ is s upholds. record { run = stays model old s (λ image left. only_now image is left) upholds; upheld = upholds };
-        value = finished_parts old.journal.disk old.place old.journal.format old.journal.used old.journal.has_failed (store_of old).checkpoint;
-        still = refl;
-        place = refl;
-        reads = refl;
-        more = omega arith;
-        writes = omega arith;
-        syncs = refl;
-        honesty = (λ is. is, λ is. is);
-      }
-
   -- a run that went on by one call
   pub moments_more : {T : Type 0} (result : Result T JournalFault) (old now new : KeeperStore D) → IsWriting model old now
       → (model.honest now.journal.disk → (s : ServerState) → Upholds model now s → Carries model result now new s)
@@ -162,19 +120,3 @@ module _ {D : Type 0} (model : Ghosts D) where
         syncs = omega (arith, made.2.0, made.2.1, so_far.syncs);
         honesty = (λ is. so_far.honesty.0 (ends.honesty.0 is), λ is. ends.honesty.1 (so_far.honesty.1 is));
       }
-
-  -- a fault in a later call is one since the first
-  pub rises_since : (old now new : D) → model.failures now ≡ model.failures old → Rises (model.failures now) (model.failures new) → Rises (model.failures old) (model.failures new)
-  rises_since old now new still rises = subst (λ (n : ℕ). Rises n (model.failures new)) still rises
-
-  -- the calls of a run that a slice ended
-  pub calls_more : (old now new : KeeperStore D) → IsWriting model old now → MakesAtMost 0 1 0 (model.calls now.journal.disk) (model.calls new.journal.disk)
-      → has_slices (store_of now).checkpoint ≡ true → MakesAtMost 0 (slices_left (store_of old).checkpoint) 0 (model.calls old.journal.disk) (model.calls new.journal.disk)
-  calls_more old now new so_far made is =
-      let some = some_left (store_of now).checkpoint is in
-      let reads = so_far.reads in
-      let syncs = so_far.syncs in (
-        (omega (arith, made.0.0, reads), omega (arith, made.0.1, reads)),
-        (omega (arith, made.1.0, so_far.more), omega (arith, made.1.1, so_far.writes, some)),
-        (omega (arith, made.2.0, syncs), omega (arith, made.2.1, syncs)),
-      )

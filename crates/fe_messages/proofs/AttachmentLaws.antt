@@ -23,7 +23,7 @@ use Rattle.fe_mail.specs.declared.refusal.Refusal.TheVariants.{NotAttached, Clos
 use Rattle.fe_mail.proofs.Lookups.{session_on-with_mails, session_on-with_session, session_on-with_session-beside}
 use Rattle.fe_wire.specs.declared.client_message.ClientMessage.{ClientMessage}
 use Rattle.fe_wire.specs.declared.client_message.ClientMessage.TheVariants as message
-use Rattle.fe_front.specs.Front.{FrontState, is_connected}
+use Rattle.fe_front.specs.Front.{FrontState, is_connected, IsFirst}
 use Rattle.fe_front.specs.Steps.{parted, released, freed, departed, withdrawn_from, unboxed, dropped, boxed, overflowed, mailed, connected, attached_to, settled_to, closed_by, cancelled_from, taken}
 use Rattle.fe_front.specs.Posting.{delivered, vacated, ended, posted_entry, posted_all, posted}
 use Rattle.fe_front.specs.Call.{Called, call_refused_by, kept_at, repeated}
@@ -31,7 +31,6 @@ use Rattle.fe_front.specs.Refusals.{unclosing, and_then, in_window, addressed}
 use Rattle.fe_front.specs.declared.outcome.Outcome.{Outcome}
 use Rattle.fe_front.specs.declared.outcome.Outcome.TheVariants as outcome
 use Rattle.fe_state.specs.State.{ServerState}
-use Rattle.fe_front.specs.Front.{IsFirst}
 use Rattle.fe_front.proofs.Agreement.{holder-inserted, holder-beside, holder-removed, holder-left, holder-closing}
 use Rattle.fe_messages.specs.Asking.{AsksOnly, HasOnly}
 use Rattle.fe_messages.specs.Taking.{Takes}

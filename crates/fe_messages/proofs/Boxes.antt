@@ -17,7 +17,7 @@ use Rattle.fe_mail.specs.declared.connection.Connection.{Connection}
 use Rattle.fe_mail.specs.declared.mail.Mail.{Mail}
 use Rattle.fe_mail.proofs.Lookups.{mails_on-with_session, mails_on-with_mails, mails_on-with_mails-beside}
 use Rattle.fe_front.specs.Front.{FrontState, is_connected}
-use Rattle.fe_front.specs.Steps.{parted, released, freed, departed, withdrawn_from, unboxed, dropped, boxed, overflowed, mailed, connected, attached_to, taken, has_no_cut, cut}
+use Rattle.fe_front.specs.Steps.{parted, released, freed, departed, withdrawn_from, unboxed, dropped, boxed, overflowed, mailed, connected, attached_to, taken}
 use Rattle.fe_front.specs.Posting.{delivered, vacated, posted_entry, posted_all}
 
 -- each mail in a box of these connections is such
@@ -122,13 +122,6 @@ module _ (P : ℕ → Mail → Type 0) where
   boxes-attached f conn session all =
       let left = released f conn in
       in_with_session (freed left session).connections conn (Some session) (boxes-freed left session (boxes-released f conn all))
-
-  pub boxes-cut : (f : FrontState) → AllIn P f.connections → AllIn P (cut f).connections
-  boxes-cut f all = by (has_no_cut f)
-    where
-      by : (b : Bool) → AllIn P (if b then f else record f { service = record f.service { pending = [] }; out = Some (record { first = f.durable; length = length f.service.pending }) }).connections
-      by true = all
-      by false = all
 
   pub boxes-taken : (f : FrontState) (conn : ℕ) → AllIn P f.connections → AllIn P (taken f conn).connections
   boxes-taken f conn all = by (nat_lt 0 (length (mails_on f.connections conn)))

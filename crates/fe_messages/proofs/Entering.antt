@@ -1,11 +1,11 @@
 -- Messages of connections enter the front: the entries that they make are legal, and pending after the others.
-use Rattle.std.proofs.Common.{◌≡◌, ◌⊎◌, ℕ, Bool, true, false, not, true≢false, inl, inr, List, [], ◌∷◌, ◌++◌, append-nil, Option, Some, None, Result, Ok, Err, MatchResult, IsOk, refl, sym, ap, subst, ◌∙◌}
-use Rattle.std.specs.Prelude.{nat_lt, is_ok, if◌then◌else◌}
+use Rattle.std.proofs.Common.{◌≡◌, ◌⊎◌, ℕ, Bool, true, false, true≢false, inl, inr, List, [], ◌∷◌, ◌++◌, append-nil, Option, Some, None, Result, Ok, Err, refl, sym, ap, subst, ◌∙◌}
+use Rattle.std.specs.Prelude.{nat_lt, if◌then◌else◌}
 use Rattle.std.specs.Option.{option_map_or}
 use Rattle.std.specs.FinMap.{get}
 use Rattle.fe_state.specs.State.{ServerState, IsWithinLimits}
 use Rattle.fe_state.specs.declared.entry.Entry.{Entry}
-use Rattle.fe_state.specs.declared.entry.Entry.TheVariants.{Attached, Closed, Settled}
+use Rattle.fe_state.specs.declared.entry.Entry.TheVariants.{Attached}
 use Rattle.fe_state.specs.declared.kept.Kept.{Kept}
 use Rattle.fe_state.specs.declared.request.Request.{Request}
 use Rattle.fe_service.specs.Events.{floor_of}
@@ -13,19 +13,18 @@ use Rattle.fe_mail.specs.Books.{call_repeated}
 use Rattle.fe_mail.specs.declared.mail.Mail.{Mail}
 use Rattle.fe_mail.specs.declared.mail.Mail.TheVariants as mail
 use Rattle.fe_mail.specs.declared.refusal.Refusal.{Refusal}
-use Rattle.fe_mail.specs.declared.refusal.Refusal.TheVariants.{NotAttached, Closing, SessionLimit, Spent, NoMemory}
+use Rattle.fe_mail.specs.declared.refusal.Refusal.TheVariants.{NoMemory}
 use Rattle.fe_wire.specs.declared.client_message.ClientMessage.{ClientMessage}
 use Rattle.fe_wire.specs.declared.client_message.ClientMessage.TheVariants as message
 use Rattle.fe_report.specs.Report.{report_text, held_attachments}
-use Rattle.fe_front.specs.Front.{FrontState, IsFront, is_connected, is_spent}
+use Rattle.fe_front.specs.Front.{FrontState, IsFront}
 use Rattle.fe_front.specs.Event as event
 use Rattle.fe_front.specs.Step.{FrontStep}
 use Rattle.fe_front.specs.Steps.{released, freed, mailed, attached_to, settled_to, closed_by, cancelled_from, cancelled_by}
-use Rattle.fe_front.specs.Refusals.{attaching, settling, leaving, cancelling, has_no_attachment}
+use Rattle.fe_front.specs.Refusals.{attaching, settling, leaving, cancelling}
 use Rattle.fe_front.specs.Call.{Called, IsCallRefused, WantsMemory, call_refused_by, kept_at, repeated}
 use Rattle.fe_front.specs.declared.outcome.Outcome.{Outcome}
 use Rattle.fe_front.specs.declared.outcome.Outcome.TheVariants as outcome
-use Rattle.fe_service.specs.AttachmentsState.{is_closing}
 use Rattle.fe_front.proofs.Keeping.{Keeps, itself, both, released-keeps, freed-keeps, mailed-keeps}
 use Rattle.fe_front.proofs.Events.{Answers, attach_step, settle_step, bye_step, cancel_step, refusal_told, call_refusal_told}
 use Rattle.fe_front.proofs.Leading.{steps_lead}

@@ -5,7 +5,7 @@ use Rattle.std.specs.List.{last_or}
 use Rattle.fe_pool.specs.declared.chain.Chain.{Chain}
 use Rattle.fe_pool.specs.declared.family.Family.{Family}
 use Rattle.fe_pool.specs.declared.neighbours.Neighbours.{Neighbours}
-use Rattle.fe_pool.specs.Pool.{Contents, first_or, list_of, without, IsChain, IsOff, ChangesList}
+use Rattle.fe_pool.specs.Pool.{first_or, list_of, without, IsChain, IsOff, ChangesList}
 use Rattle.fe_pool.specs.Columns.{Columns, link_at, links_of, with_links, IsLinked}
 use Rattle.fe_pool.specs.within.Runs.{previous_of, next_of, with_next, with_previous, IsPool, contents}
 use Rattle.fe_pool.proofs.AmongLemmas.{among-split, among-Contains, last-some, last_or-append}

@@ -1,9 +1,8 @@
 -- Legal entries one after another, and the states that they lead to.
 use Rattle.std.proofs.Common.{◌≡◌, ◌+◌, List, [], ◌∷◌, ◌++◌, length, refl, arith}
-use Rattle.fe_state.specs.State.{ServerState, IsLegal, IsWithinLimits, after, after_all}
+use Rattle.fe_state.specs.State.{ServerState, IsLegal, after, after_all}
 use Rattle.fe_state.specs.History.{AreLegal}
 use Rattle.fe_state.specs.declared.entry.Entry.{Entry}
-use Rattle.fe_state.proofs.LegalLimits.{limits_kept}
 
 -- entries, and one more
 pub after_then : (s : ServerState) (es : List Entry) (e : Entry) → after_all s (es ++ e ∷ []) ≡ after (after_all s es) e
@@ -23,8 +22,3 @@ place_after s (e ∷ es) = omega (arith, place_after (after s e) es)
 pub legal_at : (s : ServerState) (front rest : List Entry) (e : Entry) → AreLegal s (front ++ e ∷ rest) → IsLegal (after_all s front) e
 legal_at s [] rest e legal = legal.0
 legal_at s (x ∷ front) rest e legal = legal_at (after s x) front rest e legal.1
-
--- the state after them is within the limits
-pub limits_after : (s : ServerState) (es : List Entry) → IsWithinLimits s → AreLegal s es → IsWithinLimits (after_all s es)
-limits_after s [] limits legal = limits
-limits_after s (e ∷ es) limits legal = limits_after (after s e) es (limits_kept s e limits legal.0) legal.1

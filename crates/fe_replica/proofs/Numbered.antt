@@ -1,9 +1,8 @@
 -- Legal entries have numbers and floors below 2^63, so that they can be put.
-use Rattle.std.proofs.Common.{◌≡◌, ℕ, ◌^◌, ◌<◌, Option, Some, None, Bool, true, false, ◌&&◌, List, [], ◌∷◌, refl, arith}
+use Rattle.std.proofs.Common.{◌≡◌, ℕ, ◌^◌, ◌<◌, Option, Some, None, ◌&&◌, List, [], ◌∷◌, refl, arith}
 use Rattle.std.specs.Prelude.{IsSomeAnd}
-use Rattle.std.specs.List.{AllByRecursion, list_all}
+use Rattle.std.specs.List.{AllByRecursion}
 use Rattle.std.specs.FinMap.{get}
-use Rattle.fe_state.specs.Format.{entry_fits_format_1}
 use Rattle.fe_state.specs.Sessions.{Session, MayRise}
 use Rattle.fe_state.specs.SessionEffect.{IsUsable, MayAttach}
 use Rattle.fe_state.specs.State.{ServerState, IsLegal, IsWithinLimits, after}
@@ -12,7 +11,7 @@ use Rattle.fe_state.specs.declared.entry.Entry.{Entry}
 use Rattle.fe_state.specs.declared.entry.Entry.TheVariants.{Attached, Closed, Settled, Finished}
 use Rattle.fe_state.proofs.LegalLimits.{limits_kept}
 use Rattle.fe_codec.specs.Record.{IsNumbered, CanPut}
-use Rattle.fe_format.specs.declared.format.Format.TheVariants.{One, Two}
+use Rattle.fe_format.specs.declared.format.Format.TheVariants.{Two}
 
 attached : (s : ServerState) (session floor : ℕ) (here : Option Session) → get s.sessions session ≡ here → IsWithinLimits s → MayAttach s.sessions floor here → floor < 2 ^ 63
 attached s session floor None is limits may = omega (arith, may.0)
@@ -38,14 +37,3 @@ pub legal_can_be_put : (s : ServerState) (es : List Entry) → IsWithinLimits s 
 legal_can_be_put s [] limits legal = tt
 legal_can_be_put s (e ∷ es) limits legal =
     (record { of_format = tt; numbered = legal_is_numbered s e limits legal.0 }, legal_can_be_put (after s e) es (limits_kept s e limits legal.0) legal.1)
-
-both : (a b : Bool) → (a && b) ≡ true → (a ≡ true) × (b ≡ true)
-both true b is = (refl, is)
-both false b is = absurd cc
-
--- and in format 1, where it has a record for each
-pub legal_can_be_put_in_1 : (s : ServerState) (es : List Entry) → IsWithinLimits s → AreLegal s es → list_all entry_fits_format_1 es ≡ true → AllByRecursion (CanPut One) es
-legal_can_be_put_in_1 s [] limits legal fit = tt
-legal_can_be_put_in_1 s (e ∷ es) limits legal fit =
-    let each = both (entry_fits_format_1 e) (list_all entry_fits_format_1 es) fit in
-    (record { of_format = each.0; numbered = legal_is_numbered s e limits legal.0 }, legal_can_be_put_in_1 (after s e) es (limits_kept s e limits legal.0) legal.1 each.1)

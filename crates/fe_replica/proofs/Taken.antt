@@ -1,16 +1,12 @@
 -- Entries that are taken one after the other, and where they are not taken.
-use Rattle.std.proofs.Common.{◌≡◌, ℕ, ◌+◌, List, [], ◌∷◌, ◌++◌, length, refl, sym, ap, subst, ◌∙◌, arith}
+use Rattle.std.proofs.Common.{◌≡◌, ℕ, ◌+◌, List, [], ◌∷◌, ◌++◌, length, sym, ap, subst, ◌∙◌, arith}
 use Rattle.std.proofs.lemmas.List.{length-append}
 use Rattle.fe_state.specs.State.{ServerState, IsLegal, after}
 use Rattle.fe_state.specs.History.{AreLegal}
-use Rattle.fe_state.specs.UndoLog.{UndoLog, empty_log, rewound, IsLogOf}
+use Rattle.fe_state.specs.UndoLog.{UndoLog, rewound, IsLogOf}
 use Rattle.fe_state.specs.declared.entry.Entry.{Entry}
 use Rattle.fe_replica.specs.Taking.{Continues, IsMismatch, IsIllegalAt, AreTaken}
 use Rattle.fe_replica.proofs.Following.{after_then, legal_then, legal_at, place_after}
-
--- before the first entry
-pub none_taken : (s : ServerState) (log : UndoLog) (room : ℕ) → log ≡ empty_log room → AreTaken s [] s log
-none_taken s log room is = rw is (record { legal = tt; state_is = refl; is_log = tt; beginning = refl; each = refl })
 
 -- one entry more
 pub one_taken : (s mid new : ServerState) (old_log log : UndoLog) (front : List Entry) (e : Entry) → AreTaken s front mid old_log → IsLegal mid e → new ≡ after mid e

@@ -1,12 +1,12 @@
 -- How long the lines are.
-use Rattle.std.proofs.Common.{◌≡◌, ℕ, ◌+◌, ◌^◌, ◌<◌, ◌≤◌, true, false, Bool, List, ◌++◌, length, codes, arith, length-append, ap}
+use Rattle.std.proofs.Common.{◌≡◌, ℕ, ◌+◌, ◌^◌, ◌<◌, ◌≤◌, List, ◌++◌, length, codes, arith, length-append, ap}
 use Rattle.std.proofs.lemmas.Fmt.{length-decimal-le}
 use Rattle.std.specs.Prelude.{String, string_bytes, string_len}
 use Rattle.std.specs.Fmt.{decimal}
 use Rattle.fe_words.specs.Table.{name_of}
 use Rattle.fe_words.specs.declared.op.Op.{Op}
 use Rattle.fe_words.specs.declared.op.Op.TheVariants.{ReadFe, ReadFf, ReadXx, WriteEf, WriteFf, WriteXf, Purge, IntFetchAdd}
-use Rattle.fe_report.specs.Report.{count_line, word_line, session_line, all_wait_line}
+use Rattle.fe_report.specs.Report.{count_line, session_line}
 
 -- a text that a line was written after
 pub grown : {Z : Type 0} (old new : String Z) (line : List ℕ) (n : ℕ) → length line ≤ n → string_bytes new ≡ string_bytes old ++ line → string_len new ≤ string_len old + n

@@ -8,7 +8,7 @@ use Rattle.fe_keeper.specs.Laws.{StandsForOne}
 use Rattle.fe_keeper.specs.Stands.{StandsFor, EachStandsFor}
 use Rattle.fe_keeper.specs.Prefix.{LeavesPrefix}
 use Rattle.fe_keeper.specs.declared.fault.Fault.TheVariants as store
-use Rattle.fe_desk.specs.Crash.{DeskState, Advances, IsFrom, disk_of}
+use Rattle.fe_desk.specs.Crash.{DeskState, Advances, IsFrom, disk_of, TellsStep}
 use Rattle.fe_desk.specs.DeskRunState.{DeskRunState, IsFirstRunState}
 use Rattle.fe_desk.specs.Steps.{DeskStep}
 use Rattle.fe_desk.specs.declared.step.Step.{Step}
@@ -20,7 +20,6 @@ use Rattle.fe_desk.specs.declared.fault.DeskFault.{DeskFault}
 use Rattle.fe_desk.specs.declared.fault.DeskFault.TheVariants as desk
 use Rattle.std.proofs.lemmas.Option.{none-some}
 use Rattle.fe_disk.specs.Disk.{Rises}
-use Rattle.fe_desk.specs.Crash.{TellsStep}
 use Rattle.fe_desk.specs.Taken.{Ends}
 use Rattle.fe_schedules.specs.MemoryModel.{memory_model}
 use Rattle.fe_schedules.specs.Fault.{of_desk, TellsDisk}

@@ -13,8 +13,7 @@ use Rattle.std.specs.Ordering.{nat_cmp, eq_by_cmp, is_lt, is_eq, ordering_index}
 use Rattle.std.specs.declared.cmp.Ordering.{Ordering}
 use Rattle.std.specs.declared.cmp.Ordering.TheVariants.{Less, Equal, Greater}
 use Rattle.std.proofs.lemmas.List.{get_or_default}
-use Rattle.std.specs.Option.{option_map_or}
-use Rattle.fe_table.specs.Table.{IsAt, IsGapFor, put_at}
+use Rattle.fe_table.specs.Table.{IsAt, IsGapFor}
 
 pub first : (a b : Bool) → T (a && b) → T a
 first true b p = tt
@@ -252,12 +251,6 @@ module _ {X : Type 0} where
     module _ (i : ℕ) (e : ℕ × X) (within : i < length es) (read : e ≡ get_or es i e) where
       pub at_itself : IsAt (entries m) e.0 i
       at_itself = subst (λ l. IsAt l e.0 i) (sym entries_seen) (record { in_range = within; has_key = λ d. ap (λ e. e.0) (get_or_default es i d e within ∙ sym read) })
-
-      pub entry_itself : slice_get (entries m) i ≡ Some e
-      entry_itself = ap (λ l. slice_get l i) entries_seen ∙ slice_get-inside es i e within read
-
-      pub put_itself : (x : X) → put_at m i x ≡ map_insert m e.0 x
-      put_itself x = ap (λ o. option_map_or (λ e. map_insert m e.0 x) o m) entry_itself
 
     -- a search for a present key finds it, and a search for an absent key finds its gap
     pub search_finds : (k : ℕ) (r : Result ℕ ℕ) → IfErr r (IsGapFor (entries m) k) → IsSome (get m k) → IsOk r

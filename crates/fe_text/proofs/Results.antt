@@ -12,11 +12,6 @@ pub ok_both : {A E : Type 0} (r : Result A E) (P Q : Type 0) → OnOk r P → On
 ok_both (Ok x) P Q p q = (p, q)
 ok_both (Err e) P Q p q = tt
 
--- what always holds also holds of an `Ok`
-pub always : {A E : Type 0} (r : Result A E) {P : Type 0} → P → OnOk r P
-always (Ok x) p = p
-always (Err e) p = tt
-
 -- what a match says of an `Ok`, and of an `Err`
 pub ok_of : {A E : Type 0} (r : Result A E) {P R : Type 0} (Q : E → Type 0) → (P → R) → MatchResult r (λ _. P) Q → OnOk r R
 ok_of (Ok x) Q f p = f p

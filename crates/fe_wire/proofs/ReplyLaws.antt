@@ -152,9 +152,6 @@ reply_row kind body fits =
     (row P kind 69 _ _ (given kind 69 body (made_of (λ session. Goodbye session) body) (λ x is. made_takes 69 (λ session. Goodbye session) (λ n lt. lt) (λ n. refl) body x fits is))
     (row P kind 70 _ _ (given kind 70 body (refused_of body) (λ x is. refused_takes body x fits is)) tt)))))
 
-reply_takes : (kind : ℕ) (body : List ℕ) (m : ServerMessage) → IsBytes body → reply_of_kind kind body ≡ Some m → IsReplyOf kind body m
-reply_takes kind body m fits e = some_at (IsReplyOf kind body) (reply_of_kind kind body) m e (reply_row kind body fits)
-
 -- ---- any kind
 
 -- what a frame with this kind and body spells, including a report

@@ -1,14 +1,12 @@
 -- A stream has at most one reading, and how a decoder continues in it.
 use Rattle.std.proofs.Common.{◌≡◌, ℕ, ◌+◌, ◌-◌, ◌^◌, ◌<◌, ◌≤◌, min, Bool, true, false, ◌⊎◌, List, [], ◌∷◌, ◌++◌, length, refl, sym, ap, subst, ◌∙◌, append_assoc, arith, inl, inr, lit≤}
 use Rattle.std.specs.List.{flat_map, AllByRecursion}
-use Rattle.std.proofs.lemmas.Bool.{cases_lt}
 use Rattle.std.proofs.lemmas.List.{append-nil, length-append, take_all}
 use Rattle.std.proofs.lemmas.List.Concat.{flat_map-cons, flat_map-append}
 use Rattle.fe_wire.specs.declared.client_message.ClientMessage.{ClientMessage}
 use Rattle.fe_wire.specs.declared.version.Version.{Version}
-use Rattle.fe_wire.specs.declared.version.Version.TheVariants.{One, Two}
 use Rattle.fe_wire.specs.Spelling.{spelling, FitsIn}
-use Rattle.fe_wire.specs.Stream.{Decoding, HasReadFrom, IsStream, StandsAt, longest, length_field, front_frame, IsWhole, IsBad, IsUnfinished}
+use Rattle.fe_wire.specs.Stream.{Decoding, HasReadFrom, IsStream, StandsAt, length_field, front_frame, IsWhole, IsBad, IsUnfinished}
 use Rattle.fe_wire.specs.Laws.{HasOneReading, HasOneOutcome}
 use Rattle.fe_wire.proofs.FrameLaws.{one_front, front_not_bad, front_not_unfinished, bad_more}
 
@@ -132,17 +130,6 @@ reads_message start d before more held earlier m offset good offset_is held_is_m
     }
 
 -- ---- how many bytes are stored
-
-longest_le : (v : Version) → longest v ≤ 47
-longest_le One = lit≤ tt
-longest_le Two = lit≤ tt
-
--- a frame whose length field is there
-unfinished_long : (v : Version) (held : List ℕ) → IsUnfinished v held → 4 ≤ length held → (length held < 4 + length_field held) × (length_field held ≤ longest v)
-unfinished_long v held h le = (
-  elim (cases_lt (length held) (4 + length_field held)) [ inl lt ↦ lt | inr whole ↦ absurd (h.0 whole) ],
-  elim (cases_lt (longest v) (length_field held)) [ inl over ↦ absurd (h.1 (inl (le, inr over))) | inr low ↦ low ],
-)
 
 -- a whole frame is all that is stored
 pub whole_is_held : (held : List ℕ) → IsWhole held → length held ≤ 4 + length_field held → front_frame held ≡ held

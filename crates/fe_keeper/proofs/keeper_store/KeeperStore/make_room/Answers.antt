@@ -1,5 +1,4 @@
 use Rattle.std.proofs.Common.{Option, subst, rules}
-use Rattle.fe_state.specs.State.{ServerState}
 use Rattle.fe_keeper.specs.within.Ends.{Always}
 use Rattle.fe_keeper.specs.within.Fresh.{IsImageOf, IsImageIfSome}
 use Rattle.fe_keeper.specs.declared.checkpoint.Checkpoint.{Checkpoint}
