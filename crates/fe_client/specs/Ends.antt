@@ -1,4 +1,4 @@
--- How a conversation with a server ends before its input does (`docs/commands.md`, "Commands").
+-- How a conversation with a server breaks off (`docs/commands.md`, "Commands").
 use Rattle.std.specs.Prelude.{◌≡◌, ◌≢◌, ◌⊎◌, ℕ, ◌+◌, ◌^◌, ◌<◌, ◌≤◌, List, [], ◌∷◌, ◌++◌, length, take, Option, None, Some, ⊤}
 use Rattle.fe_wire.specs.Spelling.{spelling, reply_spelling, ReplyFits}
 use Rattle.fe_wire.specs.declared.client_message.ClientMessage.{ClientMessage}
@@ -39,7 +39,8 @@ IsTooLong end number line = ((end ≡ fault.Line number) × (94 < length line)) 
 abbrev pub Unsent : CallFault → Type 0 → Type 0
 Unsent end over = ((end ≡ fault.Socket) × over) ⊎ (end ≡ fault.Memory)
 
--- Why no more bytes come after these and the earlier ones: the connection is over, or it was read 2^40 times.
+-- Why no more bytes come after these: the connection is over, or it was read 2^40 times, each time for a byte at least. At most `earlier`
+-- of the reads were made before these bytes.
 abbrev pub Unreceived : CallFault → Type 0 → ℕ → List ℕ → Type 0
 Unreceived end over earlier bytes = ((end ≡ fault.Socket) × over) ⊎ ((end ≡ fault.Input) × (2 ^ 40 ≤ earlier + length bytes))
 
@@ -76,12 +77,12 @@ pub data ExchangeEnds (end : CallFault) (over : Type 0) (earlier : ℕ) (message
   Receiving : WhileReceiving end over earlier message part → ExchangeEnds end over earlier message part
   Printing : WhilePrinting end message part → ExchangeEnds end over earlier message part
 
--- What came of a line that was taken, which has that number.
+-- What came of a line that was taken, which has that number: it is outside the syntax, or its exchange broke off.
 pub data LineEnds (end : CallFault) (over : Type 0) (number earlier : ℕ) (line : List ℕ) (part : List Event) : Type 0 where
   Stray : end ≡ fault.Line number → line ≢ [] → asked line ≡ None → part ≡ [] → LineEnds end over number earlier line part
   Within : (message : ClientMessage) → asked line ≡ Some message → ExchangeEnds end over earlier message part → LineEnds end over number earlier line part
 
--- What came of the next line, which has that number, where these bytes were read and are not taken.
+-- What came of the next line, which has that number and was not done, where these bytes were read and are not taken.
 pub data BreaksOff (end : CallFault) (over : Type 0) (number earlier : ℕ) (left : List ℕ) (part : List Event) : Type 0 where
   Reading : Unread end number left → part ≡ [] → BreaksOff end over number earlier left part
   Fed : (line behind : List ℕ) → left ≡ line ++ 10 ∷ behind → HasNoFeed line → LineEnds end over number earlier line part → BreaksOff end over number earlier left part
@@ -89,7 +90,8 @@ pub data BreaksOff (end : CallFault) (over : Type 0) (number earlier : ℕ) (lef
 
 -- ---- a whole conversation
 
--- A conversation leads from one state to the other, where an exchange or the reading of a line breaks off.
+-- A conversation leads from one state to the other, and breaks off there: the next line can't be read, is outside the syntax, or has an
+-- exchange that breaks off.
 pub record TalksUntil {S : Type 0} (leads : S → List Event → S → Type 0) (end : CallFault) (over : Type 0) (before after : S) : Type 0 where
   pub lines : ℕ
   pub so : List Event

@@ -27,7 +27,8 @@ HasEnded (Event.Received byte ∷ events) = HasEnded events
 HasEnded (Event.Written byte ∷ events) = HasEnded events
 HasEnded (Event.Flushed ∷ events) = HasEnded events
 
--- these events, in their order, lead from what was known before to what is known after
+-- These events lead from what was known before to what is known after. Those of each stream count in their order; the order of events of
+-- different streams makes no difference.
 pub record Flows (before : Known) (events : List Event) (after : Known) : Type 0 where
   pub read : Consumes before.left after.left (read_in events)
   pub ended : HasEnded events → IfSome before.left (λ bytes. IsAtEnd after.left)

@@ -6,7 +6,7 @@ use Rattle.fe_wire.specs.declared.server_message.ServerMessage.{ServerMessage}
 use Rattle.fe_client.specs.Events.{Event, exchange, received_in}
 use Rattle.fe_client.specs.Conversation.{Does}
 
--- a message had its exchange, in which the connection was read at most once for each byte
+-- a message had its exchange, in which the connection was read at most once for each byte of the reply's frame
 pub record Exchanged {S : Type 0} (leads : S → List Event → S → Type 0) (message : ClientMessage) (reads now : ℕ) (before after : S) : Type 0 where
   pub reply : ServerMessage
   pub fits : ReplyFits reply

@@ -1,4 +1,4 @@
-//! What a line asks of a server.
+//! What a line of `femem call` asks of a server: a message, as in a schedule, but without its connection (`docs/schedules.md`, "Lines").
 
 ghost use Rattle.std.specs.Prelude.{◌≡◌};
 ghost use Rattle.fe_client.specs.Asking.{asked};

@@ -1,4 +1,4 @@
-//! Calling a server: a conversation over its socket.
+//! Calling a server: a conversation over its socket (`docs/commands.md`, "Commands").
 
 ghost use Rattle.std.specs.Prelude.{IfErr, OnOk};
 ghost use Rattle.fe_client.specs.Streams.{known, Flows};
@@ -22,7 +22,7 @@ use std::os::unix::net::UnixStream;
 ///
 /// `Line` at the first line, counted from 1, that has not the form of a schedule's line without `cN ` (`docs/schedules.md`,
 /// "Lines"). `Socket` if there is no server, the connection fails or ends before a reply, or a frame is bad. `Input` if the reader or
-/// the writer fails, or after 2^40 reads of a stream or writes of one text. `Memory` if memory runs out.
+/// the writer fails, or after 2^40 reads of a stream, 2^40 writes of one text, or 2^64 - 1 lines. `Memory` if memory runs out.
 pub fn call<N: Net, R: Read, W: Write>(
     rt: &N,
     alloc: Global,
@@ -35,7 +35,7 @@ pub fn call<N: Net, R: Read, W: Write>(
     ensures ok { OnOk result (TalksAll Flows
         (over_socket (R.remaining reader.old) (W.contents writer.old))
         (over_socket (R.remaining reader.new) (W.contents writer.new))) }
-    // At a fault, the lines before the one at fault have had their exchanges.
+    // At a fault, there was no server, or the lines before the one at fault have had their exchanges.
     ensures fault { IfErr result (λ end. CallsUntil end
         (over_socket (R.remaining reader.old) (W.contents writer.old))
         (over_socket (R.remaining reader.new) (W.contents writer.new))) }

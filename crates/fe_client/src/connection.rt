@@ -1,4 +1,4 @@
-//! The connection to a server.
+//! A connection to a server, as a conversation of `femem call` uses it (`docs/commands.md`, "Commands").
 
 ghost use Rattle.std.specs.Prelude.{ℕ, ◌<◌, ◌≤◌, List, length, Option, IfOk, OnErr};
 ghost use Rattle.std.specs.Io.KnownBytes.{Keeps, WriteAppends};

@@ -1,4 +1,4 @@
-//! A connection in memory.
+//! A connection in memory, in place of that of `femem call` to a server (`docs/commands.md`, "Commands").
 
 ghost use Rattle.std.specs.Prelude.{◌≡◌, ◌<◌, ◌≤◌, length};
 

@@ -1,4 +1,4 @@
-//! The streams of a conversation as three objects: a reader, a connection and a writer.
+//! The streams of a conversation of `femem call` (`docs/commands.md`, "Commands") as three objects: a reader, a connection and a writer.
 
 use crate::connection::{Broken, Connection};
 use crate::streams::Streams;

@@ -1,4 +1,4 @@
-//! A connection over a reader and a writer.
+//! A connection to a server over a reader and a writer; that of `femem call` is over a Unix socket (`docs/commands.md`, "Commands").
 
 ghost use Rattle.std.specs.Prelude.{◌≡◌};
 

@@ -1,4 +1,4 @@
-//! The streams of a conversation.
+//! The streams of a conversation of `femem call`: its input, its connection and its output (`docs/commands.md`, "Commands").
 
 ghost use Rattle.std.specs.Prelude.{ℕ, List, [], ◌∷◌, ◌++◌, ◌<◌, ◌≤◌, take, length, IfOk, IfSome, OnOk, OnErr};
 ghost use Rattle.fe_client.specs.Events.{Event, sent, received, written, read_of};
@@ -40,7 +40,7 @@ pub trait Streams {
         ensures err { OnErr result (leads self.old [] self.new) }
         ensures over { OnErr result (is_over self.new) };
 
-    /// Writes the text to the output, or if that fails, a front of it.
+    /// Writes the text to the output, or if that fails, a prefix of it.
     fn write(&mut self, text: &[u8]) -> Result<(), StreamFault>
         ensures ok { OnOk result (leads self.old (written text.now) self.new) }
         ensures err { OnErr result ((count : ℕ) × leads self.old (written (take count text.now)) self.new) };

@@ -1,4 +1,5 @@
-//! A conversation with a server: one exchange after another.
+//! A conversation of `femem call` with a server: one exchange, a message and the reply to it, after another (`docs/commands.md`,
+//! "Commands"). A frame is the bytes of a message or of a reply (`docs/formats.md`, "Frames").
 
 ghost use Rattle.std.specs.Prelude.{◌≡◌, ◌+◌, ◌≤◌, ◌∷◌, ◌++◌, [], ℕ, List, length, IfOk, IfErr, OnOk, OnErr};
 ghost use Rattle.fe_wire.specs.Spelling.{spelling, reply_spelling, ReplyFits};
@@ -20,7 +21,7 @@ pub(crate) struct Talk {
     alloc: Global,
     /// The frame of the message at hand.
     message: Vec<u8>,
-    /// Room for the frame of a reply.
+    /// A buffer for the longest frame of a reply.
     frame: Vec<u8>,
     /// The text of the reply at hand.
     text: String,

@@ -1,7 +1,7 @@
 -- The rule of images: which state an image stands for, or else the offset of its first fault. It goes over the fields
 -- in the order of the format (`docs/formats.md`, "Image"). A step returns a value and the bytes after it; or, at the
 -- first fault, how many bytes are left from there on. A fault is a field whose value isn't allowed, given those before
--- it; or the end of the bytes, if a field is missing there; or the first byte after the last field.
+-- it; or the end of the bytes, if they end before or inside a field; or the first byte after the last field.
 use Rattle.std.specs.Prelude.{ℕ, zero, suc, ◌+◌, ◌-◌, ◌^◌, Bool, true, ◌&&◌, List, [], ◌∷◌, length, take, drop, Option, Some, None, is_some, Result, Ok, Err, nat_le, nat_lt, ◌==◌, if◌then◌else◌}
 use Rattle.std.specs.List.{list_all}
 use Rattle.std.specs.Option.{option_map}
@@ -144,11 +144,11 @@ next_array format x =
 
 -- ---- sessions
 
--- a number for which something is kept: it is in the session's window, and above the previous one
+-- a number that may come next among those for which something is kept: in the window, and above the previous one
 abbrev pub is_next_number : ℕ → Option ℕ → ℕ → Bool
 is_next_number floor previous n = nat_le floor n && nat_lt n (floor + window_length) && is_after previous n
 
--- the kept answer in this entry, if it is one that finished a request of the session and has a next number
+-- the number and what is kept for it, if this entry finished a request of the session under a number that may come next
 abbrev pub kept_of : ℕ → ℕ → Option ℕ → ℕ → Option Entry → Option (ℕ × Kept)
 kept_of session floor previous place (Some (Finished owner n request answer)) =
     if owner == session && is_next_number floor previous n then Some (n, record { request = request; answer = answer; place = place }) else None

@@ -24,10 +24,11 @@ abbrev pub array_spelling : Format → ℕ × Array → List ℕ
 array_spelling format e =
     to_be_bytes w64 e.0 ++ name_field format e.1.name ++ to_be_bytes w32 (length e.1.words) ++ flat_map word_spelling e.1.words
 
--- an answer that is kept for a number is spelled as its entry's place and its entry's record
+-- the entry that finished the request of a kept answer
 abbrev pub entry_of_kept : ℕ → ℕ × Kept → Entry
 entry_of_kept session e = Finished session e.0 e.1.request e.1.answer
 
+-- an answer that is kept for a number: the place of its entry, and the entry's record
 abbrev pub kept_spelling : Format → ℕ → ℕ × Kept → List ℕ
 kept_spelling format session e = to_be_bytes w64 e.1.place ++ entry_spelling format (entry_of_kept session e)
 
@@ -63,7 +64,7 @@ abbrev pub StateOfFormat : Format → ServerState → Type 0
 StateOfFormat One s = HasRoomForState One s
 StateOfFormat Two s = Unit {0}
 
--- the words of an array, the fields of a session and those of what it keeps fit into the bytes that an image has for them
+-- the values of an array's words, and a session's number and the fields of what it keeps, fit into the bytes that an image has for them
 abbrev pub ArrayFits : ℕ × Array → Type 0
 ArrayFits e = AllByRecursion (λ w. w.value < 2 ^ 64) e.1.words
 

@@ -8,15 +8,15 @@ use Rattle.fe_codec.specs.Image.{image_spelling, HasRoomForState, FitsImage}
 use Rattle.fe_codec.specs.FirstFault.{image_at}
 use Rattle.fe_format.specs.declared.format.Format.{Format}
 
--- No record begins another, and no two entries have one record.
+-- In one format no record begins another, and no two entries have one record.
 abbrev pub EntryHasOneSpelling : Type 0
 EntryHasOneSpelling = (format : Format) (a b : Entry) (x y : List ℕ) → FitsRecord format a → FitsRecord format b → entry_spelling format a ++ x ≡ entry_spelling format b ++ y → (a ≡ b) × (x ≡ y)
 
--- No two groups of entries have one spelling.
+-- In one format no two groups of entries have one spelling.
 abbrev pub GroupHasOneSpelling : Type 0
 GroupHasOneSpelling = (format : Format) (group other : List Entry) → FitsGroup format group → FitsGroup format other → group_spelling format group ≡ group_spelling format other → group ≡ other
 
--- Bytes that stand for a state are the state's spelling.
+-- Bytes that stand for a state are the state's spelling, and the format has room for it.
 abbrev pub ImageIsSpelled : Type 0
 ImageIsSpelled = (format : Format) (bytes : List ℕ) (s : ServerState) → IsBytes bytes → image_at format bytes ≡ Ok s → HasRoomForState format s × (bytes ≡ image_spelling format s)
 
@@ -24,6 +24,6 @@ ImageIsSpelled = (format : Format) (bytes : List ℕ) (s : ServerState) → IsBy
 abbrev pub SpellingIsRead : Type 0
 SpellingIsRead = (format : Format) (s : ServerState) → FitsImage format s → image_at format (image_spelling format s) ≡ Ok s
 
--- No two states have one image.
+-- In one format no two states have one image.
 abbrev pub ImageHasOneSpelling : Type 0
 ImageHasOneSpelling = (format : Format) (s t : ServerState) → FitsImage format s → FitsImage format t → image_spelling format s ≡ image_spelling format t → s ≡ t

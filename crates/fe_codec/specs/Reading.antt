@@ -16,7 +16,7 @@ use Rattle.fe_format.specs.declared.format.Format.{Format}
 use Rattle.fe_format.specs.declared.format.Format.TheVariants.{One, Two}
 pub use Rattle.fe_fields.specs.Fields.{field_at}
 
--- the name in the row of a record
+-- the name in the row of a record, unless it is longer than the row
 unfoldable pub name_of : Format → List ℕ → Option (List ℕ)
 name_of format bytes =
     if nat_le (slice_index bytes 3) (name_bytes format) then Some (take (slice_index bytes 3) (drop 24 bytes)) else None

@@ -30,7 +30,7 @@ name_field format name = length name ∷ name_row format name
 abbrev pub array_row : Format → ℕ → ℕ → List ℕ
 array_row format array operand = to_be_bytes w64 array ++ to_be_bytes w64 operand ++ replicate (name_bytes format - 16) 0
 
--- the flag of an access that must not wait
+-- the flag: 1 for an access that must not wait
 abbrev pub flag_code : Bool → ℕ
 flag_code false = 0
 flag_code true = 1
@@ -42,14 +42,14 @@ request_codes answer (Find name) = codes_field 4 2 answer (length name) 0 0
 request_codes answer (Remove array) = codes_field 4 3 answer 0 0 0
 request_codes answer (Access array index op no_wait) = codes_field 4 (op_code op) answer 0 0 (flag_code no_wait)
 
--- what a request names: an array by its name, or by its id with the operand
+-- what a request names: an array by its name, or by its id and then an operand, 0 for a remove
 abbrev pub request_row : Format → Request → List ℕ
 request_row format (Create name size tag) = name_row format name
 request_row format (Find name) = name_row format name
 request_row format (Remove array) = array_row format array 0
 request_row format (Access array index op no_wait) = array_row format array (operand_of op)
 
--- the length or the index that a request has
+-- the length or the index that a request has, 0 if it has neither
 abbrev pub request_size : Request → ℕ
 request_size (Create name size tag) = size
 request_size (Find name) = 0
@@ -110,14 +110,14 @@ pub record CanPut (format : Format) (entry : Entry) : Type 0 where
   pub of_format : IsOfFormat format entry
   pub numbered : IsNumbered entry
 
--- each field of a request fits into the bytes that a record has for it
+-- each field of a request fits into the bytes that a record of format 2 has for it
 abbrev pub RequestFits : Request → Type 0
 RequestFits (Create name size tag) = (length name ≤ longest_name) × (size < 2 ^ 32)
 RequestFits (Find name) = length name ≤ longest_name
 RequestFits (Remove array) = array < 2 ^ 64
 RequestFits (Access array index op no_wait) = (array < 2 ^ 64) × (index < 2 ^ 32) × (operand_of op < 2 ^ 64)
 
--- each field of an entry fits into the bytes that a record has for it
+-- each field of an entry except its number or floor fits into the bytes that a record of format 2 has for it
 abbrev pub FieldsFit : Entry → Type 0
 FieldsFit (Attached session floor) = session < 2 ^ 64
 FieldsFit (Closed session) = session < 2 ^ 64
@@ -139,13 +139,13 @@ group_spelling format entries = flat_map (entry_spelling format) entries
 abbrev pub FitsGroup : Format → List Entry → Type 0
 FitsGroup format entries = AllByRecursion (FitsRecord format) entries
 
--- the lengths that a group may have, in bytes: those of whole records, and of one at least
+-- the lengths that a group may have, in bytes: those of 1 to `group_records` whole records
 pub record IsGroupSize (format : Format) (size : ℕ) : Type 0 where
   pub whole : size % record_bytes format ≡ 0
   pub least : record_bytes format ≤ size
   pub most : size ≤ group_records format * record_bytes format
 
--- the bytes are the group of these entries, which is not empty
+-- the bytes are the group of these entries, 1 to `group_records` of them
 pub record IsGroupOf (format : Format) (entries : List Entry) (bytes : List ℕ) : Type 0 where
   pub least : 1 ≤ length entries
   pub most : length entries ≤ group_records format

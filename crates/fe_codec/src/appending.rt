@@ -1,5 +1,5 @@
-//! Appends fields of an image to a vector of bytes. A call fails only if the vector has no room for all of it and memory runs out.
-//! What was in the vector stays; some words of `put_words` may stay after it.
+//! Appends fields of an image, the bytes of a server state (`docs/formats.md`, "Image"), to a vector. A call fails only if the vector
+//! lacks room and memory runs out. What was in the vector stays; a `put_words` that fails may leave some words after it.
 
 ghost use Rattle.std.specs.Prelude.{◌≡◌, ◌∷◌, ◌<◌, ◌^◌, [], flat_map, is_ok, OnOk, vec_capacity};
 ghost use Rattle.std.specs.List.{AllByRecursion};
@@ -15,6 +15,7 @@ use std::alloc::AllocError;
 /// How many bytes a word has in an image: its tag and its value.
 const WORD_BYTES: usize = 9;
 
+/// Appends the bytes.
 pub fn put_bytes(out: &mut Vec<u8>, bytes: &[u8]) -> Result<(), AllocError>
     ensures { Appends out.old.items out.new.items (vec_capacity out.old) (vec_capacity out.new)
         (is_ok result) bytes.now }
@@ -22,6 +23,7 @@ pub fn put_bytes(out: &mut Vec<u8>, bytes: &[u8]) -> Result<(), AllocError>
     out.extend_from_slice(bytes)
 }
 
+/// Appends a number as four bytes, big-endian.
 pub fn put_u32(out: &mut Vec<u8>, value: u32) -> Result<(), AllocError>
     ensures { Appends out.old.items out.new.items (vec_capacity out.old) (vec_capacity out.new) (is_ok result)
         (to_be_bytes w32 value) }
@@ -29,6 +31,7 @@ pub fn put_u32(out: &mut Vec<u8>, value: u32) -> Result<(), AllocError>
     put_bytes(out, &u32_bytes(value))
 }
 
+/// Appends a number as eight bytes, big-endian.
 pub fn put_u64(out: &mut Vec<u8>, value: u64) -> Result<(), AllocError>
     ensures { Appends out.old.items out.new.items (vec_capacity out.old) (vec_capacity out.new) (is_ok result)
         (to_be_bytes w64 value) }
@@ -36,6 +39,7 @@ pub fn put_u64(out: &mut Vec<u8>, value: u64) -> Result<(), AllocError>
     put_bytes(out, &u64_bytes(value))
 }
 
+/// Appends a word: its tag in one byte, and its value in eight, big-endian.
 pub fn put_word(out: &mut Vec<u8>, word: Word) -> Result<(), AllocError>
     ensures appends { Appends out.old.items out.new.items (vec_capacity out.old) (vec_capacity out.new) (is_ok result)
         (word_spelling word) }
@@ -47,6 +51,7 @@ pub fn put_word(out: &mut Vec<u8>, word: Word) -> Result<(), AllocError>
     put_bytes(out, fields.bytes())
 }
 
+/// Appends words, one after another.
 pub fn put_words(out: &mut Vec<u8>, words: &[Word]) -> Result<(), AllocError>
     ensures appends { Appends out.old.items out.new.items (vec_capacity out.old) (vec_capacity out.new) (is_ok result)
         (flat_map word_spelling words.now) }

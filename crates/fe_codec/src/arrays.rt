@@ -189,7 +189,8 @@ fn next_array<'a>(
     Ok((id, rest))
 }
 
-/// Loads this many arrays, and returns the id of the last one.
+/// Loads `count` arrays, at most 64, into a state without any. Returns the id of the last one, or `None` if there are none, and the bytes
+/// after it. After a fault some of them may be loaded.
 pub fn read_arrays<'a>(
     format: Format,
     count: u32,

@@ -15,8 +15,8 @@ use std::alloc::AllocError;
 /// Numbers and floors are below this.
 const NUMBER_LIMIT: u64 = 1 << 63;
 
-/// Appends the record of an entry, whose number or floor is below 2^63. Returns `AllocError`, with nothing appended, if
-/// the vector's spare room doesn't hold the record and memory runs out.
+/// Appends the record of an entry. It must have one in the format: the format has room for it, and its number or floor is below 2^63.
+/// Returns `AllocError`, with nothing appended, if the vector's spare room doesn't hold the record and memory runs out.
 pub fn put_entry(format: Format, entry: &Entry, out: &mut Vec<u8>) -> Result<(), AllocError>
     requires { CanPut format entry.now }
     ensures ok { OnOk result (out.new.items ≡ out.old.items ++ entry_spelling format entry.now) }

@@ -1,4 +1,5 @@
-//! Groups of entries, which are stored at once, as the payloads of the journal: the records of the entries, one after another.
+//! Groups of entries, the steps of the history that are stored at once. The payload of a group is the records of its entries, one after
+//! another (`docs/model.md`, "Records, groups and images").
 
 ghost use Rattle.std.specs.Prelude.{◌≡◌, ℕ, ◌+◌, ◌*◌, ◌<◌, ◌≤◌, ◌↔◌, ◌++◌, List, length, Some, IfSome, IsSome, IfOk, OnOk, OnErr, IsOk, IsTrue, vec_len, vec_capacity};
 ghost use Rattle.std.specs.List.{AllByRecursion};
@@ -12,8 +13,8 @@ use crate::entries::{put_entry, read_entry};
 use fe_state::Entry;
 use std::alloc::{AllocError, Global};
 
-/// Appends the records of entries, one after another. Returns `AllocError`, with nothing appended, if the vector's
-/// spare room doesn't hold them and memory runs out.
+/// Appends the records of at most `group_records` entries, one after another. Each must have a record in the format, as for `put_entry`.
+/// Returns `AllocError`, with nothing appended, if the vector's spare room doesn't hold them and memory runs out.
 pub fn put_group(format: Format, entries: &[Entry], out: &mut Vec<u8>) -> Result<(), AllocError>
     requires each { AllByRecursion (CanPut format) entries.now }
     requires most { length entries.now ≤ group_records format }
@@ -22,7 +23,7 @@ pub fn put_group(format: Format, entries: &[Entry], out: &mut Vec<u8>) -> Result
     ensures full { OnErr result (vec_capacity out.old < vec_len out.old + length entries.now * record_bytes format) }
     ensures room { vec_len out.old + length entries.now * record_bytes format ≤ vec_capacity out.old → IsOk result }
     ensures capacity { vec_capacity out.old ≤ vec_capacity out.new }
-    // The group is in the grammar, so it can be read again.
+    // Each entry has a record in the format, so what is appended can be read again.
     ensures fits { OnOk result (FitsGroup format entries.now) }
 {
     out.reserve(entries.len() * format.record_bytes())?;
@@ -33,7 +34,7 @@ pub fn put_group(format: Format, entries: &[Entry], out: &mut Vec<u8>) -> Result
     Ok(())
 }
 
-/// Whether a group has this many bytes: 1 to `group_records` records.
+/// Whether a group may have this many bytes: those of 1 to `group_records` records.
 fn is_group_size(format: Format, size: usize) -> bool
     ensures { IsTrue result ↔ IsGroupSize format size }
 {
@@ -41,7 +42,7 @@ fn is_group_size(format: Format, size: usize) -> bool
     size % record == 0 && record <= size && size <= format.group_records() * record
 }
 
-/// The entry whose record comes first, and the bytes after the record.
+/// The entry whose record comes first, and the bytes after the record, or `None` if no record comes first.
 fn next_entry(format: Format, bytes: &[u8]) -> Option<(Entry, &[u8])>
     requires { record_bytes format ≤ length bytes.now }
     ensures found { IfSome result (λ x. FitsRecord format x.0 × (bytes.now ≡ entry_spelling format x.0 ++ x.1.now)) }
@@ -62,7 +63,7 @@ pub fn read_group(
 ) -> Result<Option<Vec<Entry>>, AllocError>
     // What is read has these bytes.
     ensures found { IfOk result (λ read. IfSome read (λ entries. IsGroupOf format entries.items bytes.now)) }
-    // Every group in the grammar is read, so `None` means that the bytes are outside it.
+    // The bytes of every group are read, so `None` means that these are no group's.
     ensures only { (entries : List Step) → IsGroupOf format entries bytes.now
         → IfOk result (λ read. option_map (λ v. v.items) read ≡ Some entries) }
     // Memory can run out only if a group may have this length.

@@ -28,7 +28,7 @@ pub struct ImageHeader {
     pub sessions: u32,
 }
 
-/// The next bytes, and the bytes after them.
+/// The next `count` bytes and those after them, or a fault at the end of the bytes if there are fewer.
 #[tactic(auto, unfolding(crate::specs::FirstFault::row))]
 pub fn row(count: usize, bytes: &[u8]) -> Result<(&[u8], &[u8]), Fault>
     ensures given { Gives (λ x. (x.0.now, x.1.now)) result (row count bytes.now) }
@@ -37,6 +37,7 @@ pub fn row(count: usize, bytes: &[u8]) -> Result<(&[u8], &[u8]), Fault>
     next_bytes(count, bytes).ok_or(Fault::Left(0))
 }
 
+/// The next number, of four bytes, and the bytes after it, or a fault at the end of the bytes if there are fewer.
 #[tactic(auto, unfolding(crate::specs::FirstFault::number))]
 pub fn u32_next(bytes: &[u8]) -> Result<(u32, &[u8]), Fault>
     ensures { Reads (λ x. (x.0, x.1.now)) result (number w32 bytes.now) }
@@ -44,6 +45,7 @@ pub fn u32_next(bytes: &[u8]) -> Result<(u32, &[u8]), Fault>
     next_u32(bytes).ok_or(Fault::Left(0))
 }
 
+/// The next number, of eight bytes, and the bytes after it, or a fault at the end of the bytes if there are fewer.
 #[tactic(auto, unfolding(crate::specs::FirstFault::number))]
 pub fn u64_next(bytes: &[u8]) -> Result<(u64, &[u8]), Fault>
     ensures { Reads (λ x. (x.0, x.1.now)) result (number w64 bytes.now) }
@@ -51,7 +53,7 @@ pub fn u64_next(bytes: &[u8]) -> Result<(u64, &[u8]), Fault>
     next_u64(bytes).ok_or(Fault::Left(0))
 }
 
-/// A number from the least on, and below the limit.
+/// The next number, of four bytes, and the bytes after it. It is a fault, at its first byte, if it is below `least` or not below `limit`.
 #[tactic(auto, unfolding(crate::specs::FirstFault::number_in))]
 pub fn u32_in(least: u32, limit: u32, bytes: &[u8]) -> Result<(u32, &[u8]), Fault>
     ensures { ReadsNumberIn w32 least limit result bytes.now }
@@ -64,7 +66,7 @@ pub fn u32_in(least: u32, limit: u32, bytes: &[u8]) -> Result<(u32, &[u8]), Faul
     }
 }
 
-/// A number from the least on, and below the limit.
+/// The next number, of eight bytes, and the bytes after it. It is a fault, at its first byte, if it is below `least` or not below `limit`.
 #[tactic(auto, unfolding(crate::specs::FirstFault::number_in))]
 pub fn u64_in(least: u64, limit: u64, bytes: &[u8]) -> Result<(u64, &[u8]), Fault>
     ensures { ReadsNumberIn w64 least limit result bytes.now }
@@ -87,7 +89,7 @@ pub fn is_after(previous: Option<u64>, number: u64) -> bool
     }
 }
 
-/// The first fields of an image.
+/// The first fields of an image and the bytes after them, or the first fault in them.
 #[tactic(auto, unfolding(crate::specs::FirstFault::header_at))]
 pub fn header_at(bytes: &[u8]) -> Result<(ImageHeader, &[u8]), Fault>
     // Nothing is allocated here.

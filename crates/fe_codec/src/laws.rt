@@ -1,5 +1,5 @@
-//! Facts about how entries, groups of entries and states are written as bytes (`docs/formats.md`, "Entry record" and "Image"). Each
-//! function states one, and does nothing. The bytes of an entry are its record, those of a state its image.
+//! Facts about how entries, groups of entries and states are written as bytes (`docs/formats.md`, "Entry record" and "Image"). The bytes of
+//! an entry are its record, those of a state its image. Each function states one, the last the limits of the fields, and does nothing.
 
 ghost use Rattle.std.specs.Prelude.{◌≡◌, ◌+◌, ◌^◌};
 ghost use Rattle.fe_codec.specs.Laws.{EntryHasOneSpelling, GroupHasOneSpelling, ImageIsSpelled, SpellingIsRead, ImageHasOneSpelling};
@@ -11,17 +11,17 @@ ghost use Rattle.fe_codec.specs.declared.sessions.TheConstants.{FLOOR_LIMIT, KEP
 ghost use Rattle.fe_codec.specs.declared.entries.TheConstants.{NUMBER_LIMIT};
 ghost use Rattle.fe_codec.specs.declared.record.TheConstants.{RECORD_BYTES};
 
-/// No record is the front of a longer one, and different entries have different records.
+/// In one format no record begins another, and different entries have different records.
 pub fn one_entry_spelling()
     ensures { EntryHasOneSpelling }
 {}
 
-/// Different groups of entries have different bytes.
+/// In one format different groups of entries have different bytes.
 pub fn one_group_spelling()
     ensures { GroupHasOneSpelling }
 {}
 
-/// Bytes that the rules of `docs/formats.md` read as a state are that state's image.
+/// Bytes that the rules of `docs/formats.md` read, in one format, as a state are that state's image in it.
 pub fn images_are_spelled()
     ensures { ImageIsSpelled }
 {}
@@ -31,7 +31,7 @@ pub fn spelled_images_are_read()
     ensures { SpellingIsRead }
 {}
 
-/// Different states have different images.
+/// In one format different states have different images.
 pub fn one_image_spelling()
     ensures { ImageHasOneSpelling }
 {}

@@ -1,3 +1,5 @@
+//! Writing the record of an entry, a step of the server's history (`docs/formats.md`, "Entry record").
+
 ghost use Rattle.std.specs.Prelude.{◌≡◌, ℕ, ◌+◌, ◌≤◌, [], ◌∷◌, ◌++◌, List, length};
 ghost use Rattle.std.specs.Int.{w32, w64, to_be_bytes};
 ghost use Rattle.fe_codes.specs.Codes.{answer_code, answer_length, answer_number};
@@ -14,7 +16,7 @@ use fe_state::{Answer, Entry, NAME_BYTES, Name, Request};
 /// How many bytes a record has at most.
 pub const RECORD_BYTES: usize = 80;
 
-/// The record of an entry while it is written.
+/// A buffer for the record of an entry, or for the name of an array in an image.
 pub type Record = Fields<RECORD_BYTES>;
 
 fn put_name(fields: &mut Record, format: Format, name: &Name)
@@ -29,7 +31,7 @@ fn put_name(fields: &mut Record, format: Format, name: &Name)
     fields.put(&[0; NAME_BYTES][bytes.len()..format.name_bytes()]);
 }
 
-/// A name as images have it: its length, and its bytes with zeros after them.
+/// A name as images have it: its length, and its bytes with zeros after them. The format must have room for the name.
 pub fn name_record(format: Format, name: &Name) -> Record
     requires { IsShort format name.now }
     ensures { result ≡ name_field format name.now }
@@ -50,7 +52,7 @@ fn put_array(fields: &mut Record, format: Format, array: u64, operand: u64)
     fields.put(&[0; NAME_BYTES][16..format.name_bytes()]);
 }
 
-/// Appends what a request names, and its length or index.
+/// Appends the row of a request, its name or its array and operand, and after it its length or index.
 fn put_request(fields: &mut Record, format: Format, request: &Request)
     requires room { length fields.old + 36 ≤ record_bytes Two }
     requires row { HasRow format request.now }
@@ -98,7 +100,7 @@ fn short_record(format: Format, kind: u8, session: u64, number: u64) -> Record
     record
 }
 
-/// The record of an entry. If it has a name, the format's field of names has room for it.
+/// The spelling of an entry: its record, if it has one in the format. If the request has a name, the format must have room for the name.
 pub fn record_of(format: Format, entry: &Entry) -> Record
     requires { HasRoomForEntry format entry.now }
     ensures bytes { result ≡ entry_spelling format entry.now }

@@ -1,4 +1,5 @@
-//! Reading an entry from its record, without a look at the unused bytes of the record.
+//! Reading an entry, a step of the server's history, from its record (`docs/formats.md`, "Entry record"), without a look at the bytes
+//! that are unused there.
 
 ghost use Rattle.std.specs.Prelude.{◌≡◌, length};
 ghost use Rattle.fe_format.specs.Layout.{record_bytes};
@@ -89,7 +90,7 @@ impl RecordBytes<'_> {
         })
     }
 
-    /// The only entry that the bytes may be the record of. They are, if they equal the spelling of the entry.
+    /// The only entry whose record these bytes may be, or `None` if they are no record.
     #[tactic(auto, unfolding(crate::specs::Reading::entry_of))]
     pub(crate) fn entry(&self) -> Option<Entry>
         ensures { result ≡ entry_of self.now.format self.now.bytes.now }

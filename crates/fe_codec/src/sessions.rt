@@ -18,10 +18,11 @@ use fe_state::{Entry, GREATEST_FLOOR, Kept, State, WINDOW};
 /// Floors are below this.
 const FLOOR_LIMIT: u64 = GREATEST_FLOOR + 1;
 
-/// Fewer answers than this are kept.
+/// A session keeps fewer answers than this.
 const KEPT_LIMIT: u32 = WINDOW as u32 + 1;
 
-/// What an entry keeps for a number of a session, at its place.
+/// What a session keeps of an entry, with the number. `None` if there is no entry, or it finishes no request of the session, or the number
+/// is outside the window or not above the previous one.
 fn kept_of(
     session: u64,
     floor: u64,
@@ -140,7 +141,8 @@ fn next_session<'a>(
     Ok((session, rest))
 }
 
-/// Loads this many sessions, and returns the number of the last one.
+/// Loads `count` sessions, at most 64, into a state without any. Returns the number of the last one, or `None` if there are none, and the
+/// bytes after it. After a fault some of them may be loaded.
 pub fn read_sessions<'a>(
     format: Format,
     count: u32,

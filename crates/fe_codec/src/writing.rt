@@ -135,8 +135,8 @@ fn put_state(format: Format, state: &State, out: &mut Vec<u8>) -> Result<(), All
     put_sessions(format, state, out)
 }
 
-/// Appends the image of a state. Returns `AllocError`, with nothing appended, if the vector's spare room doesn't hold
-/// it and memory runs out.
+/// Appends the image of a state. The format must have room for it, as format 2 always has. Returns `AllocError`, with nothing appended, if
+/// the vector's spare room doesn't hold it and memory runs out.
 pub fn put_image(format: Format, state: &State, out: &mut Vec<u8>) -> Result<(), AllocError>
     requires { StateOfFormat format state.now }
     ensures ok { OnOk result (out.new.items ≡ out.old.items ++ image_spelling format state.now) }

@@ -1,4 +1,5 @@
--- Steps that may give no value, one after another. A `do` block over options uses this operator (`docs/formats.md`, "Codes").
+-- Steps that may give no value, one after another, as in reading a record or a frame (`docs/formats.md`). A `do` block over options uses
+-- this operator.
 use Rattle.std.specs.Prelude.{Option, option_and_then}
 
 infixl 10 ◌>>=◌

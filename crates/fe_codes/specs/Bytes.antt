@@ -1,4 +1,4 @@
--- Lists of bytes, numbers below 256 (`docs/formats.md`, "Codes").
+-- Lists of bytes, numbers below 256: records, images and frames are such lists (`docs/formats.md`).
 use Rattle.std.specs.Prelude.{ℕ, ◌<◌, List, slice_index_or}
 
 abbrev pub IsBytes : List ℕ → Type 0

@@ -11,7 +11,7 @@ abbrev pub tag_code : Tag → ℕ
 tag_code Empty = 0
 tag_code Full = 1
 
--- the code of the request for an access, in frames and records
+-- the code of an operation, in frames and records
 abbrev pub op_code : Op → ℕ
 op_code ReadFe = 16
 op_code ReadFf = 17

@@ -28,7 +28,8 @@ pub fn answer_fields(answer: Answer) -> (u8, u64, u32)
     }
 }
 
-/// The answer with this code, number and length. There is none if a number or length is not 0 that the answer does not carry.
+/// The answer with this code, number and length. `None` if no answer has the code, or if the number or the length is not 0 although that
+/// answer carries none.
 #[tactic(auto, unfolding(crate::specs::Reading::answer_of))]
 pub fn answer_of(code: u8, number: u64, length: u32) -> Option<Answer>
     ensures { result ≡ answer_of code number length }

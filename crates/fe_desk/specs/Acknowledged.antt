@@ -34,7 +34,7 @@ entries_of groups = flat_map (λ group. group) groups
 
 -- A welcome, a settled floor, a goodbye and an answer are of a session that the connection may ask for (`asked`), and have their
 -- entry in the groups, an answer at its place. Only an answer that was kept when the store was opened needs no entry there. A
--- refusal, a withdrawal and a report say nothing of the history. `asked` is any choice of the sessions that each connection may
+-- refusal, a withdrawal and a report say nothing of the history. `asked` is any choice of the sessions that the connection may
 -- ask for, by an attach: it is a premise, and the server checks no such thing.
 abbrev pub StandsOn : ServerState → List (List Entry) → (ℕ → Bool) → Mail → Type 0
 StandsOn begun groups asked (mail.Welcome session floor) = (asked session ≡ true) × Contains (entries_of groups) (Attached session floor)

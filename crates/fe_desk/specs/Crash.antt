@@ -35,8 +35,9 @@ pub record IsFrom {D : Type 0} (begun : ServerState) (d : DeskState D) : Type 0 
   pub history : IsHistory begun d.run_state.groups
   pub replica : d.keeper.state ≡ after_groups begun (take d.synced d.run_state.groups)
 
--- Calls of the store are made: the groups get more after them, no fewer are stored, and at every moment each image that a stop
--- leaves stands for a prefix of the history with all groups that were stored before.
+-- What a desk does to its store: new groups come after the others, no fewer are stored, and a desk that was from a state (`IsFrom`) still
+-- is. Over an honest disk that had not failed, each image that a stop leaves at any moment stands for a prefix of the history with all
+-- groups that were stored before.
 pub record Advances {D : Type 0} (model : Ghosts D) (old new : DeskState D) : Type 0 where
   pub more : List (List Entry)
   pub groups : new.run_state.groups ≡ old.run_state.groups ++ more

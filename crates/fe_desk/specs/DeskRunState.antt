@@ -1,5 +1,5 @@
--- Where a run of the desk stands, apart from the store: the front, what each connection number was written, the batch on
--- its way to the store, and the groups that were handed to it (`docs/model.md`, "The desk").
+-- Where a run of the desk stands, apart from the store: the front, what was written to each connection number, the batch on its way to
+-- the store, and the groups that were handed to it (`docs/model.md`, "The desk").
 use Rattle.std.specs.Prelude.{◌≡◌, ℕ, Bool, false, List, [], ◌∷◌, ◌++◌, Option, None, if◌then◌else◌}
 use Rattle.std.specs.Option.{option_map_or}
 use Rattle.fe_state.specs.State.{ServerState}
@@ -15,8 +15,8 @@ use Rattle.fe_desk.specs.declared.handed.Handed.TheVariants.{Nothing}
 use Rattle.fe_messages.specs.Mails.{spelled}
 use Rattle.fe_desk.specs.Mails.{emptied_box}
 
--- A connection number as the desk knows it: what it has read of the stream, the messages that came whole and were not
--- taken, because memory is short, the reply of a mail that was taken out of its box and is not written, and what was written to it.
+-- A connection number as the desk knows it: what it has read of the stream; the messages that came whole and were not taken, because
+-- memory was short or the device failed; the reply of a mail that was taken out of its box and is not written; and what was written to it.
 pub record Client : Type 0 where
   pub conn : ℕ
   pub decoder : Decoding
@@ -50,7 +50,7 @@ pub record IsFirstRunState (begun : ServerState) (s : DeskRunState) : Type 0 whe
 abbrev pub unwritten : FrontState → Client → List ℕ
 unwritten f c = option_map_or reply_spelling c.reply [] ++ spelled (mails_on f.connections c.conn)
 
--- a client is written all its mails, in their order, after what was written to it
+-- all mails of a client are written, in their order, after what was written to it
 abbrev pub written_out : FrontState → Client → Client
 written_out f c = record c { reply = None; written = c.written ++ unwritten f c }
 

@@ -24,10 +24,10 @@ pub record StillOwes {D : Type 0} (old new : DeskState D) : Type 0 where
 abbrev pub discharged_desk : {D : Type 0} → DeskState D → DeskState D
 discharged_desk d = record d { run_state = discharged d.run_state }
 
--- A step found no memory, with no mails owed. If it was short for a new connection, the batch at hand or a checkpoint that could
--- begin, nothing was done. If it was short for a message of a connection, or for a batch stored to make room for it, the messages
--- before it were taken, and what they stored is all that was done to the store; the step's piece was read (`fed`) or not. Other
--- steps take no memory, except to write their mails (`StillOwes`).
+-- A step found no memory, with no mails owed. If it was short for a new connection, the batch at hand or a checkpoint that could begin,
+-- nothing was done. If it was short for a message of a connection, or for a batch stored to make room for it, the messages before it were
+-- taken, and what they stored is all that was done to the store; the step's piece was read (`fed`) or not. Any other step lacks memory
+-- only for mails that were owed (`StillOwes`).
 abbrev pub Lacks : {D : Type 0} → Bool → Step → DeskState D → DeskState D → Type 0
 Lacks false (step.Connect conn) old new = (is_connected old.run_state.front conn ≡ false) × (new ≡ old)
 Lacks false (step.Bytes conn piece) old new = StopsShort false old.run_state conn piece.items new.run_state × StoresMore old new

@@ -4,7 +4,7 @@ use Rattle.std.specs.List.{flat_map, AllByRecursion}
 use Rattle.fe_wire.specs.Spelling.{reply_spelling, ReplyFits}
 use Rattle.fe_wire.specs.declared.server_message.ServerMessage.{ServerMessage}
 
--- The bytes are the frames of some replies, each of which fits its frame.
+-- The bytes are the frames of some replies, each with its fields in their ranges.
 pub record AreReplies (bytes : List ℕ) : Type 0 where
   pub replies : List ServerMessage
   pub fits : AllByRecursion ReplyFits replies

@@ -1,5 +1,5 @@
--- A law of histories over any number of stops, kills and power losses alike. A history from a state is groups of entries,
--- each group stored at once, that are legal one after the other from that state on (`docs/model.md`).
+-- A law of histories over any number of stops (`docs/stops.md`). A history from a state is groups of entries, none of them empty, whose
+-- entries are legal one after the other from that state on.
 use Rattle.std.specs.Prelude.{◌≡◌, ℕ, ◌≤◌, List, [], ◌∷◌, ◌++◌, length, take}
 use Rattle.fe_state.specs.State.{ServerState}
 use Rattle.fe_state.specs.History.{IsHistory, after_groups}
@@ -12,7 +12,7 @@ pub record Life : Type 0 where
   pub kept : ℕ
 
 -- Lives one after the other, from a state on to the state that the last stop left: the groups of each are a history from the state that
--- the stop before it left, and each stop keeps at least the groups that were stored for sure.
+-- the stop before it left, and each stop keeps at least the groups that were stored for sure, and at most all.
 abbrev pub AreLives : ServerState → List Life → ServerState → Type 0
 AreLives begun [] s = s ≡ begun
 AreLives begun (life ∷ lives) s =

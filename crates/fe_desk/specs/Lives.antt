@@ -1,5 +1,5 @@
--- A store over any number of stops: what each life did, and what stands after all of them. And steps that are taken again.
--- See `docs/model.md`, "The desk".
+-- A store over any number of stops: what each life, from one opening to the next, did, and what stands after all of them. And steps that
+-- are given again until they are taken. See `docs/stops.md`, and of the steps `docs/model.md`, "The desk".
 use Rattle.std.specs.Prelude.{◌≡◌, ◌⊎◌, ℕ, ◌≤◌, Bool, false, List, [], ◌∷◌, ◌++◌, length, map, Contains}
 use Rattle.std.specs.List.{flat_map, AllByRecursion}
 use Rattle.fe_state.specs.State.{ServerState, IsWithinLimits}
@@ -20,7 +20,7 @@ use Rattle.fe_desk.specs.Steps.{DeskStep, DeskRun, IsAgain}
 -- ---- stops
 
 -- A life that a stop ended: the desk after the steps that answered, whatever they answered; the sessions that each connection's
--- number asked for in it; the groups that the step under way handed to the store; how many of all groups were stored for sure;
+-- number may ask for in it; the groups that the step under way handed to the store; how many of all groups were stored for sure;
 -- and the image that the stop left.
 pub record Stop (D : Type 0) : Type 0 where
   pub last : DeskState D
@@ -33,7 +33,7 @@ pub record Stop (D : Type 0) : Type 0 where
 abbrev pub all_groups : {D : Type 0} → Stop D → List (List Entry)
 all_groups x = x.last.run_state.groups ++ x.under_way
 
--- what a life handed to the store, and how many groups of that were stored
+-- what a life handed to the store, and how many of these groups were stored for sure
 abbrev pub handed_by : Life → List (List Entry) × ℕ
 handed_by life = (life.groups, life.synced)
 
@@ -62,8 +62,8 @@ FinishOnceIn groups = (before between behind : List Entry) (session number : ℕ
     → flat_map (λ group. group) groups ≡ before ++ Finished session number first one ∷ between ++ Finished session number second other ∷ behind
     → Contains between (Closed session)
 
--- The groups that the stops kept are one history, with any groups that go on from the last image. In it a number takes effect
--- once while its session is kept, and each answer that was written in any life, or is written in one that goes on, stands on it.
+-- The groups that the stops kept are one history, with any groups that go on from the last image. In it a session's number finishes
+-- at most once until the session is closed, and all mails that were written in any life, or are in one that goes on, stand on it.
 pub record AreOneStore {D : Type 0} (begun : ServerState) (stops : List (Stop D)) (s : ServerState) : Type 0 where
   pub lives : List Life
   pub same : map handed_by lives ≡ map stored_by stops
@@ -73,6 +73,7 @@ pub record AreOneStore {D : Type 0} (begun : ServerState) (stops : List (Stop D)
   pub answers : AllByRecursion (λ x. AnswersStand begun (kept_groups lives) x.asked x.last.run_state) stops
   pub later : (asked : ℕ → ℕ → Bool) (d : DeskState D) → IsAcknowledged s asked d → AnswersStand begun (kept_groups lives ++ stored_groups d) asked d.run_state
 
+-- the law: stops one after the other are one store
 abbrev pub StopsAreLives : Type 0 → Type 0
 StopsAreLives D = (begun s : ServerState) (stops : List (Stop D)) → IsWithinLimits begun → AreStops begun stops s → AreOneStore begun stops s
 
@@ -92,6 +93,6 @@ abbrev pub RunsOn : DeskRunState → List (Step × List Bool) → DeskRunState �
 RunsOn s [] t = t ≡ s
 RunsOn s (given ∷ more) t = (u : DeskRunState) × IsTakenAtLast s given.0 given.1 u × RunsOn u more t
 
--- Steps that are given until they are taken are a run, once what is owed is written.
+-- The law: steps that are given until they are taken, from a run that owes no mails, are a run, once what is owed is written.
 abbrev pub GivenAgain : Type 0
 GivenAgain = (s t : DeskRunState) (given : List (Step × List Bool)) → s.owes ≡ false → RunsOn s given t → DeskRun s (map (λ g. g.0) given) (discharged t)

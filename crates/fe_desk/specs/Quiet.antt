@@ -16,7 +16,7 @@ pub record HasNoMail (s : DeskRunState) : Type 0 where
   pub replies : AreWritten s.clients
   pub owes : s.owes ≡ false
 
--- whether the step makes no mail
+-- true only of steps that make no mail; false of `Gone`, though that makes none either
 abbrev pub mails_nothing : Step → Bool
 mails_nothing (step.Connect conn) = true
 mails_nothing (step.Bytes conn piece) = false

@@ -36,8 +36,8 @@ IsPastOpening None = ⊤
 IsPastOpening (Some (zero, fault)) = ⊥
 IsPastOpening (Some (suc n, fault)) = ⊤
 
--- The opening was at fault, and what its fault says of the disk is true. Nothing else was done: the disk was synced and read, and
--- never written.
+-- The opening was at fault, and what its fault says of the disk is true. Nothing else was done: the disk was synced at most once, read at
+-- most four times, and never written.
 pub record IsNotOpened {D : Type 0} (model : Ghosts D) (disk : D) (ran : Ran D) (fault : DeskFault) : Type 0 where
   pub is_fault : IsOpenFault fault
   pub says : model.honest disk → TellsOpening fault (model.seen disk) (model.calls disk) (model.calls ran.disk)
@@ -72,5 +72,6 @@ IsRunTo model disk steps ran None = IsOpened model disk steps ran
 IsRunTo model disk steps ran (Some (zero, fault)) = IsNotOpened model disk ran fault
 IsRunTo model disk steps ran (Some (suc n, fault)) = IsOpened model disk steps ran
 
+-- what a run did, and what it reports
 abbrev pub IsRunOf : {D : Type 0} → Ghosts D → D → List Step → Ran D → Type 0
 IsRunOf model disk steps ran = IsRunTo model disk steps ran ran.fault

@@ -1,4 +1,4 @@
--- What each step of a desk (a front, its connections' streams and a store's keeper, in one thread) does.
+-- What each step of a desk (a front, its connections' streams and a keeper, which owns the store, in one thread) does.
 -- See `docs/model.md`, "The desk".
 use Rattle.std.specs.Prelude.{◌≡◌, ℕ, Bool, true, false, nat_eq, List, [], ◌∷◌, ◌++◌, Option, Some, None, if◌then◌else◌, is_some, MatchBool}
 use Rattle.fe_wire.specs.Stream.{Decoding, HasRead, HasReadFrom}
@@ -14,6 +14,7 @@ use Rattle.fe_desk.specs.Taking.{TakesAll}
 
 -- ---- the client of a connection number
 
+-- the first client of this number, if it ever came
 abbrev pub find : ℕ → List Client → Option Client
 find conn [] = None
 find conn (c ∷ cs) = if nat_eq c.conn conn then Some c else find conn cs
@@ -23,9 +24,11 @@ abbrev pub on_client : ℕ → (Client → Client) → List Client → List Clie
 on_client conn change [] = []
 on_client conn change (c ∷ cs) = if nat_eq c.conn conn then change c ∷ cs else c ∷ on_client conn change cs
 
+-- the run, with these messages left of a connection number
 abbrev pub with_left : DeskRunState → ℕ → List ClientMessage → DeskRunState
 with_left s conn left = record s { clients = on_client conn (λ c. record c { left = left }) s.clients }
 
+-- the run, with a connection number's stream read this far
 abbrev pub with_decoder : DeskRunState → ℕ → Decoding → DeskRunState
 with_decoder s conn d = record s { clients = on_client conn (λ c. record c { decoder = d }) s.clients }
 
@@ -55,7 +58,7 @@ pub record Connects (s : DeskRunState) (conn : ℕ) (t : DeskRunState) : Type 0 
   pub begins : BeginsStream decoder
   pub after : t ≡ record (unmade s conn) { front = front.connected s.front conn; clients = clients_with s.clients conn decoder }
 
--- a connection goes, with the messages that were left
+-- a connection goes, and the messages that were left are dropped
 abbrev pub gone : DeskRunState → ℕ → DeskRunState
 gone s conn = record (with_left (unmade s conn) conn []) { front = front.dropped s.front conn }
 
@@ -71,7 +74,7 @@ pub record Reads (old new : Decoding) (piece : List ℕ) (more : List ClientMess
 abbrev pub after_frame : Bool → DeskRunState → ℕ → DeskRunState
 after_frame bad s conn = if bad then gone s conn else s
 
--- The piece is read, and the messages that it completes are taken.
+-- The piece is read, and the messages that it completes are taken. After a bad frame the connection goes.
 pub record TakesPiece (s : DeskRunState) (conn : ℕ) (before : Decoding) (piece : List ℕ) (t : DeskRunState) : Type 0 where
   pub decoder : Decoding
   pub more : List ClientMessage
@@ -80,12 +83,13 @@ pub record TakesPiece (s : DeskRunState) (conn : ℕ) (before : Decoding) (piece
   pub takes : TakesAll (with_decoder s conn decoder) conn more last
   pub after : t ≡ after_frame decoder.is_bad last conn
 
--- The messages that were left of a connection are taken, and then the piece, if it is still there.
+-- The messages that were left of a connection are taken, and then the piece is, if the connection is still there.
 pub record TakesFrom (s : DeskRunState) (conn : ℕ) (left : List ClientMessage) (before : Decoding) (piece : List ℕ) (t : DeskRunState) : Type 0 where
   pub mid : DeskRunState
   pub leftovers : TakesAll (with_left s conn []) conn left mid
   pub reading : MatchBool (is_connected mid.front conn) (TakesPiece mid conn before piece t) (t ≡ mid)
 
+-- the same by the client of the connection number; without one, nothing is done
 abbrev pub TakesBytes : DeskRunState → Option Client → List ℕ → DeskRunState → Type 0
 TakesBytes s None piece t = t ≡ s
 TakesBytes s (Some c) piece t = TakesFrom s c.conn c.left c.decoder piece t

@@ -1,4 +1,4 @@
--- How far a piece of a connection's stream comes if memory is short for a batch, or the device fails to store it.
+-- How far a step with a piece of a connection's stream comes if memory is short for a message or a batch, or the device fails to store one.
 -- See `docs/model.md`, "The desk".
 use Rattle.std.specs.Prelude.{◌≡◌, ◌⊎◌, ℕ, Bool, true, false, List, [], ◌∷◌, ◌++◌, Some}
 use Rattle.fe_state.specs.declared.batch.Batch.{Batch}
@@ -43,7 +43,7 @@ pub record TakesFirst (s : DeskRunState) (conn : ℕ) (messages : List ClientMes
   pub at_hand : HasCut last
   pub after : t ≡ with_left last conn (next ∷ behind)
 
--- some of the messages that were left of a connection, from the first on, are taken
+-- the messages that were left of a connection are taken up to one that finds no room
 abbrev pub StopsBefore : DeskRunState → ℕ → DeskRunState → Type 0
 StopsBefore s conn t = TakesFirst (with_left s conn []) conn (left_of s conn) t
 
@@ -59,7 +59,7 @@ pub record StopsUnfed (s : DeskRunState) (conn : ℕ) (piece : List ℕ) (t : De
   pub was : read_by s conn ≡ Some before
   pub completes : CompletesMessage before piece
 
--- the piece was read, and some of the messages that it completes, from the first on, are taken
+-- the piece was read, and the messages that it completes are taken up to one that finds no room
 pub record StopsBehind (s : DeskRunState) (conn : ℕ) (piece : List ℕ) (t : DeskRunState) : Type 0 where
   pub mid : DeskRunState
   pub before : Decoding

@@ -14,6 +14,7 @@ use Rattle.fe_desk.specs.DeskRunState.{DeskRunState}
 abbrev pub handed_after : Handed → Option Batch → Handed
 handed_after before batch = option_map_or Cut batch before
 
+-- what is pending is cut into a batch, if there is something and no batch is out
 abbrev pub cut : DeskRunState → DeskRunState
 cut s = record s { front = front.cut s.front; handed = handed_after s.handed (front.next_batch s.front) }
 
@@ -51,6 +52,7 @@ committed s = cleared (cut s)
 abbrev pub is_making : DeskRunState → ℕ → Bool
 is_making s conn = option_map_or (nat_eq conn) s.making false
 
+-- room is not being made any more
 abbrev pub made : DeskRunState → DeskRunState
 made s = record s { making = None }
 
@@ -58,9 +60,10 @@ made s = record s { making = None }
 abbrev pub with_room : DeskRunState → DeskRunState
 with_room s = if has_room s.front then s else made (committed (cleared s))
 
--- Room is made for a message of a connection. If it was begun for this connection before, that is finished.
+-- if making room was begun for a message of this connection before, that is finished
 abbrev pub begun_room : DeskRunState → ℕ → DeskRunState
 begun_room s conn = if is_making s conn then made (cleared s) else s
 
+-- Room is made for a message of this connection. If it was begun before, that is finished first.
 abbrev pub roomy : DeskRunState → ℕ → DeskRunState
 roomy s conn = with_room (begun_room s conn)

@@ -29,7 +29,7 @@ pub record EndsWhole {D : Type 0} (model : Ghosts D) (old : DeskState D) (step :
   pub checked : Checks step old new
   pub sound : IsSound model old new
 
--- The step took effect. Memory was short for its mails, which are owed now.
+-- The step took effect. Memory was short for some of its mails, which are owed now.
 pub record EndsOwing {D : Type 0} (model : Ghosts D) (old : DeskState D) (step : Step) (new : DeskState D) : Type 0 where
   pub last : DeskRunState
   pub acts : Acts (discharged old.run_state) step last
@@ -53,6 +53,7 @@ pub record EndsByDevice {D : Type 0} (model : Ghosts D) (old : DeskState D) (ste
   pub silent : outputs new.run_state ≡ outputs (discharged old.run_state)
   pub failed : Breaks model old.keeper new.keeper
 
+-- how a step ends, by its answer, if the device had not failed before
 abbrev pub Ends : {D : Type 0} → Ghosts D → DeskState D → Step → Result (Unit {0}) DeskFault → DeskState D → Type 0
 Ends model old step (Ok done) new = EndsWhole model old step new
 Ends model old step (Err (Store cause)) new = (cause ≡ keeper.Device) × EndsByDevice model old step new

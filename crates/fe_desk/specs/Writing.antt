@@ -22,7 +22,7 @@ pub record StopsAtMail (f : FrontState) (c : Client) (g : FrontState) (d : Clien
 abbrev pub StopsWriting : FrontState → Client → FrontState → Client → Type 0
 StopsWriting f c g d = ((c.reply ≢ None) × (g ≡ f) × (d ≡ c)) ⊎ StopsAtMail f c g d
 
--- Clients are written their mails in turn, up to one for which memory is short.
+-- The clients' mails are written, one client after another, up to one for which memory is short.
 pub record WritesFirst (f : FrontState) (cs : List Client) (g : FrontState) (ds : List Client) : Type 0 where
   pub before : List Client
   pub client : Client

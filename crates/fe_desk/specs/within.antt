@@ -1,3 +1,4 @@
+-- Definitions that no public clause rests on.
 pub mod Keeping
 pub mod Places
 pub mod Desk

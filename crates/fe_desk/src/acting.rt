@@ -1,4 +1,5 @@
-//! The steps of a desk: what each does, and how it ends.
+//! The steps of a desk: what each does, and how it ends (`docs/model.md`, "The desk"). A mail is a reply on its way out; it waits in its
+//! connection's box.
 
 ghost use Rattle.std.specs.Prelude.{◌≡◌, ◌⊎◌, ℕ, true, false, IsTrue, OnOk, MatchResult};
 ghost use Rattle.fe_desk.specs.Output.{Extends};
@@ -78,7 +79,7 @@ impl<D: Disk> DeskInner<D> {
         outcome
     }
 
-    /// What a step does before the boxes are emptied. A post adds the connections whose boxes it changed.
+    /// What a step does before the boxes are emptied. A post adds the connections whose boxes it changed to the set.
     fn act(&mut self, step: &Step, changed: &mut ConnectionSet) -> Result<(), DeskFault>
         requires { IsReady D.Disk (desk_of self.old) }
         ensures goes { GoesAct D.Disk (desk_of self.old) step.now result (desk_of self.new) }

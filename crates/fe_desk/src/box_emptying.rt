@@ -1,4 +1,5 @@
-//! Writing the mails in the boxes to their connections.
+//! Writing the mails in the boxes to their connections (`docs/model.md`, "The desk"). A mail is a reply on its way out; it waits in its
+//! connection's box.
 
 ghost use Rattle.std.specs.Prelude.{◌≡◌, true, map, OnOk, OnErr};
 ghost use Rattle.fe_desk.specs.DeskRunState.{all_written_out, all_emptied};
@@ -11,8 +12,8 @@ use crate::port::{Port, has_no_mail};
 use fe_front::{ConnectionSet, Front};
 use std::alloc::AllocError;
 
-/// Writes the mails of each connection in the set; no other connection has a mail. If memory is short, the mails that are not
-/// written stay.
+/// Writes the replies that wait, and the mails of each connection in the set; no other connection has a mail. If memory is short, what is
+/// not written stays.
 pub(crate) fn empty_boxes(
     front: &mut Front,
     ports: &mut Vec<Port>,
@@ -35,8 +36,8 @@ pub(crate) fn empty_boxes(
     Ok(())
 }
 
-/// Adds the connections that may have a mail: none or all, as the books say. After a post where no box had one before, the set has
-/// them already.
+/// Adds the connections that may have a mail: none or all, as the books, the counts of mails, say. After a post where no box had one
+/// before (`posts`), the set has them already.
 pub(crate) fn add_mailed(front: &Front, posts: bool, mailed: &mut ConnectionSet)
     requires { posts ≡ true → HasAllWithMail front.now mailed.old }
     ensures { HasAllWithMail front.now mailed.new }

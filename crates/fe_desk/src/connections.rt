@@ -1,4 +1,4 @@
-//! The connections of a desk come and go.
+//! The connections of a desk come and go (`docs/model.md`, "The desk").
 
 ghost use Rattle.std.specs.Prelude.{◌≡◌, false, nat_eq, [], map, position, IfSome, IfNone, None, OnOk, OnErr, MatchBool, if◌then◌else◌};
 ghost use Rattle.fe_front.specs.Front.{is_connected};
@@ -16,7 +16,7 @@ use fe_front::Front;
 use std::alloc::{AllocError, Global};
 
 impl<D: Disk> DeskInner<D> {
-    /// A connection comes, where its number is not connected.
+    /// A connection comes, where its number is not connected. If memory is short, nothing is done.
     pub(crate) fn connect(&mut self, conn: u64) -> Result<(), AllocError>
         ensures connected { OnOk result
             (MatchBool (is_connected self.old.front conn) (run_state_of self.new
@@ -43,7 +43,7 @@ impl<D: Disk> DeskInner<D> {
         self.unmake(conn);
     }
 
-    /// No room is being made for a connection any more.
+    /// If room in the front is being made for a message of this connection, that ends.
     fn unmake(&mut self, conn: u64)
         ensures { self.new ≡ record self.old {
           making = if is_making (run_state_of self.old) conn then None else self.old.making;

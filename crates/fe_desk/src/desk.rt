@@ -1,3 +1,6 @@
+//! The desk: a server in one thread, which takes steps, one at a time (`docs/model.md`, "The desk"). Its front has the state, the
+//! sessions, and mails, replies on their way out, in a box for each connection ("The front"); its keeper has the store ("The keeper").
+
 ghost use Rattle.std.specs.Prelude.{◌≡◌, ◌≤◌, ℕ, Bool, false, List, length, IfOk, IfErr};
 ghost use Rattle.fe_state.specs.State.{ServerState, IsWithinLimits};
 ghost use Rattle.fe_journal.specs.Layout.{device_bytes};
@@ -26,8 +29,8 @@ use std::marker::Model;
 
 /// The front, its connections' streams, and the keeper of a store.
 ///
-/// Mails are written at the end of a step, or if memory was short, at the beginning of the next one. So each answer that is
-/// written was synced before.
+/// An answer comes into a box only once its entry is synced. Mails are written at the end of the step that puts them there or, if memory
+/// is short, in a later one.
 pub struct Desk<D: Disk> {
     inner: DeskInner<D>,
     /// No box has a mail, and no reply waits. False where that is not known.
@@ -62,7 +65,7 @@ impl<D: Disk> Model for Desk<D> {
 }
 
 impl<D: Disk> Desk<D> {
-    /// A desk over a keeper, with no connection.
+    /// A desk over a keeper, with no connection. Fails only if memory runs out, and then returns the disk.
     pub(crate) fn over(alloc: Global, keeper: Keeper<D>) -> Result<Desk<D>, (DeskFault, D)>
         requires { keeper.store.has_failed ≡ false }
         ensures first { IfOk result (λ desk. IsFirstRunState keeper.state desk.run_state) }
@@ -94,11 +97,12 @@ impl<D: Disk> Desk<D> {
         Ok(desk)
     }
 
-    /// Takes a step. At its end all mails are written.
+    /// Takes a step. After `Ok` all mails are written.
     ///
     /// After a fault of the device each step answers `Store(Failed)` and does nothing.
     pub fn step(&mut self, step: &Step) -> Result<(), DeskFault>
-        // What it answers and what it did: of a schedule, of faults, and to the store.
+        // Its answer says what it did: it was taken, all of it or all but some mails; memory was short; or the device failed, now or
+        // earlier.
         ensures is_step { IsStep D.Disk self.old step.now result self.new }
         // What is written goes on from what was.
         ensures extends { Extends (outputs self.old.run_state) (outputs self.new.run_state) }
@@ -112,8 +116,8 @@ impl<D: Disk> Desk<D> {
         ensures few { self.new.synced ≤ length self.new.run_state.groups }
         ensures synced { self.new.keeper.store.has_failed ≡ false → self.new.synced ≡ length self.new.run_state.groups }
 
-        // Of answers, whatever the step answers: each mail is that of an entry that is stored, of a session that its connection
-        // asked for.
+        // Of answers, whatever the step answers: if it asks only for sessions that its connection may ask for (`asked`), all mails that
+        // were written stand on the groups that are stored.
         ensures acknowledged { (begun : ServerState) (asked : ℕ → ℕ → Bool) → IsWithinLimits begun
             → StepAsksFor asked self.old step.now
             → IsAcknowledged begun asked self.old → IsAcknowledged begun asked self.new }
@@ -123,7 +127,8 @@ impl<D: Disk> Desk<D> {
         outcome
     }
 
-    /// The trace begins anew, so that a long run does not keep all that it did. All groups have to be stored.
+    /// The trace begins anew, so that a long run does not keep all that it did. If the disk is honest, each image that a stop may leave has
+    /// to stand for the keeper's state.
     pub fn clear_trace(&mut self)
         requires { D.honest (disk_of self.old)
             → EachStandsFor D.Disk (disk_of self.old) self.old.keeper.state }

@@ -1,3 +1,5 @@
+//! The parts of a desk (`docs/model.md`, "The desk"). `Desk` has them, with an invariant.
+
 use crate::handed::Handed;
 use crate::trace::Trace;
 use fe_disk::Disk;
@@ -12,7 +14,7 @@ pub(crate) struct DeskInner<D: Disk> {
     pub keeper: Keeper<D>,
     pub trace: Trace,
     pub handed: Handed,
-    /// The connection for whose message room is being made.
+    /// The connection for whose message room in the front is being made: entries are stored and posted first.
     pub making: Option<u64>,
     /// Mails of an earlier step are still to be written.
     pub owes: bool,

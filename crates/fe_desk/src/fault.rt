@@ -1,10 +1,12 @@
+//! How a step or the opening of a desk fails (`docs/model.md`, "The desk"). A mail, a reply on its way out, is owed until it is written.
+
 use fe_keeper::Fault;
 
 /// Why a step did nothing, or not all; or why a store was not opened or formatted.
 #[derive(Clone, Copy, PartialEq, Eq)]
 pub enum DeskFault {
-    /// The store is at fault. In a step: `Device` if the device failed in it, and `Failed` in each step after that, until the
-    /// store is opened again. In opening and formatting: `Device`, `Unformatted` and `Damaged`, as `fe_keeper` reports them.
+    /// The store is at fault. In a step: `Device` if the device failed in it, and `Failed` in each step after that, until the store is
+    /// opened again. In opening: `Device`, `Unformatted` and `Damaged`, and in formatting the first two, as `fe_keeper` reports them.
     Store(Fault),
     /// Memory ran out while a store was opened or formatted; or in a step, for mails that are owed, a connection, a
     /// batch, a message that the piece completes, or the beginning of a checkpoint. What the step did before stays

@@ -1,4 +1,5 @@
-//! The bytes that a desk reads from a connection, and the messages in them.
+//! The bytes that a desk reads from a connection, and the messages in them (`docs/model.md`, "The desk"). A message is left if it came
+//! whole and is not yet taken.
 
 ghost use Rattle.std.specs.Prelude.{◌≡◌, ◌<◌, ◌∷◌, length};
 ghost use Rattle.fe_desk.specs.Steps.{with_left};
@@ -70,7 +71,7 @@ impl<D: Disk> DeskInner<D> {
     }
 }
 
-/// The first message that is left of a port.
+/// Takes the first message that is left of a port.
 fn first_left(port: &mut Port) -> ClientMessage
     requires { 0 < length (client_of port.old).left }
     ensures first { (client_of port.old).left ≡ result ∷ (client_of port.new).left }

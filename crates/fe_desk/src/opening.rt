@@ -1,3 +1,5 @@
+//! Opening and formatting a store for a desk (`docs/model.md`, "The desk"; which state a disk stands for: "The keeper").
+
 ghost use Rattle.std.specs.Prelude.{◌≡◌, ◌≢◌, ◌⊎◌, ◌↔◌, ℕ, Bool, false, None, IfOk, IfErr, IsErrAnd};
 ghost use Rattle.fe_disk.specs.Disk.{Rises};
 ghost use Rattle.fe_disk.specs.Runs.{without_disk as outcome};
@@ -23,8 +25,8 @@ use fe_keeper::Keeper;
 use std::alloc::Global;
 
 impl<D: Disk> Desk<D> {
-    /// Opens a store: a sync, and then only reads. The desk begins with the state that the disk stands for: nothing waits, and no
-    /// connection is connected.
+    /// Opens a store: a sync, and then at most four reads. The desk begins with the state that the disk stands for: no request waits, and
+    /// no connection is connected.
     pub fn open(alloc: Global, disk: D) -> Result<Desk<D>, (DeskFault, D)>
         ensures opened { D.honest disk → IfOk result (λ desk. StandsFor (D.seen disk) desk.keeper.state) }
         ensures stands { D.honest disk
@@ -35,7 +37,8 @@ impl<D: Disk> Desk<D> {
         // A valid store is refused only if the device fails or memory runs out.
         ensures refused { D.honest disk → (s : ServerState) → StandsFor (D.seen disk) s
             → IfErr result (λ e. (e.0 ≡ Store keeper.Device) ⊎ (e.0 ≡ NoMemory false)) }
-        // A reported fault is the store's, and an unformatted store is reported as such, however much memory there is.
+        // What a fault says of the disk is true. An unformatted store is reported as such unless the device fails, however little memory
+        // there is.
         ensures says { D.honest disk → IfErr result (λ e. TellsOpening e.0 (D.seen disk) (D.calls disk) (D.calls e.1)) }
         ensures unformatted { D.honest disk → IsUnformatted (D.seen disk)
             → IsErrAnd result (λ e. (e.0 ≡ Store keeper.Unformatted) ⊎ (e.0 ≡ Store keeper.Device)) }
@@ -53,7 +56,8 @@ impl<D: Disk> Desk<D> {
         }
     }
 
-    /// Makes a new store of format 2 on the device, whatever was there. If memory is short, the device may be formatted already.
+    /// Makes a new store of format 2 on the device, whatever was there. A device of another size than a store's is refused as
+    /// `Unformatted`. If memory is short, the device may be formatted already.
     pub fn format(alloc: Global, disk: D) -> Result<Desk<D>, (DeskFault, D)>
         ensures formatted { D.honest disk → IfOk result (λ desk. EachStandsFor D.Disk (disk_of desk) first_state) }
         ensures first { IfOk result
@@ -65,7 +69,7 @@ impl<D: Disk> Desk<D> {
         ensures unformatted { IfErr result (λ e. (e.0 ≡ Store keeper.Unformatted) ↔ (D.size disk ≢ device_bytes)) }
         ensures works { IfOk result (λ desk. desk.keeper.store.has_failed ≡ false) }
         ensures device { IfErr result (λ e. e.0 ≡ Store keeper.Device → Rises (D.failures disk) (D.failures e.1)) }
-        // Another fault means that no call of the device failed.
+        // Success, or another fault, means that no call of the device failed.
         ensures still { IfOk result (λ desk. D.failures (disk_of desk) ≡ D.failures disk) }
         ensures calm { IfErr result (λ e. e.0 ≢ Store keeper.Device → D.failures e.1 ≡ D.failures disk) }
         ensures faults { IfErr result

@@ -1,4 +1,5 @@
-//! The server's end of the connections of one number: what is read from them, and what is written to them.
+//! The server's end of the connections of one number, a client in the model: what is read from them, and what is written to them
+//! (`docs/model.md`, "The desk"). A mail is a reply on its way out; it waits in its connection's box.
 
 ghost use Rattle.std.specs.Prelude.{◌≡◌, ◌≢◌, ℕ, [], nat_lt, length, ◌++◌, None, Some, true, false, IsTrue, OnOk, OnErr, IfOk, slice_get};
 ghost use Rattle.std.specs.Option.{option_map_or};
@@ -27,10 +28,10 @@ use std::mem;
 #[derive(Drop)]
 pub struct Port {
     pub conn: u64,
-    /// The frames of its mails, all of them in order. If the number was connected again, they follow the earlier ones.
+    /// The frames of its mails that were written, in order. If the number was connected again, they follow the earlier ones.
     pub written: Written,
     pub(crate) decoder: Decoder,
-    /// Messages that came whole. Those before `next` are taken.
+    /// Messages that came whole. Those before `next` are taken, and the others are left.
     pub(crate) left: Vec<ClientMessage>,
     pub(crate) next: usize,
     /// The reply of a mail that was taken out of its box and is not written.
@@ -77,7 +78,8 @@ impl Port {
         self.next < self.left.len()
     }
 
-    /// Reads the next piece of the stream, if no message is left. Returns whether the stream is at a bad frame then.
+    /// Reads the next piece of the stream. No message may be left. Returns whether the stream is then at a bad frame, one that is no
+    /// message. Fails only if memory runs out, and then nothing is read.
     pub(crate) fn feed(&mut self, alloc: Global, piece: &[u8]) -> Result<bool, AllocError>
         requires { (client_of self.old).left ≡ [] }
         ensures reads { OnOk result (Reads self.old.decoder self.new.decoder piece.now (client_of self.new).left) }
@@ -94,7 +96,8 @@ impl Port {
         Ok(bad)
     }
 
-    /// Whether something may have to be written to the connection: a reply that waits, or a mail, if the set may have it.
+    /// Whether something may have to be written to the connection: a reply that waits, or a mail. Each connection with a mail is in
+    /// the set.
     fn may_owe(&self, mailed: &ConnectionSet) -> bool
         ensures { result ≡ false
             → ((client_of self.now).reply ≡ None) × (¬ IsTrue (may_have mailed.now self.now.conn)) }
@@ -102,7 +105,7 @@ impl Port {
         self.reply.is_some() || mailed.may_have(self.conn)
     }
 
-    /// Writes all mails of the connection. If memory is short, those that are not written stay.
+    /// Writes the reply that waits, and all mails of the connection. If memory is short, what is not written stays.
     pub(crate) fn take_mails(
         &mut self,
         front: &mut Front,
@@ -171,7 +174,7 @@ fn next_mail(front: &mut Front, conn: u64) -> Option<Mail>
     front.take_mail(conn)
 }
 
-/// Whether the books show that no box has a mail. Spent books show nothing.
+/// Whether the books, the counts of calls and mails, show that no box has a mail. Books whose counts are used up (spent) show nothing.
 pub(crate) fn has_no_mail(front: &Front) -> bool
     ensures { result ≡ true → (conn : ℕ) → mails_on front.now.connections conn ≡ [] }
 {

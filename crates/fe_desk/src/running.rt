@@ -1,3 +1,6 @@
+//! A run of a desk: it opens a store and takes steps, up to the first fault (`docs/model.md`, "The desk"). Groups are the batches of
+//! entries that it handed to the store.
+
 ghost use Rattle.std.specs.Prelude.{◌≡◌, ◌↔◌, None, List, ℕ, false};
 ghost use Rattle.fe_disk.specs.Runs.{LeavesOnly};
 ghost use Rattle.fe_state.specs.State.{ServerState};
@@ -30,17 +33,17 @@ pub fn run<D: Disk>(alloc: Global, disk: D, steps: &[Step]) -> Ran<D>
     // The run ends at the opening, at a step, or whole: what it did, what it reports, and whether the device failed. A store that
     // is not opened is not written.
     ensures ran { IsRunOf D.Disk disk steps.now result }
-    // The groups are a history from the state that was there.
+    // Over an honest disk the groups are a history from the state that was there.
     ensures history { D.honest disk → (s : ServerState) → StandsFor (D.seen disk) s
         → IsHistory s (groups_of result.trace) }
-    // If every image at the start stands for that state, a stop at any moment leaves a prefix of the history.
+    // If every image that a stop may leave at the start stands for that state, a stop at any moment leaves a prefix of the history.
     ensures any_moment { D.honest disk → (s : ServerState) → EachStandsFor D.Disk disk s
         → LeavesOnly D.Disk disk result.disk (LeavesPrefix s (groups_of result.trace) 0) }
     // If the store was opened, a stop at the end leaves a prefix that has all groups that were stored.
     ensures stands { D.honest disk → (s : ServerState) → StandsFor (D.seen disk) s → IsPastOpening result.fault
         → (image : List ℕ) → D.may_leave result.disk image
         → LeavesPrefix s (groups_of result.trace) result.trace.synced image }
-    // The disk can be opened again.
+    // The disk is honest (it behaves as the disk model says) exactly if it was before, and has the size that it had.
     ensures honesty { D.honest result.disk ↔ D.honest disk }
     ensures size { D.size result.disk ≡ D.size disk }
 {

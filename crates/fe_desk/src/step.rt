@@ -1,22 +1,25 @@
+//! The steps of a desk, a server in one thread: what comes to it, and what it does to its store (`docs/model.md`, "The desk").
+
 ghost use Rattle.std.specs.Prelude.{◌≡◌, true};
 ghost use Rattle.fe_desk.specs.Quiet.{mails_nothing};
 
-/// A step of a desk. A step with nothing to act on only writes the mails that are owed.
+/// A step of a desk. A step with nothing to act on only writes the mails, replies on their way out, that an earlier step left
+/// unwritten.
 #[derive(Drop)]
 pub enum Step {
-    /// A connection comes, with a stream of its own.
+    /// A connection comes, with a stream of its own. If its number is connected, nothing is done.
     Connect { conn: u64 },
     /// The next bytes of a connection's stream.
     Bytes { conn: u64, piece: Vec<u8> },
     /// A connection goes.
     Gone { conn: u64 },
-    /// The pending entries become a batch, if none is out.
+    /// The pending entries become a batch, if none is out (cut and not yet posted).
     Cut,
     /// The batch that is cut is stored.
     Append,
-    /// The batch that is stored is posted.
+    /// The batch that is stored is posted: its entries' mails go into the boxes of their connections.
     Post,
-    /// A checkpoint begins.
+    /// A checkpoint, which writes an image of the state into the other slot of the store, begins.
     CheckBegin,
     /// A slice of the checkpoint is written.
     CheckStep,
@@ -25,14 +28,14 @@ pub enum Step {
 }
 
 impl Step {
-    /// Whether no box had a mail before the step (`quiet`) and the step makes none, so that no box has one after it.
+    /// True only if no box had a mail before the step (`quiet`) and the step makes none, so that no box has one after it.
     pub(crate) fn is_still(&self, quiet: bool) -> bool
         ensures { result ≡ true → (quiet ≡ true) × (mails_nothing self.now ≡ true) }
     {
         quiet && !matches!(self, Step::Bytes { .. } | Step::Gone { .. } | Step::Post)
     }
 
-    /// Whether no box had a mail before the step (`quiet`) and the step posts the batch that is stored.
+    /// Whether no box had a mail before the step (`quiet`) and the step posts the batch that is stored, if there is one.
     pub(crate) fn posts(&self, quiet: bool) -> bool
         ensures { result ≡ true → (quiet ≡ true) × (self.now ≡ Step.Post) }
     {

@@ -1,4 +1,5 @@
-//! The way of a batch, entries that follow one another, through a desk: it is cut, stored as a group, and posted.
+//! The way of a batch, entries that follow one another, through a desk: it is cut, stored as a group, and posted
+//! (`docs/model.md`, "The desk").
 
 ghost use Rattle.std.specs.Prelude.{◌≡◌, ◌⊎◌, ℕ, IsTrue, IfOk, OnOk};
 ghost use Rattle.fe_front.specs.Front.{has_room};
@@ -23,7 +24,7 @@ use std::alloc::{AllocError, Global};
 use std::mem;
 
 impl<D: Disk> DeskInner<D> {
-    /// Cuts what is pending into the batch that is out, if there is something and no batch is out.
+    /// Cuts what is pending into a batch, which is out from then on, if there is something and no batch is out.
     pub(crate) fn cut(&mut self)
         ensures cut { run_state_of self.new ≡ way.cut (run_state_of self.old) }
         ensures stays { Stays D.Disk (desk_of self.old) (desk_of self.new) }
@@ -52,14 +53,15 @@ impl<D: Disk> DeskInner<D> {
         }
     }
 
-    /// Hands a batch to the store, as a group of the trace. If there is no memory, the group leaves the trace again.
+    /// Hands a batch to the store, as a group of the trace. If there is no memory, the trace is left without it. If the device fails, it
+    /// stays there, not counted as stored.
     fn store_batch(&mut self, batch: Batch) -> (Handed, Result<(), Fault>)
         requires { IsReady D.Disk (with_handed (desk_of self.old) (Cut batch)) }
         ensures { let old = with_handed (desk_of self.old) (Cut batch) in
             Goes D.Disk (Is (stored old.run_state)) (IsUnstored old) (Is old.run_state) result.1 old
             (with_handed (desk_of self.new) result.0) }
     {
-        // It names a type for the checker (`docs/DECISIONS.md`, "Toolchain").
+        // From here on the proof has what is always true of the front (`docs/DECISIONS.md`, "Toolchain").
         let _ = self.front.state();
         let Ok(group) = copied(self.alloc, batch.entries.as_slice()) else {
             return (Handed::Cut(batch), Err(Fault::NoMemory));
@@ -92,7 +94,7 @@ impl<D: Disk> DeskInner<D> {
         ensures stays { Stays D.Disk (desk_of self.old) (desk_of self.new) }
     {
         match mem::replace(&mut self.handed, Handed::Nothing) {
-            // The batch that was cut is the one that is out.
+            // The batch is the one that is out, so the front does not refuse it.
             Handed::Stored(batch) => {
                 let _ = self.front.post(batch, changed);
                 self.making = None;
@@ -146,7 +148,7 @@ impl<D: Disk> DeskInner<D> {
     }
 }
 
-/// The entries in a vector of their own, of their number.
+/// A copy of the entries, in a vector with room for just them.
 fn copied(alloc: Global, entries: &[Entry]) -> Result<Vec<Entry>, AllocError>
     ensures { IfOk result (λ group. group.items ≡ entries.now) }
 {

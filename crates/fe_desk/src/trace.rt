@@ -1,3 +1,5 @@
+//! What a desk did: which entries it gave to its store, and what it wrote to which connections (`docs/model.md`, "The desk").
+
 ghost use Rattle.std.specs.Prelude.{◌≡◌, [], map};
 ghost use Rattle.fe_desk.specs.Anew.{unwritten_to};
 ghost use Rattle.fe_desk.specs.within.Desk.{client_of};
@@ -6,11 +8,11 @@ use crate::port::Port;
 use fe_state::Entry;
 use std::alloc::Global;
 
-/// What a desk did since it was opened.
+/// What a desk did since it was opened, or since its trace was cleared.
 pub struct Trace {
-    /// The groups that were handed to the store, in order.
+    /// The groups that were handed to the store, in order. Each is the entries of a batch.
     pub groups: Vec<Vec<Entry>>,
-    /// How many of them are stored: all, except a last one whose append the device failed.
+    /// How many of them are known to be stored: all, except a last one in whose append the device failed.
     pub synced: u64,
     /// What was written to each connection number, in the order in which the numbers came first.
     pub ports: Vec<Port>,

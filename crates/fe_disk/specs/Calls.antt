@@ -1,4 +1,5 @@
--- How many reads, writes and syncs a device was asked for (`docs/model.md`, "The disk").
+-- How many reads, writes and syncs a disk made: all that succeeded, and of those that failed as many as the disk counts
+-- (`docs/model.md`, "The disk").
 use Rattle.fe_disk.specs.declared.calls.Calls.{Calls}
 
 -- no calls

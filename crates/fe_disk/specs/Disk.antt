@@ -22,7 +22,7 @@ pub record IsTorn (at n : ℕ) (old new : List ℕ) : Type 0 where
   pub below : (i : ℕ) → i < at → slice_index new i ≡ slice_index old i
   pub above : (i : ℕ) → at + n ≤ i → slice_index new i ≡ slice_index old i
 
--- each image that may be left after a call is one that might have been left before it, changed by that step
+-- each image that may be left after a call comes, by this step, from one that might have been left before it
 abbrev pub Follows : (List ℕ → List ℕ → Type 0) → (List ℕ → Type 0) → (List ℕ → Type 0) → Type 0
 Follows step old new = (image : List ℕ) → new image → (was : List ℕ) × old was × step was image
 
@@ -34,8 +34,8 @@ AddsNone old new = (image : List ℕ) → new image → old image
 abbrev pub LeavesJust : List ℕ → (List ℕ → Type 0) → Type 0
 LeavesJust image may_leave = (left : List ℕ) → may_leave left → left ≡ image
 
--- Time goes on through a call: what a stop since a moment before it may have left is what it might have left then
--- already, or what it may leave now.
+-- Time goes on through a call: what a stop since a moment before it may have left is all that it might have left then already, and
+-- otherwise only what a stop may leave now.
 pub record Elapses {D : Type 0} (moment : D → ℕ) (left_since : D → ℕ → List ℕ → Type 0) (may_leave : D → List ℕ → Type 0) (old new : D) : Type 0 where
   pub later : moment old ≤ moment new
   pub nothing_else : (t : ℕ) (image : List ℕ) → t ≤ moment old → left_since new t image → left_since old t image ⊎ may_leave new image

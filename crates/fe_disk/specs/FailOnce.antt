@@ -1,4 +1,4 @@
--- What contracts see of a `FailOnce`, the policy that fails one call of a disk (`docs/model.md`, "The disk").
+-- What contracts see of a `FailOnce`, the policy that fails one call of a disk (`docs/proved.md`, "The store").
 use Rattle.std.specs.Prelude.{ℕ, ◌-◌, ◌==◌, Option, Some, None, if◌then◌else◌}
 use Rattle.fe_disk.specs.declared.fail_once.FailOnce.{FailOnce}
 

@@ -1,4 +1,4 @@
--- What contracts see of a `FileDisk`: its size and its counts, and nothing of the bytes of its file (`docs/model.md`, "The disk").
+-- What public contracts see of a `FileDisk`: its size and its counts, and nothing of the bytes of its file (`docs/store.md`, "The file").
 use Rattle.std.specs.Prelude.{ℕ}
 use Rattle.fe_disk.specs.declared.calls.Calls.{Calls}
 use Rattle.fe_disk.specs.declared.file_disk.FileDisk.{FileDisk}

@@ -1,5 +1,5 @@
 -- What contracts see of a `Guarded` disk, whose policy lets some calls through to another disk and fails the others.
--- See `docs/model.md`, "The disk".
+-- See `docs/proved.md`, "The store".
 use Rattle.std.specs.Prelude.{◌≡◌, ◌↔◌, ℕ, ◌-◌, ◌^◌, ◌<◌, Result, IsErr}
 use Rattle.fe_disk.specs.Disk.{Rises}
 use Rattle.fe_disk.specs.declared.guarded.Guarded.{Guarded}
@@ -24,8 +24,8 @@ policy_of disk = disk.policy
 abbrev pub fault_count : {D P : Type 0} → Guarded D P → ℕ
 fault_count disk = disk.failures
 
--- The policy counts each call. A call that it doesn't pass on fails and leaves the disk as it is; any other call fails exactly if
--- the disk's fails.
+-- The policy counts each call. A call that it doesn't pass on fails and leaves the disk as it is. Any other call fails exactly if the
+-- disk's count of faults rises; nothing is said once the guard's own count is at 2^64 - 1.
 pub record Guards {D P T E : Type 0} (passes : P → Type 0) (next : P → P) (model : Ghosts D) (result : Result T E) (old new : Guarded D P) : Type 0 where
   pub counted : policy_of new ≡ next (policy_of old)
   pub refused : (passes (policy_of old) → ⊥) → IsErr result × (disk_of new ≡ disk_of old)

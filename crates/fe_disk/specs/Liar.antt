@@ -1,4 +1,4 @@
--- What contracts see of a `Liar`, the disk that always reads the same bytes (`docs/model.md`, "The disk").
+-- What contracts see of a `Liar`, the disk that always reads the same bytes (`docs/proved.md`, "The store").
 use Rattle.std.specs.Prelude.{ℕ, List, length}
 use Rattle.fe_disk.specs.declared.calls.Calls.{Calls}
 use Rattle.fe_disk.specs.declared.liar.Liar.{Liar}

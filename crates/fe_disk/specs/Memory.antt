@@ -59,7 +59,7 @@ LeftSince size image [] t left = (t ≤ 0) × MayLeave size image [] left
 LeftSince size image (event ∷ earlier) t left =
     ((t ≤ length (event ∷ earlier)) × MayLeave size image (event ∷ earlier) left) ⊎ LeftSince size (image_before event image) earlier t left
 
--- an honest disk is one whose image has bytes alone: nothing else is assumed
+-- a disk is honest if its image consists of bytes (numbers below 2^8): nothing else is assumed
 abbrev pub IsHonest : MemoryState → Type 0
 IsHonest disk = IsImage (length disk.image) disk.image
 
@@ -71,13 +71,13 @@ LeavesNow disk = MayLeave (length disk.image) disk.image disk.events
 abbrev pub LeavesSince : MemoryState → ℕ → List ℕ → Type 0
 LeavesSince disk = LeftSince (length disk.image) disk.image disk.events
 
--- the image at the last sync
+-- the image at the last sync or, if there was none, when the disk was made
 abbrev pub synced_image : List ℕ → List DiskEvent → List ℕ
 synced_image image [] = image
 synced_image image (Sync ∷ earlier) = image
 synced_image image (Write at before ∷ earlier) = synced_image (after_write image at before) earlier
 
--- the ranges written since the last sync have this byte throughout
+-- the ranges written since the last sync have this byte throughout, and all others are as in the image
 pub record IsFilled (byte : ℕ) (image : List ℕ) (events : List DiskEvent) (left : List ℕ) : Type 0 where
   pub whole : length left ≡ length image
   pub elsewhere : (i : ℕ) → IsSettledAt events i → slice_index left i ≡ slice_index image i
@@ -125,6 +125,6 @@ disk_after_sync disk =
       failures = disk.failures;
     }
 
--- the disk after a call that fails: the fault is counted, and nothing else is done
+-- the disk after a call that fails: the fault is counted, up to 2^64 - 1, and nothing else is done
 abbrev pub disk_after_fault : MemoryState → MemoryState
 disk_after_fault disk = record { image = disk.image; events = disk.events; calls = disk.calls; failures = min (disk.failures + 1) (2 ^ 64 - 1) }

@@ -3,8 +3,9 @@ use Rattle.std.specs.Prelude.{◌≡◌, ◌↔◌, ℕ, ◌+◌, ◌≤◌, Res
 use Rattle.fe_disk.specs.Disk.{Rises, MakesAtMost, MakesJust}
 use Rattle.fe_disk.specs.declared.calls.Calls.{Calls}
 
--- Exactly this many calls were made if it succeeds, and at most this many if it fails. It fails exactly if the count of faults
--- rose. It takes members of the trait `Disk`, since the trait's own clauses can't name the record that has them all.
+-- A call counts as exactly this many reads, writes and syncs if it succeeds, and as at most this many if it fails. It fails exactly if the
+-- count of faults rises, by one at most. Size and honesty stay. The parameters are members of the trait `Disk`, since the trait's own
+-- clauses can't name the record that has them all.
 pub record EndsCall {D T E : Type 0} (size failures : D → ℕ) (calls : D → Calls) (honest : D → Type 0) (reads writes syncs : ℕ) (result : Result T E) (old new : D) : Type 0 where
   pub fault : IsErr result ↔ Rises (failures old) (failures new)
   pub still : OnOk result (failures new ≡ failures old)

@@ -30,7 +30,8 @@ pub record AsksAtMost {D T E : Type 0} (model : Ghosts D) (reads writes syncs : 
   pub honesty : model.honest new ↔ model.honest old
   pub same_size : model.size new ≡ model.size old
 
--- A run of at most this many calls, of a function with other faults beside `device`: those leave the count of faults.
+-- A run of at most this many calls, of a function with other faults beside `device`: `device` comes only if the count of faults rose, and
+-- every other result leaves that count as it was.
 pub record Runs {D T E : Type 0} (model : Ghosts D) (reads writes syncs : ℕ) (device : E) (result : Result T E) (old new : D) : Type 0 where
   pub fault : IsErrOf result device → Rises (model.failures old) (model.failures new)
   pub still : (IsErrOf result device → ⊥) → model.failures new ≡ model.failures old

@@ -1,3 +1,4 @@
+-- Definitions that no public clause rests on.
 pub mod MemoryLaws
 pub mod MemoryFields
 pub mod Samples

@@ -1,4 +1,4 @@
-//! How many calls of each kind were made of a device.
+//! A disk's calls, counted by kind: reads, writes and syncs (`docs/model.md`, "The disk").
 
 /// How many reads, writes and syncs were made. A disk that counts them fails the next call of a kind once its
 /// count of that kind is `u64::MAX`.

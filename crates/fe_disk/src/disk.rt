@@ -10,9 +10,8 @@ pub struct DeviceFault;
 
 /// A disk of a fixed size, in bytes, that may stop at any moment.
 ///
-/// Each device call (`read_at`, `write_at`, `sync`) returns a fault exactly when the count of
-/// `failures` rises in that call. The facts about bytes and stops hold only of an `honest` disk, and a
-/// call never changes whether the disk is honest.
+/// Each device call (`read_at`, `write_at`, `sync`) returns a fault exactly when the count of `failures` rises in that call, or is
+/// at `u64::MAX`. The facts about bytes and stops hold only of an `honest` disk, and a call never changes whether the disk is honest.
 pub trait Disk {
     /// How many bytes the disk has. It never changes.
     ghost size: { Self → ℕ };
@@ -20,7 +19,7 @@ pub trait Disk {
     /// How many device calls have failed. The count stays at `u64::MAX` once it is there.
     ghost failures: { Self → ℕ };
 
-    /// How many reads, writes and syncs were made.
+    /// How many reads, writes and syncs were made. A call that failed is counted or not, as the disk chooses.
     ghost calls: { Self → Calls };
 
     /// The disk does what this model says. Every fact about bytes and stops assumes it.
@@ -58,7 +57,7 @@ pub trait Disk {
         ensures time { honest self.old → Elapses moment left_since may_leave self.old self.new }
         ensures device { EndsCall size failures calls honest 1 0 0 result self.old self.new };
 
-    /// Writes the bytes from `at` on. Until a sync succeeds, a stop may leave any bytes instead.
+    /// Writes the bytes from `at` on. Until a sync succeeds, a stop may leave any bytes in their range.
     /// A write that fails may have written: in its range a read may give anything, and a stop may leave anything.
     fn write_at(&mut self, at: usize, bytes: &[u8]) -> Result<(), DeviceFault>
         requires { at + length bytes.now ≤ size self.old }
@@ -70,7 +69,7 @@ pub trait Disk {
         ensures time { honest self.old → Elapses moment left_since may_leave self.old self.new }
         ensures device { EndsCall size failures calls honest 0 1 0 result self.old self.new };
 
-    /// Makes all earlier writes durable. A sync that fails makes nothing durable.
+    /// Makes all earlier writes durable. A sync that fails may have made none of them durable.
     fn sync(&mut self) -> Result<(), DeviceFault>
         // From a sync that succeeds until the next write, a stop leaves what a read gives.
         ensures durable { honest self.old → OnOk result (LeavesJust (seen self.new) (may_leave self.new)) }
@@ -79,10 +78,10 @@ pub trait Disk {
         ensures time { honest self.old → Elapses moment left_since may_leave self.old self.new }
         ensures device { EndsCall size failures calls honest 0 0 1 result self.old self.new };
 
-    /// A read of the whole disk gives as many bytes as the disk has.
+    /// A read of the whole disk gives as many bytes as the disk has, each below 2^8.
     ghost seen_is_image: { (disk : Self) → honest disk → IsImage (size disk) (seen disk) };
 
-    /// Each image that a stop may have left has as many bytes too.
+    /// The same is true of each image that a stop may have left.
     ghost left_is_image: { (disk : Self) (t : ℕ) (image : List ℕ) → honest disk
         → left_since disk t image → IsImage (size disk) image };
 

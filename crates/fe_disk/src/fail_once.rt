@@ -1,4 +1,6 @@
-//! A policy that fails one call of a disk and passes all others on, for tests of what holds after a fault.
+//! A policy that fails one call of a disk and passes all others on, for tests of what holds after a fault
+//! (`docs/proved.md`, "The store").
+
 ghost use Rattle.std.specs.Prelude.{◌≡◌, ◌≢◌, Some};
 
 use crate::{Asked, Policy};

@@ -1,4 +1,5 @@
-//! The count of faults that a disk keeps for itself.
+//! The count of a disk's faults, its calls that failed (`docs/model.md`, "The disk").
+
 ghost use Rattle.std.specs.Prelude.{◌≡◌, ◌↔◌, ◌+◌, ◌-◌, ◌^◌, ◌<◌, ◌≤◌, min, OnOk, IsErr};
 ghost use Rattle.fe_disk.specs.Disk.{Rises};
 

@@ -1,4 +1,6 @@
-//! A disk that is a file of the operating system.
+//! A disk that is a file of the operating system (`docs/store.md`, "The file"). A disk is honest if it does what its model says
+//! (`docs/model.md`, "The disk").
+
 ghost use Rattle.std.specs.Prelude.{◌≡◌, ◌≢◌, ◌-◌, ◌^◌, ◌<◌, ◌≤◌, ℕ, [], length, IsTrue, IfOk, IfErr, IsErrOf, OnOk};
 ghost use Rattle.fe_disk.specs.declared.file_fault.FileFault.TheVariants.{WrongSize, Device};
 
@@ -31,10 +33,10 @@ const MODE: u32 = 0o600;
 /// that are not on the device, and would give their bytes to every reader until it needs the memory.
 ///
 /// A disk that writes holds an advisory lock on its file for as long as it lives, so no other disk writes the file
-/// meanwhile. A sync behind a short write, such as a gate (the byte that makes a group of the store count), succeeds
-/// only if the file afterwards still has its size and the path by which it was opened: what is written into a file that
-/// was cut, renamed, replaced or removed is lost. The file must also still have what was synced before, as far as
-/// `Samples` knows it: a program that overwrote the file in place has overwritten that too.
+/// meanwhile. A sync behind a short write (one of fewer than 16 bytes, such as a gate, the byte that makes a group of the
+/// store count) succeeds only if the file afterwards still has its size and the path at which it was opened (without `/proc`, any
+/// name): what is written into a file that was cut, renamed, replaced or removed is lost. The file must also still have what was
+/// synced before, as far as `Samples` knows it: this finds a program that wrote another file over it, but no change elsewhere.
 ///
 /// Nothing is claimed about what a file gives or keeps, so it is not honest.
 #[derive(Drop)]
@@ -43,6 +45,7 @@ pub struct FileDisk {
     size: usize,
     calls: Calls,
     failures: u64,
+    // Whether a sync succeeded. Only the first one makes the system forget what it holds of the file in memory.
     is_settled: bool,
     // The path that the file of a disk that writes has to keep.
     watch: Option<Watch>,
@@ -55,9 +58,9 @@ impl FileDisk {
     ghost use Rattle.fe_disk.specs.Outcome.{EndsCall};
     ghost use Rattle.fe_disk.specs.within.Samples.{StaysRight, IsOf};
 
-    /// Makes a file of this many zero bytes, which only its owner may read and write, and syncs it and its folder. If
+    /// Makes a file of this many zero bytes, which only its owner may read and write, locks it, and syncs it and its folder. If
     /// a file has the path already, it stays as it is and the call fails. If a later step fails, the new file stays,
-    /// maybe with another size.
+    /// maybe with another size. The only fault is `Device`.
     pub fn create<R: Files<File = File>>(
         rt: &R,
         path: &str,
@@ -85,8 +88,8 @@ impl FileDisk {
         }
     }
 
-    /// The disk over the file at this path, which must have this many bytes, for reading only. The file need not
-    /// be writable, and every write fails. It takes no lock: others may read and write the file meanwhile.
+    /// The disk over the file at this path, which must have this many bytes, for reading only. The file need not be writable, and every
+    /// write of a byte or more fails. It takes no lock: others may read and write the file meanwhile.
     pub fn read_only<R: Files<File = File>>(
         rt: &R,
         path: &str,
@@ -134,7 +137,7 @@ impl FileDisk {
             return Err(FileFault::WrongSize { found });
         }
         let watch = is_watched.then(|| Watch::of(&file));
-        // The system would still have the path of a file that was replaced or removed meanwhile.
+        // A file that was replaced or removed meanwhile never changes the path that the system has for it, so `Watch` would not notice.
         if is_watched && !is_at(rt, path, &file) {
             return Err(FileFault::Device);
         }
@@ -149,7 +152,7 @@ impl FileDisk {
         })
     }
 
-    // Writes into the file, and takes a sample of what was written.
+    // Writes into the file, and notes the write in the samples. A write that fails leaves none.
     fn put(&mut self, at: usize, bytes: &[u8]) -> Result<(), DeviceFault>
         requires count { self.old.failures < 2 ^ 64 - 1 }
         requires calls { self.old.calls.writes < 2 ^ 64 - 1 }
@@ -169,7 +172,7 @@ impl FileDisk {
     }
 
     // Syncs the file. Behind a short write, such as a gate, asks whether it is still the one that was opened, with what was
-    // synced before: what a long write brought counts only once the gate behind it is synced.
+    // synced before: what a long write brought counts only once its gate, which is written after it, is synced.
     fn settle(&mut self) -> Result<(), DeviceFault>
         requires count { self.old.failures < 2 ^ 64 - 1 }
         requires calls { self.old.calls.syncs < 2 ^ 64 - 1 }
@@ -188,7 +191,7 @@ impl FileDisk {
         Ok(())
     }
 
-    // Whether the file has its size, a name and its path, which is asked only of a file that is watched.
+    // Whether the file has its size, a name and its path, which is asked only of a file that is watched: that of a disk that writes.
     fn is_there(&self) -> bool {
         let Some(watch) = &self.watch else {
             return true;
@@ -253,7 +256,7 @@ fn fill(mut file: &File, size: u64) -> io::Result<()> {
     file.write_all(&zeros[..(size % ZEROS as u64) as usize])
 }
 
-// Locks the file, so that no other disk has it meanwhile.
+// Locks the file, so that no other disk writes it meanwhile.
 fn locked(file: File) -> io::Result<File> {
     let file = above_streams(file)?;
     file.try_lock()?;

@@ -1,4 +1,6 @@
-//! A policy that fails every call of a disk from some call on, for tests that stop a run at each of its calls.
+//! A policy that fails every call of a disk from some call on, for tests that stop a run at each of its calls
+//! (`docs/proved.md`, "The store").
+
 ghost use Rattle.std.specs.Prelude.{◌≡◌, ◌<◌};
 
 use crate::{Asked, Policy};

@@ -1,4 +1,5 @@
-//! A disk that passes on to another disk the calls that a policy lets through, and fails the others.
+//! A disk that passes on to another disk the calls that a policy lets through, and fails the others (`docs/proved.md`, "The store").
+
 ghost use Rattle.std.specs.Prelude.{◌≡◌, ◌↔◌, ◌-◌, ◌^◌, ◌<◌, IsTrue};
 
 use crate::faults::{count, fault};
@@ -19,6 +20,7 @@ pub struct Guarded<D, P> {
 impl<D: Disk, P: Policy> Guarded<D, P> {
     ghost use Rattle.fe_disk.specs.Guarded.{disk_of, policy_of, fault_count};
 
+    /// A disk that passes on to `inner` the calls that `policy` lets through.
     pub fn new(inner: D, policy: P) -> Guarded<D, P>
         ensures disk { disk_of result ≡ inner }
         ensures policy { policy_of result ≡ policy }
@@ -32,7 +34,7 @@ impl<D: Disk, P: Policy> Guarded<D, P> {
         }
     }
 
-    // Whether the next call is passed on.
+    // Counts a call in the policy, and says whether it is passed on.
     fn admits(&mut self, asked: Asked) -> bool
         ensures passes { IsTrue result ↔ (P.passes self.old.policy × (self.old.failures < 2 ^ 64 - 1)) }
         ensures next { self.new.policy ≡ P.next self.old.policy }

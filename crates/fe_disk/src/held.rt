@@ -1,5 +1,6 @@
-//! A policy that lets another thread hold the syncs of a disk back, for tests of what happens between a write and its
-//! sync.
+//! A policy that lets another thread hold the syncs of a disk back, for tests of what happens between a write and its sync
+//! (`docs/proved.md`, "The store").
+
 ghost use Rattle.std.specs.Prelude.{⊤};
 
 use crate::sync_hold::SyncHold;
@@ -7,7 +8,7 @@ use crate::{Asked, Policy};
 use std::alloc::Global;
 use std::sync::{Arc, Wait};
 
-/// Passes every call on. A sync waits until its `SyncHold` lets it go, and doesn't return before that.
+/// Passes every call on. A sync is passed on only once its `SyncHold` lets it go.
 #[derive(Drop)]
 pub struct Held<R> {
     rt: R,
@@ -15,6 +16,7 @@ pub struct Held<R> {
 }
 
 impl<R: Wait + Drop> Held<R> {
+    /// A policy whose syncs wait while `hold` holds them back.
     pub fn new(rt: R, hold: Arc<SyncHold, Global>) -> Held<R> {
         Held { rt, hold }
     }

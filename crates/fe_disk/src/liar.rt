@@ -1,4 +1,5 @@
-//! A disk that always reads the same bytes, for tests of a store over any bytes.
+//! A disk that always reads the same bytes, for tests of a store over any bytes (`docs/proved.md`, "The store").
+
 ghost use Rattle.std.specs.Prelude.{◌≡◌, ◌⊎◌, ◌+◌, ◌-◌, ◌^◌, ◌≤◌, length, IsErr, OnOk};
 ghost use Rattle.fe_disk.specs.Disk.{bytes_at};
 ghost use Rattle.fe_disk.specs.Outcome.{EndsCall};
@@ -6,8 +7,8 @@ ghost use Rattle.fe_disk.specs.Outcome.{EndsCall};
 use crate::faults::fault;
 use crate::{Calls, DeviceFault, Disk};
 
-/// A disk whose reads give a fixed list of bytes, whatever was written. A call fails only once its count of
-/// calls is at `u64::MAX`. Nothing is claimed about what a stop leaves, so it is not honest.
+/// A disk whose reads give a fixed list of bytes, whatever was written. A call fails only once the count of its kind, or that
+/// of faults, is at `u64::MAX`. Nothing is claimed about what a stop leaves, so it is not honest.
 #[derive(Drop)]
 pub struct Liar {
     bytes: Vec<u8>,

@@ -1,4 +1,5 @@
-//! The disk model: what a read gives, and which images a stop at any moment may leave.
+//! The disk model: what a read gives, and which images (all bytes of a disk) a stop at any moment may leave
+//! (`docs/model.md`, "The disk").
 #![tactic(auto)]
 
 mod calls;

@@ -1,4 +1,6 @@
-//! A disk in memory that records its calls, so that a test can make every stop that the record allows.
+//! A disk in memory, for `femem run`, `femem look` and tests. It records its writes and syncs, so that `stopped` can make the disk
+//! that a stop leaves (`docs/model.md`, "The disk"). An image is all bytes of a disk.
+
 ghost use Rattle.std.specs.Prelude.{◌≡◌, ◌⊎◌, ◌+◌, ◌-◌, ◌^◌, ◌≤◌, ◌↔◌, length, IfOk, IsErr, OnOk, OnErr};
 ghost use Rattle.fe_disk.specs.Disk.{bytes_at, after_write, IsTorn, Follows, AddsNone, LeavesJust, Elapses, Rises};
 ghost use Rattle.fe_disk.specs.Outcome.{EndsCall};
@@ -61,8 +63,8 @@ impl MemoryDisk {
         })
     }
 
-    /// A disk with these bytes, no calls and no faults. It has room for the record of one call, which then takes no
-    /// memory.
+    /// A disk with these bytes, no calls and no faults. Its record has room for one call: a sync that is recorded first takes no
+    /// memory. A write takes some for the bytes that it replaces.
     pub fn over(alloc: Global, bytes: Vec<u8>) -> Result<MemoryDisk, AllocError>
         ensures image { IfOk result (λ disk. disk.image ≡ bytes.items) }
         ensures fresh { IfOk result IsFresh }
@@ -164,7 +166,7 @@ impl Disk for MemoryDisk {
         ensures time { IsHonest self.old → Elapses moment_of LeavesSince LeavesNow self.old self.new }
         ensures device { EndsCall size_of failures_of calls_of IsHonest 1 0 0 result self.old self.new }
 
-        // A read takes no memory, so it fails only if the count of faults, or that of reads, is at its top.
+        // A read takes no memory, so it fails exactly if the count of faults, or that of reads, is at its top.
         ensures only_at_top { IsErr result ↔ ((self.old.failures ≡ 2 ^ 64 - 1) ⊎ (self.old.calls.reads ≡ 2 ^ 64 - 1)) }
         ensures ok { OnOk result (self.new ≡ disk_after_read self.old) }
         ensures err { OnErr result (self.new ≡ disk_after_fault self.old) }
@@ -186,7 +188,7 @@ impl Disk for MemoryDisk {
         ensures time { IsHonest self.old → Elapses moment_of LeavesSince LeavesNow self.old self.new }
         ensures device { EndsCall size_of failures_of calls_of IsHonest 0 1 0 result self.old self.new }
 
-        // The record has one write more, or nothing was done.
+        // The record has one write more, or only the fault was counted.
         ensures ok { OnOk result (self.new ≡ disk_after_write self.old at bytes.now) }
         ensures err { OnErr result (self.new ≡ disk_after_fault self.old) }
     {
@@ -200,7 +202,7 @@ impl Disk for MemoryDisk {
         ensures time { IsHonest self.old → Elapses moment_of LeavesSince LeavesNow self.old self.new }
         ensures device { EndsCall size_of failures_of calls_of IsHonest 0 0 1 result self.old self.new }
 
-        // The record has one sync more, or nothing was done.
+        // The record has one sync more, or only the fault was counted.
         ensures ok { OnOk result (self.new ≡ disk_after_sync self.old) }
         ensures err { OnErr result (self.new ≡ disk_after_fault self.old) }
     {

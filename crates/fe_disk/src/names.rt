@@ -1,4 +1,5 @@
-//! Names of files. A stop, also a loss of power, during a call leaves the name there or not, and nothing in between.
+//! Names of files. A stop, also a loss of power, during a call leaves the name there or not, and nothing in between
+//! (`docs/store.md`, "The file").
 
 use std::fs::File;
 use std::io::ErrorKind;

@@ -1,4 +1,6 @@
-//! A file whose bytes can be read again, whoever wrote them.
+//! Reading a file back, whoever wrote into it: a sync compares what it has with what the store's server wrote
+//! (`docs/store.md`, "The file").
+
 ghost use Rattle.std.specs.Prelude.{◌≡◌, ℕ, List, length, OnOk};
 ghost use Rattle.fe_disk.specs.Disk.{bytes_at};
 

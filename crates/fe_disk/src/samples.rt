@@ -29,8 +29,8 @@ impl Samples {
         is_short: false,
     };
 
-    /// Takes a sample of a long write, adds a gate written in front of the last one, and forgets the samples that any other
-    /// write overwrote.
+    /// Takes a sample of a long write, adds a byte that is written in front of the last one, such as a gate, and forgets a sample
+    /// if the write overwrote one of its bytes.
     pub(crate) fn note(&mut self, at: usize, bytes: &[u8])
         ensures written { StaysRight at bytes.now self.old.written self.new.written }
         ensures synced { StaysRight at bytes.now self.old.synced self.new.synced }
@@ -48,7 +48,7 @@ impl Samples {
     /// that. If it has, what was written since counts as synced. A file that can't be read counts as changed. After any other
     /// sync it says yes.
     pub(crate) fn confirm<F: ReadBack>(&mut self, file: &F) -> bool
-        // The file has each byte that was synced before.
+        // The file has each byte of the sample that was synced before.
         ensures kept { F.honest file.now → IsTrue result → IsTrue self.old.is_short
             → Holds (F.contents file.now) self.old.synced }
         ensures synced { IsTrue result → IsTrue self.old.is_short → self.new.synced ≡ self.old.written }

@@ -1,13 +1,14 @@
-//! Holds the syncs of a `Held` back until another thread lets them go.
+//! What holds the syncs of a disk back until another thread lets them go, for the policy `Held` (`docs/proved.md`, "The store").
+
 use std::sync::{Condvar, Mutex, Wait};
 
 #[derive(Clone, Copy, PartialEq, Eq)]
 enum HoldStage {
     /// Syncs go on.
     Free,
-    /// The next sync waits.
+    /// Syncs are held back, and none has come since `hold`.
     Set,
-    /// A sync waits.
+    /// Syncs are held back, and one or more have come since `hold` and wait.
     Holding,
 }
 
@@ -35,7 +36,7 @@ impl SyncHold {
         }
     }
 
-    /// Whether a sync waits now.
+    /// Whether a sync has come since `hold`, and waits.
     pub fn is_holding(&self, rt: &impl Wait) -> bool {
         *self.stage.lock(rt) == HoldStage::Holding
     }

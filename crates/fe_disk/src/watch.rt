@@ -1,4 +1,4 @@
-//! The path that the system knows for an open file.
+//! The path that the system knows for an open file. A store's file has to keep its own (`docs/store.md`, "The file").
 
 ghost use Rattle.std.specs.Prelude.{◌≤◌, length};
 
@@ -15,12 +15,12 @@ type CPath = [u8; PATH_MAX];
 
 /// The path that the system has for an open file, and the link by which it gives it.
 ///
-/// It changes when the file or a folder above it is renamed, and ends in ` (deleted)` once the name is removed.
+/// The path changes when the file or a folder above it is renamed, and ends in ` (deleted)` once the name is removed.
 #[derive(Drop)]
 pub(crate) struct Watch {
     link: CPath,
     path: CPath,
-    /// The bytes of the path. 0 if the system has no `/proc`.
+    /// How many bytes the path has. 0 if the system has no `/proc`.
     length: usize,
     ghost fits: { length ≤ 4096 },
 }
@@ -33,7 +33,7 @@ impl Watch {
         Watch { link, path, length }
     }
 
-    /// Whether the file still has its path.
+    /// Whether the file still has its path. Always so if the system has no `/proc`.
     pub(crate) fn is_kept(&self) -> bool {
         let mut found = [0; PATH_MAX];
         let length = read_link(&self.link, &mut found);

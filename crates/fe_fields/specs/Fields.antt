@@ -2,7 +2,7 @@
 use Rattle.std.specs.Prelude.{◌≡◌, ℕ, List, [], ◌∷◌, length, take, drop, Option, Some, None, nat_lt, if◌then◌else◌}
 use Rattle.std.specs.Int.{Width, byte_len, from_be_bytes}
 
--- a reading function that should give the first value, seen through `view`, or None, returned this
+-- what a function returned, a value seen through `view` or None, is what the definition of the reading gives
 abbrev pub ReadsAs : {X Y : Type 0} → (X → Y) → Option X → Option Y → Type 0
 ReadsAs view (Some x) read = read ≡ Some (view x)
 ReadsAs view None read = read ≡ None

@@ -1,4 +1,4 @@
-//! Writing and reading big-endian fields of fixed width.
+//! Writing and reading big-endian fields of fixed width, as frames, records and images have them (`docs/formats.md`).
 #![tactic(auto)]
 
 mod fields;

@@ -1,4 +1,5 @@
-//! Reading fields: at an offset, or at the front together with the remaining bytes.
+//! Reading big-endian fields of frames, records and images (`docs/formats.md`, "Frames", "Entry record" and "Image"): at an offset, or at
+//! the front together with the remaining bytes.
 
 ghost use Rattle.std.specs.Prelude.{◌≡◌, ◌+◌, ◌≤◌, length, IfSome};
 ghost use Rattle.std.specs.Int.{w32, w64};
@@ -44,7 +45,7 @@ pub fn next_u64(bytes: &[u8]) -> Option<(u64, &[u8])>
     Some((BigEndian::read_u64(front), rest))
 }
 
-/// The first byte and the remaining bytes, or `None` if there are none.
+/// The first byte and the remaining bytes, or `None` if there are no bytes.
 pub fn next_byte(bytes: &[u8]) -> Option<(u8, &[u8])>
     ensures { ReadsAs (λ x. (x.0, x.1.now)) result (next_byte bytes.now) }
 {

@@ -42,7 +42,7 @@ pub record IsPayloadLength (format : Format) (length : ℕ) : Type 0 where
   pub within : length ≤ longest_payload format
   pub whole : length % record_bytes format ≡ 0
 
--- an image has its first four fields at least, 24 bytes (`docs/formats.md`, "Image")
+-- the length of an image: at least its first four fields, 24 bytes (`docs/formats.md`, "Image"), and at most the longest
 pub record IsImageLength (format : Format) (length : ℕ) : Type 0 where
   pub some : 24 ≤ length
   pub within : length ≤ longest_image format

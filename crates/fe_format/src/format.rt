@@ -5,7 +5,7 @@ ghost use Rattle.fe_format.specs.Layout.{magic_of, name_bytes, record_bytes, gro
 /// entries and images may be (`docs/formats.md`). Each of a store's two slots has its own. New stores have format 2.
 #[derive(Clone, Copy, PartialEq, Eq)]
 pub enum Format {
-    /// Names of up to 16 bytes, and every request may wait.
+    /// Names of up to 16 bytes, no access that must not wait, and no answer `NotNow`.
     One,
     /// Names of up to 32 bytes.
     Two,

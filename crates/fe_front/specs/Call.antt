@@ -32,17 +32,19 @@ abbrev pub request_at : FrontState → ℕ → ℕ → Option Request
 request_at f session number =
     option_map_or (λ k. Some k.request) (kept_at f session number) (option_map request_of (get f.service.waiting (session, number)))
 
--- A call of a session is refused for this reason, whatever memory there is: its number belongs to another request, or
--- is new and the history has no place left. The reasons of `addressed` come before these.
+-- A call of a session is refused for this reason, whatever memory there is: its number belongs to another request, or is new and the
+-- history has too few places left for one event (`is_spent`).
 abbrev pub IsNumberRefused : FrontState → ℕ → Request → ℕ → Refusal → Type 0
 IsNumberRefused f number request session refusal =
     MatchOption (request_at f session number) ((is_spent f ≡ true) × (refusal ≡ Spent)) (λ before. (before ≢ request) × (refusal ≡ NumberUsed))
 
+-- a call is refused for this reason: one of `addressed`, which come first, or one of `IsNumberRefused`
 abbrev pub IsCallRefused : FrontState → ℕ → ℕ → Request → Refusal → Type 0
 IsCallRefused f conn number request refusal =
     MatchResult (addressed f conn number) (λ session. IsNumberRefused f number request session refusal) (λ first. refusal ≡ first)
 
--- A call is refused because memory is short: it is the first of its number and there is a place for it, but it makes an array.
+-- A call needs memory, and may be refused for lack of it: its session has the number in its window, the number is new, the history has
+-- places for one event, and the request makes an array.
 pub record WantsMemory (f : FrontState) (conn number : ℕ) (request : Request) : Type 0 where
   pub session : ℕ
   pub answer : Answer
@@ -52,7 +54,7 @@ pub record WantsMemory (f : FrontState) (conn number : ℕ) (request : Request) 
   pub answered : reply f.service.state request ≡ Some answer
   pub array : MakesArray (Finished session number request answer)
 
--- a number begins a new request: its session may finish it, it belongs to no request, and a place is left
+-- a number begins a new request: its session may finish it, it belongs to no request, and the history has places for one event
 pub record BeginsRequest (f : FrontState) (session number : ℕ) : Type 0 where
   pub free : IsFree f.service session number
   pub new : request_at f session number ≡ None

@@ -1,4 +1,4 @@
--- A set of connections that tells their numbers apart by remainders alone (`docs/model.md`, "The front").
+-- A set of connections (`docs/model.md`, "Mails, connections and books") that tells their numbers apart by remainders alone.
 use Rattle.std.specs.Prelude.{◌%◌, ℕ, Bool, false, slice_index_or}
 use Rattle.fe_front.specs.declared.connection_set.ConnectionSet.{ConnectionSet}
 use Rattle.fe_front.specs.Limits.{remainder_count}

@@ -1,4 +1,4 @@
--- The events of a front that change it, each with what it answered. A comment says what an event carries.
+-- The events of a front that are not refused, some with what they came to. A comment says what an event carries.
 -- See `docs/model.md`, "The front".
 use Rattle.std.specs.Prelude.{ℕ, Option}
 use Rattle.fe_state.specs.declared.batch.Batch.{Batch}
@@ -24,6 +24,7 @@ pub data Event : Type 0 where
   Gone : ℕ → ℕ → Event
   -- the batch, if one was cut
   Cut : Option Batch → Event
+  -- the batch that is posted
   Post : Batch → Event
   -- a connection, and its first mail, if it had one
   TakeMail : ℕ → Option Mail → Event

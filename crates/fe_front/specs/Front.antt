@@ -41,8 +41,9 @@ abbrev pub out_length : Option Out → ℕ
 out_length None = 0
 out_length (Some o) = o.length
 
--- What ties the parts of a front: a connection has the session that has the connection; each entry is durable, out or
--- not yet cut; a batch that is out begins at the mark; and the books balance with what waits and what is in the boxes.
+-- What ties the parts of a front: a connection has the session that has the connection; each entry is durable, out or not yet cut; a
+-- batch that is out begins at the mark and has at most `most_batch_entries` entries; and the books balance with what waits and what is
+-- in the boxes.
 pub record IsTied (f : FrontState) : Type 0 where
   pub agree : (session conn : ℕ) → (holder_of f.service.attachments session ≡ Some conn) ↔ (session_on f.connections conn ≡ Some session)
   pub place : f.service.state.place ≡ f.durable + out_length f.out + length f.service.pending
@@ -50,7 +51,8 @@ pub record IsTied (f : FrontState) : Type 0 where
   pub out_first : IfSome f.out (λ o. o.first ≡ f.durable)
   pub balance : Balances f.books (len f.service.waiting) (mails_in f.connections)
 
--- what is always true of a front: no waiting request may be served, and its parts are tied
+-- what is always true of a front: no waiting request may be served, its parts are tied, at most `most_waiting` requests wait, and at most
+-- `most_batch_entries` entries are pending
 pub record IsFront (f : FrontState) : Type 0 where
   pub service : IsService f.service
   pub tied : IsTied f
@@ -72,7 +74,7 @@ pub record IsFirst (begun : ServerState) (f : FrontState) : Type 0 where
 abbrev pub has_room : FrontState → Bool
 has_room f = nat_le (length f.service.pending) most_waiting
 
--- whether the history may have no place left for what one event adds
+-- whether the history has fewer places left than one event may need
 abbrev pub is_spent : FrontState → Bool
 is_spent f = nat_lt greatest_place (f.service.state.place + most_event_entries)
 
@@ -80,6 +82,6 @@ is_spent f = nat_lt greatest_place (f.service.state.place + most_event_entries)
 abbrev pub is_attached : FrontState → ℕ → Bool
 is_attached f session = is_some (holder_of f.service.attachments session) && not (is_closing f.service.attachments session)
 
--- whether the connection is connected
+-- whether there is a connection with this number
 abbrev pub is_connected : FrontState → ℕ → Bool
 is_connected f conn = is_some (get f.connections conn)

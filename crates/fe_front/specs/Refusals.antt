@@ -21,6 +21,7 @@ and_then (Ok session) next = next session
 abbrev pub unclosing : FrontState → ℕ → Result ℕ Refusal
 unclosing f session = if is_closing f.service.attachments session then Err Closing else Ok session
 
+-- the session that the connection has, unless it is closing
 abbrev pub own : FrontState → ℕ → Result ℕ Refusal
 own f conn = option_map_or (unclosing f) (session_on f.connections conn) (Err NotAttached)
 
@@ -28,10 +29,11 @@ own f conn = option_map_or (unclosing f) (session_on f.connections conn) (Err No
 abbrev pub unspent : FrontState → ℕ → Result ℕ Refusal
 unspent f session = if is_spent f then Err Spent else Ok session
 
--- whether a session needs an attachment and there is room for none
+-- whether a session has no attachment, and there is no room for one more
 abbrev pub has_no_attachment : FrontState → ℕ → Bool
 has_no_attachment f session = is_none (get f.service.attachments session) && not (nat_lt (len f.service.attachments) most_sessions)
 
+-- the session, if the connection may attach it
 abbrev pub attaching : FrontState → ℕ → ℕ → Result ℕ Refusal
 attaching f conn session =
     if not (is_connected f conn) then Err NotAttached
@@ -60,7 +62,7 @@ abbrev pub waits_below : WaitingAccesses → ℕ → ℕ → Bool
 waits_below waiting session zero = false
 waits_below waiting session (suc number) = waits_below waiting session number || is_some (get waiting (session, number))
 
--- the session, if its floor may rise to this one
+-- the session, if its floor may be set to this one
 abbrev pub may_settle : FrontState → ℕ → ℕ → Result ℕ Refusal
 may_settle f floor session =
     if nat_lt floor (floor_of f.service session) then Err BelowFloor
@@ -68,9 +70,11 @@ may_settle f floor session =
     else if waits_below f.service.waiting session floor then Err StillWaiting
     else unspent f session
 
+-- the session of the connection, if its floor may be set to this one
 abbrev pub settling : FrontState → ℕ → ℕ → Result ℕ Refusal
 settling f conn floor = and_then (own f conn) (may_settle f floor)
 
+-- the session of the connection, if it may be closed
 abbrev pub leaving : FrontState → ℕ → Result ℕ Refusal
 leaving f conn = and_then (own f conn) (unspent f)
 
@@ -78,5 +82,6 @@ leaving f conn = and_then (own f conn) (unspent f)
 abbrev pub may_cancel : FrontState → ℕ → ℕ → Result ℕ Refusal
 may_cancel f number session = if is_some (get f.service.waiting (session, number)) then Ok session else Err NotWaiting
 
+-- the session of the connection, if a request of it waits under the number
 abbrev pub cancelling : FrontState → ℕ → ℕ → Result ℕ Refusal
 cancelling f conn number = and_then (own f conn) (may_cancel f number)

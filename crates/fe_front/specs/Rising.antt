@@ -38,7 +38,7 @@ abbrev pub taken_of : Event → ℕ
 taken_of (TakeMail conn (Some mail)) = 1
 taken_of _ = 0
 
--- how many mails an event makes at most: one for each entry that is posted, and one if the event is answered at once
+-- how many mails an event makes at most: one for each entry that is posted, and one for an event that may be answered at once
 abbrev pub most_mails_of : Event → ℕ
 most_mails_of (Post batch) = length batch.entries
 most_mails_of (Call conn number request outcome) = 1

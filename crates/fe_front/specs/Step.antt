@@ -15,17 +15,17 @@ use Rattle.fe_front.specs.Refusals.{attaching, addressed, settling, leaving, can
 use Rattle.fe_front.specs.Steps.{connected, attached_to, settled_to, closed_by, cancelled_by, dropped, departing, next_batch, cut, taken, mailed}
 use Rattle.fe_state.specs.Limits.{most_event_entries}
 
--- the event makes one entry
+-- the event makes this one entry, and leaves this front
 pub record OneEntry (f' : FrontState) (es : List Entry) (e : Entry) (f : FrontState) : Type 0 where
   pub entries : es ≡ e ∷ []
   pub front : f' ≡ f
 
--- the event makes no entry
+-- the event makes no entry, and leaves this front
 pub record NoEntry (f' : FrontState) (es : List Entry) (f : FrontState) : Type 0 where
   pub entries : es ≡ []
   pub front : f' ≡ f
 
--- what an event does, with the entries that it makes. If several waiting requests may be served, any may be the next
+-- What an event does, with the entries that it makes. If several waiting requests may be served, any may be the next.
 abbrev pub FrontStep : FrontState → Event → List Entry → FrontState → Type 0
 FrontStep f (Connect conn) es f' = (get f.connections conn ≡ None) × NoEntry f' es (connected f conn)
 FrontStep f (Attach conn session) es f' =
@@ -48,9 +48,10 @@ pub record Leads (f : FrontState) (es : List Entry) (f' : FrontState) : Type 0 w
   pub legal : AreLegal f.service.state es
   pub state : f'.service.state ≡ after_all f.service.state es
 
+-- the entries of each step lead so
 abbrev pub StepsLead : Type 0
 StepsLead = (f f' : FrontState) (event : Event) (es : List Entry) → IsFront f → IsWithinLimits f.service.state → FrontStep f event es f' → Leads f es f'
 
--- an event makes at most 2,049 entries: its own, and one for each request that waits
+-- an event makes at most 2,049 entries: its own, and one for each request that waited
 abbrev pub StepsAreFew : Type 0
 StepsAreFew = (f f' : FrontState) (event : Event) (es : List Entry) → IsFront f → FrontStep f event es f' → length es ≤ most_event_entries

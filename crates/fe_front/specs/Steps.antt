@@ -72,7 +72,7 @@ mailed f conn mail =
 abbrev pub connected : FrontState → ℕ → FrontState
 connected f conn = record f { connections = insert f.connections conn first_connection }
 
--- a connection gets a session, and the session's entry is made; neither had another
+-- a connection gets a session, and the session's entry is made; neither had one
 abbrev pub joined : FrontState → ℕ → ℕ → FrontState
 joined f conn session =
     record f { service = attached f.service session conn; connections = with_session f.connections conn (Some session) }
@@ -81,7 +81,7 @@ joined f conn session =
 abbrev pub attached_to : FrontState → ℕ → ℕ → FrontState
 attached_to f conn session = joined (freed (released f conn) session) conn session
 
--- a session's floor rises, with an entry
+-- a session's floor is set to this one, with an entry
 abbrev pub settled_to : FrontState → ℕ → ℕ → FrontState
 settled_to f session floor = record f { service = settled f.service session floor }
 

@@ -1,4 +1,5 @@
-//! Calls: requests of clients, each under a number of its session.
+//! Calls: requests of clients, each under a number of its session (`docs/model.md`, "The front"). The books count them
+//! ("Mails, connections and books"). An entry is durable once the batch that has it is stored and posted.
 
 ghost use Rattle.std.specs.Prelude.{◌≡◌, ◌+◌, ◌⊎◌, ℕ, List, [], Some, None, Err, IfOk, IfErr, OnErr};
 ghost use Rattle.fe_front.specs.Call.{request_at, BeginsRequest, IsCallRefused, WantsMemory, Called, Completed, Waits, repeat_of, repeated, waiters_completed};
@@ -84,7 +85,7 @@ impl Front {
         Outcome::SentAgain
     }
 
-    /// Completes a new request. The one refusal is `NoMemory`, for the words of a new array.
+    /// Completes a new request. The one refusal is `NoMemory`, which only a request that makes an array gets.
     fn complete(
         &mut self,
         session: u64,
@@ -136,8 +137,8 @@ impl Front {
         self.books.call_waits();
     }
 
-    /// Makes a call whose number is in its session's window, or says why it is refused. The number has to be new or of
-    /// the same request. A refusal is not booked yet.
+    /// Makes a call whose number is in its session's window, or says why it is refused: its number belongs to another request, the
+    /// history has too few places left, or memory is short for a new array. A refusal is not yet counted in the books.
     pub(crate) fn call_within(
         &mut self,
         conn: u64,
@@ -183,7 +184,7 @@ impl Front {
     }
 }
 
-/// Books this many waiting calls as completed.
+/// Counts this many waiting calls as completed in the books.
 fn count_served(books: &mut Books, count: u32)
     ensures books { books.new ≡ waiters_completed count books.old }
     ensures balance { (waiting left : ℕ) → Balances books.old (waiting + count) left → Balances books.new waiting left }

@@ -1,3 +1,6 @@
+//! A set of connections, such as those whose boxes a batch changed. A connection's box has its outgoing mails (`docs/model.md`, "Mails,
+//! connections and books").
+
 ghost use Rattle.std.specs.Prelude.{◌≡◌, ◌≢◌, ◌%◌, ℕ, true, false, IsTrue};
 ghost use Rattle.fe_front.specs.ConnectionSet.{may_have};
 ghost use Rattle.fe_front.specs.Limits.{remainder_count};

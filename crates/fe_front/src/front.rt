@@ -1,3 +1,6 @@
+//! The front of the server: it takes the events of connections, and mails what their entries bring once these are stored
+//! (`docs/model.md`, "The front"). "Mails, connections and books" there explains the books, "Waiting requests" the attachments.
+
 ghost use Rattle.std.specs.Prelude.{◌≡◌, ◌⊎◌, ◌+◌, ◌↔◌, List, not, slice_get, Some, None, Ok, Err, IsTrue, IsOk, IsErr, IfOk, IfErr, OnOk, OnErr, MatchResult};
 ghost use Rattle.std.specs.Option.{option_map};
 ghost use Rattle.std.specs.FinMap.{get, len};
@@ -72,8 +75,8 @@ impl Model for Front {
 }
 
 impl Front {
-    /// A front over a state whose entries are all durable. Each session has an attachment and no connection. Only boxes
-    /// and new arrays take memory later. Fails only if memory runs out.
+    /// A front over a state whose entries are all durable. Each session has an attachment and no connection. Only connections and
+    /// new arrays take memory later. Fails only if memory runs out.
     pub fn new(alloc: Global, state: State) -> Result<Front, AllocError>
         ensures { IfOk result (IsFirst state) }
     {
@@ -96,7 +99,7 @@ impl Front {
         })
     }
 
-    /// Makes an empty box for a connection. The one refusal is `NoMemory`.
+    /// Adds a connection with no session and an empty box. The one refusal is `NoMemory`.
     pub fn connect(&mut self, conn: u64) -> Result<(), Refusal>
         requires unconnected { get self.old.connections conn ≡ None }
         ensures connected { OnOk result (self.new ≡ connected self.old conn) }
@@ -109,15 +112,17 @@ impl Front {
         }
     }
 
-    /// Whether at most `WAITING` entries are pending. `attach`, `call`, `settle` and `bye` need that.
+    /// Whether at most `WAITING` entries are pending, so that a batch has room for those of one more event. `attach`, `call`, `settle`
+    /// and `bye` need that.
     pub fn room(&self) -> bool
         ensures { result ≡ has_room self.now }
     {
         self.service.pending_count() <= WAITING
     }
 
-    /// Gives a session to a connection, with an entry of it. The connection leaves the session that it has, and a
-    /// connection that has the session loses it; the requests of both sessions go on waiting.
+    /// Gives a session, which may be new, to a connection, with an entry. The connection leaves the session that it has, and a connection
+    /// that has the session loses it; the requests of both sessions go on waiting. The refusals are `NotAttached`, `Closing`,
+    /// `SessionLimit` and `Spent`.
     pub fn attach(&mut self, conn: u64, session: u64) -> Result<(), Refusal>
         requires room { IsTrue (has_room self.old) }
         ensures attached { MatchResult (attaching self.old conn session)
@@ -133,8 +138,9 @@ impl Front {
         Ok(())
     }
 
-    /// Answers a request of the session that the connection has, or lets it wait, and serves the waiting requests that
-    /// may be served then. Each call is booked.
+    /// Completes a new request of the session that the connection has, and serves the waiting requests that may be served then; or lets
+    /// it wait. If the request repeats that of its number, its answer is mailed again if its entry is durable. The books count each call,
+    /// also one that is refused.
     pub fn call(&mut self, conn: u64, number: u64, request: Request) -> Result<Outcome, Refusal>
         requires room { IsTrue (has_room self.old) }
         ensures step { IfOk result
@@ -162,7 +168,8 @@ impl Front {
         }
     }
 
-    /// Raises the floor of the connection's session, the least number of its window, with an entry of it.
+    /// Sets the floor of the connection's session, the least number of its window, with an entry. It may stay as it is. The refusals are
+    /// `NotAttached`, `Closing`, `BelowFloor`, `BeyondWindow`, `StillWaiting` and `Spent`.
     pub fn settle(&mut self, conn: u64, floor: u64) -> Result<(), Refusal>
         requires room { IsTrue (has_room self.old) }
         ensures settled { MatchResult (settling self.old conn floor)
@@ -175,8 +182,8 @@ impl Front {
         Ok(())
     }
 
-    /// Closes the connection's session, with an entry, and withdraws its waiting requests. The session is closing
-    /// until that entry is posted.
+    /// Closes the connection's session, with an entry, and withdraws its waiting requests. The session is closing until that entry is
+    /// posted. The refusals are `NotAttached`, `Closing` and `Spent`.
     pub fn bye(&mut self, conn: u64) -> Result<(), Refusal>
         requires room { IsTrue (has_room self.old) }
         ensures closed { MatchResult (leaving self.old conn)
@@ -190,7 +197,8 @@ impl Front {
         Ok(())
     }
 
-    /// Withdraws a waiting request of the connection's session, and mails the connection a withdrawal.
+    /// Withdraws a waiting request of the connection's session, and mails the connection a withdrawal. The refusals are `NotAttached`,
+    /// `Closing` and `NotWaiting`.
     pub fn cancel(&mut self, conn: u64, number: u64) -> Result<(), Refusal>
         ensures cancelled { MatchResult (cancelling self.old conn number)
             (λ session. IsOk result × (self.new ≡ cancelled_by self.old conn session number))
@@ -240,7 +248,7 @@ impl Front {
     }
 
     /// Takes the batch that is out as stored. Its entries become durable and are mailed to the connections that have
-    /// their sessions, and a session that it closes leaves. Any other batch is refused and handed back: one while no
+    /// their sessions, and a session that it closes loses its attachment. Any other batch is refused and handed back: one while no
     /// batch is out, or one with another first place or length. Adds to the set each connection whose box the batch
     /// changed: it got a mail, or its box was full and the connection was removed. A connection that the set doesn't
     /// have has its old box.
@@ -303,14 +311,14 @@ impl Front {
         self.mail(conn, Mail::Refused { number, refusal });
     }
 
-    /// Whether the connection is connected.
+    /// Whether there is a connection with this number.
     pub fn connected(&self, conn: u64) -> bool
         ensures { result ≡ is_connected self.now conn }
     {
         self.connections.is_connected(conn)
     }
 
-    /// How many entries are durable.
+    /// How many entries are durable: stored and posted, or there at the start.
     pub fn durable(&self) -> u64
         ensures { result ≡ self.now.durable }
     {

@@ -1,4 +1,4 @@
-//! Laws of the front, which hold apart from any code.
+//! Laws of the front, which hold apart from any code (`docs/model.md`, "The front"; of the books, "Mails, connections and books").
 
 ghost use Rattle.std.specs.Prelude.{◌≡◌};
 ghost use Rattle.fe_front.specs.Boxes.{MailsStayDurable, BoxesStayShort};

@@ -1,9 +1,11 @@
+//! How a call ends that is not refused, and a batch that cannot be posted (`docs/model.md`, "The front").
+
 use fe_state::Batch;
 
 /// The outcome of a call that was not refused.
 #[derive(Clone, Copy, PartialEq, Eq)]
 pub enum Outcome {
-    /// The request completed. That many entries were made, its own among them.
+    /// The request completed. This many entries were made, 1 to 2,049: its own, and one for each waiting request that it let complete.
     Completed { entries: u32 },
     /// The request waits.
     Waits,
@@ -15,6 +17,6 @@ pub enum Outcome {
     NotYetSynced,
 }
 
-/// A batch that is not the one that is out.
+/// A batch that is not the one that is out (cut and not yet posted).
 #[derive(Drop)]
 pub struct StrangeBatch(pub Batch);

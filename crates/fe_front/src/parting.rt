@@ -1,3 +1,6 @@
+//! How a connection loses its session, or goes with its box, and how a mail comes into a box (`docs/model.md`, "The front"). A mail is a
+//! reply on its way out; it waits in its connection's box.
+
 ghost use Rattle.std.specs.Prelude.{◌≡◌, Some, None, true};
 ghost use Rattle.fe_service.specs.AttachmentsState.{count_of};
 ghost use Rattle.fe_mail.specs.Connections.{session_on};

@@ -1,4 +1,5 @@
-//! Posting a batch: each entry's mail goes to its connection.
+//! Posting a batch that was stored: each entry's mail, the reply for it, goes to the connection that has its session (`docs/model.md`,
+//! "The front"; attachments: "Waiting requests").
 
 ghost use Rattle.std.specs.Prelude.{◌≡◌, ◌+◌, ◌^◌, ◌<◌, length};
 ghost use Rattle.fe_front.specs.Posting.{ended, posted_entry, posted_all};
@@ -10,7 +11,8 @@ use fe_mail::{Mail, session_of};
 use fe_state::Entry;
 
 impl Front {
-    /// Takes a session from the connection that has it, if one does, and removes its attachment if it is closing.
+    /// Takes a session from the connection that has it, if one does, and removes its attachment if it is closing: its close was made,
+    /// and is posted here.
     fn end(&mut self, session: u64)
         ensures ended { self.new ≡ ended self.old session }
     {
@@ -20,7 +22,7 @@ impl Front {
         }
     }
 
-    /// Mails an entry to the connection that has its session, if one does, and adds the connection. A session that the
+    /// Mails an entry to the connection that has its session, if one does, and adds the connection to the set. A session that the
     /// entry closes ends.
     fn post_entry(&mut self, entry: &Entry, place: u64, changed: &mut ConnectionSet)
         ensures posted { self.new ≡ posted_entry self.old entry.now place }

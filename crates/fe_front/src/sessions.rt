@@ -1,4 +1,5 @@
-//! Which session an event of a connection is for, and why the event is refused. A session's floor is the least number of its window.
+//! Which session an event of a connection is for, and why the event is refused (`docs/model.md`, "The front"). A session's floor is the
+//! least number of its window.
 
 ghost use Rattle.std.specs.Prelude.{◌≡◌, None, IsTrue, IsSome};
 ghost use Rattle.std.specs.FinMap.{get};
@@ -14,7 +15,7 @@ use fe_mail::Refusal;
 use fe_state::{EVENT_ENTRIES, GREATEST_FLOOR, GREATEST_PLACE, SESSIONS, WINDOW};
 
 impl Front {
-    /// Whether the history may have no place left for what one event adds.
+    /// Whether the history has fewer places left than one event may need.
     pub(crate) fn is_spent(&self) -> bool
         ensures { result ≡ is_spent self.now }
     {
@@ -101,7 +102,7 @@ impl Front {
         }
     }
 
-    /// Gives a session to a connection. Neither has another one.
+    /// Gives a session that no connection has to a connection that has none.
     pub(crate) fn join(&mut self, conn: u64, session: u64)
         requires free_connection { session_on self.old.connections conn ≡ None }
         requires connected { IsTrue (is_connected self.old conn) }
@@ -126,7 +127,7 @@ impl Front {
         false
     }
 
-    /// The session, if its floor may rise to this one, or why it may not.
+    /// The session, if its floor may be set to this one, or why it may not.
     fn may_settle(&self, session: u64, floor: u64) -> Result<u64, Refusal>
         ensures { result ≡ may_settle self.now floor session }
     {
@@ -143,6 +144,7 @@ impl Front {
         }
     }
 
+    /// The session of a connection, if the connection may set its floor to this one, or why it may not.
     pub(crate) fn settling(&self, conn: u64, floor: u64) -> Result<u64, Refusal>
         ensures { result ≡ settling self.now conn floor }
     {
@@ -152,6 +154,7 @@ impl Front {
         }
     }
 
+    /// The session of a connection, if the connection may close it, or why it may not.
     pub(crate) fn leaving(&self, conn: u64) -> Result<u64, Refusal>
         ensures { result ≡ leaving self.now conn }
     {
@@ -161,6 +164,7 @@ impl Front {
         }
     }
 
+    /// The session of a connection, if its request waits under the number, or why none can be withdrawn.
     pub(crate) fn cancelling(&self, conn: u64, number: u64) -> Result<u64, Refusal>
         ensures { result ≡ cancelling self.now conn number }
     {

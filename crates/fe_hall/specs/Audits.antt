@@ -19,8 +19,8 @@ pub record Audited : Type 0 where
   pub whole : Bool
   pub history : List Act
 
--- The audit of a hall: its books have what the seats of all connections counted, and add up; the lists and the receipts
--- are those that were handed in.
+-- The audit of a hall: its books have what the seats of all connections counted, add up and are not spent; the lists are those that were
+-- handed in, and `whole` is what the receipts that were handed in say.
 pub record IsAudit (calls mails : Seats) (sent : List (List ClientMessage)) (whole : Bool) (audit : Audited) : Type 0 where
   pub booked_calls : audit.books.calls ≡ calls.amount
   pub booked_mails : audit.books.taken ≡ mails.amount
@@ -29,7 +29,7 @@ pub record IsAudit (calls mails : Seats) (sent : List (List ClientMessage)) (who
   pub lists : audit.sent ≡ sent
   pub all_receipts : audit.whole ≡ whole
 
--- a hall was not closed because a seat is missing
+-- a hall was not closed because a seat is missing, or its history has groups that the committing side did not note
 abbrev pub IsMissing : Unclosed → Type 0
 IsMissing (SeatMissing missing) = Unit {0}
 IsMissing (StrangeReceipt place) = ⊥

@@ -1,4 +1,5 @@
--- What the committing side of a hall, the thread that stores, does to the keeper that it is lent (`docs/model.md`, "The hall").
+-- What the committing side of a hall, the thread that stores, does to the keeper that it is lent (`docs/headline.md`, "Whole groups,
+-- whatever stops it").
 use Rattle.std.specs.Prelude.{◌≡◌, ◌⊎◌, ℕ, ◌+◌, ◌≤◌, true, false, List, [], ◌∷◌, ◌++◌, length, map, take, Option, Some, None, Result, Ok, Err}
 use mathlib.Core.List.{IsPrefix}
 use Rattle.fe_disk.specs.Runs.{LeavesOnly}
@@ -44,8 +45,8 @@ HoldsSince model begun history n here (append ∷ appends) last =
     × HoldsSince model begun history (n + 1) append.after.store.disk appends last
 
 -- The groups that were appended are a history from the keeper's state. The keeper's state has all of them, or all but
--- the last if the side ended because the device failed. At every moment each image that a stop leaves stands for a
--- prefix of that history, with all groups whose appends had ended by then. An end of `None` says that the side goes on.
+-- the last if the side ended because the device failed. Over an honest disk that had not failed, each image that a stop leaves at any
+-- moment stands for a prefix of that history, with all groups whose appends had ended by then. An end of `None`: the side goes on.
 pub record Commits {D : Type 0} (model : Ghosts D) (old new : KeeperState D) (end : Option CommitEnd) : Type 0 where
   pub groups : List (List Entry)
   pub history : IsHistory old.state groups

@@ -1,4 +1,4 @@
--- How many reads were made of a half, one direction of a connection (`docs/model.md`, "The hall").
+-- How many reads were made of a half, one direction of a connection (`docs/proved.md`, "Server").
 use Rattle.std.specs.Prelude.{ℕ, ◌+◌}
 use Rattle.fe_hall.specs.declared.read_count.Reads.{Reads}
 use Rattle.fe_hall.specs.declared.read_count.Reads.TheOpen as shape

@@ -43,8 +43,8 @@ pub record AreHandled (before after : CallSeatState) (list messages : List Clien
   pub all : after.messages ≡ before.messages ++ messages
   pub listed : list ≡ sent_among messages
 
--- what each end says, where the stream is these messages and then this rest, and the first `count` messages were handled; memory may
--- run out for the buffer, before anything is read
+-- what each end says, where the stream is these messages and then this rest, and the first `count` messages were handled; `NoMemory`
+-- may also come where the stream has no whole message: memory for the buffer runs out before anything is read
 abbrev pub EndsAt : ReadEnd → List ClientMessage → List ℕ → ℕ → Type 0
 EndsAt Closed messages rest count = (count ≡ length messages) × IsUnfinished Two rest
 EndsAt Device messages rest count = (count ≡ length messages) × IsUnfinished Two rest
@@ -65,7 +65,7 @@ pub record HandlesStream (bytes : List ℕ) (before after : CallSeatState) (list
   pub handled : AreHandled before after list (take count messages)
   pub ends : EndsAt end messages rest count
 
--- an end without a fault: the stream ended, or as many reads were made as the side may make
+-- an end at which all that the side may read was read: the stream ended, or as many reads were made as the side may make
 abbrev pub IsQuietEnd : ReadEnd → Type 0
 IsQuietEnd end = (end ≡ Closed) ⊎ (end ≡ Turns)
 
@@ -94,7 +94,7 @@ AreLeft None (Some left) made = ⊥
 AreLeft (Some turns) None made = ⊥
 AreLeft (Some turns) (Some left) made = made + left ≡ turns
 
--- an end that may come before a message is handled
+-- an end that may leave a whole message unhandled
 abbrev pub EndsEarly : ReadEnd → Type 0
 EndsEarly Closed = ⊥
 EndsEarly Device = ⊥
@@ -119,7 +119,8 @@ pub record IsAt (bytes : List ℕ) (before : CallSeatState) (decoder : Decoding)
   pub reads : HasRead decoder bytes messages
   pub handled : AreHandled before after list messages
 
--- These messages came after the earlier ones, all of which were handled; the side ended before one of these was handled.
+-- The earlier messages were all handled, and these came after them. The first `count` of these were handled, and the side ended
+-- before the next one.
 pub record EndsAmong (before after : CallSeatState) (list earlier messages : List ClientMessage) (end : ReadEnd) : Type 0 where
   pub breaks : EndsEarly end
   pub count : ℕ

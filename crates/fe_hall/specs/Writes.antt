@@ -52,7 +52,7 @@ pub record MayLackLast (before : List ℕ) (mails : List Mail) (after : List ℕ
   pub got : after ≡ before ++ spelled earlier
 
 -- What a client had got before these mails were taken for it, and what it has got when its write side ends: the frames
--- of the mails in their order, all of them unless its half failed or memory was short.
+-- of the mails in their order, all of them unless a write failed or memory was short.
 abbrev pub IsWritten : List ℕ → List Mail → WriteEnd → List ℕ → Type 0
 IsWritten before mails Gone after = after ≡ before ++ spelled mails
 IsWritten before mails Stopped after = after ≡ before ++ spelled mails
@@ -60,7 +60,7 @@ IsWritten before mails Spent after = after ≡ before ++ spelled mails
 IsWritten before mails Device after = BreaksOff before mails after
 IsWritten before mails (NoMemory short) after = MayLackLast before mails after
 
--- an end that follows from the hall's last answer to the side
+-- an end as `Gone`, `Stopped` or `Spent` is what the hall last answered the side; the other two may follow any answer
 abbrev pub IsEndAfter : WriteEnd → LastAnswer → Type 0
 IsEndAfter Gone s = s ≡ last_answer.Gone
 IsEndAfter Device s = Unit {0}
@@ -68,9 +68,9 @@ IsEndAfter Stopped s = s ≡ last_answer.Stopped
 IsEndAfter Spent s = s ≡ last_answer.Spent
 IsEndAfter (NoMemory short) s = Unit {0}
 
--- ---- on the way
+-- ---- while the side runs
 
--- the end of the side after this outcome of a look into its box
+-- the end of the side, if it ends, after this outcome of a look into its box
 abbrev pub end_for : Taking → Option WriteEnd
 end_for (taking.Mail mail more) = None
 end_for taking.Gone = Some Gone
@@ -88,7 +88,7 @@ pub record TakesOn (before after : MailSeatState) (kept kept_after : List Receip
   pub taken : after.taken ≡ before.taken ++ mails
   pub receipts : kept_after ≡ receipts_with before.conn kept mails
 
--- an end that is no fault of the half and no lack of memory
+-- an end without a failed write and without a lack of memory
 abbrev pub IsNoFault : WriteEnd → Type 0
 IsNoFault Gone = Unit {0}
 IsNoFault Stopped = Unit {0}
@@ -96,7 +96,7 @@ IsNoFault Spent = Unit {0}
 IsNoFault Device = ⊥
 IsNoFault (NoMemory short) = ⊥
 
--- the frames of the mails that were taken come after earlier frames: all of them, unless memory was short
+-- the frames of the mails that were taken come after earlier frames: all of them, unless memory was short; no write fails here
 abbrev pub AreSpelled : {A : Type 0} → List ℕ → Result A WriteEnd → List Mail → List ℕ → Type 0
 AreSpelled before (Ok a) mails frames = frames ≡ before ++ spelled mails
 AreSpelled before (Err Gone) mails frames = frames ≡ before ++ spelled mails

@@ -1,5 +1,5 @@
-//! Closing a hall: its books are compared with the seats, and the receipts with what is stored and what was sent. A
-//! seat counts the calls or mails of one side of a connection; a receipt is the record of an answer that a client took.
+//! Closing a hall (`docs/model.md`, "The hall"): its books are compared with what its seats counted, and its receipts with what is stored
+//! and what was sent. What a hall leaves, closed or not, is its account (`docs/headline.md`, "Every acknowledged answer").
 
 ghost use Rattle.std.specs.Prelude.{◌≡◌, ◌≢◌, ◌↔◌, ℕ, false, map, All, Any, Err, IfOk, IfErr, IsErr};
 ghost use Rattle.fe_mail.specs.Books.{AddUp};
@@ -18,19 +18,19 @@ use fe_state::State;
 use fe_wire::ClientMessage;
 use std::marker::Model;
 
-/// What a hall leaves: its books, and the keeper.
+/// What a closed hall leaves: its books, and the keeper of its store.
 #[derive(Drop)]
 pub struct Closing<D: Disk> {
     pub books: Books,
     pub keeper: Keeper<D>,
 }
 
-/// Why a hall is not closed. The hall and the keeper are dropped then.
+/// Why a hall is not closed. The hall is dropped all the same, and by `close` the keeper too.
 #[derive(Clone, Copy, PartialEq, Eq)]
 pub enum Unclosed {
-    /// The seats are not those of all connections that were made, or not that of the side that stored all groups.
+    /// The seats are not those of all connections that were made, or the history has groups that the committing side did not note.
     SeatMissing(SeatMissing),
-    /// What the keeper's replica keeps, or what was sent, speaks against the receipt of this place, the first such one.
+    /// What is stored, or what was sent, speaks against the receipt of this place, the first such one.
     StrangeReceipt { place: u64 },
 }
 
@@ -79,6 +79,7 @@ impl Model for Audit {
 }
 
 impl Audit {
+    /// The books of the hall, which add up and are not spent.
     pub fn books(&self) -> Books
         ensures books { result ≡ self.now.books }
         ensures add_up { AddUp result }
@@ -87,7 +88,7 @@ impl Audit {
         self.books
     }
 
-    /// The receipts of the write sides: of each connection the first 1,024 answers that it took.
+    /// The receipts that were handed in: if they are whole, of each connection those of the first 1,024 answers that it took.
     pub fn receipts(&self) -> &[Receipt]
         ensures { result.now ≡ self.now.receipts }
     {
@@ -111,8 +112,8 @@ pub fn account_of<C: Tally, M: Tally>(
     account
 }
 
-/// Closes a hall that no thread has any more, with the seats of all its connections. The calls that were booked are those that
-/// the read sides made, the mails that were taken are those that the write sides took, and no receipt is strange.
+/// Closes a hall that no thread has any more, with the seats of all its connections. Its books then count just the calls that the read
+/// sides made and the mails that the write sides took, and no receipt is strange.
 ///
 /// `state` is what is stored. `sent` are the lists of the read sides: of each connection the first 1,024 attaches and calls. It
 /// takes no memory. A receipt is compared with all that the state keeps, at most 2,048 answers; one whose answer is still kept
@@ -128,8 +129,8 @@ pub fn settle<C: Tally, M: Tally>(
     state: &State,
 ) -> Result<Audit, (Unclosed, Account)>
     ensures audit { IfOk result (IsAudit calls mails (map (λ v. v.items) sent.items) receipts.whole) }
-    // The receipts are these. The history goes on from that of the committing side and from the other one, with no other groups than
-    // the side noted.
+    // The account has these receipts. Its history goes on from that of the committing side and from `history`, and its `own` says
+    // whether it has only the groups that the side noted.
     ensures leaves { IsAccountOf seat receipts.items history (account_left result) }
     ensures borne_out { IfOk result (λ audit. All (IsBorneOut state.now audit.sent) audit.receipts) }
     ensures strange { IfErr result (λ e. (place : ℕ) → e.0 ≡ StrangeReceipt place

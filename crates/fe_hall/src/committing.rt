@@ -1,4 +1,5 @@
-//! The committing side of a hall, a thread of its own: it stores the batches, each as a group, and posts them.
+//! The committing side of a hall, a thread of its own: it stores the batches, each as a group, and posts them (`docs/model.md`, "The
+//! hall").
 
 ghost use Rattle.std.specs.Prelude.{◌≡◌, ◌↔◌, ◌+◌, false, Some, IfOk, IfErr, OnOk, length};
 ghost use Rattle.fe_keeper.specs.Ends.{IsStill, Breaks};
@@ -91,7 +92,7 @@ fn commit<C: Tally, M: Tally, D: Disk, R: Wait>(
 }
 
 /// Goes on with the checkpoint, after a batch: writes a slice of it, or finishes it; if none is under way, begins one
-/// when it is due, or later if there is no memory for it. `slices` says whether slices were left of it, and so does the
+/// when it is due, or later if there is no memory for it. `slices` says whether slices may be left of it, and so does the
 /// answer. The fault is `Device`.
 fn tend<D: Disk>(keeper: &mut Keeper<D>, slices: bool) -> Result<bool, Fault>
     requires works { keeper.old.store.has_failed ≡ false }

@@ -1,3 +1,5 @@
+//! How the read side of a connection, its reading thread, ends (`docs/model.md`, "The hall").
+
 use fe_shared::Short;
 
 /// Why a read side ended. Its connection is gone then, unless the hall is stopped.

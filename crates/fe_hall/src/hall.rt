@@ -1,3 +1,5 @@
+//! The hall: how a server's threads use one front, and wait for each other (`ARCHITECTURE.md`, "Threads"; `docs/model.md`, "The hall").
+
 ghost use Rattle.std.specs.Prelude.{◌≡◌, ◌≤◌, ◌∷◌, ◌++◌, [], ◌+◌, ℕ, IfOk, IfErr, length, true};
 ghost use Rattle.fe_shared.specs.Seats.{HasRested, TookNoMessage, message_answered, taking_answered, IsBlankOf};
 ghost use mathlib.Core.List.{IsPrefix};
@@ -20,13 +22,14 @@ use std::sync::ledger::Blank;
 use std::sync::{Condvar, MutexGuard, Wait};
 use std::time::{Clock, Duration};
 
-/// How many milliseconds a read side waits at most for a write side that takes no mail.
+/// A read side gives up waiting once all entries that it waits for are stored and posted, and its write side has taken no mail for this
+/// many milliseconds (`Hall::await_room`).
 const STILL_MILLIS: u64 = 1000;
 
 /// A front that many threads share. A hold of its lock makes at most one event. A side is a connection's reading or writing
 /// thread, or the committing thread, which stores; each has a seat, which shows who it is and counts what it did.
 ///
-/// `C` and `M` name its two ledgers, of the calls and of the mails that were taken.
+/// `C` and `M` name its two ledgers (`Tally`), of the calls and of the mails that were taken.
 #[derive(Drop)]
 pub struct Hall<C: Tally, M: Tally> {
     lock: Lock<C, M>,
@@ -35,11 +38,11 @@ pub struct Hall<C: Tally, M: Tally> {
     /// The words that count the history's batches, and the history as it began.
     history_words: HistoryWords<M>,
     begun: History<M>,
-    /// A condition variable, or bell, that is rung when entries are pending, and when the hall is stopped.
+    /// A condition variable, or bell, that is rung after each message, since entries may be pending then, and when the hall is stopped.
     work: Condvar,
     /// This bell is rung when there is room for an event again, since the pending entries were cut, and when the hall is stopped.
     room: Condvar,
-    /// These bells are rung for the sides of a connection, each for the numbers with one remainder.
+    /// These bells are rung for the sides of a connection, each for the connections whose numbers have one remainder by 256.
     bells: Vec<Condvar>,
     ghost all_bells: { length bells.items ≡ 256 },
 }
@@ -98,7 +101,8 @@ impl<C: Tally, M: Tally> Hall<C, M> {
         self.lock.enter(rt).connect(right, conn)
     }
 
-    /// Makes all sides end. Entries that are pending are still stored.
+    /// Stops the hall, so that all sides end: a read side at its next message, a write side once its box is empty, the committing side once
+    /// all that is pending is stored and posted.
     pub fn stop<R: Wait>(&self, rt: &R) -> HasStopped {
         let stopped = self.lock.enter(rt).stop();
         self.work.notify_all();
@@ -109,7 +113,7 @@ impl<C: Tally, M: Tally> Hall<C, M> {
         stopped
     }
 
-    /// Handles a message once there is room for it, or records in the seat why it does not.
+    /// Handles a message once the front has room for what comes of it, or records in the seat why it does not.
     pub(crate) fn handle<R: Wait>(
         &self,
         rt: &R,
@@ -137,15 +141,15 @@ impl<C: Tally, M: Tally> Hall<C, M> {
         unreachable!()
     }
 
-    /// Waits until the box is empty and the write side has written all that it took, or the connection is gone, or the
-    /// hall is stopped. It does not wait if there is no memory to note that it does.
+    /// Waits until the connection's box, its mails that wait to go out, is empty and the write side has written all that it took, or the
+    /// connection is gone, or the hall is stopped. It does not wait if there is no memory to note that it does.
     pub(crate) fn await_rest<R: Wait>(&self, rt: &R, seat: &CallSeat<C>) {
         let conn = seat.conn();
         let mut hold = self.lock.enter(rt);
         if hold.watch(conn).is_err() {
             return;
         }
-        // A write side that rests already says so too.
+        // A write side that waits for mail has written what it took. The bell wakes it, and it says so.
         self.ring(conn);
         let mut baton_guard = BatonGuard::none();
         for _ in rt.forever() {
@@ -158,9 +162,10 @@ impl<C: Tally, M: Tally> Hall<C, M> {
         unreachable!()
     }
 
-    /// Waits until the write side of a connection is close behind its read side, or has taken what came of its messages
-    /// before `place_then`, except what waits. It waits as long as entries are stored, or the write side takes mails: a
-    /// client that takes none for a second is not waited for. Returns the place after all entries made so far.
+    /// Waits until the write side of a connection is close behind its read side (by 64 mails at most), or has taken what came of its
+    /// messages before `place_then`, except the answers to requests that still wait; or the connection is gone, the hall stopped, or memory
+    /// short to note that it waits. It gives up once the write side has taken no mail for a second, if the entries before `place_then` are
+    /// stored and posted. Returns the place, the number of entries made so far.
     pub(crate) fn await_room<R: Clock + Wait>(
         &self,
         rt: &R,
@@ -193,8 +198,9 @@ impl<C: Tally, M: Tally> Hall<C, M> {
         self.lock.enter(rt).place_then()
     }
 
-    /// Waits until the write side has taken what comes of the connection's messages, except what waits, and removes the
-    /// connection. No more messages of it come. If the hall is stopped, its write side goes on, and takes what is in the box.
+    /// Waits until the write side has taken what comes of the connection's messages, except the answers to requests that still wait, and
+    /// removes the connection. No more messages of it come. A `Rest` shows that nothing is left to wait for, or that memory was short to
+    /// wait. If the hall is stopped, its write side goes on, and takes what is in the box.
     pub(crate) fn drain<R: Wait>(&self, rt: &R, seat: &mut CallSeat<C>)
         ensures untaken { TookNoMessage seat.old seat.new }
         ensures rested { HasRested seat.new }
@@ -267,8 +273,8 @@ impl<C: Tally, M: Tally> Hall<C, M> {
         unreachable!()
     }
 
-    /// Waits for entries and cuts them into a batch, or says that the hall is stopped and nothing is left to store. A
-    /// cut makes room for events, and is added to the history.
+    /// Waits for entries and cuts them into a batch, or says that the hall is stopped and nothing is left to store, or that another side
+    /// cut a batch. A cut makes room for events, and is added to the history.
     pub(crate) fn next_batch<R: Wait>(&self, rt: &R, cuts: &mut History<M>) -> CutOutcome
         ensures { IsCutIn result cuts.new }
     {
@@ -285,7 +291,8 @@ impl<C: Tally, M: Tally> Hall<C, M> {
         unreachable!()
     }
 
-    /// Posts the batch that was stored last, and rings for each connection with mail.
+    /// Posts the batch that was stored last: puts each entry's mail into its connection's box. Rings for each such connection and, posted
+    /// or not, for those whose read sides wait.
     pub(crate) fn post<R: Wait>(
         &self,
         rt: &R,
@@ -348,7 +355,7 @@ impl<C: Tally, M: Tally> Hall<C, M> {
     }
 }
 
-/// A bell for each remainder by which a set tells connections apart.
+/// A bell for each remainder by which a `ConnectionSet` tells connections apart.
 fn bells(alloc: Global) -> Result<Vec<Condvar>, AllocError>
     ensures { IfOk result (λ bells. length bells.items ≡ 256) }
 {

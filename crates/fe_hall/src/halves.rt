@@ -1,4 +1,5 @@
-//! The two directions of a connection, its halves, and the gate that each message passes first.
+//! The two directions of a connection, its halves, for its read and its write side (`docs/model.md`, "The hall"), and the gate that each
+//! message passes first, by which tests hold messages back.
 
 ghost use Rattle.std.specs.Prelude.{◌≡◌, ◌<◌, ◌≤◌, ◌+◌, ◌++◌, [], ℕ, List, length, take, IfOk, OnErr};
 
@@ -95,7 +96,7 @@ pub struct MemoryRead {
 }
 
 impl MemoryRead {
-    /// These bytes, in pieces of at most this size.
+    /// These bytes, in pieces of at most this size. With a size of 0 the stream ends at once.
     pub fn new(bytes: Vec<u8>, piece: usize) -> MemoryRead
         ensures { ⟦<MemoryRead as ReadHalf>⟧.known result ≡ [] }
     {

@@ -1,4 +1,5 @@
-//! The lock of a hall, and its holds: the times for which a thread has it.
+//! The lock of a hall, and its holds: the times for which a thread has it (`docs/model.md`, "The hall"). An event is a message handled, a
+//! mail taken, a batch cut or posted, or a connection that comes or goes.
 
 ghost use Rattle.std.specs.Sync.Mutex.{mutex_guard_value as under};
 ghost use Rattle.std.specs.Prelude.{◌≡◌, false};
@@ -46,7 +47,7 @@ impl<C: Tally, M: Tally> Lock<C, M> {
         hold
     }
 
-    /// Releases the lock until a bell is rung, and takes it again, for one event. A side that waits has no baton.
+    /// Releases the lock until a bell (a condition variable) is rung, and takes it again, for one event. A side that waits has no baton.
     pub(crate) fn wait<'a, R: Wait>(
         &self,
         rt: &R,
@@ -62,7 +63,8 @@ impl<C: Tally, M: Tally> Lock<C, M> {
         hold
     }
 
-    /// Releases the lock until a read side need not wait any more, or for this long. Says whether the time was up.
+    /// Releases the lock until a read side need not wait any more or its write side takes a mail, but no longer than this. Says whether
+    /// the time was up.
     pub(crate) fn wait_at_most<'a, R: Clock + Wait>(
         &self,
         rt: &R,

@@ -1,4 +1,5 @@
-//! The read side of a connection, the thread that reads: the messages of its client's stream go to the hall, one after another.
+//! The read side of a connection, its reading thread: the messages of its client's stream go to the hall, one after another
+//! (`docs/model.md`, "The hall").
 
 ghost use Rattle.std.specs.Prelude.{◌≡◌, ◌≢◌, ◌+◌, ◌≤◌, ◌++◌, [], ℕ, List, Some, IfNone, IfSome, OnSome, MatchOption};
 ghost use Rattle.fe_shared.specs.Seats.{HasDeparted, HasRested, CallSeatState, TookNoMessage, message_taken};
@@ -19,12 +20,12 @@ use std::time::Clock;
 /// How many bytes a read brings at most.
 const PIECE_BYTES: u16 = 8192;
 
-/// How many messages a read side hands on before it looks whether what came of earlier ones was taken. A box of 128 mails has room for
-/// those of two such runs, and for the answers that wait, 32 at most.
+/// How many messages make a run. After each run a read side looks whether what came of earlier ones was taken. A connection's box, its
+/// mails that wait to go out, takes 128: enough for two runs, and for the answers to requests that wait, 32 at most.
 const RUN_LENGTH: u64 = 32;
 
-/// Serves the direction from the client of a connection, until it ends. Each message passes the gate, outside the lock, and goes
-/// to the hall, where it may wait for room. `turns` is how many reads are made at most; `None` sets no bound.
+/// Serves the direction from the client of a connection, until it ends. Each message passes the gate, outside the lock, and goes to the
+/// hall, where it may wait until the front has room for what comes of it. `turns` is the most reads that it makes; `None` sets no bound.
 ///
 /// It gives the seat back, with the first 1,024 attaches and calls that were handled. Every end makes the connection gone, unless the
 /// hall is stopped. At `Closed` and `Turns` it does so only once all that was made when the last message was handled is durable and the
@@ -38,7 +39,7 @@ pub fn read_side<C: Tally, M: Tally, H: ReadHalf, G: Gate, R: Clock + Wait>(
     gate: &G,
     turns: Option<u64>,
 ) -> (CallSeat<C>, Vec<ClientMessage>, ReadEnd)
-    // If the half's bytes are known, and none was read yet, what was handled is the front of its stream.
+    // If the half's bytes are known, and none was read yet, what was handled is the beginning of its stream.
     ensures handled { H.is_known half.old → H.known half.old ≡ []
         → HandlesStream (H.known half.new) seat result.0 result.1.items result.2 }
     ensures own { result.0.conn ≡ seat.conn }
@@ -52,7 +53,7 @@ pub fn read_side<C: Tally, M: Tally, H: ReadHalf, G: Gate, R: Clock + Wait>(
     // A side ends as `Gone`, `Stopped` or `Spent` only if that was the hall's last answer to it.
     ensures ended_as { IsEndAfter result.2 result.0.last_answer }
     ensures departed { result.2 ≢ ReadEnd.Stopped → HasDeparted result.0 }
-    // At the end of the stream, and after the last read, the connection goes only once nothing more comes of what was read.
+    // At the end of the stream, and after the last read, the connection goes only once the hall let the side rest, or is stopped.
     ensures rested { IsQuietEnd result.2 → HasRested result.0 }
 {
     let decoder = Decoder::with_version(Version::Two);
@@ -81,7 +82,7 @@ struct Reading<C: Tally> {
     listed: Vec<ClientMessage>,
     /// How many messages this run has.
     run: u64,
-    /// The place after all entries made before this run.
+    /// The place (the number of entries so far) when this run began; `None` in the first run.
     place_then: Option<PlaceThen>,
 }
 
@@ -165,8 +166,8 @@ impl<C: Tally> Reading<C> {
         })
     }
 
-    /// Takes a message. After each run of them it waits first until what came of the run before was taken, so that a client
-    /// that reads does not find its box full. Returns why the side ends before the message, if it does.
+    /// Takes a message. After each run but the first it waits until its write side is close behind, or what came of the messages before
+    /// that run is taken, so that a client that reads does not find its box full. Returns why the side ends before the message, if it does.
     fn take<M: Tally, G: Gate, R: Clock + Wait>(
         &mut self,
         rt: &R,
@@ -206,7 +207,7 @@ impl<C: Tally> Reading<C> {
             self.run = 1;
             self.place_then = Some(place_then);
         }
-        // A report may be long, and a client may ask for many and read none.
+        // A report may be long, and a client may ask for many and read none. So each waits until the replies before it are written.
         if matches!(message, ClientMessage::Report) {
             baton_guard.give_up();
             hall.await_rest(rt, &self.seat);
@@ -224,7 +225,7 @@ impl<C: Tally> Reading<C> {
     }
 }
 
-/// Removes the connection of a read side that ended so; at `Closed` and `Turns` once it is drained.
+/// Removes the connection of a read side that ended so, except at `Stopped`; at `Closed` and `Turns` once it is drained (`Hall::drain`).
 fn depart<C: Tally, M: Tally, R: Wait>(
     rt: &R,
     hall: &Hall<C, M>,

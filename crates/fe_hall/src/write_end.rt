@@ -1,3 +1,5 @@
+//! Part of a connection's write side, the thread that takes mails (replies) out of the connection's box (`docs/model.md`, "The hall").
+
 use fe_shared::Short;
 
 /// Why a write side ended. Its connection is gone then, except at `Stopped`.
@@ -9,7 +11,7 @@ pub enum WriteEnd {
     Device,
     /// The hall is stopped, and the box was empty.
     Stopped,
-    /// The book of the mails that were taken is full.
+    /// The book, or count, of the mails that were taken is full.
     Spent,
     /// There was no memory for a receipt or for the frame of a mail.
     NoMemory(Short),

@@ -1,4 +1,5 @@
-//! The write side of a connection, the thread that writes: the mails of its box go to its client as frames, in their order.
+//! The write side of a connection, its writing thread (`docs/model.md`, "The hall"): it takes the mails, replies that wait in the
+//! connection's box, sends their frames in order, and adds each answer to the history (`docs/headline.md`, "Every acknowledged answer").
 
 ghost use Rattle.std.specs.Prelude.{◌≡◌, ◌≢◌, ◌⊎◌, true, ◌≤◌, ◌++◌, [], ℕ, List, length, take, OnErr, IfOk, IfErr, MatchResult};
 ghost use Rattle.fe_mail.specs.declared.mail.Mail.{Mail as TakenMail};
@@ -17,7 +18,7 @@ use fe_shared::{MailSeat, Taking, put, reserve_one};
 use std::alloc::Global;
 use std::sync::Wait;
 
-/// The least number of bytes that are spelled before they are written, if there are enough mails.
+/// Once the frames of the mails that were taken have this many bytes, they are written, even if more mails are in the box.
 const BATCH_BYTES: usize = 65_536;
 
 /// The most receipts that a side keeps.
@@ -35,9 +36,9 @@ pub fn write_side<C: Tally, M: Tally, H: WriteHalf, R: Wait>(
     seat: MailSeat<M>,
     half: &mut H,
 ) -> (MailSeat<M>, Receipts<M>, WriteEnd)
-    // For the mails that were taken: the seat counts them, the receipts are those of the first answers among them, a
-    // half whose bytes are known got their frames, and the history has each answer as issued to this connection, after
-    // the group of its entry.
+    // For the mails that were taken: the seat counts them, the receipts are those of the first answers among them, a half whose bytes are
+    // known got their frames (not all of them after `Device` or `NoMemory`), and the history has each answer as issued (handed out) to
+    // this connection.
     ensures wrote { (mails : List TakenMail) × AreTaken seat result.0 result.1.items mails
         × (H.is_known half.old → IsWritten (H.got half.old) mails result.2 (H.got half.new))
         × AreIssued seat.conn mails result.1.history }
@@ -136,7 +137,8 @@ impl<M: Tally> Writing<M> {
         unreachable!()
     }
 
-    /// Waits for a mail, takes it, keeps its receipt, and spells it. Returns whether more are in the box.
+    /// Waits for a mail, takes it, keeps its receipt if it is one of the first 1,024 answers, and spells it. Returns whether more are in
+    /// the box.
     fn take_mail<C: Tally, R: Wait>(
         &mut self,
         rt: &R,
@@ -179,7 +181,7 @@ impl<M: Tally> Writing<M> {
     }
 }
 
-/// Removes the connection of a write side that ended so.
+/// Removes the connection of a write side that ended so, except at `Stopped`.
 fn depart<C: Tally, M: Tally, R: Wait>(
     rt: &R,
     hall: &Hall<C, M>,

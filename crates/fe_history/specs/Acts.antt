@@ -49,9 +49,9 @@ entries_in batches = flat_map (λ b. b.entries) batches
 abbrev pub place_after : ServerState → List Batch → ℕ
 place_after begun batches = begun.place + length (entries_in batches)
 
--- What may happen in a hall that began with this state, after these acts. A batch is cut once those before it are stored, and
--- begins where they end; the batch that was cut is stored; a connection asks for a session whenever it likes; and an answer is
--- issued only once its entry is stored, with that entry's answer, to a connection that has asked for its session.
+-- What may happen in a hall that began with this state, after these acts. A batch is cut once those before it are stored, begins where
+-- they end, and is not empty; the batch that was cut is stored; a connection asks for a session whenever it likes; and an answer is
+-- issued only if it is that of an entry that is stored, or was kept when the hall began, and to a connection that asked for its session.
 abbrev pub MayFollow : ServerState → List Act → Act → Type 0
 MayFollow begun past (Began state) = ⊥
 MayFollow begun past (Cut batch) =
@@ -67,7 +67,7 @@ abbrev pub FollowEachOther : ServerState → List Act → List Act → Type 0
 FollowEachOther begun past [] = Unit {0}
 FollowEachOther begun past (a ∷ acts) = MayFollow begun past a × FollowEachOther begun (past ++ a ∷ []) acts
 
--- the history of a hall begins once, and then each act may follow those before it
+-- the history of a hall begins once, with a state within the limits, and then each act may follow those before it
 abbrev pub IsLegal : List Act → Type 0
 IsLegal [] = ⊥
 IsLegal (Began state ∷ acts) = IsWithinLimits state × FollowEachOther state [] acts
@@ -89,7 +89,7 @@ MayBeAppended (Issued r ∷ past) a = ⊥
 abbrev pub WasCut : List Act → ℕ → Batch → Type 0
 WasCut acts count batch = (before : List Batch) × (length before ≡ count) × IsPrefix (before ++ batch ∷ []) (cuts_in acts)
 
--- the batch is the last that a keeper stored, and led to this state
+-- the batch continues the history of some state and leads to this one, as the last batch that a keeper stored leads to its state
 pub record IsStored (batch : Batch) (s : ServerState) : Type 0 where
   pub before : ServerState
   pub continues : Continues before batch.first batch.entries
@@ -148,7 +148,8 @@ pub record Account : Type 0 where
   pub history : List Act
   pub own : Bool
 
--- The account has these receipts, and its history begins with that of the committing side and with what the write sides saw.
+-- The account has these receipts. Its history is legal, and begins with that of the committing side and with what the write sides saw.
+-- `own` says whether the stores in it are just those of the committing side; else it has more after them.
 pub record IsAccountOf (seat : List Act) (receipts : List Receipt) (seen : List Act) (account : Account) : Type 0 where
   pub same_receipts : account.receipts ≡ receipts
   pub this : IsPrefix seat account.history

@@ -45,21 +45,21 @@ pub record IsCalledBehind (messages : List ClientMessage) (session number : ℕ)
 abbrev pub WasSent : List (List ClientMessage) → ℕ → ℕ → Request → Type 0
 WasSent sent session number request = Any (λ messages. IsCalledBehind messages session number request) sent
 
--- the lists hold all that was sent: none has reached its limit
+-- no list has reached its limit, 1,024 messages: the lists hold all attaches and calls that were sent
 abbrev pub AreWhole : List (List ClientMessage) → Type 0
 AreWhole sent = All (λ messages. length messages < 1024) sent
 
--- A receipt is strange if its place is not stored; if something else than it says is kept at its place; if an earlier
--- answer is kept for its number (a later one is of a later life of the session); or if the lists hold all that was
--- sent, and not the request that is kept at its place.
+-- A receipt is strange if its place is not below the state's, so that its entry is not stored; if something else than it says is kept at
+-- its place; if an earlier answer is kept for its number (a later one may be, if the session was closed and opened again); or if the
+-- lists hold all that was sent, and none has a call of the request that is kept at its place, behind an attach of its session.
 pub data IsStrange (s : ServerState) (sent : List (List ClientMessage)) (r : Receipt) : Type 0 where
   NotStored : s.place ≤ r.place → IsStrange s sent r
   OtherKept : (session number : ℕ) (k : Kept) → Keeps s session number k → k.place ≡ r.place → (IsAsIssued r session number k → ⊥) → IsStrange s sent r
   EarlierKept : (k : Kept) → Keeps s r.session r.number k → k.place < r.place → IsStrange s sent r
   NeverSent : (k : Kept) → Keeps s r.session r.number k → k.place ≡ r.place → AreWhole sent → (WasSent sent r.session r.number k.request → ⊥) → IsStrange s sent r
 
--- A receipt that nothing speaks against: its place is stored; what is kept at its place, if anything, is what it says;
--- nothing is kept for its number at an earlier place; and if the lists hold all that was sent, they have the request.
+-- A receipt that nothing speaks against: its place is stored; what is kept at its place, if anything, is what it says; nothing is kept
+-- for its number at an earlier place; and if the lists hold all that was sent, one has the request that is kept at its place, if any is.
 pub record IsBorneOut (s : ServerState) (sent : List (List ClientMessage)) (r : Receipt) : Type 0 where
   pub is_stored : r.place < s.place
   pub as_issued : (session number : ℕ) (k : Kept) → Keeps s session number k → k.place ≡ r.place → IsAsIssued r session number k

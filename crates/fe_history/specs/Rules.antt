@@ -1,5 +1,5 @@
--- The rule of a hall's history, and what the steps say that add to it. The history exists in proofs alone, except for
--- two words that count the batches that were stored and cut (`docs/model.md`, "The hall").
+-- The rule of a hall's history, and what the steps say that add to it. The history exists in proofs alone, except for two words that
+-- count the batches that were stored and cut (`docs/headline.md`, "Every acknowledged answer").
 use Rattle.std.specs.Prelude.{ℕ, ◌≡◌, ◌<◌, ◌==◌, true, List, [], ◌∷◌, ◌++◌, length, MatchBool}
 use mathlib.Core.List.{IsPrefix}
 use Rattle.logbook.specs.Pages.{Cell, Step, View, Book, Named}
@@ -33,7 +33,7 @@ pub record Unnamed : Type 0 where
 abbrev pub pending_batch : FrontState → Batch
 pending_batch f = record { first = f.durable; entries = f.service.pending }
 
--- A batch may be cut after this many others: they were stored in this history, and it begins where they end.
+-- A batch may be cut after this many others: they were stored in this history, it begins where they end, and it is not empty.
 pub record CutsAfter (acts : List Act) (count : ℕ) (batch : Batch) : Type 0 where
   pub begun : ServerState
   pub past : List Act

@@ -1,3 +1,6 @@
+//! The account that a hall, which is what a server's threads share under one lock, leaves at its end (`docs/headline.md`, "Every
+//! acknowledged answer").
+
 ghost use Rattle.std.specs.Prelude.{◌≡◌, true};
 ghost use Rattle.fe_history.specs.Acts.{IsAccountOf, IsLegal};
 
@@ -44,7 +47,7 @@ impl Model for Account {
 }
 
 impl Account {
-    /// The account of a hall that did not begin.
+    /// The account of a server that ends before its hall is made.
     pub(crate) fn new(receipts: Vec<Receipt>, history: Seen<Act, u64, Law>) -> Account
         requires { IsLegal history.log }
         ensures { result ≡ record { receipts = receipts.items; history = history.log; own = true } }

@@ -1,3 +1,5 @@
+//! Part of the history of a hall, which is what a server's threads share under one lock (`docs/headline.md`, "Every acknowledged answer").
+
 use crate::receipt::Receipt;
 use fe_state::{Batch, State};
 
@@ -7,10 +9,10 @@ pub enum Act {
     Began(State),
     /// A batch was cut, to be stored.
     Cut(Batch),
-    /// The batch that was cut last was stored. The number is the moment of the disk at which its append had ended.
+    /// The batch that was cut last was stored. The number is the moment, by the clock of the disk model, at which its append had ended.
     Stored(Batch, u64),
     /// The connection of this number asked for this session.
     Asked(u64, u64),
-    /// An answer was taken out of its box for its client.
+    /// An answer was taken out of its connection's box for its client.
     Issued(Receipt),
 }

@@ -1,3 +1,5 @@
+//! The receipts of a hall's write sides, the writing threads of its connections (`docs/headline.md`, "Every acknowledged answer").
+
 ghost use Rattle.std.specs.Prelude.{◌≡◌, ◌++◌, [], true, false, OnOk, OnErr};
 ghost use Rattle.fe_history.specs.Acts.{EachIssued, GatheredReceipts, GoesOnFrom, Receipts};
 
@@ -8,7 +10,7 @@ use crate::tally::Tally;
 use std::alloc::{AllocError, Global};
 use std::marker::Model;
 
-/// The receipts of one write side, and the history in which each of their answers was issued.
+/// The receipts of one write side, and the history in which each of their answers was issued, that is handed out.
 #[derive(Drop)]
 pub struct Receipts<M: Tally> {
     conn: u64,
@@ -44,7 +46,7 @@ impl<M: Tally> Receipts<M> {
     }
 }
 
-/// The receipts of the write sides of a hall that ended, and the history in which each of their answers was issued.
+/// The receipts of write sides of one hall, and the history in which each of their answers was issued.
 #[derive(Drop)]
 pub struct GatheredReceipts<M: Tally> {
     list: ReceiptList,
@@ -104,7 +106,7 @@ impl<M: Tally> GatheredReceipts<M> {
         self.list.miss();
     }
 
-    /// The receipts. The list is whole if it has those of each side that was added or learned from.
+    /// The receipts. The list is whole if there was no `learn`, and memory sufficed for each `add`.
     pub fn list(&self) -> &ReceiptList
         ensures items { result.now.items ≡ self.now.items }
         ensures whole { result.now.whole ≡ self.now.whole }

@@ -1,4 +1,5 @@
-//! The history of a hall. It exists in proofs alone, except for two words that count the batches that were stored and cut.
+//! The history of a hall (`docs/headline.md`, "Every acknowledged answer"). It exists in proofs alone, except for two atomic words
+//! (`Word` of the toolchain's `logbook`), which count the batches that were stored and cut.
 
 ghost use Rattle.std.specs.Prelude.{◌≡◌, ◌^◌, ◌==◌, ◌<◌, ◌≤◌, ◌∷◌, ◌++◌, [], true, length, IsTrue};
 ghost use mathlib.Core.List.{IsPrefix};
@@ -42,7 +43,7 @@ impl Rule<Act, u64> for Law {
     ghost moves = { λ ask before after answer. Unit {0} };
 }
 
-/// What a side that adds an act has to show for it: nothing.
+/// What a thread gets from its step, beside what it has seen of the history: nothing.
 struct Nothing;
 
 impl Gain<Act, u64> for Nothing {
@@ -88,7 +89,7 @@ impl Play<Act, u64> for Asking {
     ghost then = { Adds };
 }
 
-/// The session that a connection asks for.
+/// A connection, and the session that it asks for.
 #[derive(Clone, Copy)]
 struct Wish {
     conn: u64,
@@ -130,7 +131,7 @@ struct Appended<'a, D: Disk> {
     keeper: &'a Keeper<D>,
 }
 
-/// The step that adds a store of that batch, at the moment of the keeper's disk.
+/// The step that adds a store of that batch, with the moment, by the clock of the disk model, at which its append had ended.
 struct Storing;
 
 impl Play<Act, u64> for Storing {
@@ -157,7 +158,7 @@ impl Play<Act, u64> for Counting {
     ghost then = { Counts };
 }
 
-/// A history in which nothing happened. It has no name yet: each call of a program gives it one.
+/// A history that has just begun. It has no name yet, the type by which contracts tell halls' histories apart: `named` gives it one.
 pub struct NewHistory {
     stores: Word<Act, u64, Law>,
     cuts: Word<Act, u64, Law>,
@@ -206,7 +207,7 @@ impl NewHistory {
         }
     }
 
-    /// The account of a hall that did not begin: no receipts, and nothing happened.
+    /// The account of a server that ends before its hall is made: no receipts, and the history so far, which is only its beginning.
     pub fn account(&self, alloc: Global) -> Account
         ensures account { result ≡ record { receipts = []; history = self.now.acts; own = true } }
         ensures legal { IsLegal self.now.acts }
@@ -309,7 +310,8 @@ impl<M: Tally> History<M> {
         self.seen.learn(&other.seen);
     }
 
-    /// Adds that an answer was issued: its entry was stored before, and its connection asked for its session before.
+    /// Adds that an answer was issued: its entry was stored before, or it was kept when the hall began; and its connection asked for its
+    /// session before.
     pub fn issue(&mut self, history_words: &HistoryWords<M>, receipt: Receipt)
         requires { MayBeAppended self.old (act.Issued receipt) }
         ensures { WasAppended self.old (act.Issued receipt) self.new }
@@ -322,12 +324,12 @@ impl<M: Tally> History<M> {
             .load::<Issuing, Nothing>(&mut self.seen, &mut offer);
     }
 
-    /// Adds that a connection asks for a session, if this message asks for one. It was handed to a front. Only the part
-    /// of the program under the hall's lock has the book.
+    /// Adds that a connection asks for a session, if this message asks for one; `took` shows that it was handed to a front. Only the code
+    /// under the hall's lock has `_mails`, the book of the ledger of mails.
     pub fn hear(&mut self, history_words: &HistoryWords<M>, _mails: &Book<M>, took: Took)
         ensures heard { Hears self.old took.conn took.message self.new }
     {
-        // The reference to the field says what is always true of a history.
+        // This use of the field tells the proof what is always true of a history.
         let _ = &self.seen;
         let (conn, message) = took.into_parts();
         if let ClientMessage::Attach { session } = message {
@@ -403,6 +405,7 @@ impl<M: Tally> History<M> {
         ensures count { result ≡ length (stores_in self.new) }
         ensures this { IsPrefix self.old self.new }
     {
+        // The offer has to name some act. The step adds none.
         let none = Receipt {
             conn: 0,
             session: 0,

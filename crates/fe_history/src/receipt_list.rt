@@ -1,3 +1,5 @@
+//! Part of a hall's account: a receipt is the record of an answer that was handed out (`docs/headline.md`, "Every acknowledged answer").
+
 ghost use Rattle.std.specs.Prelude.{◌≡◌, ◌++◌, [], false, true, OnOk, OnErr};
 
 use crate::receipt::Receipt;
@@ -40,7 +42,7 @@ impl ReceiptList {
         }
     }
 
-    /// Adds the receipts of one more side.
+    /// Adds the receipts of one more side. If there is no memory for them, none of them is added, and the list is not whole any more.
     pub(crate) fn add(&mut self, items: &[Receipt]) -> Result<(), AllocError>
         ensures ok { OnOk result (self.new ≡ record self.old { items = self.old.items ++ items.now }) }
         ensures err { OnErr result (self.new ≡ record self.old { whole = false }) }
@@ -66,12 +68,14 @@ impl ReceiptList {
         self.whole
     }
 
+    /// The receipts, in the order in which they were added.
     pub fn as_slice(&self) -> &[Receipt]
         ensures { result.now ≡ self.now.items }
     {
         self.items.as_slice()
     }
 
+    /// The receipts, without a copy.
     pub fn into_items(self) -> Vec<Receipt>
         ensures { result.items ≡ self.items }
     {

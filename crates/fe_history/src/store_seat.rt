@@ -1,3 +1,5 @@
+//! Part of a hall's history: the batches that its committing thread has stored (`docs/headline.md`, "Every acknowledged answer").
+
 ghost use Rattle.std.specs.Prelude.{◌≡◌, [], MatchBool, OnOk, OnErr};
 ghost use Rattle.fe_history.specs.Acts.{GoesOnFrom, HasMore, HasStoredNext, IsStored, WasCut, stores_in};
 
@@ -8,14 +10,16 @@ use fe_keeper::Keeper;
 use fe_state::Batch;
 use std::marker::Model;
 
-/// The most batches that a side notes.
+/// The most batches that a side notes, that is adds to the history as stored.
 const BATCHES: u64 = 1 << 62;
 
-/// Shows that a batch was not noted: another side noted one, or this one noted 2^62. Only `StoreSeat::note` makes it.
+/// Shows that a batch was not noted: this side had noted another number of batches than were cut before it, or 2^62, or another side had
+/// noted one. Only `StoreSeat::note` makes it.
 #[derive(Clone, Copy)]
 pub struct Unnoted(());
 
-/// The seat of a hall's committing side. Contracts see the history, with the batches that it noted.
+/// The seat of a hall's committing side, its committing thread: the record of what it stored. Contracts see the history, with the batches
+/// that it noted.
 #[derive(Drop)]
 pub struct StoreSeat<M: Tally> {
     /// How many batches it noted.
@@ -48,8 +52,8 @@ impl<M: Tally> StoreSeat<M> {
         StoreSeat { stored: 0, history }
     }
 
-    /// Notes the batch that a keeper has just stored, and that was cut next after those noted so far. If another side
-    /// noted a batch, or this one noted 2^62, nothing changes.
+    /// Notes the batch that a keeper has just stored; `count` batches were cut before it. Nothing changes if this side noted another number
+    /// of batches so far, or 2^62, or if another side noted one.
     pub fn note<D: Disk>(
         &mut self,
         history_words: &HistoryWords<M>,
@@ -76,6 +80,7 @@ impl<M: Tally> StoreSeat<M> {
         Ok(())
     }
 
+    /// The history, as far as this side has seen it.
     pub fn history(&self) -> &History<M>
         ensures { result.now ≡ self.now }
     {

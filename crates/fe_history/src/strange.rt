@@ -1,4 +1,4 @@
-//! Which receipts are strange: what is kept or what was sent speaks against them.
+//! Which receipts are strange: what is kept or what was sent speaks against them (`docs/model.md`, "The hall").
 
 ghost use Rattle.std.specs.Prelude.{◌≡◌, ◌↔◌, ℕ, IsTrue, Some, All, map, Any, IfSome, IfNone};
 ghost use Rattle.std.specs.Bool.{OnTrue, OnFalse};
@@ -12,10 +12,10 @@ use fe_front::is_same;
 use fe_state::{Kept, KeptAnswers, Request, State};
 use fe_wire::ClientMessage;
 
-/// The most messages in the list of a connection.
+/// The most messages in a read side's list of what its client sent.
 pub const LISTED: usize = 1024;
 
-/// The place of the first strange receipt, if one is.
+/// The place of the first strange receipt, if one is. `sent` has the list of each read side.
 pub fn first_strange(
     state: &State,
     sent: &[Vec<ClientMessage>],
@@ -90,7 +90,7 @@ fn is_as_issued(receipt: &Receipt, session: u64, number: u64, kept: &Kept) -> bo
     session == receipt.session && number == receipt.number && kept.answer == receipt.answer
 }
 
-/// Whether the lists hold all that was sent, and have no call of this request.
+/// Whether the lists hold all that was sent, and none has a call of the receipt's number with this request behind an attach of its session.
 fn is_missed(sent: &[Vec<ClientMessage>], receipt: &Receipt, request: &Request) -> bool
     ensures missed { OnTrue result (AreWhole (map (λ v. v.items) sent.now)
         × (WasSent (map (λ v. v.items) sent.now) receipt.now.session receipt.now.number request.now → ⊥)) }
@@ -102,7 +102,7 @@ fn is_missed(sent: &[Vec<ClientMessage>], receipt: &Receipt, request: &Request) 
         && !was_sent(sent, receipt, request)
 }
 
-/// Whether one of the lists has a call of this request.
+/// Whether one of the lists has a call of the receipt's number with this request behind an attach of its session.
 fn was_sent(sent: &[Vec<ClientMessage>], receipt: &Receipt, request: &Request) -> bool
     ensures { IsTrue result ↔ WasSent (map (λ v. v.items) sent.now) receipt.now.session receipt.now.number request.now }
 {

@@ -1,3 +1,5 @@
+//! How proofs compare what a hall's books count with what its seats count (`docs/model.md`, "The hall").
+
 ghost use Rattle.std.specs.Prelude.{ℕ};
 
 use std::marker::Brand;
@@ -8,8 +10,10 @@ use std::sync::ledger::Ledger;
 pub trait Tally: Ledger {
     ghost use Rattle.logbook.specs.Pages.{Book};
 
+    /// How many parts it has in all.
     ghost all: { ℕ };
 
+    /// The book of the hall's history (`logbook`), if this is the ledger of mails.
     ghost book: { Book };
 }
 

@@ -25,7 +25,8 @@ generation_at image slot = number_at image (header_of slot + 8) 8
 abbrev pub image_length_at : List ℕ → ℕ → ℕ
 image_length_at image slot = number_at image (header_of slot + 16) 4
 
--- Of two valid slots the one with the greater generation counts, and of equal ones slot 0, whatever their formats.
+-- A slot counts if it alone is valid, or has the greater generation of two valid ones. Of equal generations slot 0 counts, whatever the
+-- formats.
 pub record SlotCounts (image : List ℕ) (slot : ℕ) (format : Format) : Type 0 where
   pub is_slot : slot < 2
   pub valid : IsValidAs image slot format
@@ -51,7 +52,7 @@ with_group c payload = record { slot = c.slot; format = c.format; generation = c
 abbrev pub HoldsEither : Contents → Contents → List ℕ → Type 0
 HoldsEither before after image = Holds before image ⊎ Holds after image
 
--- the image of an empty state, in both formats: place 0, next array id 1, no arrays, no sessions
+-- the image of an empty state, in both formats: place 0 (the number of entries so far), next array id 1, no arrays, no sessions
 abbrev pub empty_image : List ℕ
 empty_image = 0 ∷ 0 ∷ 0 ∷ 0 ∷ 0 ∷ 0 ∷ 0 ∷ 0 ∷ 0 ∷ 0 ∷ 0 ∷ 0 ∷ 0 ∷ 0 ∷ 0 ∷ 1 ∷ 0 ∷ 0 ∷ 0 ∷ 0 ∷ 0 ∷ 0 ∷ 0 ∷ 0 ∷ []
 

@@ -1,5 +1,5 @@
 -- A cursor over the groups of a journal area, the part of a slot to which they are appended. They are read one after the other.
--- See `docs/model.md`, "The journal".
+-- See `docs/formats.md`, "Journal area".
 use Rattle.std.specs.Prelude.{ℕ, List}
 use Rattle.fe_journal.specs.Groups.{HoldsGroups}
 use Rattle.fe_format.specs.declared.format.Format.{Format}

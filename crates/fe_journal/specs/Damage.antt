@@ -33,9 +33,8 @@ pub data IsDamagedAt (image : List ℕ) (offset : ℕ) : Type 0 where
       → StandFrom format image (area_of slot) 0 groups → IsGateOpen image (area_of slot + end_of_groups groups) → (GroupFits format (end_of_groups groups) (number_at image (area_of slot + end_of_groups groups + 1) 4) → ⊥)
       → offset ≡ area_of slot + end_of_groups groups → IsDamagedAt image offset
 
--- What a fault of opening says of the image that the disk reads: it is unformatted; it has a store's size, and is
--- damaged first at this offset; or memory ran out, which it does only once a sound header was read. A fault of the
--- device says nothing.
+-- What a fault of opening says of the image that reads of the disk give: it is unformatted; it has a store's size, and is damaged first at
+-- this offset; or memory ran out, which it does only if the header of the slot that counts is sound. A fault of the device says nothing.
 abbrev pub TellsFound : StoreFault → List ℕ → Type 0
 TellsFound Unformatted image = IsUnformatted image
 TellsFound (Damaged offset) image = (length image ≡ device_bytes) × IsDamagedAt image offset

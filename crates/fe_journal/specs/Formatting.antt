@@ -7,7 +7,7 @@ use Rattle.fe_journal.specs.Journal.{JournalState}
 use Rattle.fe_journal.specs.declared.fault.StoreFault.{StoreFault}
 use Rattle.fe_disk.specs.declared.disk.Disk.{Ghosts}
 
--- Six writes and three syncs make a store, and more are never made. The fault is `unformatted` exactly if the disk has not the size
+-- Six writes and three syncs make a store, and more are never made. The fault is `unformatted` exactly if the disk doesn't have the size
 -- of a store, and `device` only if a call of the disk failed. With another fault than `device` nothing was done to the disk. The
 -- three faults are parameters, since journal and keeper have each their own type of faults.
 pub record Formats {D T E : Type 0} (model : Ghosts D) (unformatted device memory : E) (result : Result T E) (old new : D) : Type 0 where

@@ -14,7 +14,7 @@ use Rattle.fe_journal.specs.declared.fault.StoreFault.{StoreFault}
 use Rattle.fe_journal.specs.declared.fault.StoreFault.TheVariants.{Unformatted, Device, NoMemory}
 use Rattle.fe_disk.specs.declared.disk.Disk.{Ghosts}
 
--- What was found are the contents of the image that the disk reads: a journal that keeps them, the bytes of the state's
+-- What was found are the contents of the image that reads of the disk give: a journal that keeps them, the bytes of the state's
 -- image, and a cursor before the first group.
 pub record IsFound {D : Type 0} (model : Ghosts D) (image : List ℕ) (found : Found D) : Type 0 where
   pub contents : Contents
@@ -35,15 +35,15 @@ pub record AreListed {D : Type 0} (found : Found D) : Type 0 where
 abbrev pub ReadsInPart : Calls → Calls → Type 0
 ReadsInPart before now = now.reads ≤ before.reads + 3
 
--- Why the store of an image is not opened: what the fault says of the image holds; one that holds contents is refused
--- only if the device fails or memory runs out; and memory runs out only before all of it was read.
+-- Why the store of an image is not opened: what the fault says of the image is true; an image that holds contents is refused only if the
+-- device fails or memory runs out; and memory runs out only before all of it was read.
 pub record IsReason (image : List ℕ) (before now : Calls) (fault : StoreFault) : Type 0 where
   pub tells : TellsFound fault image
   pub valid : (c : Contents) → Holds c image → (fault ≡ Device) ⊎ (fault ≡ NoMemory)
   pub memory : fault ≡ NoMemory → ReadsInPart before now
 
--- What opening does to a disk besides what it reads: a sync and four reads at most. The fault is `device` exactly if a
--- call of the disk failed.
+-- What opening does to any disk: a sync and four reads at most. The fault is `device` exactly if a call of the disk failed. No other result
+-- changes the count of faults.
 pub record AsksToOpen {D T E : Type 0} (model : Ghosts D) (device : E) (result : Result T E) (old new : D) : Type 0 where
   pub fault : IsErrOf result device ↔ Rises (model.failures old) (model.failures new)
   pub still : (IsErrOf result device → ⊥) → model.failures new ≡ model.failures old
@@ -56,9 +56,9 @@ abbrev pub disk_after : {D : Type 0} → Result (Found D) (StoreFault × D) → 
 disk_after (Ok found) = found.journal.disk
 disk_after (Err refused) = refused.1
 
--- What opening says of an honest disk, which is only read. What was found are the contents that it reads, and a refusal
--- is the store's: one that holds contents is refused only if the device fails or memory runs out, and memory runs out
--- only after a sound header, before all was read. An unformatted store is reported as such, however much memory there is.
+-- What opening says of an honest disk, which is only synced and read. What was found is what reads of it give, and a refusal is true of
+-- that: a store that holds contents is refused only if the device fails or memory runs out, and memory runs out only after a sound
+-- header, before all was read. An unformatted store is reported as such unless the device fails, however little memory there is.
 pub record FindsStore {D : Type 0} (model : Ghosts D) (disk : D) (result : Result (Found D) (StoreFault × D)) : Type 0 where
   pub found : IfOk result (IsFound model (model.seen disk))
   pub refused : IfErr result (λ e. IsReason (model.seen disk) (model.calls disk) (model.calls e.1) e.0)

@@ -70,8 +70,8 @@ pub record IsLeft (c : Contents) (draft : Option Draft) (image : List ℕ) : Typ
   pub holds : Holds c image
   pub shut : IsSome draft → IsGateShut image (gate_of (other_than c.slot))
 
--- The journal knows the slot that counts, and each image that a stop may leave now holds these contents. If there is a
--- draft, the disk reads as the draft says in the other slot; if there is none, all that was written is synced.
+-- The journal knows the slot that counts and what was begun, and each image that a stop may leave now holds these contents. If there is
+-- a draft, its generation is one above theirs, and reads give it in the other slot. If there is none, all that was written is synced.
 pub record KeepsContents {D : Type 0} (model : Ghosts D) (journal : JournalState D) (c : Contents) (draft : Option Draft) : Type 0 where
   pub slot_is : journal.slot ≡ c.slot
   pub format_is : journal.format ≡ c.format

@@ -55,7 +55,7 @@ other_than slot = 1 - slot
 abbrev pub number_at : List ℕ → ℕ → ℕ → ℕ
 number_at bytes at n = big_number n (bytes_at bytes at n)
 
--- A gate is open only if its byte is 1.
+-- A gate is open if its byte is 1, and shut otherwise.
 abbrev pub IsGateOpen : List ℕ → ℕ → Type 0
 IsGateOpen bytes gate = slice_index bytes gate ≡ 1
 

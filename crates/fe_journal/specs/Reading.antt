@@ -31,7 +31,7 @@ IsCounting first second (Some (slot, header)) =
     ((slot ≡ 0) × (first ≡ Some header) × ((other : Header) → second ≡ Some other → other.generation ≤ header.generation))
     ⊎ ((slot ≡ 1) × (second ≡ Some header) × ((other : Header) → first ≡ Some other → other.generation < header.generation))
 
--- the length after the gate, if a group of it fits
+-- the length after the gate, if a group with a payload of that length fits
 abbrev pub IsFitting : Format → List ℕ → ℕ → Option ℕ → Type 0
 IsFitting format bytes at None = GroupFits format at (number_at bytes (at + 1) 4) → ⊥
 IsFitting format bytes at (Some n) = (n ≡ number_at bytes (at + 1) 4) × GroupFits format at n

@@ -1,5 +1,5 @@
 -- What single steps of the journal write on a disk, byte by byte. A commit writes bytes and then opens a gate.
--- See `docs/model.md`, "The journal".
+-- See `docs/store.md`, "Gates".
 use Rattle.std.specs.Prelude.{◌≡◌, ◌⊎◌, ℕ, ◌+◌, List, [], ◌∷◌, ◌++◌, length, take}
 use Rattle.byteorder.specs.Endian.{big_bytes}
 use Rattle.fe_disk.specs.Disk.{IsTorn, AddsNone, MakesJust, bytes_at, after_write}
@@ -16,12 +16,13 @@ use Rattle.fe_disk.specs.declared.disk.Disk.{Ghosts}
 abbrev pub header_fields : Format → ℕ → ℕ → List ℕ
 header_fields format generation image_length = big_bytes 8 (magic_of format) ++ (big_bytes 8 generation ++ big_bytes 4 image_length)
 
--- how a new journal area begins: with the catch-up as an open group, or with a closed gate if there is no catch-up
+-- how a new journal area begins: with the catch-up (all that came since the slot was begun) as an open group, or, if it is empty, with a
+-- closed gate
 abbrev pub area_start : List ℕ → List ℕ
 area_start [] = 0 ∷ []
 area_start (byte ∷ bytes) = 1 ∷ after_gate (byte ∷ bytes)
 
--- The disk was only read: reads give what they gave, and no stop leaves what could not be left before.
+-- The disk was only read or synced: reads give what they gave, and no stop leaves what could not be left before.
 pub record OnlyReads {D : Type 0} (model : Ghosts D) (old new : D) : Type 0 where
   pub same : model.seen new ≡ model.seen old
   pub adds_none : AddsNone (model.may_leave old) (model.may_leave new)
@@ -41,7 +42,7 @@ abbrev pub IsLeftInCommit : (List ℕ → Type 0) → List ℕ → ℕ → List 
 IsLeftInCommit before seen at bytes gate image =
     ((was : List ℕ) × before was × IsTorn at (length bytes) was image) ⊎ IsTorn gate 1 (after_write seen at bytes) image
 
--- What a stop leaves while a gate is closed: nothing but the gate differs, and a gate that was closed is not open.
+-- What a stop leaves while a gate is being closed: nothing but the gate differs, and a gate that was closed before is not open.
 pub record IsLeftInShutting (seen : List ℕ) (gate : ℕ) (image : List ℕ) : Type 0 where
   pub torn : IsTorn gate 1 seen image
   pub opens_none : IsGateOpen image gate → IsGateOpen seen gate
@@ -51,7 +52,7 @@ pub record Shuts (seen : List ℕ) (gate writes : ℕ) (before now : Calls) : Ty
   pub opened : IsGateOpen seen gate → MakesJust 1 (writes + 1) 1 before now
   pub closed : IsGateShut seen gate → MakesJust 1 writes 0 before now
 
--- the slot's gate is closed, and its header may have changed
+-- the slot's gate is closed, and nothing outside its header has changed
 pub record IsHeaderTorn (seen : List ℕ) (slot : ℕ) (image : List ℕ) : Type 0 where
   pub torn : IsTorn (header_of slot) header_bytes seen image
   pub shut : IsGateShut image (gate_of slot)
@@ -60,7 +61,7 @@ pub record IsHeaderTorn (seen : List ℕ) (slot : ℕ) (image : List ℕ) : Type
 abbrev pub IsLeftInBeginning : List ℕ → ℕ → List ℕ → Type 0
 IsLeftInBeginning seen slot image = IsLeftInShutting seen (gate_of slot) image ⊎ IsHeaderTorn seen slot image
 
--- the slot's gate is closed, and its header has these fields
+-- the slot's gate is closed, its header has these fields, and nothing outside its header has changed
 pub record IsSlotBegun (seen : List ℕ) (slot : ℕ) (fields : List ℕ) (image : List ℕ) : Type 0 where
   pub header : IsHeaderTorn seen slot image
   pub fields_are : bytes_at image (header_of slot) (length fields) ≡ fields

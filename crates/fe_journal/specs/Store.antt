@@ -25,7 +25,7 @@ pub record IsSlotRead (image : List ℕ) (slot : ℕ) (header : Header) (parts :
 abbrev pub IsReadable : ℕ × Header → Type 0
 IsReadable (slot, header) = (slot < 2) × (1 ≤ header.generation) × IsImageLength header.format header.image_length
 
--- over any disk, the sizes of what was read
+-- over any disk: how long the area is that was read, and that its groups end in it
 pub record AreParts (parts : SlotParts) : Type 0 where
   pub area_whole : vec_len parts.area ≡ area_bytes
   pub within : parts.used < area_bytes

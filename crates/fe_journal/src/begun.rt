@@ -5,7 +5,7 @@ use crate::Format;
 pub struct Begun {
     pub format: Format,
     pub generation: u64,
-    /// How many bytes its image has, 24 at least.
+    /// How many bytes its image has: 24 to 774,232, or to 740,440 in format 1.
     pub image_length: usize,
     /// How many bytes of the image were written so far.
     pub written: usize,

@@ -1,3 +1,5 @@
+//! The buffer of a journal, in which groups are put together before they are written (`docs/store.md`, "What it costs").
+
 ghost use Rattle.std.specs.Prelude.{◌≡◌, IfOk, vec_len};
 
 use std::alloc::{AllocError, Global};

@@ -1,3 +1,6 @@
+//! The faults of a store's journal (`docs/store.md`, "When the device fails"). `docs/formats.md`, "Device", says when a slot is valid,
+//! and which one counts; "Journal area", at which offset it is damaged.
+
 use fe_disk::DeviceFault;
 use std::alloc::AllocError;
 

@@ -1,3 +1,5 @@
+//! Making a new store on a device (`docs/store.md`, "Formatting").
+
 ghost use Rattle.std.specs.Prelude.{◌≡◌, None, IfOk, OnOk, vec_len};
 ghost use Rattle.fe_disk.specs.Disk.{LeavesJust};
 ghost use Rattle.fe_disk.specs.Runs.{Asks, without_disk};
@@ -17,14 +19,16 @@ use crate::{Format, Journal, StoreFault};
 use fe_disk::{DeviceFault, Disk};
 use std::alloc::Global;
 
-/// The image of a state with no arrays and no sessions: place 0, next array id 1. It is the same in both formats.
+/// The image of a state with no entries, arrays or sessions: place 0 (the number of entries so far), next array id 1. It is the same in
+/// both formats.
 const EMPTY_IMAGE: [u8; 24] = [
     0, 0, 0, 0, 0, 0, 0, 0, 0, 0, 0, 0, 0, 0, 0, 1, 0, 0, 0, 0, 0, 0, 0, 0,
 ];
 
 impl<D: Disk> Journal<D> {
-    /// Makes a new store of format 2 on the device, whatever was there. If formatting stops or fails, nothing is
-    /// promised about the device, and it has to be formatted again.
+    /// Makes a new store of format 2 on the device, whatever was there. `Unformatted` (the device doesn't have the size of a store) and
+    /// `NoMemory` leave the device alone. If formatting stops, or a device call fails, nothing is promised about the device's bytes, and
+    /// it has to be formatted again.
     pub fn format(alloc: Global, disk: D) -> Result<Journal<D>, (StoreFault, D)>
         ensures formatted { D.honest disk
             → IfOk result (λ journal. KeepsContents D.Disk journal (first_contents Two) None) }
@@ -86,8 +90,7 @@ fn shut_both<D: Disk>(disk: &mut D) -> Result<(), DeviceFault>
     disk.sync()
 }
 
-// Writes the first slot's header and the empty image, once the gates are closed on the disk. Two device
-// calls.
+// Writes the header's fields and the empty image into slot 0, once the gates are closed on the disk. Two device calls.
 fn write_first<D: Disk>(disk: &mut D, format: Format) -> Result<(), DeviceFault>
     requires device { D.size disk.old ≡ device_bytes }
     requires settled { D.honest disk.old → LeavesJust (D.seen disk.old) (D.may_leave disk.old) }

@@ -20,8 +20,8 @@ use std::marker::Model;
 /// The journal of an opened store. Groups are appended after the image of the slot that counts, while an image is
 /// written into the other slot in pieces, until that slot takes over (`docs/store.md`).
 ///
-/// After a fault of the device every call returns `Failed` and makes no device call. Opening the store again
-/// says what was stored. No call allocates memory.
+/// After a fault of the device `append_group` and the three calls of a slot return `Failed` and make no device call. Opening the store
+/// again says what was stored. These four calls allocate no memory.
 pub struct Journal<D: Disk> {
     disk: D,
     buffer: Vec<u8>,
@@ -105,7 +105,7 @@ impl<D: Disk> Journal<D> {
         self.used as u32
     }
 
-    /// The longest payload, in bytes, that `append_group` has room for.
+    /// The longest payload, in bytes, that `append_group` has room for, 0 if there is no room.
     pub fn room(&self) -> u32
         ensures { result ≡ room_at self.now.used }
     {
@@ -134,7 +134,7 @@ impl<D: Disk> Journal<D> {
         self.slot
     }
 
-    /// Whether a device call failed. Then every call returns `Failed`.
+    /// Whether a device call failed. Then `append_group` and the three calls of a slot return `Failed`.
     pub fn has_failed(&self) -> bool
         ensures { result ≡ self.now.has_failed }
     {
@@ -149,7 +149,7 @@ impl<D: Disk> Journal<D> {
     }
 
     /// The disk, as the calls of the journal left it.
-    // (It is not inlined, for the reason that `fe_keeper::keeper_over` gives.)
+    // (It is not inlined: see `keeper_over` in `crates/fe_keeper/src/assembling.rt`.)
     #[inline(never)]
     pub fn into_disk(self) -> D
         ensures disk { result ≡ self.disk }
@@ -286,7 +286,7 @@ impl<D: Disk> Journal<D> {
         Ok(())
     }
 
-    /// Finishes the slot begun, whose image is whole. What came since it was begun goes into its journal
+    /// Finishes the slot begun, whose image is whole. What came since it was begun, if anything, goes into its journal
     /// area as one group, and then its gate is opened. From then on the slot counts. Four device calls.
     pub fn slot_finish(&mut self, catch_up: &[u8]) -> Result<(), JournalFault>
         requires begun { IsSomeAnd self.old.begun

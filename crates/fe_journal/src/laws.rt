@@ -1,5 +1,5 @@
-//! Laws of what the bytes of a device hold, apart from any code; and that the code's sizes and offsets are those of the
-//! definitions.
+//! Laws of what the bytes of a device hold, in which no code occurs (`docs/model.md`, "The journal"), and one that the code's sizes and
+//! offsets are those of the definitions.
 
 ghost use Rattle.std.specs.Prelude.{◌≡◌};
 ghost use Rattle.fe_journal.specs.Laws.{HasOneContents, IsHeldOrRefused};
@@ -17,7 +17,7 @@ pub fn held_or_refused()
 {}
 
 /// The constants of `layout.rt` are the sizes and offsets of the definitions (`docs/formats.md`, "Device"). Contracts
-/// are stated with the definitions, so a wrong constant would break this law.
+/// are stated with the definitions, and this law fails if a constant differs from its definition.
 pub fn layout_is()
     ensures header { HEADER_BYTES ≡ header_bytes }
     ensures begin { AREA_BEGIN ≡ area_begin }

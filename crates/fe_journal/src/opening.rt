@@ -1,3 +1,6 @@
+//! Opening a store for the journal, which knows the bytes of its image and groups, and not what they say (`docs/store.md`, "Opening a
+//! store").
+
 ghost use Rattle.std.specs.Prelude.{◌≡◌, IfOk};
 ghost use Rattle.fe_disk.specs.Runs.{without_disk};
 ghost use Rattle.fe_journal.specs.Layout.{device_bytes};
@@ -25,9 +28,9 @@ impl<D: Disk> Journal<D> {
     /// them.
     ///
     /// The fault of a damaged store is the first thing wrong in the slot that counts: its generation,
-    /// its image's length, the lengths of its groups (`docs/formats.md`, "Device").
+    /// its image's length, the lengths of its groups (`docs/formats.md`, "Device" and "Journal area").
     pub fn find(alloc: Global, disk: D) -> Result<Found<D>, (StoreFault, D)>
-        // Of an honest disk: what is found is what it reads, a reported fault is the store's, and it is only read.
+        // Of an honest disk: what is found is what reads give, a reported fault is the store's, and it is only synced and read.
         ensures finds { D.honest disk → FindsStore D.Disk disk result }
 
         // Over any disk, no slot is begun and no call has failed.

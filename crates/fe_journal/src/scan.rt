@@ -1,4 +1,5 @@
-// A pass over the lengths of all groups of a journal area, which finds their end.
+//! A pass over the lengths of all groups of a journal area, which finds their end (`docs/formats.md`, "Journal area").
+
 ghost use Rattle.std.specs.Prelude.{◌≡◌, ◌<◌, length, Option, Some, None, IfOk, IfErr};
 ghost use Rattle.fe_journal.specs.Layout.{area_bytes};
 ghost use Rattle.fe_journal.specs.Reading.{IsFitting, IsOddAt, GroupsEndAt};
@@ -7,7 +8,7 @@ use crate::Format;
 use crate::layout::AREA_BYTES;
 use byteorder::{BigEndian, ByteOrder};
 
-/// The offset in the area of the closed gate after the open groups. `Err` is the first open gate
+/// The offset in the area of the closed gate after the open groups. `Err` is that of the first open gate
 /// whose length is not allowed or does not fit.
 pub fn scan(area: &[u8], format: Format) -> Result<usize, usize>
     requires { length area.now ≡ area_bytes }

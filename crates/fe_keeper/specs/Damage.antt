@@ -30,7 +30,7 @@ pub data IsWrongIn (slot : ℕ) (format : Format) (generation : ℕ) (image : Li
   -- a generation that is too great for the image's place; the offset is that of its field
   OddGeneration : (base : ServerState) → image_at format image ≡ Ok base → greatest_generation format base.place < generation → offset ≡ header_of slot + 8
       → IsWrongIn slot format generation image payloads at offset
-  -- a record whose entry may not come after what is before it; the offset is the record's
+  -- a record that is no entry's, or whose entry may not come after what is before it; the offset is the record's
   OddRecord : (base : ServerState) → image_at format image ≡ Ok base → generation ≤ greatest_generation format base.place
       → IsBadFrom format payloads base at offset → IsWrongIn slot format generation image payloads at offset
 
@@ -43,14 +43,14 @@ pub data IsDamagedAt (image : List ℕ) (offset : ℕ) : Type 0 where
   InSlot : length image ≡ device_bytes → journal.IsDamagedAt image offset → IsDamagedAt image offset
   InContents : (c : Contents) → Holds c image → IsWrongAt c offset → IsDamagedAt image offset
 
--- When memory may run out while the store of an image is opened, between these counts of calls. What was read until then is right.
+-- When memory may run out while the store of an image is opened, between these counts of calls.
 pub data MayLackMemory (image : List ℕ) (before now : Calls) : Type 0 where
   -- Not all of the store was read yet; the header of the slot that counts is right.
   InPart : journal.HasSoundHeader image → ReadsInPart before now → MayLackMemory image before now
   -- All of it was read; the lengths of the groups and the image's fields before its arrays are right.
   AfterFields : (c : Contents) → Holds c image → IsOk (header_at c.image) → MayLackMemory image before now
 
--- What a fault of opening says of the image that the disk reads: it is unformatted; it is damaged first at this offset; or memory
+-- What a fault of opening says of the image that reads of the disk give: it is unformatted; it is damaged first at this offset; or memory
 -- ran out as `MayLackMemory` allows. The other faults say nothing of it.
 abbrev pub TellsStore : Fault → List ℕ → Calls → Calls → Type 0
 TellsStore Unformatted image before now = journal.IsUnformatted image
@@ -60,8 +60,8 @@ TellsStore NoMemory image before now = MayLackMemory image before now
 TellsStore Failed image before now = Unit {0}
 TellsStore (Mismatch place) image before now = Unit {0}
 
--- Why the store of an image is not opened: what the fault says of the image holds, and one that stands for a state is refused only if the device fails or
--- memory runs out.
+-- Why the store of an image is not opened: what the fault says of the image holds, and one that stands for a state is refused only if
+-- the device fails or memory runs out.
 pub record IsReason (image : List ℕ) (before now : Calls) (fault : Fault) : Type 0 where
   pub tells : TellsStore fault image before now
   pub valid : (s : ServerState) → StandsFor image s → (fault ≡ Device) ⊎ (fault ≡ NoMemory)

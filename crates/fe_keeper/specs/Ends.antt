@@ -1,4 +1,4 @@
--- How a call of a keeper ends, and what it leaves. A keeper has a replica of the server's state, and the store that follows it.
+-- How a call of a keeper ends, and what it leaves. A keeper has a replica of the server's state, and the store in which that is kept.
 -- See `docs/model.md`, "The keeper".
 use Rattle.std.specs.Prelude.{◌≡◌, ◌⊎◌, ◌↔◌, ℕ, ◌+◌, true, false, IsTrue, List, MatchBool, Result, Ok, Err, MatchResult}
 use Rattle.fe_disk.specs.Disk.{Rises, MakesAtMost}
@@ -27,7 +27,7 @@ abbrev pub IsDurable : {D : Type 0} → Ghosts D → KeeperState D → Type 0
 IsDurable model keeper =
     model.honest keeper.store.disk → keeper.store.has_failed ≡ false → EachStandsFor model keeper.store.disk keeper.state
 
--- The keeper's state stays, and at every moment each image that a stop leaves stands for it.
+-- The keeper's state stays. Over an honest disk that had not failed, each image that a stop at any moment leaves stands for it.
 pub record Rests {D : Type 0} (model : Ghosts D) (old new : KeeperState D) : Type 0 where
   pub state : new.state ≡ old.state
   pub any_moment : StopsLeave model old new (λ image. StandsFor image old.state)
@@ -35,18 +35,18 @@ pub record Rests {D : Type 0} (model : Ghosts D) (old new : KeeperState D) : Typ
 
 -- ---- how a call ends
 
--- The device works: no call of it failed, in this call or before.
+-- The device works: no call of it failed in this call of the keeper, or before.
 pub record Works {D : Type 0} (model : Ghosts D) (old new : KeeperState D) : Type 0 where
   pub before : old.store.has_failed ≡ false
   pub after : new.store.has_failed ≡ false
   pub still : model.failures new.store.disk ≡ model.failures old.store.disk
 
--- No call of the device failed in this call.
+-- No call of the device failed in this call of the keeper.
 pub record IsStill {D : Type 0} (model : Ghosts D) (old new : KeeperState D) : Type 0 where
   pub works : new.store.has_failed ≡ old.store.has_failed
   pub still : model.failures new.store.disk ≡ model.failures old.store.disk
 
--- A call of the device failed in this call, and none before.
+-- A call of the device failed in this call of the keeper, and none before.
 pub record Breaks {D : Type 0} (model : Ghosts D) (old new : KeeperState D) : Type 0 where
   pub before : old.store.has_failed ≡ false
   pub failed : new.store.has_failed ≡ true
@@ -57,7 +57,8 @@ pub record Refuses {D : Type 0} (old new : KeeperState D) : Type 0 where
   pub before : old.store.has_failed ≡ false
   pub same : new ≡ old
 
--- Why a call failed, and what it left then. `Cause` is what each fault requires besides.
+-- Why a call failed, and what it left then. `Cause` is what `Device`, `NoMemory` and `Mismatch` require besides. The other two
+-- never come.
 abbrev pub Fails : {D : Type 0} → Ghosts D → (Fault → Type 0) → KeeperState D → KeeperState D → Fault → Type 0
 Fails model Cause old new Device = Cause Device × Breaks model old new
 Fails model Cause old new Failed = (old.store.has_failed ≡ true) × (new ≡ old)
@@ -66,10 +67,11 @@ Fails model Cause old new (Mismatch place) = Cause (Mismatch place) × Refuses o
 Fails model Cause old new (Damaged offset) = ⊥
 Fails model Cause old new Unformatted = ⊥
 
+-- How a call other than an append ended: the device works, or as `Fails` says.
 abbrev pub Ends : {T D : Type 0} → Ghosts D → (Fault → Type 0) → Result T Fault → KeeperState D → KeeperState D → Type 0
 Ends model Cause result old new = MatchResult result (λ _. Works model old new) (Fails model Cause old new)
 
--- The device is called only if P holds, and nothing else is refused.
+-- The device fails only if P holds. Memory does not run out, and there is no mismatch.
 abbrev pub ForDevice : Type 0 → Fault → Type 0
 ForDevice P Device = P
 ForDevice P Failed = ⊥
@@ -78,7 +80,7 @@ ForDevice P (Mismatch place) = ⊥
 ForDevice P (Damaged offset) = ⊥
 ForDevice P Unformatted = ⊥
 
--- The device is called, and memory is taken, only if P holds, and nothing else is refused.
+-- The device fails, or memory runs out, only if P holds. There is no mismatch.
 abbrev pub ForDeviceAndMemory : Type 0 → Fault → Type 0
 ForDeviceAndMemory P Device = P
 ForDeviceAndMemory P Failed = ⊥
@@ -89,7 +91,8 @@ ForDeviceAndMemory P Unformatted = ⊥
 
 -- ---- appends
 
--- The device is called only for a batch that continues the history. Memory is taken for a new array, and for a whole checkpoint.
+-- The device fails only for a batch that continues the history. Memory runs out only for a batch that makes an array or needs a whole
+-- checkpoint. A mismatch is the first place at which the batch does not continue the history.
 abbrev pub ForBatch : {D : Type 0} → KeeperState D → ℕ → List Entry → Fault → Type 0
 ForBatch old first entries Device = Continues old.state first entries
 ForBatch old first entries Failed = ⊥

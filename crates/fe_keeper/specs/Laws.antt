@@ -29,8 +29,8 @@ pub record IsContinued (beginning : ServerState) (history next : List (List Entr
   pub is_history : IsHistory beginning (take kept history ++ next)
   pub leads : after_groups beginning (take kept history ++ next) ≡ after_groups s next
 
--- A history that begins where another was stopped goes on with the groups that were kept of it: both are one history, in
--- which no number of a session takes effect twice (`fe_state::numbers_finish_once`).
+-- A history that begins where another was stopped goes on with the groups that were kept of it: both are one history, in which a session's
+-- number finishes at most once until the session is closed (`fe_state::numbers_finish_once`).
 abbrev pub StopsJoin : Type 0
 StopsJoin = (beginning s : ServerState) (history next : List (List Entry)) (k : ℕ) → IsHistory beginning history
     → IsCrashPrefix beginning history k s → IsHistory s next → IsContinued beginning history next k s

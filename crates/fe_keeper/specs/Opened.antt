@@ -41,14 +41,15 @@ pub record KeepsState {D : Type 0} (model : Ghosts D) (journal : JournalState D)
   pub keeps : KeepsContents model journal contents None
   pub stands : Stands contents state
 
--- The store of the slot that counts in the image: its format, and the bytes of its open groups.
+-- The store of the slot that counts in the image: its format, and how many bytes its open groups take.
 pub record IsStoreIn {D : Type 0} (image : List ℕ) (store : StoreState D) : Type 0 where
   pub contents : Contents
   pub holds : Holds contents image
   pub format_is : store.format ≡ contents.format
   pub used_is : store.used ≡ end_of_groups contents.groups
 
--- The image stands for the keeper's state, and so does each image that a stop may leave. The store is that of the slot that counts in the image.
+-- The image stands for the keeper's state, and so does each image that a stop may leave. The store is that of the slot that counts in
+-- the image.
 pub record IsOpenedFrom {D : Type 0} (model : Ghosts D) (image : List ℕ) (keeper : KeeperState D) : Type 0 where
   pub state : StandsFor image keeper.state
   pub durable : EachStandsFor model keeper.store.disk keeper.state
@@ -82,7 +83,7 @@ pub record IsRecovered (format : Format) (generation : ℕ) (image : List ℕ) (
   pub is_base : IsBase format generation image base
   pub replays : ReplaysAll format payloads base state
 
--- what was read of a slot is the image and the groups of these contents
+-- what was read of a slot is the format, the generation, the image and the groups of these contents
 pub record ArePartsOf (c : Contents) (format : Format) (generation : ℕ) (image : List ℕ) (groups : Cursor) : Type 0 where
   pub format_is : format ≡ c.format
   pub generation_is : generation ≡ c.generation

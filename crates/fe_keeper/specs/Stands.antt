@@ -23,8 +23,8 @@ AreGroups format [] (payload ∷ payloads) = ⊥
 AreGroups format (group ∷ groups) [] = ⊥
 AreGroups format (group ∷ groups) (payload ∷ payloads) = IsGroupOf format group payload × AreGroups format groups payloads
 
--- What a slot stands for: its image is the spelling of a state, its groups spell a history from that state on, and
--- the slot stands for the state after them.
+-- What a slot stands for: its image is the spelling of a state, its generation is one that this image may have, its groups spell a history
+-- from that state on, and the slot stands for the state after them.
 pub record Stands (c : Contents) (s : ServerState) : Type 0 where
   pub base : ServerState
   pub groups : List (List Entry)

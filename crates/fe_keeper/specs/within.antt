@@ -1,3 +1,4 @@
+-- Definitions that no public clause rests on.
 pub mod CatchUp
 pub mod Upholds
 pub mod Slices

@@ -1,3 +1,6 @@
+//! Puts a keeper, which owns the store, together from its parts (`docs/store.md`, "The life of a store"). A batch is entries that are
+//! stored at once, as one group.
+
 ghost use Rattle.std.specs.Prelude.{◌≡◌, IfOk};
 ghost use Rattle.fe_journal.specs.Journal.{IsIdle};
 ghost use Rattle.fe_keeper.specs.within.Upholds.{IsNumbered};
@@ -12,7 +15,7 @@ use fe_journal::Journal;
 use fe_state::{BATCH_ENTRIES, State, UndoLog};
 use std::alloc::{AllocError, Global};
 
-/// The memory for the group of a batch, and for taking a batch back.
+/// The memory for the payload of a batch's group, and for the log by which the replica, the keeper's copy of the state, goes back.
 #[derive(Drop)]
 pub(crate) struct Rooms {
     group: Vec<u8>,

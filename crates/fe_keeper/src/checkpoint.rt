@@ -1,3 +1,6 @@
+//! How far a checkpoint is, which moves the store to the other of its two slots (`docs/store.md`, "Two slots" and
+//! "Making the other slot ready").
+
 ghost use Rattle.std.specs.Prelude.{◌≡◌, ◌+◌, ◌≤◌, true, not, nat_le, length, IfOk, IfErr, OnOk, OnErr, vec_len};
 ghost use Rattle.fe_disk.specs.Disk.{MakesAtMost};
 ghost use Rattle.fe_state.specs.State.{ServerState};
@@ -28,7 +31,7 @@ pub(crate) struct Checkpoint {
     pub(crate) written: usize,
     /// The place of that state: how many entries the history has before it.
     pub(crate) place: u64,
-    /// The records of the entries since then, in format 2. It has the memory for those of the longest group.
+    /// The catch-up: the records of the entries since then, in format 2. It has the memory for those of the longest group.
     pub(crate) catch_up: Vec<u8>,
 }
 

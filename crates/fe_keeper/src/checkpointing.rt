@@ -1,5 +1,5 @@
 //! Checkpoints: the image of the state is written to the slot that does not count, slice by slice. Then the entries
-//! that came meanwhile, the catch-up, go there as a group, and the slot counts (`docs/store.md`).
+//! that came meanwhile, the catch-up, go there as a group, if any came, and the slot counts (`docs/store.md`).
 
 ghost use Rattle.std.specs.Prelude.{◌≡◌, ◌+◌, false, vec_len, IsTrue, IfOk, OnOk};
 ghost use Rattle.fe_disk.specs.Disk.{MakesAtMost};
@@ -18,7 +18,7 @@ use fe_journal::JournalFault;
 use fe_state::Entry;
 
 impl<D: Disk> KeeperStore<D> {
-    /// Begins a checkpoint: begins the other slot for it.
+    /// Begins a checkpoint: closes the other slot's gate if it is open, and writes its header's fields.
     pub(crate) fn begin(&mut self, checkpoint: Checkpoint) -> Result<(), JournalFault>
         requires can { CanTake self.old checkpoint }
         ensures step { StepEnds D.Disk (IsImageOf checkpoint) result self.old self.new }
@@ -68,7 +68,7 @@ impl<D: Disk> KeeperStore<D> {
         Ok(())
     }
 
-    /// Begins and finishes a checkpoint to which no entry has come.
+    /// Begins a checkpoint and finishes it before the next batch.
     fn renew(&mut self, whole: Checkpoint) -> Result<(), JournalFault>
         requires can { CanTake self.old whole }
         ensures step { StepEnds D.Disk (IsImageOf whole) result self.old self.new }
@@ -81,7 +81,7 @@ impl<D: Disk> KeeperStore<D> {
         self.finish()
     }
 
-    /// Makes room for a batch that does not fit: finishes the checkpoint under way, and if that is not enough, makes
+    /// Makes room for a batch, if it does not fit: finishes the checkpoint under way, and if that is not enough, makes
     /// the whole one that the caller has prepared.
     pub(crate) fn make_room(
         &mut self,

@@ -1,3 +1,5 @@
+//! How a call of a keeper, the owner of a store, fails (`docs/model.md`, "The keeper").
+
 use fe_journal::{JournalFault, StoreFault};
 use fe_replica::Refused;
 use std::alloc::AllocError;
@@ -13,7 +15,7 @@ pub enum Fault {
     NoMemory,
     /// The batch does not continue the history, first at this place.
     Mismatch { place: u64 },
-    /// The slot that counts is wrong at this offset of the device, in bytes (`docs/formats.md`, "Device").
+    /// The slot that counts is wrong at this offset of the device, in bytes (`docs/formats.md`, "Device" and "Journal area").
     Damaged { offset: usize },
     /// The device doesn't have the size of a store, or neither slot is valid.
     Unformatted,

@@ -1,3 +1,6 @@
+//! The keeper owns the store. It appends batches, entries of the history that are stored at once, and makes checkpoints between them
+//! (`docs/store.md`, "The life of a store"; `docs/model.md`, "The keeper").
+
 ghost use Rattle.std.specs.Prelude.{◌≡◌, ◌↔◌, false, IsTrue, ◌+◌, length, is_some, IfOk, IfErr, OnOk, OnErr};
 ghost use Rattle.fe_disk.specs.Disk.{MakesAtMost};
 ghost use Rattle.fe_state.specs.State.{IsWithinLimits, after_all};
@@ -25,12 +28,12 @@ use std::marker::Model;
 
 /// The keeper of a store: a replica of the server's state, and the journal in which each batch is stored before it is answered.
 ///
-/// After a fault of the device every call returns `Failed` and makes no device call. Opening the store again
-/// says what was stored.
+/// After a fault of the device `append` and the three calls of a checkpoint return `Failed` and make no device call. Opening the store
+/// again says what was stored.
 pub struct Keeper<D: Disk> {
     pub(crate) store: KeeperStore<D>,
     pub(crate) state: State,
-    /// The log that leads back from a batch that was taken and is not stored yet.
+    /// The log that leads back from a batch that the replica has taken and that is not stored yet.
     pub(crate) log: UndoLog,
     pub(crate) alloc: Global,
 }
@@ -66,7 +69,7 @@ impl<D: Disk> Model for Keeper<D> {
 }
 
 impl<D: Disk> Keeper<D> {
-    /// The replica of the state. Each image that a stop may leave stands for it.
+    /// The replica of the state. If the disk is honest and has not failed, each image that a stop may leave stands for it.
     pub fn state(&self) -> &State
         ensures state { result.now ≡ self.now.state }
         ensures durable { IsDurable D.Disk self.now }
@@ -75,12 +78,12 @@ impl<D: Disk> Keeper<D> {
         &self.state
     }
 
-    /// Appends a batch, entries that follow one another, and stores it as one group. Returns the batch unchanged.
+    /// Appends a batch, entries that follow one another, and stores it as one group. Returns the batch unchanged, also beside a fault.
     ///
     /// If the batch doesn't fit, the checkpoint under way is finished first. If it still doesn't fit, a whole
     /// checkpoint is made.
     pub fn append(&mut self, batch: Batch) -> Result<Batch, (Fault, Batch)>
-        // A stop at any moment leaves the replica as it was, or with the whole batch.
+        // Each image that a stop at any moment leaves stands for the replica as it was, or with the whole batch.
         ensures any_moment { StopsLeave D.Disk self.old self.new
             (StandsForEither self.old.state (after_all self.old.state batch.entries)) }
         ensures durable { IsDurable D.Disk self.new }
@@ -195,7 +198,7 @@ impl<D: Disk> Keeper<D> {
         Ok(true)
     }
 
-    /// Whether a device call failed. Then every call returns `Failed`.
+    /// Whether a device call failed. Then `append` and the three calls of a checkpoint return `Failed`.
     pub fn has_failed(&self) -> bool
         ensures { result ≡ self.now.store.has_failed }
     {
@@ -234,15 +237,16 @@ impl<D: Disk> Keeper<D> {
     }
 }
 
-/// The invariant of every state: a replica is within the limits.
+/// Shows to proofs that a replica is within the limits, the invariant of every `State`.
 fn limits(state: &State)
     ensures { IsWithinLimits state.now }
 {
     let _ = state.place();
 }
 
-/// The checkpoint of the state before a batch that was taken, if a whole one has to be made for the batch. Meanwhile
-/// the replica is that state. So all memory is taken before any call of the device.
+/// The checkpoint of the state before a batch that the replica has taken, if a whole one, from beginning to end, has to be made for the
+/// batch. To spell it, the replica goes back to that state and then takes the batch again. So all memory is taken before any call of the
+/// device.
 fn whole_before<D: Disk>(
     alloc: Global,
     store: &KeeperStore<D>,

@@ -1,4 +1,5 @@
-//! The bytes side of a keeper: batches of entries become groups in the store's journal, and checkpoints go on between them.
+//! The bytes side of a keeper: batches of entries become groups in the store's journal, and checkpoints go on between them
+//! (`docs/store.md`, "The life of a store").
 
 ghost use Rattle.std.specs.Prelude.{◌≡◌, ◌+◌, ◌≤◌, length, IsTrue, OnOk, vec_capacity};
 ghost use Rattle.std.specs.List.{AllByRecursion, list_all};
@@ -69,7 +70,7 @@ fn catch_up(checkpoint: &mut Option<Checkpoint>, format: Format, group: &[u8], e
     }
 }
 
-/// The length of the longest payload, in bytes, that fits after a catch-up of this many entries.
+/// The length of the longest payload, in bytes, that fits after a catch-up of this many entries, whose gate and length take 5 bytes.
 fn room_behind(entries: usize) -> usize
     requires few { entries ≤ group_records Two }
     ensures { result ≡ room_at (caught_up_bytes entries) }
@@ -107,8 +108,8 @@ impl<D: Disk> KeeperStore<D> {
             }
     }
 
-    /// Whether a checkpoint can be begun: none is under way, and an entry came since the image, or the slot
-    /// is of format 1.
+    /// Whether a checkpoint can be begun: none is under way, and an entry came since the image of the slot that counts, or that slot is
+    /// of format 1.
     pub(crate) fn can_begin(&self) -> bool
         ensures { result ≡ can_begin (store_of self.now) }
     {

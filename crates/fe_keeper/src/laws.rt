@@ -1,4 +1,5 @@
-//! Laws of what images stand for, and of histories over stops, apart from any code.
+//! Laws of what images of a device stand for (`docs/model.md`, "The keeper"), and of histories over stops (`docs/stops.md`). Each
+//! function states one, and does nothing.
 
 ghost use Rattle.fe_keeper.specs.Laws.{StandsForOne, AreToldApart, StopsJoin};
 
@@ -7,7 +8,7 @@ pub fn images_stand_for_one()
     ensures { StandsForOne }
 {}
 
-/// An image stands for a state, is unformatted, or is damaged, and is never two of these.
+/// No image stands for a state and is unformatted or damaged, and none is both unformatted and damaged.
 pub fn stores_are_told_apart()
     ensures { AreToldApart }
 {}

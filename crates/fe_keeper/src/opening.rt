@@ -1,3 +1,5 @@
+//! Opening and formatting a store for a keeper, which follows its state (`docs/model.md`, "The keeper").
+
 ghost use Rattle.std.specs.Prelude.{◌≡◌, ◌⊎◌, IfOk, IfErr, IsErrAnd};
 ghost use Rattle.fe_disk.specs.Runs.{without_disk};
 ghost use Rattle.fe_state.specs.State.{first_state};
@@ -23,19 +25,19 @@ use fe_state::State;
 use std::alloc::{AllocError, Global};
 
 impl<D: Disk> Keeper<D> {
-    /// Opens a store: a sync, and then only reads. The keeper has the state that the disk stands for. It takes about
-    /// three megabytes and the memory of the state.
+    /// Opens a store: a sync, and then only reads. The keeper has the state that the disk stands for. It takes about three megabytes,
+    /// and the memory of the state and of a batch (`Rooms`).
     ///
     /// The fault of a damaged store is the first thing wrong in the slot that counts: its generation, its
     /// image's length, the lengths of its groups, its image, its generation against the image's place, and then
-    /// its records (`docs/formats.md`, "Device").
+    /// its records (`docs/formats.md`, "Device" and "Journal area").
     pub fn open(alloc: Global, disk: D) -> Result<Keeper<D>, (Fault, D)>
-        // What the disk reads stands for the keeper's state, and so does each image that a stop may leave.
+        // What reads of the disk give stands for the keeper's state, and so does each image that a stop may leave.
         ensures opened { D.honest disk → IfOk result (IsOpenedFrom D.Disk (D.seen disk)) }
-        // A reported fault is the store's. A valid store is refused only if the device fails or memory runs out, and memory runs
-        // out only if what was read until then is right.
+        // A reported fault is the store's. A valid store is refused only if the device fails or memory runs out. Memory runs out only
+        // if the header of the slot that counts is right and, once all is read, so are the groups' lengths and the first four image fields.
         ensures refused { D.honest disk → IfErr result (λ e. IsReason (D.seen disk) (D.calls disk) (D.calls e.1) e.0) }
-        // An unformatted store is reported as such, however much memory there is.
+        // An unformatted store is reported as such unless the device fails, however little memory there is.
         ensures unformatted { D.honest disk → IsUnformatted (D.seen disk)
             → IsErrAnd result (λ e. (e.0 ≡ Unformatted) ⊎ (e.0 ≡ Device)) }
         // No stop leaves what could not be left before, and what is read stays the same.
@@ -69,8 +71,9 @@ impl<D: Disk> Keeper<D> {
         }
     }
 
-    /// Makes a new store of format 2 on the device, whatever was there. If formatting stops or fails, nothing is
-    /// promised about the device, and it has to be formatted again.
+    /// Makes a new store of format 2 on the device, whatever was there. `Unformatted` (the device doesn't have the size of a store) and
+    /// `NoMemory` leave the device alone. If formatting stops, or a device call fails, nothing is promised about the device, and it has
+    /// to be formatted again.
     pub fn format(alloc: Global, disk: D) -> Result<Keeper<D>, (Fault, D)>
         ensures formatted { D.honest disk
             → IfOk result (λ keeper. EachStandsFor D.Disk keeper.store.disk first_state) }

@@ -1,5 +1,5 @@
 //! Reads the state that a slot stands for: the state of its image, with the groups after it replayed. A slot is one of
-//! the two halves of a store; its generation tells which of them counts (`docs/store.md`).
+//! the two halves of a store; of two valid ones the one with the greater generation counts (`docs/store.md`, "Two slots").
 
 ghost use Rattle.std.specs.Prelude.{◌≡◌, ◌+◌, ◌<◌, ℕ, List, Ok, IsOk, IfOk, IfErr, OnOk, IsErrOf};
 ghost use Rattle.fe_state.specs.State.{ServerState};
@@ -20,7 +20,7 @@ use fe_state::State;
 use std::alloc::Global;
 
 /// The state of a slot, from its image and its groups.
-// (It is not inlined, for the reason that `keeper_over` gives.)
+// (It is not inlined, since a state is large too: see `keeper_over` in `assembling.rt`.)
 #[inline(never)]
 pub(crate) fn recovered(
     alloc: Global,
@@ -37,11 +37,11 @@ pub(crate) fn recovered(
     // A slot that stands for a state is refused only if memory runs out.
     ensures refused { (c : Contents) (s : ServerState) → ArePartsOf c format generation image.now groups.old
         → Stands c s → IfErr result (λ fault. fault ≡ NoMemory) }
-    // If the slot stands for no state, the first thing wrong in it is reported.
+    // A reported offset is that of the first thing wrong in the slot.
     ensures damaged { (offset : ℕ) (payloads : List (List ℕ)) → IsErrOf result (Damaged offset)
         → Lists groups.old payloads
         → IsWrongIn slot format generation image.now payloads (groups.old.start + groups.old.at) offset }
-    // Memory runs out only after the first fields of the image were read.
+    // Memory runs out only if the first four fields of the image are right.
     ensures memory { IsErrOf result NoMemory → IsOk (header_at image.now) }
     ensures faults { IfErr result IsSlotFault }
 {
@@ -73,7 +73,7 @@ fn greatest_generation(format: Format, state: &State) -> u64
     }
 }
 
-/// Replays all groups.
+/// Replays all groups, up to the first record that is bad.
 fn replay_all(format: Format, groups: &mut Groups, state: &mut State) -> Result<(), Fault>
     requires listing { IsListing groups.old }
     ensures all { (payloads : List (List ℕ)) → Lists groups.old payloads

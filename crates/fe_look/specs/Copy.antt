@@ -3,7 +3,7 @@ use Rattle.std.specs.Prelude.{◌≡◌, ◌↔◌, ℕ, List, length}
 use Rattle.fe_journal.specs.Contents.{Contents, Holds}
 use Rattle.fe_journal.specs.Damage.{IsUnformatted, IsDamagedAt}
 
--- A store and its copy show the same: both have the same size; the slots that count hold the same state and groups; if one has no
+-- A store and its copy show the same: both have the same size; the same slot counts in both, with the same contents; if one has no
 -- valid slot, neither has the other; and the first damage is at the same offset. Bytes that show nothing of these may differ.
 pub record IsCopyOf (image copy : List ℕ) : Type 0 where
   pub whole : length copy ≡ length image

@@ -1,4 +1,4 @@
--- The text of a state, as `femem look` prints it (`docs/store.md`, "A copy while the store is written").
+-- The text of a state, as `femem look` prints it (`docs/operating.md`, "What a server says").
 use Rattle.std.specs.Prelude.{◌++◌, ℕ, List, Option, codes, length, take}
 use Rattle.std.specs.Fmt.{decimal}
 use Rattle.std.specs.FinMap.{entries, len}
@@ -21,7 +21,7 @@ line_of_array id name size =
 abbrev pub array_line : ℕ × Array → List ℕ
 array_line e = line_of_array e.0 e.1.name (length e.1.words)
 
--- the line of a session: its floor, and how many answers are kept for it
+-- the line of a session: its number, its floor, and how many answers are kept for it
 abbrev pub line_of_session : ℕ → ℕ → ℕ → List ℕ
 line_of_session number floor kept =
     codes "session " ++ (decimal number ++ (codes " floor " ++ (decimal floor ++ (codes " kept " ++ (decimal kept ++ codes "\n")))))
@@ -29,7 +29,7 @@ line_of_session number floor kept =
 abbrev pub session_line : ℕ × Session → List ℕ
 session_line e = line_of_session e.0 e.1.floor (len e.1.kept)
 
--- The text of a state: its place, and a line for each array and then for each session, both ascending.
+-- The text of a state: its place, and a line for each array and then for each session, ascending by id and by number.
 abbrev pub state_text : ServerState → List ℕ
 state_text s = place_line s.place ++ (flat_map array_line (entries s.arrays) ++ flat_map session_line (entries s.sessions))
 

@@ -7,7 +7,7 @@ use Rattle.fe_look.specs.Copy.{IsCopyOf}
 use Rattle.fe_look.specs.declared.reading.Reading.{Reading}
 use Rattle.fe_look.specs.declared.reading.Reading.TheVariants.{Unformatted, Overtaken, Whole}
 
--- no checkpoint begins meanwhile
+-- What a reading found is true of the image, and no checkpoint began meanwhile.
 abbrev pub TellsReading : List ℕ → Reading → Type 0
 TellsReading image Unformatted = IsUnformatted image
 TellsReading image Overtaken = ⊥

@@ -1,3 +1,5 @@
+//! How `femem look` fails (`docs/operating.md`, "What a server says").
+
 use fe_store::OpenFault;
 use fe_text::StreamFault;
 

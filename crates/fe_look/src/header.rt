@@ -45,7 +45,7 @@ impl HeaderBytes {
     }
 }
 
-/// The slot that counts, and its header.
+/// The slot that counts, and its header. `None` if neither slot is valid.
 pub(crate) fn read_counting<D: Disk>(
     disk: &mut D,
 ) -> Result<Option<(usize, HeaderBytes)>, DeviceFault>

@@ -1,4 +1,5 @@
-//! A look at a store, `femem look`: the text of the state in it, while a server may be writing it.
+//! A look at a store, `femem look`: the text of the state in it, while a server may be writing it
+//! (`docs/store.md`, "A copy while the store is written").
 #![tactic(auto)]
 
 mod fault;

@@ -1,4 +1,4 @@
-//! Opening a store, and writing the text of its state.
+//! Opening a store, and writing the text of its state, for `femem look` (`docs/operating.md`, "What a server says").
 
 ghost use Rattle.std.specs.Prelude.{◌≡◌, ◌↔◌, ◌≢◌, ℕ, take, OnOk, IsErrOf};
 ghost use Rattle.std.specs.Io.KnownBytes.{Appends, Keeps};
@@ -56,7 +56,8 @@ pub fn look_at<D: Disk, W: Write>(
     // A reported fault is true of the store, and a valid store is refused only if the device fails or memory is short.
     ensures refused { D.honest disk → (why : OpenFault) → IsErrOf result.0 (fault.Store why)
         → IsReason (D.seen disk) why }
-    // Memory is short for the store only where what was read until then is right, and for the text only once the store is read.
+    // Memory is short for the store only as `MayLackMemory` says. The writer fails, or memory is short for the text, only once the store
+    // is read.
     ensures memory { D.honest disk → IsErrOf result.0 (fault.Store store.Memory)
         → MayLackMemory (D.seen disk) (D.calls disk) (D.calls result.1) }
     ensures opened { D.honest disk → (why : StreamFault) → IsErrOf result.0 (fault.Stream why)
@@ -86,7 +87,9 @@ pub fn look_at<D: Disk, W: Write>(
 /// Copies the store on a disk into memory, and writes its text. The disk is only synced and read, so a server may use it at the
 /// same time (`docs/store.md`, "A copy while the store is written").
 ///
-/// `Device` if the disk fails, or a checkpoint begins during each of 100 readings. `Unformatted` or `Damaged` if it holds no state.
+/// `Device` if the disk fails, or if none of 100 readings was whole and a checkpoint began during one at least. `Memory` if memory runs
+/// out for the copy or the state. `Unformatted` or `Damaged` if the disk holds no state. `Stream` if the writer fails or memory is short
+/// for the text.
 pub fn look_copy<D: Disk, W: Write>(
     alloc: Global,
     disk: &mut D,
@@ -120,8 +123,9 @@ pub fn look_copy<D: Disk, W: Write>(
 /// Copies the store in a file into memory, and writes its text: its place, and a line for each array and each session. The
 /// file is only synced and read, so a server may use it at the same time.
 ///
-/// `Device` if there is no such file, it can't be read, or a checkpoint begins during each of 100 readings. `Size` if the file
-/// doesn't have the size of a store. `Unformatted` or `Damaged` if it holds no state.
+/// `Device` if there is no such file, it can't be read, or none of 100 readings was whole and a checkpoint began during one at least.
+/// `Size` if the file doesn't have the size of a store. `Unformatted` or `Damaged` if it holds no state. `Memory` and `Stream` as
+/// `look_copy` says.
 pub fn look<R: Files<File = File>, W: Write>(
     rt: &R,
     alloc: Global,

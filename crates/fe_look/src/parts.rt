@@ -1,4 +1,5 @@
-//! Reading parts of a disk.
+//! Reading the parts of a store from which a copy is made, each in a read of its own
+//! (`docs/store.md`, "A copy while the store is written").
 
 ghost use Rattle.std.specs.Prelude.{◌≡◌, ◌+◌, ◌≤◌, length, slice_index, IfOk, OnOk};
 ghost use Rattle.fe_disk.specs.Disk.{bytes_at, after_write};
@@ -30,7 +31,7 @@ pub(crate) fn read_number<D: Disk>(disk: &mut D, at: usize) -> Result<u32, Devic
     Ok(BigEndian::read_u32(&bytes))
 }
 
-/// Reads a part of the disk to where it is in the bytes.
+/// Reads this many bytes of the disk from `at` on, to the same offset in `bytes`.
 pub(crate) fn read_part<D: Disk>(
     disk: &mut D,
     bytes: &mut [u8],

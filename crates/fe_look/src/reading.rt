@@ -32,9 +32,9 @@ enum Reading {
 }
 
 /// A copy of the store on a disk, as a crash at some moment since the call began may leave it, with only the slot that counted
-/// then. All that it holds is synced. `Unformatted` if no slot counts, or the disk has another size than a store. `Device` if the
-/// disk fails, or if each of 100 readings found no slot or a checkpoint that began meanwhile, which an honest disk, one that only
-/// its owner writes, never shows.
+/// then. All that it holds is synced. `Unformatted` if the disk has another size than a store, or none of 100 readings found a slot that
+/// counts. `Device` if the disk fails, or if none of 100 readings was whole and a checkpoint began during one at least, which an honest
+/// disk, one that only its owner writes, never shows. `Memory` if memory runs out.
 pub(crate) fn copy_of<D: Disk>(alloc: Global, disk: &mut D) -> Result<MemoryDisk, OpenFault>
     // The copy holds what the disk holds, and what is wrong with the disk is wrong with it.
     ensures copy { D.honest disk.old → IfOk result (λ copy. IsCopyOf (D.seen disk.old) copy.image) }
@@ -57,7 +57,7 @@ pub(crate) fn copy_of<D: Disk>(alloc: Global, disk: &mut D) -> Result<MemoryDisk
     Ok(MemoryDisk::over(alloc, bytes)?)
 }
 
-// The bytes of a store, from the first of the readings in which no checkpoint began.
+// The bytes of a store, from the first reading that found a slot that counts and in which no checkpoint began.
 fn read_bytes<D: Disk>(alloc: Global, disk: &mut D) -> Result<Vec<u8>, OpenFault>
     requires device { D.size disk.old ≡ device_bytes }
     ensures copy { D.honest disk.old → IfOk result (λ bytes. IsCopyOf (D.seen disk.old) bytes.items) }

@@ -12,8 +12,8 @@ use crate::parts::{read_byte, read_number, read_part};
 use fe_disk::{DeviceFault, Disk};
 use fe_journal::{AREA_BYTES, area_of, header_of, image_of};
 
-/// Reads a slot into bytes that are zero, with the groups whose gates were open. It is there whole if its header is the same
-/// still, and else a checkpoint began in it.
+/// Reads a slot into the bytes, to where it is on the device, with the groups whose gates were open. Returns whether its header's fields
+/// are still these; if not, a checkpoint began in it, and it may not be whole.
 pub(crate) fn read_slot<D: Disk>(
     disk: &mut D,
     bytes: &mut [u8],
@@ -65,8 +65,8 @@ fn put(bytes: &mut [u8], at: usize, part: &[u8])
     bytes[at..at + part.len()].copy_from_slice(part);
 }
 
-// The place in a journal area of the gate that ends its groups, which was not open. Each gate is read before what follows
-// it. `None` where a length is none that fits.
+// The place in a journal area of the gate that ends its groups, which was not open. Each gate is read before what follows it. `None` if
+// the lengths of groups lead beyond the area, or to a gate in its last four bytes, after which no group has room.
 fn end_of_groups<D: Disk>(disk: &mut D, area: usize) -> Result<Option<usize>, DeviceFault>
     requires area { area + area_bytes ≤ device_bytes }
     requires device { D.size disk.old ≡ device_bytes }

@@ -1,4 +1,4 @@
-//! A server state as text, as `femem look` prints it.
+//! A server state as text, as `femem look` prints it (`docs/operating.md`, "What a server says").
 
 ghost use Rattle.std.specs.Prelude.{◌≡◌, ◌++◌, true, string_bytes, length, IfOk, OnOk};
 ghost use Rattle.std.specs.FinMap.{entries};

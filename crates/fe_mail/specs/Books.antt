@@ -1,4 +1,4 @@
--- The books: how many calls and mails there were, and how each ended. A call is a client's request, a mail a message
+-- The books: how many calls and mails there were, and what became of each. A call is a client's request, a mail a message
 -- from the server to a connection, which waits in the connection's box until it is taken.
 -- See `docs/model.md`, "Mails, connections and books".
 use Rattle.std.specs.Prelude.{◌≡◌, ℕ, ◌+◌, ◌-◌, ◌≤◌, Bool, true, false, refl, min, nat_lt, if◌then◌else◌}
@@ -32,7 +32,7 @@ pub record AddUp (b : Books) : Type 0 where
   pub few_calls : b.calls ≤ most_booked
   pub few_mails : b.mails ≤ most_booked
 
--- the books balance: this many calls wait, and this many mails are in boxes
+-- the books balance: they are spent, or say that this many calls wait and this many mails are in boxes; and their columns add up
 pub record Balances (b : Books) (waiting left : ℕ) : Type 0 where
   pub columns : AddUp b
   pub waiting_is : b.spent ≡ false → b.waiting ≡ waiting
@@ -66,7 +66,7 @@ call_completed b = counting b b.calls (record b { calls = b.calls + 1; completed
 abbrev pub call_waits : Books → Books
 call_waits b = counting b b.calls (record b { calls = b.calls + 1; waiting = b.waiting + 1 })
 
--- a call that was made before is counted
+-- a call that repeats an earlier one is counted
 abbrev pub call_repeated : Books → Books
 call_repeated b = counting b b.calls (record b { calls = b.calls + 1; repeated = b.repeated + 1 })
 

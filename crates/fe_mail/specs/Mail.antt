@@ -13,7 +13,7 @@ session_of (Closed session) = session
 session_of (Settled session floor) = session
 session_of (Finished session number request answer) = session
 
--- the mail for an entry at a place
+-- the mail for an entry at this place in the history
 abbrev pub mail_of : Entry → ℕ → Mail
 mail_of (Attached session floor) place = mail.Welcome session floor
 mail_of (Closed session) place = mail.Goodbye session

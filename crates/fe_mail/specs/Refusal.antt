@@ -1,4 +1,4 @@
--- The codes and the names of refusals, the reasons why an event of a client changes nothing.
+-- The codes and the names of refusals, the reasons why an event of a client is not done.
 -- See `docs/model.md`, "Mails, connections and books".
 use Rattle.std.specs.Prelude.{ℕ, List, codes}
 use Rattle.fe_mail.specs.declared.refusal.Refusal.{Refusal}

@@ -1,1 +1,2 @@
+-- Definitions that no public clause rests on.
 pub mod BooksFields

@@ -1,3 +1,6 @@
+//! The books of a server: how many calls (requests of clients) and mails (the server's replies) there were, and what became of them
+//! (`docs/model.md`, "Mails, connections and books").
+
 ghost use Rattle.std.specs.Prelude.{◌≡◌, ◌+◌, ◌&&◌, ◌||◌, ℕ, not, nat_lt, min};
 ghost use Rattle.fe_mail.specs.Books.{first_books, Balances, IsCounted, call_completed, call_waits, call_repeated, call_refused, waiter_completed, waiters_withdrawn, mail_boxed, mail_refused_by_box, mail_taken, box_dropped};
 ghost use Rattle.fe_mail.specs.Limits.{most_booked};
@@ -7,7 +10,7 @@ use std::marker::Model;
 /// The maximum number of calls, and of mails, that the books count.
 pub const MOST_BOOKED: u64 = (1 << 63) - 1;
 
-/// How the calls and the mails ended. Each call is counted in `calls` and in one of the five columns after it, each
+/// What became of the calls and the mails. Each call is counted in `calls` and in one of the five columns after it, each
 /// mail in `mails` and in one of the three columns after that. A call or a mail past `MOST_BOOKED` is not counted;
 /// it makes the books `spent`, and spent books never change.
 #[derive(Clone, Copy, PartialEq, Eq)]
@@ -94,7 +97,7 @@ impl Books {
         }
     }
 
-    /// Counts a call that was made before.
+    /// Counts a call that repeats an earlier one.
     pub fn call_repeated(&mut self)
         ensures { IsCounted call_repeated self.old self.new }
     {
@@ -126,7 +129,7 @@ impl Books {
         }
     }
 
-    /// Moves this many waiting calls, or all if there are fewer, to the withdrawn ones.
+    /// Moves this many waiting calls, or all if there are fewer, to the withdrawn ones, which wait no more and get no answer.
     pub fn waiters_withdrawn(&mut self, n: u32)
         ensures books { self.new ≡ waiters_withdrawn n self.old }
         ensures balance { (waiting left : ℕ) → Balances self.old (waiting + n) left → Balances self.new waiting left }
@@ -138,7 +141,7 @@ impl Books {
         }
     }
 
-    /// Counts a mail that is in a box.
+    /// Counts a mail that is in a box, where the mails of a connection wait.
     pub fn mail_boxed(&mut self)
         ensures books { self.new ≡ mail_boxed self.old }
         ensures balance { (waiting left : ℕ) → Balances self.old waiting left → Balances self.new waiting (left + 1) }

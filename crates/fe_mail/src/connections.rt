@@ -1,3 +1,5 @@
+//! The connections of a server (`docs/model.md`, "Mails, connections and books").
+
 ghost use Rattle.std.specs.Prelude.{◌≡◌, ◌↔◌, ◌<◌, ◌≤◌, [], ◌∷◌, ◌++◌, length, nat_lt, drop, slice_get, is_some, None, IfOk, IfErr, IfNone, OnOk, OnErr, IsOk, IsSome};
 ghost use Rattle.std.specs.FinMap as map;
 ghost use Rattle.fe_mail.specs.Connections.{first_connection, session_on, mails_on, with_session, with_mails};
@@ -12,7 +14,8 @@ use std::marker::Model;
 
 /// The connections by number: the session of each, and the box in which its mails wait.
 ///
-/// Connections are in a hash map. `connect` allocates room for `MAILS` mails; nothing else allocates.
+/// Connections are in a hash map. `connect` allocates a box with room for `MAILS` mails, the most in a box, and may let the map grow;
+/// nothing else allocates.
 pub struct Connections {
     connections: IndexMap<u64, Connection>,
     alloc: Global,
@@ -68,7 +71,7 @@ impl Connections {
         Ok(())
     }
 
-    /// Whether the connection is connected.
+    /// Whether there is a connection with this number.
     pub fn is_connected(&self, conn: u64) -> bool
         ensures { result ≡ is_some (map.get self.now conn) }
     {

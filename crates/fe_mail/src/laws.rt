@@ -1,3 +1,5 @@
+//! The limits of boxes, reports and books (`docs/model.md`, "Mails, connections and books").
+
 ghost use Rattle.std.specs.Prelude.{◌≡◌, ◌-◌, ◌^◌};
 ghost use Rattle.fe_mail.specs.Limits.{most_mails_in_box, longest_report, most_booked};
 ghost use Rattle.fe_mail.specs.declared.books.TheConstants.{MOST_BOOKED};

@@ -1,3 +1,6 @@
+//! Mails, one kind for each kind of reply (`docs/formats.md`, "Replies"), and the one that an entry of the history brings
+//! (`docs/model.md`, "Mails, connections and books").
+
 ghost use Rattle.std.specs.Prelude.{◌≡◌};
 ghost use Rattle.fe_mail.specs.Mail.{mail_of, session_of};
 
@@ -8,12 +11,12 @@ use fe_state::{Answer, Entry};
 /// A message from the server to a connection.
 #[derive(Drop)]
 pub enum Mail {
-    /// The connection has the session, whose floor is this.
+    /// The session was attached. Its floor, the least number of its window, was this then.
     Welcome {
         session: u64,
         floor: u64,
     },
-    /// The session's request with this number completed; its entry has this place.
+    /// The session's request with this number completed; its entry has this place in the history.
     Answer {
         session: u64,
         number: u64,
@@ -24,7 +27,7 @@ pub enum Mail {
     Withdrawn {
         number: u64,
     },
-    /// The session's floor is now this.
+    /// A settle set the session's floor to this.
     Settled {
         floor: u64,
     },

@@ -1,29 +1,29 @@
 ghost use Rattle.std.specs.Prelude.{◌≡◌, ◌≤◌};
 ghost use Rattle.fe_mail.specs.Refusal.{code_of, name_of};
 
-/// Why an event was refused. A refused event changes nothing (`docs/formats.md`, "Replies").
+/// Why an event of the front was refused (`docs/formats.md`, "Replies"; `docs/model.md`, "Mails, connections and books"). A refused event
+/// changes nothing, except that the books count a refused call.
 #[derive(Clone, Copy, PartialEq, Eq)]
 pub enum Refusal {
-    /// The connection has no session. For an attach, the connection is not connected.
+    /// The connection has no session. For an attach: no such connection is there.
     NotAttached,
-    /// 64 sessions are kept already.
+    /// The session does not exist, and 64 sessions exist or are closing.
     SessionLimit,
     /// The number, or the floor asked, is below the session's floor.
     BelowFloor,
-    /// The number is 32 or more above the session's floor, or the floor asked is more than 32 above it or above 2^63
-    /// - 32.
+    /// The number is 32 or more above the session's floor, or the floor asked is more than 32 above it or above 2^63 - 32.
     BeyondWindow,
-    /// Another request has used the number.
+    /// The number belongs to another request, which is kept or waits.
     NumberUsed,
-    /// A request with a number below the floor asked is waiting.
+    /// A request of the session with a number below the floor asked is waiting.
     StillWaiting,
-    /// The session is being closed.
+    /// The session is being ended: its close is made, and not yet stored and posted (`docs/model.md`, "The front").
     Closing,
     /// Memory ran out.
     NoMemory,
     /// The history has fewer than 2,049 places left, the most that one event may need.
     Spent,
-    /// No request with the number is waiting.
+    /// No request of the session with the number is waiting.
     NotWaiting,
 }
 

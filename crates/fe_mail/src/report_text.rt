@@ -1,9 +1,11 @@
+//! The text of a report, as a mail has it (`docs/model.md`, "The report").
+
 ghost use Rattle.std.specs.Prelude.{◌≡◌, ◌≤◌, string_bytes, string_len, length};
 ghost use Rattle.fe_mail.specs.Limits.{longest_report};
 
 use std::marker::Model;
 
-/// The length of the longest report, in bytes.
+/// The most bytes that a report may have.
 pub const REPORT_BYTES: usize = 262_144;
 
 /// The text of a report, which lists what waits: 1 to `REPORT_BYTES` bytes.
@@ -30,7 +32,7 @@ impl Model for ReportText {
 }
 
 impl ReportText {
-    /// A report with this text.
+    /// A report with this text, 1 to `REPORT_BYTES` bytes.
     pub fn new(text: String) -> ReportText
         requires some { 1 ≤ string_len text }
         requires few { string_len text ≤ longest_report }

@@ -1,4 +1,4 @@
--- Which answers the entries of a history give, so that a mail can be held against the history.
+-- Which answers the entries of a history give, so that a mail can be checked against the history.
 -- See `docs/model.md`, "Messages and mails".
 use Rattle.std.specs.Prelude.{◌≡◌, ◌⊎◌, ℕ, ◌+◌, ◌<◌, List, [], ◌∷◌, ◌++◌, length, Some}
 use Rattle.std.specs.FinMap.{get}

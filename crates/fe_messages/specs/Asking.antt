@@ -1,4 +1,5 @@
--- Which sessions connections ask for by their messages, and which of them they have (`docs/model.md`, "Messages and mails").
+-- Which sessions connections ask for by their messages, and that they have no others (`docs/headline.md`, "Including every acknowledged
+-- operation"; of the server "Every acknowledged answer").
 use Rattle.std.specs.Prelude.{◌≡◌, ℕ, Some}
 use Rattle.fe_service.specs.AttachmentsState.{holder_of}
 use Rattle.fe_mail.specs.Connections.{session_on}

@@ -16,7 +16,7 @@ use Rattle.fe_front.specs.Refusals.{attaching, settling, leaving, cancelling}
 use Rattle.fe_front.specs.Call.{IsCallRefused, WantsMemory, call_refused_by}
 use Rattle.fe_front.specs.declared.outcome.Outcome.{Outcome}
 
--- a message is refused: a mail that says why comes to its connection (`mailed`), and nothing else happens
+-- a message is refused: a mail that says why comes to its connection (`mailed`), and no entry is made
 pub record IsRefused (f : FrontState) (conn number : ℕ) (refusal : Refusal) (es : List Entry) (g : FrontState) : Type 0 where
   pub entries : es ≡ []
   pub front : g ≡ mailed f conn (mail.Refused number refusal)

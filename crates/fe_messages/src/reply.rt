@@ -1,3 +1,5 @@
+//! Replies: mails as clients get them (`docs/model.md`, "Messages and mails").
+
 ghost use Rattle.std.specs.Prelude.{◌≡◌, ◌+◌, ◌<◌, ◌++◌, length, OnOk, OnErr, vec_len, vec_capacity};
 ghost use Rattle.fe_wire.specs.Spelling.{reply_spelling, ReplyFits};
 ghost use Rattle.fe_messages.specs.Mails.{reply_of};
@@ -25,7 +27,7 @@ impl Model for Reply {
 }
 
 impl Reply {
-    /// The reply for a mail. An answer's session and place are left out.
+    /// The reply for a mail.
     pub fn of(mail: Mail) -> Reply
         ensures { result ≡ reply_of mail }
     {

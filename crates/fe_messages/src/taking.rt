@@ -1,4 +1,4 @@
-//! Handing clients' messages to the front.
+//! Handing clients' messages to the front (`docs/model.md`, "Messages and mails").
 
 ghost use Rattle.std.specs.Prelude.{◌≡◌, List, IsTrue};
 ghost use Rattle.fe_state.specs.declared.entry.Entry.{Entry};
@@ -14,7 +14,8 @@ use fe_report::report;
 use fe_wire::ClientMessage;
 use std::alloc::Global;
 
-/// Hands a connection's message to the front. If it is refused, the connection gets a mail that says why.
+/// Hands a connection's message to the front, which has to have room for the entries of one event. If the message is refused, the
+/// connection, if it is connected, gets a mail that says why, or is removed if its box is full.
 pub fn take_message(alloc: Global, front: &mut Front, conn: u64, message: ClientMessage) -> Took
     requires room { IsTrue (has_room front.old) }
     ensures taken { (es : List Entry) × Takes front.old conn message es front.new × Enters front.old es front.new }
@@ -29,7 +30,7 @@ fn hand_over(alloc: Global, front: &mut Front, conn: u64, message: ClientMessage
     requires room { IsTrue (has_room front.old) }
     ensures taken { (es : List Entry) × Takes front.old conn message es front.new × Enters front.old es front.new }
 {
-    // It names a type for the checker (`docs/DECISIONS.md`, "Toolchain").
+    // From here on the proof has what is always true of the front (`docs/DECISIONS.md`, "Toolchain").
     let _ = front.state();
     match message {
         ClientMessage::Attach { session } => {
@@ -61,7 +62,7 @@ fn hand_over(alloc: Global, front: &mut Front, conn: u64, message: ClientMessage
     }
 }
 
-/// Mails the report, or `NoMemory` if there is no memory for it.
+/// Mails the report, or the refusal `NoMemory` if there is no memory for it.
 fn mail_report(alloc: Global, front: &mut Front, conn: u64)
     ensures taken { (es : List Entry) × Takes front.old conn Message.Report es front.new
         × Enters front.old es front.new }

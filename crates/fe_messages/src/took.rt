@@ -1,9 +1,12 @@
+//! What handing a message to the front returns (`docs/model.md`, "Messages and mails"). The front has the server's state, all that waits,
+//! and the connections ("The front").
+
 ghost use Rattle.std.specs.Prelude.{◌≡◌};
 
 use fe_wire::ClientMessage;
 use std::marker::Model;
 
-/// Shows that this message of this connection was handed to a front. Only `take_message` makes one.
+/// Shows that this message of this connection was handed to a front, which took or refused it. Only `take_message` makes one.
 #[derive(Drop)]
 pub struct Took {
     conn: u64,
@@ -28,7 +31,7 @@ impl Took {
         }
     }
 
-    /// The connection and its message.
+    /// The number of the connection, and its message.
     pub fn into_parts(self) -> (u64, ClientMessage)
         ensures { result ≡ (self.conn, self.message) }
     {

@@ -66,6 +66,7 @@ IsWrong key.Format document = flag_under key.Format document ≡ None
 IsWrong key.Accepts document = number_under key.Accepts 0 65536 0 document ≡ None
 IsWrong key.Turns document = number_under key.Turns 1 (2 ^ 40) 1000000000 document ≡ None
 
+-- the value at this key is not wrong
 abbrev pub IsRight : Key → Members → Type 0
 IsRight k document = IsWrong k document → ⊥
 

@@ -1,4 +1,4 @@
-//! The command line: the commands of the program, and their options.
+//! The command line: the commands of the program, and their options (`docs/commands.md`, "Commands").
 
 ghost use Rattle.std.specs.Prelude.{◌≡◌, ◌⊎◌, codes, false, map, is_some, IfSome, IfOk, IfErr, Ok, option_map};
 ghost use Rattle.clap.specs.Words.{AddsSubcommand, HasKind, app_of, fault_of, first_of, found_of, kind_of, rows_of, subcommand_of, subcommand_rows_of};
@@ -41,7 +41,7 @@ const LOOK: &str = "Shows what is in a store";
 /// What a command line asks for.
 #[derive(Clone, Copy, PartialEq, Eq)]
 pub enum Invocation<'a> {
-    /// Run a schedule from standard input.
+    /// Run a schedule, lines of many clients (`docs/schedules.md`), from standard input.
     Run,
     /// Serve with the settings in this file.
     Serve { settings: &'a str },
@@ -186,7 +186,7 @@ fn asked_by<'a>(matches: &ArgMatches<'a>) -> Option<Invocation<'a>>
 pub fn arguments<'a, S: AsStr>(alloc: Global, words: &'a [S]) -> Result<Invocation<'a>, Error>
     // It is the command that `clap` finds in the words, with the value of its option.
     ensures asked { IfOk result (λ asked. IsAsked asked (subcommand_of femem (map S.text words.entry.now))) }
-    // Every error is one of `clap`: words that it accepts ask for a command.
+    // An error has a kind that `clap` finds in the words, or says that memory ran out. So words that it accepts ask for a command.
     ensures refused { IfErr result (HasKind (fault_of femem (map S.text words.entry.now))) }
 {
     let program = commands(alloc)?;

@@ -1,4 +1,4 @@
-//! The program's command line, and a server's settings.
+//! The program's command line (`docs/commands.md`, "Commands"), and a server's settings (`docs/settings.md`).
 #![tactic(auto)]
 
 mod command_line;

@@ -1,3 +1,5 @@
+//! The memory of a pool of nodes, which link waiting requests into lists of words and of sessions (`docs/model.md`, "Waiting requests").
+
 ghost use Rattle.std.specs.Prelude.{◌≡◌, ◌↔◌, IsTrue, ℕ, ◌<◌, ◌^◌, IfOk, IsSome, Some, None, length, slice_index_or, slice_set, replicate, Option};
 ghost use Rattle.std.specs.Option.{ForSome};
 ghost use Rattle.fe_pool.specs.Columns.{links_of, with_links, link_at, before_each, IsLoose, IsLinked};
@@ -10,7 +12,7 @@ use std::alloc::{AllocError, Global};
 use std::marker::Model;
 use std::mem;
 
-// One node: free, with the next free node after it, or taken.
+// One node: free, with the node after it on the list of free nodes, or taken.
 #[derive(Drop)]
 enum Cell<T> {
     Free(Option<Node>),
@@ -129,7 +131,7 @@ impl<T: Drop> Cells<T> {
         }
     }
 
-    // The neighbours of a node on its list of a family, or `None` if it is on no list.
+    // The neighbours of a node on its list of a family, or `None` if it is on no list of it.
     pub(crate) fn neighbours(&self, family: Family, node: Node) -> Option<Neighbours>
         requires { node < length self.now.items }
         ensures { result ≡ link_at (links_of self.now family) node }

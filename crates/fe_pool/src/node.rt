@@ -1,3 +1,5 @@
+//! The nodes of a pool: a node is free, or has a waiting request (`docs/model.md`, "Waiting requests").
+
 use std::marker::Model;
 
 /// A node of a `Pool`, as its index in the pool's vector. Those that a pool hands out are below its number of nodes.

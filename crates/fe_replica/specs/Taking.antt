@@ -13,7 +13,7 @@ pub record Continues (s : ServerState) (first : ℕ) (entries : List Entry) : Ty
   pub some : 1 ≤ length entries
   pub legal : AreLegal s entries
 
--- The first place at which entries do not continue it: the state's place, if they begin elsewhere or there is none, or
+-- The first place at which entries do not continue a history: the state's place, if they begin elsewhere or there is none, or
 -- else that of the first one that is not legal after those before it.
 pub data IsMismatch (s : ServerState) (first : ℕ) (entries : List Entry) (place : ℕ) : Type 0 where
   Elsewhere : first ≢ s.place → place ≡ s.place → IsMismatch s first entries place

@@ -1,3 +1,6 @@
+//! Replaying a stored group, whose payload is the records of entries, one after another (`docs/model.md`, "The replica"). An entry is a
+//! step of the history.
+
 ghost use Rattle.std.specs.Prelude.{◌≡◌, ℕ, Err, IfOk, OnOk, OnErr};
 ghost use Rattle.fe_replica.specs.Replaying.{Replays, IsFirstBad, MakesArrayIn, NoneFollows, Steps, MakesNext};
 ghost use Rattle.fe_replica.specs.declared.replaying.ReplayFault.TheVariants.{Damaged, NoMemory};
@@ -25,7 +28,7 @@ enum Fault {
 }
 
 /// Carries out the entries of a stored group, one by one. It takes memory only for the words of new arrays.
-/// After a fault the state is useless.
+/// After a fault nothing is promised about the state.
 pub fn replay(format: Format, payload: &[u8], state: &mut State) -> Result<(), ReplayFault>
     ensures ok { OnOk result (Replays format payload.now state.old state.new) }
     ensures damaged { (offset : ℕ) → result ≡ Err (Damaged offset) → IsFirstBad format payload.now state.old offset }

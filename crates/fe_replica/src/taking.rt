@@ -1,4 +1,5 @@
-//! Taking a batch: entries that are to be stored at once. An entry's place is the number of entries before it.
+//! Taking a batch, entries that are to be stored at once, into the replica of the state (`docs/model.md`, "The replica"). An entry is a
+//! step of the history; its place is the number of entries before it.
 
 ghost use Rattle.std.specs.Prelude.{◌≡◌, ℕ, ◌≤◌, length, Err, OnOk, OnErr};
 ghost use Rattle.fe_state.specs.State.{after_all};
@@ -17,8 +18,8 @@ pub enum Refused {
     NoMemory,
 }
 
-/// Carries out entries that continue the history of the state, the first of them at the place `first`.
-/// Then the log can restore the state before. If the entries are refused, state and log stay as they were.
+/// Carries out entries that continue the history of the state, the first of them at the place `first`. Then the log, which has to be empty
+/// before and to have room for them, can restore the state before. If the entries are refused, state and log stay as they were.
 pub fn take(
     state: &mut State,
     log: &mut UndoLog,
@@ -29,7 +30,7 @@ pub fn take(
     requires room { length entries.now ≤ log.old.room }
     ensures taken { OnOk result (state.new ≡ after_all state.old entries.now) }
     ensures continues { OnOk result (Continues state.old first entries.now) }
-    // The log restores the state.
+    // The log restores the state before.
     ensures log { OnOk result (IsLogOf log.new state.new) }
     ensures beginning { OnOk result (rewound log.new state.new ≡ state.old) }
     ensures room { log.new.room ≡ log.old.room }

@@ -44,18 +44,22 @@ do_all_wait waiting attached = nat_lt 0 (len attached) && (len (idle waiting att
 
 -- ---- the lines
 
+-- how many requests wait
 abbrev pub count_line : ℕ → List ℕ
 count_line count = codes "waiting " ++ (decimal count ++ codes "\n")
 
+-- where a request waits, and its operation without the operand
 abbrev pub word_line : Spot × Op → List ℕ
 word_line e =
     codes "word " ++ (decimal e.0.0.0 ++ (codes " " ++ (decimal e.0.0.1
     ++ (codes " session " ++ (decimal e.0.1.0 ++ (codes " number " ++ (decimal e.0.1.1
     ++ (codes " " ++ (name_of e.1 ++ codes "\n")))))))))
 
+-- how many requests of a session wait
 abbrev pub session_line : ℕ × ℕ → List ℕ
 session_line e = codes "session " ++ (decimal e.0 ++ (codes " waits " ++ (decimal e.1 ++ codes "\n")))
 
+-- whether a session is attached and all that are attached wait
 abbrev pub all_wait_line : Bool → List ℕ
 all_wait_line all = if all then codes "all-wait yes\n" else codes "all-wait no\n"
 
@@ -68,8 +72,8 @@ lines_of waiting attached =
     ++ (flat_map session_line (entries (by_session waiting))
     ++ all_wait_line (do_all_wait waiting attached))
 
--- The report, given what waits and the attachments of the attached sessions: how many requests wait and, if any do, a
--- line for each of them by word, a line for each session that has any, and whether every attached session waits.
+-- The report, given what waits and the attachments of the attached sessions: how many requests wait and, if any do, a line for each of
+-- them by word, a line for each session that has any, and whether a session is attached and each attached one has a waiting request.
 abbrev pub report_text : WaitingAccesses → FinMap nat_cmp Attachment → List ℕ
 report_text waiting attached =
     count_line (len waiting) ++ (if len waiting == 0 then [] else lines_of waiting attached)

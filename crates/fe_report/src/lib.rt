@@ -1,4 +1,4 @@
-//! The report: a text that says what waits in a front.
+//! The report: a text that says what waits in a front (`docs/model.md`, "The report").
 #![tactic(auto)]
 
 mod reporting;

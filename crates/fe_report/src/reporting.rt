@@ -1,3 +1,6 @@
+//! Putting a report together (`docs/model.md`, "The report"). A front has the state of a server, all that waits, and the connections
+//! ("The front").
+
 ghost use Rattle.std.specs.Prelude.{◌≡◌, ◌≤◌, IfOk, string_bytes, string_len};
 ghost use Rattle.fe_mail.specs.Limits.{longest_report};
 ghost use Rattle.fe_report.specs.Report.{report_text, held_attachments};
@@ -7,16 +10,16 @@ use crate::text::{put_all_wait, put_count, put_sessions, put_words};
 use fe_front::Front;
 use std::alloc::{AllocError, Global};
 
-/// The length of the longest line of a request, in bytes.
+/// A request's line has at most this many bytes.
 pub(crate) const WORD_LINE: usize = 108;
 
-/// The length of all other lines together, in bytes, at most.
+/// All other lines together have at most this many bytes.
 const OTHER_LINES: usize = 2976;
 
-/// The report of what waits in a front, 1 to `REPORT_BYTES` bytes long. Fails only if memory runs out.
+/// The report of what waits in a front, 1 to 262,144 bytes long. Fails only if memory runs out.
 ///
-/// It walks each session's waiting list once, and looks at no word. It allocates room for the longest text first, and
-/// gives back what the text doesn't use.
+/// It walks each session's list of waiting requests once, and looks at no word of an array. It first allocates room for the longest text
+/// with that number of requests, and gives back what the text doesn't use.
 pub fn report(alloc: Global, front: &Front) -> Result<String, AllocError>
     ensures text { IfOk result
         (λ text. string_bytes text ≡ report_text front.now.service.waiting (held_attachments front.now)) }

@@ -1,4 +1,4 @@
-//! The rows of a report: what waits, in the order of the lines.
+//! The rows of a report: what waits, in the order of the lines (`docs/model.md`, "The report").
 
 ghost use Rattle.std.specs.Prelude.{◌≡◌, ◌≤◌, IfOk, OnOk, vec_len};
 ghost use Rattle.std.specs.BTreeMap.{btree_map_len};
@@ -73,7 +73,7 @@ pub(crate) fn rows_by_session(
     Ok(rows)
 }
 
-/// Whether a session is attached, and each attached session has a waiting request.
+/// Whether a session is attached (a connection has it, and it is not closing), and each attached session has a waiting request.
 pub(crate) fn do_all_wait(front: &Front) -> bool
     ensures { result ≡ do_all_wait front.now.service.waiting (held_attachments front.now) }
 {

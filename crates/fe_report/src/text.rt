@@ -35,7 +35,7 @@ fn put_piece(line: &mut [u8], piece: &str, end: usize) -> usize
     start
 }
 
-/// Writes the second part of a request's line, at the end of `line`: its session, number and operation.
+/// Writes the second part of a request's line, at the end of `line`: its session, number and operation. Returns where that starts.
 fn put_caller(line: &mut [u8], session: u64, number: u64, op: Op) -> usize
     requires whole { length line.old ≡ 108 }
     ensures room { 36 ≤ result }
@@ -53,7 +53,7 @@ fn put_caller(line: &mut [u8], session: u64, number: u64, op: Op) -> usize
     put_piece(line, " session ", at)
 }
 
-/// Writes the first part of a request's line, its word, so that it ends at `end`.
+/// Writes the first part of a request's line, its word, so that it ends at `end`. Returns where it starts.
 fn put_spot(line: &mut [u8], array: u64, index: u32, end: usize) -> usize
     requires room { 36 ≤ end }
     requires in_bounds { end ≤ length line.old }
@@ -83,7 +83,7 @@ fn put_word(
     let mut line = [0; WORD_LINE];
     let caller = put_caller(&mut line, session, number, op);
     let start = put_spot(&mut line, array, index, caller);
-    // The bytes are ASCII. To check each of them again costs a third of a report.
+    // The bytes are ASCII. To check each of them would take a third of the time of a report.
     let line = unsafe { str::from_utf8_unchecked(&line[start..]) };
     text.push_str(line)
 }
@@ -123,7 +123,7 @@ pub(crate) fn put_sessions(
     Ok(())
 }
 
-/// Writes whether every attached session waits.
+/// Writes the last line: `all-wait yes` if `all`, else `all-wait no`.
 pub(crate) fn put_all_wait(text: &mut String, all: bool) -> Result<(), AllocError>
     ensures line { OnOk result (string_bytes text.new ≡ string_bytes text.old ++ all_wait_line all) }
     ensures few { OnOk result (string_len text.new ≤ string_len text.old + 13) }

@@ -1,4 +1,4 @@
--- What the counts of a reader and of a writer say (`docs/model.md`, "Schedules").
+-- What the counts of a reader and of a writer say (`docs/schedules.md`, "Lines").
 use Rattle.std.specs.Prelude.{◌≡◌, ◌⊎◌, ℕ, ◌-◌, ◌^◌, ◌≤◌, min, true}
 use Rattle.fe_schedules.specs.declared.counted_reader.CountedReader.{CountedReader}
 use Rattle.fe_schedules.specs.declared.counted_writer.CountedWriter.{CountedWriter}
@@ -15,6 +15,6 @@ HasFailed faults stream.Memory = faults.memory ≡ true
 abbrev pub WasRead : {R : Type 0} → CountedReader R → ℕ → Type 0
 WasRead reader count = reader.reads ≡ min count (2 ^ 64 - 1)
 
--- a write or a flush failed; or a write took no byte, or there were 2^40 of them
+-- a write or a flush failed with this fault; or it is `Input`, and a write took no byte, or 2^40 were made in all
 abbrev pub HasBroken : {W : Type 0} → CountedWriter W → StreamFault → Type 0
 HasBroken writer fault = HasFailed writer.faults fault ⊎ ((fault ≡ stream.Input) × ((writer.took_none ≡ true) ⊎ (2 ^ 40 ≤ writer.writes)))

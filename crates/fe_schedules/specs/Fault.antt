@@ -1,4 +1,4 @@
--- Which fault of a part, a desk or a stream, ends a schedule with which fault (`docs/model.md`, "Schedules").
+-- Which fault of a part, a desk or a stream, ends a schedule with which fault (`docs/schedules.md`, "Lines").
 use Rattle.std.specs.Prelude.{◌≡◌, ◌⊎◌, ◌<◌, Option, None, Some}
 use Rattle.fe_disk.specs.Memory.{MemoryState}
 use Rattle.fe_keeper.specs.declared.fault.Fault.TheVariants as store
@@ -11,7 +11,7 @@ use Rattle.fe_schedules.specs.declared.fault.MachineFault.TheVariants as machine
 use Rattle.fe_schedules.specs.declared.fault.ScheduleFault.{ScheduleFault}
 use Rattle.fe_schedules.specs.declared.fault.ScheduleFault.TheVariants as fault
 
--- the fault of a desk over a store that was formatted here; it has no other faults than these
+-- the machine's fault for a fault of its desk; None for those that a desk over a store that was formatted here does not have
 abbrev pub of_desk : DeskFault → Option MachineFault
 of_desk (desk.NoMemory fed) = Some machine.Memory
 of_desk desk.Unwritten = Some machine.Memory
@@ -43,6 +43,6 @@ TellsOfDisk disk fault.Device = 0 < disk.failures
 abbrev pub IsOfStream : (StreamFault → Type 0) → ScheduleFault → Type 0
 IsOfStream fails end = (f : StreamFault) × fails f × (end ≡ of_stream f)
 
--- the fault says whether the disk failed, or the writer failed
+-- the fault is the device's exactly if a call of the disk failed, or it is that of the writer, which failed
 abbrev pub TellsDiskOrWriter : MemoryState → (StreamFault → Type 0) → ScheduleFault → Type 0
 TellsDiskOrWriter disk writer end = TellsOfDisk disk end ⊎ IsOfStream writer end

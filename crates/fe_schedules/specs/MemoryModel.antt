@@ -1,5 +1,5 @@
--- The members by which the contracts of any disk speak (`docs/model.md`, "The disk"), for a disk in memory. Those on the right
--- are defined in `fe_disk/Memory`.
+-- The ghost members of the trait `Disk`, in which contracts speak of a disk (`docs/model.md`, "The disk"), for a disk in memory.
+-- `fe_disk/Memory` defines those on the right.
 use Rattle.fe_disk.specs.Memory.{MemoryState, size_of, failures_of, calls_of, seen_of, moment_of, IsHonest, LeavesNow, LeavesSince}
 use Rattle.fe_disk.specs.declared.disk.Disk.{Ghosts}
 

@@ -57,7 +57,7 @@ ArePrintedReplies (o ∷ os) printed_replies =
 abbrev pub printed_text : PrintedReply → List ℕ
 printed_text t = printed (Some t.conn) t.reply
 
--- The text is the replies, in their order.
+-- The text is what the replies in the outputs print, sorted.
 pub record IsPrinted (outputs : List (ℕ × List ℕ)) (text : List ℕ) : Type 0 where
   pub printed_replies : List PrintedReply
   pub order : List PrintedReply

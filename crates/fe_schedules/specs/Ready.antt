@@ -18,8 +18,8 @@ pub record HoldsStore (disk : MemoryState) : Type 0 where
   pub honest : IsHonest disk
   pub calm : disk.failures ≡ 0
 
--- The store works, no call of its disk failed, and it is that of a run from some state; each image that a stop may leave stands
--- for what the keeper has; all groups are stored, and all mails are written.
+-- The store works, its disk does what its model says, and no call of it failed. The desk's groups are a history from some state, and all
+-- are stored. Each image that a stop may leave stands for the state that the keeper has. No mails are owed, and no reply waits.
 pub record IsReady (d : DeskState MemoryState) : Type 0 where
   pub works : d.keeper.store.has_failed ≡ false
   pub calm : (disk_of d).failures ≡ 0

@@ -31,7 +31,7 @@ pub record PrintsMore (s : DeskRunState) (before after : List ℕ) : Type 0 wher
 
 -- ---- a machine
 
--- the disk of a store that could not be opened, or else the desk's
+-- the disk at which a `stop` failed, or else the desk's
 abbrev pub last_of : Option MemoryState → MemoryState → MemoryState
 last_of None disk = disk
 last_of (Some lost) disk = lost
@@ -39,7 +39,7 @@ last_of (Some lost) disk = lost
 abbrev pub last_disk : Machine → MemoryState
 last_disk m = last_of m.lost (disk_of m.desk)
 
--- the desk is between two steps, and no store failed to open
+-- the desk is between two steps, and there is no disk at which a `stop` failed
 pub record IsMachine (m : Machine) : Type 0 where
   pub ready : IsReady m.desk
   pub lost : m.lost ≡ None
@@ -71,7 +71,8 @@ pub record ActsOn (m : Machine) (l : Line) (n : Machine) : Type 0 where
 
 -- ---- a run
 
--- The trace has no groups. The unfinished line is no longer than any line may be, and its buffer has room for all of that.
+-- The machine is between two steps, and its trace has no groups. The unfinished line is no longer than the longest one, for which its
+-- buffer has room. At most 2^64 - 2 lines were taken.
 pub record IsRun (r : Run) : Type 0 where
   pub machine : IsMachine r.machine
   pub none : r.machine.desk.run_state.groups ≡ []
@@ -79,7 +80,8 @@ pub record IsRun (r : Run) : Type 0 where
   pub room : longest_line ≤ vec_capacity r.begun
   pub count : r.lines < 2 ^ 64 - 1
 
--- a line does what it says, and then what is pending is stored and posted; the replies are printed, and the trace begins anew
+-- The steps of the line were taken, and then, unless on hold, what is pending was stored and posted. The replies are printed, and the
+-- trace begins anew.
 pub record RanLine (r : Run) (l : Line) (s : Run) : Type 0 where
   pub run : IsRun s
   pub lines : s.lines ≡ r.lines
@@ -121,12 +123,12 @@ SaysLine bytes (Some said) = (bytes ≢ []) × (parsed bytes ≡ Some said)
 abbrev pub IsStray : ℕ → List ℕ → ScheduleFault → Type 0
 IsStray number bytes end = (end ≡ fault.Line number) × (bytes ≢ []) × (parsed bytes ≡ None)
 
--- the line is longer than any line may be, and the fault has its number
+-- the line is longer than the longest one of the syntax, and the fault has its number
 abbrev pub IsTooLong : ℕ → List ℕ → ScheduleFault → Type 0
 IsTooLong number bytes end = (end ≡ fault.Line number) × (longest_line < length bytes)
 
 -- What a fault says of the line of these bytes with this number. For `Line` it does not parse; for `Memory` and
--- `Device` it parses, but memory ran out or the disk failed; for `Input` no line after it can be counted.
+-- `Device` it parses, but memory ran out or the disk failed; for `Input` it is line 2^64 - 1, which is not counted.
 abbrev pub IsFaultOf : ℕ → List ℕ → ScheduleFault → Type 0
 IsFaultOf number bytes (fault.Line found) = (found ≡ number) × (bytes ≢ []) × (parsed bytes ≡ None)
 IsFaultOf number bytes fault.Memory = (bytes ≢ []) × (l : Line) × (parsed bytes ≡ Some l)

@@ -75,7 +75,8 @@ abbrev pub endings : Bool → List Step
 endings true = []
 endings false = step.Cut ∷ step.Append ∷ step.Post ∷ []
 
--- The steps of the line run, and the text is the replies to them. The groups are stored, and the trace begins anew.
+-- The steps of the line run, and then, unless on hold, what is pending is cut, stored and posted. The text is what the replies print. All
+-- groups are stored, and the trace begins anew.
 pub record RunsLine (s : Stage) (l : Line) (t : Stage) (text : List ℕ) : Type 0 where
   pub mid : Stage
   pub begins : Begins l s mid

@@ -1,3 +1,5 @@
+//! A reader as the input of a schedule (`docs/schedules.md`, "Lines").
+
 ghost use Rattle.std.specs.Prelude.{◌≡◌, false};
 
 use crate::faults::Faults;
@@ -6,7 +8,7 @@ use fe_text::StreamFault;
 use std::io::{ErrorKind, Read};
 
 /// A reader (`std::io::Read`) as the source of a schedule. It counts its reads, interrupted ones too, and notes with which faults
-/// they failed, so that clauses can say so.
+/// they failed, so that clauses can name them.
 #[derive(Drop)]
 pub struct CountedReader<R> {
     stream: R,

@@ -1,3 +1,5 @@
+//! A writer as the output of a schedule (`docs/schedules.md`, "Lines").
+
 ghost use Rattle.std.specs.Prelude.{◌≡◌, ◌≤◌, ◌+◌, ◌-◌, ◌^◌, ℕ, min, true, false, length, take, IfOk, IfErr, OnOk};
 ghost use Rattle.std.specs.Io.KnownBytes.{Appends, Keeps};
 ghost use Rattle.fe_schedules.specs.Counted.{HasBroken};

@@ -1,3 +1,6 @@
+//! How a schedule ends at a fault (`docs/schedules.md`, "Lines"). Its machine is what it runs on: a desk over a store in memory
+//! (`docs/model.md`, "The desk").
+
 ghost use Rattle.std.specs.Prelude.{◌≡◌, ◌≢◌, None, Some};
 ghost use Rattle.fe_schedules.specs.Fault.{of_desk};
 
@@ -13,9 +16,9 @@ pub enum ScheduleFault {
     Line(u64),
     /// The input can't be read to its end, or the output can't be written.
     Input,
-    /// There is no memory.
+    /// Memory ran out, but not in a call of the disk.
     Memory,
-    /// The device of the store failed.
+    /// A call of the store's disk failed. The disk in memory fails a call if it finds no memory.
     Device,
 }
 

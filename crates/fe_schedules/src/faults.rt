@@ -1,3 +1,5 @@
+//! The faults of a schedule's input or output (`docs/schedules.md`, "Lines"), noted so that clauses can name them.
+
 ghost use Rattle.std.specs.Prelude.{◌≡◌, ◌↔◌, false};
 ghost use Rattle.std.specs.IoError.{error_kind};
 ghost use Rattle.fe_schedules.specs.Counted.{HasFailed};

@@ -1,4 +1,4 @@
-//! What a line says to a schedule.
+//! What a line says to a schedule: a message, an end of a connection, or what to do with the store (`docs/schedules.md`, "Lines").
 
 ghost use Rattle.std.specs.Prelude.{◌≡◌, ◌≢◌, [], None, IfNone, IfSome};
 ghost use Rattle.fe_text.specs.Line.{parsed};

@@ -1,4 +1,5 @@
-//! What a schedule runs on: a desk over a store in memory. It keeps what a line does only until that is printed.
+//! What a schedule (`docs/schedules.md`) runs on: a desk, a server in one thread (`docs/model.md`, "The desk"), over a store in memory.
+//! It keeps the record of a line, the groups that were stored and the replies, only until the replies are printed.
 
 ghost use Rattle.std.specs.Prelude.{◌≡◌, [], ◌∷◌, string_bytes, OnOk, IfOk, IfErr};
 ghost use Rattle.fe_desk.specs.DeskRunState.{IsFirstRunState};
@@ -24,9 +25,9 @@ use std::mem;
 #[derive(Drop)]
 pub(crate) struct Machine {
     desk: Desk<MemoryDisk>,
-    /// The disk of a store that could not be opened.
+    /// The disk at which a `stop` failed.
     lost: Option<MemoryDisk>,
-    /// The frame of the message at hand.
+    /// The buffer for the frame of a message.
     frame: Vec<u8>,
     alloc: Global,
 }
@@ -51,7 +52,7 @@ impl Machine {
         }
     }
 
-    /// The disk of a store that could not be opened, or else that of the desk.
+    /// The disk at which a `stop` failed, or else that of the desk.
     pub fn into_disk(self) -> MemoryDisk
         ensures { result ≡ last_disk self }
     {
@@ -65,7 +66,7 @@ impl Machine {
         }
     }
 
-    /// Does what a line says. What is pending stays so.
+    /// Takes the steps of a line. What they leave pending is stored by `commit`.
     pub fn act(&mut self, line: &Line) -> Result<(), MachineFault>
         requires machine { IsMachine self.old }
         ensures acts { OnOk result (ActsOn self.old line.now self.new) }
@@ -76,7 +77,7 @@ impl Machine {
             Line::Gone { conn } => self.step(&Step::Gone { conn: *conn }),
             Line::Hold | Line::Flush => Ok(()),
             Line::Stop => self.stop(),
-            // A whole checkpoint is made, where there is something that the last one does not hold.
+            // A whole checkpoint is made, if anything was stored since the last one.
             Line::Check => {
                 self.step(&Step::CheckBegin)?;
                 self.step(&Step::CheckFinish)
@@ -84,7 +85,7 @@ impl Machine {
         }
     }
 
-    /// A message of a connection comes as a frame. The connection is made where it is not there.
+    /// Makes the connection if it is not there, and brings its message as a frame.
     fn receive(&mut self, conn: u64, message: &ClientMessage) -> Result<(), MachineFault>
         requires machine { IsMachine self.old }
         ensures acts { OnOk result (ActsOn self.old (Line.Message conn message.now) self.new) }
@@ -124,7 +125,7 @@ impl Machine {
         ensures fault { IfErr result (TellsDisk (last_disk self.new)) }
     {
         images_stand_for_one();
-        // A machine of its own is there until the store is opened.
+        // A machine over an empty store takes this one's place until its store is opened again.
         let disk = MemoryDisk::new(self.alloc, DEVICE_BYTES)?;
         let between = match Machine::new(self.alloc, disk) {
             Ok(machine) => machine,
@@ -144,7 +145,7 @@ impl Machine {
         }
     }
 
-    /// Keeps the disk of a store that could not be opened, and says why it could not.
+    /// Keeps the disk at which a `stop` failed, and returns the fault.
     fn lose(&mut self, fault: MachineFault, disk: MemoryDisk) -> MachineFault
         ensures same { result ≡ fault }
         ensures disk { last_disk self.new ≡ disk }
@@ -153,7 +154,7 @@ impl Machine {
         fault
     }
 
-    /// Prints the replies to each connection, and lets go of them and of the groups.
+    /// Prints the replies to each connection, and lets go of them and of the groups of entries that were stored.
     pub fn print(
         &mut self,
         text: &mut String,

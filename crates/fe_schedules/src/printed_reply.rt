@@ -1,4 +1,4 @@
-//! The replies to connections, and the order in which they are printed.
+//! The replies to connections, and the order in which they are printed (`docs/schedules.md`, "Printed").
 
 ghost use Rattle.std.specs.Prelude.{◌≡◌, ◌++◌, string_bytes, OnOk};
 ghost use Rattle.std.specs.List.{flat_map};
@@ -16,7 +16,7 @@ pub(crate) struct PrintedReply {
 }
 
 impl PrintedReply {
-    /// What is printed is sorted by: the connection, and then the number of the reply.
+    /// Replies are sorted by this: the connection, and then the number of an answer, a withdrawal or a refusal, 0 for any other reply.
     pub fn key(&self) -> (u64, u64)
         ensures { result ≡ key_of self.now }
     {

@@ -1,4 +1,5 @@
-//! Reading the replies whose frames were written.
+//! Reading back the replies that a desk wrote as frames, for a schedule to print them (`docs/schedules.md`, "Printed"). A frame is the
+//! bytes of a reply (`docs/formats.md`, "Replies").
 
 ghost use Rattle.std.specs.Prelude.{◌≡◌, ◌<◌, ◌++◌, List, length, map, IfOk, IfSome, OnOk};
 ghost use Rattle.std.specs.Option.{option_map};
@@ -68,7 +69,7 @@ fn read_replies(
     Ok(())
 }
 
-/// Reads what all ports were written as replies.
+/// Reads the replies that were written to all ports. A port is that of one connection number.
 pub(crate) fn read_all(
     alloc: Global,
     ports: &[Port],

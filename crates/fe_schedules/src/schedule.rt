@@ -18,9 +18,9 @@ use std::alloc::Global;
 /// of one read print is written before the next read.
 ///
 /// `Line` is the number of the first line outside the syntax, counted from 1; empty lines count, and do nothing.
-/// `Input` means that the reader or the writer failed, or was called 2^40 times. At a fault, what earlier lines print is written,
-/// unless the writer failed. The disk is returned: after `Ok` with all that was stored, after a fault to show whether the device
-/// failed.
+/// `Input` means that the reader or the writer failed, or 2^40 reads or 2^40 writes of one text were made. At a fault, what earlier
+/// lines print is written, unless the writer failed. The disk is returned: after `Ok` with all that was stored, after a fault to show
+/// whether the device failed.
 pub fn run_schedule<R: Source, W: Sink>(
     alloc: Global,
     disk: MemoryDisk,
@@ -40,7 +40,7 @@ pub fn run_schedule<R: Source, W: Sink>(
     ensures fault { IfErr result.0
         (λ end. RunsUntil (ReaderFails R.has_failed R.was_read reader.old reader.new) (W.has_failed writer.new)
         (reader.new ≡ reader.old) end (R.remaining reader.old) (W.contents writer.old) (W.contents writer.new)) }
-    // The fault is `Device` exactly if a call of the disk failed, unless the writer failed as well.
+    // The fault is `Device` exactly if a call of the disk failed, or it is that of the writer, which failed.
     ensures disk { IfErr result.0 (TellsDiskOrWriter result.1 (W.has_failed writer.new)) }
 {
     let mut piece = match buffer(alloc, PIECE) {

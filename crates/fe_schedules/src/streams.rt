@@ -1,4 +1,4 @@
-//! The streams of a schedule: its input and its output.
+//! The streams of a schedule: its input and its output (`docs/schedules.md`, "Lines").
 
 ghost use Rattle.std.specs.Prelude.{ℕ, ◌≡◌, ◌+◌, List, Option, [], length, string_bytes, take, IfOk, IfErr, OnOk};
 ghost use Rattle.std.specs.Io.KnownBytes.{Appends, Keeps};
@@ -18,7 +18,7 @@ pub trait Source {
     /// Whether a read failed with this fault.
     ghost has_failed: { Self → Fault → Type 0 };
 
-    /// Reads once, and says how many bytes that gave, 0 at the end. `None` if the read was interrupted.
+    /// Reads once, and says how many bytes that gave: 0 at the end, or if `piece` has none. `None` if the read was interrupted.
     fn read_piece(&mut self, piece: &mut [u8]) -> Result<Option<usize>, StreamFault>
         ensures reads { IfOk result (ReadsSome (remaining self.old) (remaining self.new) piece.new) }
         ensures len { length piece.new ≡ length piece.old }
@@ -32,13 +32,13 @@ pub trait Sink {
     /// The bytes that it holds, if they are known.
     ghost contents: { Self → Option (List ℕ) };
 
-    /// A text was not written whole: a write failed or took no byte, or 2^40 writes were not enough. Or a flush failed.
+    /// Whether a write or a flush failed with this fault; or, for `Input`, whether a write took no byte or 2^40 writes were made.
     ghost has_failed: { Self → Fault → Type 0 };
 
-    /// Whether all that was written is handed on.
+    /// Whether all that was written is handed on (flushed).
     ghost is_handed_on: { Self → Type 0 };
 
-    /// Writes the text, and empties it. If the writer fails, a front of it is written.
+    /// Writes the text, and empties it in any case. If the writer fails, a prefix of it is written.
     fn write_whole(&mut self, text: &mut String) -> Result<(), StreamFault>
         ensures ok { OnOk result (Appends (contents self.old) (contents self.new) (string_bytes text.old)) }
         ensures front { (count : ℕ)

@@ -28,10 +28,11 @@ pub record IsHeld {D : Type 0} (model : Ghosts D) (begun : ServerState) (groups 
   pub has_it : place < append.after.state.place
   pub every_image : LeavesOnly model append.after.store.disk last (LeavesPrefix begun groups (at + 1))
 
--- A server ended with this end of its committing side. It stored groups and noted them; its history has the notes in their order,
--- and the answer of each receipt. If nobody else noted groups in its hall, then each answer that was issued is that of its entry
--- in the groups that were stored before, or it was kept from the beginning; and every image since its group was stored has that
--- group. Whoever noted groups, each answer was issued to a connection that had asked for its session before.
+-- A server ended with this end of its committing side. The side stored groups and noted them, at the end `Strange` perhaps not the last.
+-- The history has these notes, in their order, and the answer of each receipt. Each answer that was issued went to a connection that had
+-- asked for its session before. If nobody else noted groups in the hall (`own`), each is that of its entry in the groups stored before, or
+-- was kept from the beginning; and if the disk was honest and had not failed before, each image that a stop leaves since that group's
+-- append has the group.
 pub record IsAcknowledged {D : Type 0} (model : Ghosts D) (old new : KeeperState D) (end : CommitEnd) (account : Account) : Type 0 where
   pub commits : Commits model old new (Some end)
   pub notes : List (Batch × ℕ)

@@ -1,5 +1,5 @@
 -- Whether more connections come, and how many places (a server has a fixed number) are kept for clients that wait for one.
--- See `docs/model.md`, "The hall".
+-- See `ARCHITECTURE.md`, "Threads".
 use Rattle.std.specs.Prelude.{◌≡◌, ◌⊎◌, ◌-◌, ◌<◌, ◌≤◌, ℕ, true, Option, None, Some, Result, Ok, Err}
 use Rattle.fe_server.specs.declared.register.Admission.{Admission}
 use Rattle.fe_server.specs.declared.register.Expected.{Expected}
@@ -21,7 +21,7 @@ abbrev pub kept_from : Option Expected → ℕ → ℕ
 kept_from None awaited = awaited
 kept_from (Some expected) awaited = 0
 
--- A connection was admitted, or refused, under these bounds: at most `most` are there at once, and at most `accepts` come in all.
+-- A connection was admitted, or refused, under these bounds: at most `most` are there at once and, unless it is 0, at most `accepts` come.
 abbrev pub IsBoundBy : ℕ → ℕ → Result Admission Full → Type 0
 IsBoundBy most accepts (Ok admission) = (admission.most ≡ most) × (admission.accepts ≡ accepts)
 IsBoundBy most accepts (Err full) = (full.most ≡ most) × (full.accepts ≡ accepts)

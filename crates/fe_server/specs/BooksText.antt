@@ -1,9 +1,9 @@
--- The books as text: a line for the calls and one for the mails (`docs/model.md`, "The hall").
+-- The books as text: a line for the calls and one for the mails (`docs/model.md`, "Mails, connections and books").
 use Rattle.std.specs.Prelude.{ℕ, List, ◌++◌, codes}
 use Rattle.std.specs.Fmt.{decimal}
 use Rattle.fe_mail.specs.Books.{Books}
 
--- how many calls were made, completed and wait
+-- how many calls there were, how many completed, and how many wait
 abbrev pub made_text : Books → List ℕ
 made_text b = codes "calls " ++ (decimal b.calls ++ (codes " completed " ++ (decimal b.completed ++ (codes " waiting " ++ decimal b.waiting))))
 
@@ -21,5 +21,6 @@ abbrev pub mails_line : Books → List ℕ
 mails_line b =
     codes "mails " ++ (decimal b.mails ++ (codes " taken " ++ (decimal b.taken ++ (codes " dropped " ++ (decimal b.dropped ++ (codes " left " ++ (decimal b.left ++ codes "\n")))))))
 
+-- both lines
 abbrev pub books_text : Books → List ℕ
 books_text b = calls_line b ++ mails_line b

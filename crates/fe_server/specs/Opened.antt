@@ -8,8 +8,8 @@ use Rattle.fe_server.specs.Acknowledged.{IsAcknowledged}
 use Rattle.fe_server.specs.Serving.{HasCommitted, IsAnswerAt, account_in, fault_in, keeper_in}
 use Rattle.fe_disk.specs.declared.disk.Disk.{Ghosts}
 
--- A keeper was just opened: its disk works, and no checkpoint is under way. It was served, and is returned with what
--- was stored since; the answer is that of the committing side's end; and the account says what was issued.
+-- A keeper whose disk works and that has no checkpoint under way, as one just opened, was served. It is returned with what was stored
+-- since; the answer is one that the committing side's end allows (`IsAnswerAt`); and `IsAcknowledged` holds of the account.
 pub record WasServed {D : Type 0} (model : Ghosts D) (answer : Result (Served D) (Failed D)) : Type 0 where
   pub opened : KeeperState D
   pub works : opened.store.has_failed ≡ false

@@ -34,7 +34,7 @@ HasCommittedAndNoted model old new end acts =
 
 -- ---- what serving returns
 
--- the fault that ends a server whose append failed with this one; an end `Store` has only the first three (`EndsAs`)
+-- the fault that ends a server whose keeper gave this one; an end `Store` has only the first three (`EndsAs`)
 abbrev pub fault_of_store : keeper.Fault → StopFault
 fault_of_store store.Device = fault.Device
 fault_of_store store.Failed = fault.Device

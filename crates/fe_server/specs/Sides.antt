@@ -13,7 +13,7 @@ use Rattle.fe_shared.specs.Seats.{HasDeparted, HasRested, CallSeatState, MailSea
 use Rattle.fe_server.specs.declared.reads.ReadLimit.{ReadLimit}
 use Rattle.fe_server.specs.declared.reads.ReadLimit.TheVariants as most
 
--- whether a read side with this end ends the stream; it does not if the write side may go on
+-- whether a read side with this end ends the stream; at `Closed` and `Turns` it does not, and the write side goes on
 abbrev pub ends_stream : ReadEnd → Bool
 ends_stream read_end.Closed = false
 ends_stream read_end.Device = true
@@ -29,8 +29,10 @@ abbrev pub most_reads : ReadLimit → ℕ → ℕ
 most_reads most.All turns = turns
 most_reads (most.None unstarted) turns = 0
 
--- A read side read a half, at most `turns` times. What it handled is the front of the stream, if the half's bytes are
--- known and none was read before. It ended for this reason, for the number of its reads only after all of them.
+-- A read side read its half of a stream, the direction from the client, at most `turns` times. What it handled is the front of what was
+-- read, if the half's bytes are known and none was read before. It ended for this reason, as `Turns` only after all of these reads. After
+-- every end but `Stopped` its connection is gone, or the hall had answered that it is stopped; after `Closed` and `Turns` it went only
+-- once the side need not wait for its replies (`HasRested`).
 pub record HasHandled {H : Type 0} (is_known : H → Type 0) (known : H → List ℕ) (reads_of : H → ℕ) (turns : ℕ) (old new : H) (seat left : CallSeatState) (sent : List ClientMessage) (end : ReadEnd) : Type 0 where
   pub own : left.conn ≡ seat.conn
   pub handled : is_known old → known old ≡ [] → reads.HandlesStream (known new) seat left sent end
@@ -40,8 +42,9 @@ pub record HasHandled {H : Type 0} (is_known : H → Type 0) (known : H → List
   pub departed : end ≢ read_end.Stopped → HasDeparted left
   pub rested : reads.IsQuietEnd end → HasRested left
 
--- A write side wrote to a half, and ended for this reason. The half got the frames of the mails that the seat counts,
--- and the receipts are of the answers among these.
+-- A write side wrote to its half of a stream, the direction to the client, and ended for this reason. The seat has the mails that it took.
+-- If the half's bytes are known, it got their frames: all, unless a write failed or memory was short. The receipts are those of the first
+-- 1,024 answers among them, and their history has each answer as issued to this connection. After every end but `Stopped` this is gone.
 pub record HasWritten {W : Type 0} (is_known : W → Type 0) (got : W → List ℕ) (old new : W) (seat left : MailSeatState) (receipts : Receipts) (end : WriteEnd) : Type 0 where
   pub own : left.conn ≡ seat.conn
   pub receipts_own : receipts.conn ≡ left.conn

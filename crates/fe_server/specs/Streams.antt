@@ -1,4 +1,4 @@
--- The bytes of a stream, which may not be known (`docs/model.md`, "The hall").
+-- The bytes of a stream, which may be unknown (`docs/model.md`, "The hall").
 use Rattle.std.specs.Prelude.{ℕ, List, [], Option, None, Some}
 
 -- the bytes, or none if they are not known

@@ -1,4 +1,5 @@
-//! Accepting connections from a listener.
+//! The accepting thread of a server, which takes in clients and starts a thread for each connection (`ARCHITECTURE.md`, "Threads"). The
+//! hall is the front that all threads share; it has a seat for each side of a connection (`docs/model.md`, "The hall").
 
 ghost use Rattle.std.specs.Prelude.{◌≡◌};
 ghost use Rattle.fe_server.specs.Arrivals.{HasEnded};
@@ -22,24 +23,25 @@ use std::{io, thread};
 /// How many milliseconds the acceptor waits after a connection could not be accepted.
 const PAUSE: u64 = 10;
 
-/// How many milliseconds a client waits at most for a place that is about to be free.
+/// How many milliseconds a client waits at most for a place among the `connections` (`docs/settings.md`) that is about to be free.
 const ROOM_WAIT: u64 = 1000;
 
-/// Shows that no connection comes any more, and that those that came have ended. Only `serve_clients` makes it, and a server does
-/// not stop its hall without it unless memory is short or a book is full. It is not `Drop`, since the hall has to be stopped.
+/// Shows that no connection comes any more, and that those that came have ended. Only `serve_clients` makes it. Without it the hall is
+/// stopped only at a fault: of the committing side, or if its thread can't be started, or if a book (a count of calls or mails) is full.
+/// It is not `Drop`, since the hall has to be stopped.
 pub(crate) struct AllServed {
     no_more: NoMore,
 }
 
 impl AllServed {
-    /// The hall was stopped.
+    /// Ends it, since the hall was stopped.
     pub(crate) fn end(self, _stopped: HasStopped) {
         let AllServed { no_more } = self;
         drop(no_more);
     }
 }
 
-/// Serves the connections that come, until as many came as the settings say or nothing is stored any more, and all have ended.
+/// Serves the connections that come, until as many came as the setting `accepts` says or nothing is stored any more, and all have ended.
 pub(crate) fn serve_clients<
     C: Tally + Send + Sync,
     M: Tally + Send + Sync,
@@ -99,7 +101,7 @@ impl<
     G: Gate + Sync,
     R: Clock + Threads + Wait + Sync,
 > Acceptor<'s, C, M, G, R> {
-    /// Accepts connections until the server ends or this many came; without end if it is 0.
+    /// Accepts connections until the server ends or, unless `accepts` is 0, that many came.
     fn accept_all<E>(&self, scope: &Scope<'s, E>, listener: &Listener, accepts: u64) -> NoMore
         ensures { HasEnded accepts result }
     {
@@ -161,7 +163,8 @@ impl<
         }
     }
 
-    /// Starts the thread of a connection. If that can't be done, nothing is read from the connection, and it ends at once.
+    /// Starts the thread of a connection. If that can't be done, this thread takes the last connection that waits for its thread, mostly
+    /// this one, reads nothing from it, and ends it.
     fn start<E>(&self, scope: &Scope<'s, E>, arrival: Arrival<C, M>) {
         let (rt, alloc, server, gate) = (self.rt, self.alloc, self.server, self.gate);
         match server.put(rt, arrival) {
@@ -197,7 +200,7 @@ fn serve_next<
     }
 }
 
-/// Takes a client that waits for its place, and serves it once the place is free; or sends it away after `millis` milliseconds.
+/// Takes a client that waits for a place, and serves it once one is free, or sends it away if it gets none within `millis` milliseconds.
 fn serve_late<
     C: Tally + Send + Sync,
     M: Tally + Send + Sync,
@@ -230,8 +233,8 @@ fn serve_late<
     }
 }
 
-/// Pauses after a connection could not be accepted because there are too many open files or too little memory, so that
-/// the next try does not follow at once.
+/// Pauses after a connection could not be accepted, for example with too many open files or too little memory, so that the next try does
+/// not follow at once. It does not after an interrupted call, or if the client had gone already.
 fn pause<R: Clock>(rt: &R, error: io::Error) {
     match error.kind() {
         ErrorKind::Interrupted | ErrorKind::ConnectionAborted => {}

@@ -1,4 +1,4 @@
-//! A connection with its seats, the rights of its two sides in the hall (the front that all threads share).
+//! A connection with its seats, the rights of its two sides in the hall, the front that all threads share (`docs/model.md`, "The hall").
 
 ghost use Rattle.std.specs.Prelude.{◌≡◌, IfOk};
 

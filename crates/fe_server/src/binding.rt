@@ -1,4 +1,4 @@
-//! Making the socket, first under another name in its folder, so that its file is there only once it listens.
+//! Making the socket, first under another name, so that its file is there only once it listens (`docs/DECISIONS.md`, "Server").
 
 ghost use Rattle.std.specs.Prelude.{◌≡◌, ◌<◌, ◌++◌, codes, length, string_bytes, IfSome, IsSome};
 
@@ -16,16 +16,16 @@ const BESIDE: &str = ".new";
 /// The most bytes in the path of a socket on Linux.
 const LONGEST: usize = 107;
 
-/// More connections than any server that starts makes at the other name.
+/// The most connections that are taken off a listener at a time. Only servers that start have a reason to connect to the other name.
 const VISITORS: u64 = 4096;
 
-/// Binds a listener to a path that does not exist, if the server may open as many files as it needs to serve a client. The file
-/// appears there once clients can connect. If the path has no room for the name beside it, that name is taken, or the file system
-/// has no hard links, the path itself is bound.
+/// Binds a listener to a path that is not empty and does not exist, if the server may open as many files as it needs to serve a client.
+/// The file appears there once clients can connect. If the other name can't be used (it is too long or taken, the file system has no hard
+/// links, memory is short), the path itself is bound, and the file appears a moment before it listens. `None` if that fails too.
 pub(crate) fn bind<R: Files + Net>(rt: &R, alloc: Global, path: &str) -> Option<UnixListener>
     ensures named { IsSome result → 0 < length path.now }
 {
-    // The system would make a socket of its own choice.
+    // To an empty path the system would bind a name of its own choice.
     if path.is_empty() || is_taken(rt, path) || !has_room(rt) {
         return None;
     }
@@ -35,9 +35,9 @@ pub(crate) fn bind<R: Files + Net>(rt: &R, alloc: Global, path: &str) -> Option<
     }
 }
 
-/// A listener that is bound to the other name, and then moved to its path. Another server that starts at the same moment takes a
-/// socket that does not listen yet for one that a killed server left, and puts its own there. So this one is the listener only if
-/// what is at the path in the end is what was at the other name when it was reached there.
+/// A listener that is bound to the other name, and then moved to its path. Another server that starts at the same moment may take a
+/// socket that does not listen yet for one that a killed server left, and put its own there. So this one is the listener only if what is
+/// at the path in the end is what was at the other name when it was reached there.
 fn bind_ready<R: Files + Net>(rt: &R, alloc: Global, path: &str) -> Option<UnixListener> {
     let beside = name_beside(alloc, path)?;
     let listener = bind_beside(rt, beside.as_str())?;
@@ -69,7 +69,7 @@ fn is_reached<R: Files + Net>(rt: &R, listener: &UnixListener, path: &str) -> bo
     listener.set_nonblocking(false).is_ok() && came > 0
 }
 
-/// How many connections wait at a listener that does not block. They are closed.
+/// How many connections wait at a listener that does not block, at most `VISITORS`. They are closed.
 fn visitors(listener: &UnixListener) -> u64 {
     for count in 0..VISITORS {
         if listener.accept().is_err() {
@@ -110,7 +110,7 @@ fn name_beside(alloc: Global, path: &str) -> Option<String>
     format!(in alloc; "{path}{BESIDE}").ok()
 }
 
-/// A listener at the other name. A socket that a killed server left there is removed; that of one that is starting is not.
+/// A listener at the other name. A socket at which nobody listens, such as one that a killed server left, is removed first.
 fn bind_beside<R: Files + Net>(rt: &R, beside: &str) -> Option<UnixListener> {
     if is_left(rt, beside) {
         let _ = fs::remove_file(rt, beside);
@@ -118,7 +118,7 @@ fn bind_beside<R: Files + Net>(rt: &R, beside: &str) -> Option<UnixListener> {
     UnixListener::bind(rt, beside).ok()
 }
 
-/// Whether a path has a socket at which nobody listens.
+/// Whether a path has a socket to which this process can't connect.
 fn is_left<R: Files + Net>(rt: &R, path: &str) -> bool {
     match fs::symlink_metadata(rt, path) {
         Ok(found) => found.file_type().is_socket() && UnixStream::connect(rt, path).is_err(),

@@ -1,4 +1,4 @@
-//! The books, the counts of calls and mails, as text.
+//! The books of a server, its counts of calls and mails (`docs/model.md`, "Mails, connections and books"), as it prints them at its end.
 
 ghost use Rattle.std.specs.Prelude.{◌≡◌, ◌++◌, string_bytes, IfOk, OnOk};
 ghost use Rattle.fe_server.specs.BooksText.{made_text, unmade_text, mails_line, books_text};
@@ -6,7 +6,7 @@ ghost use Rattle.fe_server.specs.BooksText.{made_text, unmade_text, mails_line, 
 use fe_front::Books;
 use std::alloc::{AllocError, Global};
 
-/// Writes how many calls were made, completed and wait.
+/// Writes how many calls there were, how many completed, and how many wait.
 fn put_made(text: &mut String, books: &Books) -> Result<(), AllocError>
     ensures { OnOk result (string_bytes text.new ≡ string_bytes text.old ++ made_text books.now) }
 {
@@ -39,7 +39,7 @@ fn put_mails(text: &mut String, books: &Books) -> Result<(), AllocError>
     )
 }
 
-/// The text of the books, two lines: what became of the calls, and of the mails.
+/// The text of the books, two lines: what became of the calls, and of the mails. Fails if there is no memory for it.
 pub fn books_text(alloc: Global, books: &Books) -> Result<String, AllocError>
     ensures { IfOk result (λ text. string_bytes text ≡ books_text books.now) }
 {

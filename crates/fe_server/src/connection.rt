@@ -1,8 +1,9 @@
-//! A connection: its socket and its number. No other file reads or writes the socket of a client: `Listener::accept`
-//! hands it over, and a `SocketHandle` only ends its stream.
+//! A connection: its socket, its number, and its two sides, a reading and a writing thread (`ARCHITECTURE.md`, "Threads"). No other file
+//! reads or writes the socket of a client: `Listener::accept` hands it over, and a `SocketHandle` only ends its stream or sees that it has
+//! ended.
 //!
-//! The functions that serve a connection take any reader and any writer, whose bytes their clauses name. Only one
-//! expression, in `Connection::serve`, knows that both are a socket.
+//! The functions that serve a connection take any reader and any writer, whose bytes their clauses name. Only one expression, in
+//! `Connection::serve`, knows that both are a socket. Seats, receipts and lists of messages are the hall's (`docs/model.md`, "The hall").
 
 ghost use Rattle.std.specs.Prelude.{◌≡◌, ◌≢◌, ◌⊎◌, ◌∷◌, ◌++◌, [], List, true, false, IfOk, IsSome, IsTrue};
 ghost use Rattle.fe_history.specs.Acts.{AreIssued};
@@ -192,7 +193,7 @@ pub(crate) struct ConnectionSeats<C: Tally, M: Tally> {
     ghost one: { calls.conn ≡ mails.conn },
 }
 
-/// What the read side of a connection did. It has ended the stream, unless the write side could go on.
+/// What the read side of a connection did. It has ended the stream, except at `Closed` and `Turns`, after which the write side goes on.
 pub(crate) struct ReadOutcome<C: Tally> {
     pub(crate) seat: CallSeat<C>,
     pub(crate) sent: Vec<ClientMessage>,
@@ -213,7 +214,7 @@ pub(crate) struct WriteOutcome<M: Tally> {
 }
 
 /// What the two sides of a connection did. Only serving a connection makes one, and only `FinishedConnections::add` uses it up: it
-/// is not `Drop`, so the seats, the list and the receipts of each connection that was served are added.
+/// is not `Drop`, so no connection that was served is left out.
 pub(crate) struct ConnectionOutcome<C: Tally, M: Tally> {
     pub(crate) read: ReadOutcome<C>,
     pub(crate) write: WriteOutcome<M>,
@@ -221,7 +222,7 @@ pub(crate) struct ConnectionOutcome<C: Tally, M: Tally> {
     ghost one: { read.seat.conn ≡ write.seat.conn },
 }
 
-/// What the writing thread returns. Its clauses are what that thread promises.
+/// The promise of the writing thread: what it returns follows from the half (the direction to the client) and the seat with which it began.
 #[derive(Drop)]
 struct Wrote<W: WriteHalf + Drop, M: Tally> {
     before: Snapshot<W>,
@@ -235,8 +236,9 @@ impl<W: WriteHalf + Drop, M: Tally> Promise<(W, WriteOutcome<M>)> for Wrote<W, M
         r.1.seat r.1.receipts r.1.end };
 }
 
-/// Serves a connection over a reader and a writer, until both its sides have ended. If the reader's bytes are known,
-/// the front of what was read was handled; if the writer's are, it got the frames of the mails that were taken.
+/// Serves a connection over a reader and a writer, until both its sides have ended. If the reader's bytes are known, the beginning of
+/// what was read was handled; if the writer's are, it got the frames of the mails that were taken: all, unless a write failed or memory
+/// was short.
 fn serve_streams<
     C: Tally + Send + Sync,
     M: Tally + Send + Sync,
@@ -266,7 +268,7 @@ fn serve_streams<
         → IsWritten (known_bytes (O.contents writer)) all write.end (known_bytes (O.contents result.1.writer)))
         × AreIssued seats.mails.conn all write.receipts.history }
     ensures departed { result.2.write.end ≢ WriteEnd.Stopped → result.2.write.seat.departed ≡ true }
-    // The read side ends for the number of its reads only after all of them.
+    // The read side ends as `Turns` only after as many reads as it may make.
     ensures turns { result.2.read.end ≡ ReadEnd.Turns
         → result.0.reads ≡ most_reads result.2.reads server.now.turns }
 {
@@ -294,10 +296,10 @@ fn serve_over<
     ends: &E,
     reads: ReadLimit,
 ) -> (H, W, ConnectionOutcome<C, M>)
-    // The front of the client's stream was handled.
+    // If the half's bytes are known and none was read before, the beginning of what was read was handled.
     ensures handled { HasHandled H.is_known H.known H.reads (most_reads result.2.reads server.now.turns)
         from result.0 seats.calls result.2.read.seat result.2.read.sent.items result.2.read.end }
-    // The client got the frames of the mails that were taken.
+    // If the half's bytes are known, it got the frames of the mails that were taken: all, unless a write failed or memory was short.
     ensures wrote { HasWritten W.is_known W.got to result.1 seats.mails
         result.2.write.seat result.2.write.receipts result.2.write.end }
 {

@@ -1,3 +1,5 @@
+//! Part of what `serve` returns, when a fault ends the server (`docs/headline.md`, "Every acknowledged answer").
+
 use crate::stop_fault::StopFault;
 use fe_disk::Disk;
 use fe_hall::Account;

@@ -1,4 +1,5 @@
-//! What the connections of a server did that have ended: what their seats count, what they sent, and their receipts.
+//! What the connections of a server did that have ended: what their seats count, what they sent, their receipts
+//! (`docs/model.md`, "The hall").
 
 ghost use Rattle.std.specs.Prelude.{◌≡◌, ◌⊎◌, ◌∷◌, ◌++◌, [], true, false, Some, IsTrue, All, IfOk, IfErr, IsSome, map};
 ghost use mathlib.Core.List.{IsPrefix};
@@ -21,20 +22,21 @@ use std::alloc::Global;
 /// What the connections did that have ended.
 #[derive(Drop)]
 pub(crate) struct FinishedConnections<C: Tally, M: Tally> {
-    /// Memory was short for something that the closing needs.
+    /// Memory was short for something that the closing of the hall needs, or the committing thread could not be started.
     pub(crate) short: bool,
-    /// A book of the hall is full.
+    /// A book of the hall, a count of calls or mails, is full.
     pub(crate) spent: bool,
     /// The seats of their sides, which count calls and mails.
     calls: Option<Seats<C>>,
     mails: Option<Seats<M>>,
-    /// What each read side had sent, and the receipts of the write sides.
+    /// If they are kept: of each read side the first 1,024 attaches and calls that it handled, and the receipts of the write sides.
     sent: Vec<Vec<ClientMessage>>,
     receipts: GatheredReceipts<M>,
 }
 
 impl<C: Tally, M: Tally> FinishedConnections<C, M> {
-    /// Nothing: no connection has ended. Only a caller that may make connections can make it, so it is never added to another.
+    /// Nothing: no connection has ended. It takes the right to make connections, so a connection that ends can't put an empty one in its
+    /// place.
     pub(crate) fn new(
         alloc: Global,
         _right: &ConnectRight,
@@ -104,7 +106,7 @@ impl<C: Tally, M: Tally> FinishedConnections<C, M> {
     }
 
     /// The account of a hall that is not closed.
-    // (It is not inlined, for the reason that `fe_keeper::keeper_over` gives.)
+    // (It is not inlined: LLVM takes minutes over a function that moves large values several times and also reaches into them.)
     #[inline(never)]
     pub(crate) fn account(self, hall: Hall<C, M>, seat: StoreSeat<M>) -> Account
         ensures leaves { IsAccountOf seat self.receipts.items self.receipts.history result }
@@ -122,9 +124,9 @@ impl<C: Tally, M: Tally> FinishedConnections<C, M> {
         self.short || keeps && !self.receipts.list().is_whole()
     }
 
-    /// Closes a hall with what its connections did. `state` is what is stored. `Memory` if not all of that could be
-    /// kept; `Strange` if a book is full, a seat is missing or a receipt is strange.
-    // (It is not inlined, for the reason that `fe_keeper::keeper_over` gives.)
+    /// Closes a hall with what its connections did. `state` is what is stored. `Memory` if memory was short for some of that, or the
+    /// committing thread could not be started; `Strange` if a book is full, a seat is missing or a receipt is strange.
+    // (It is not inlined, for the reason that `account` gives.)
     #[inline(never)]
     pub(crate) fn close(
         self,

@@ -1,3 +1,5 @@
+//! Part of the accepting thread of a server (`ARCHITECTURE.md`, "Threads").
+
 use crate::connection::Accepted;
 use crate::register::Running;
 use std::alloc::Global;
@@ -5,7 +7,8 @@ use std::io;
 use std::os::fd::OwnedFd;
 use std::os::unix::net::{UnixListener, UnixStream};
 
-/// The listener of a server. It gives a connection only to a caller who shows that the server has not ended.
+/// The listener of a server. It gives a connection only to a caller who shows that the server had not ended when it
+/// asked (`Running`).
 #[derive(Drop)]
 pub(crate) struct Listener {
     listener: UnixListener,
@@ -22,7 +25,7 @@ impl Listener {
         Ok(UnixStream::from(OwnedFd::from(listener)))
     }
 
-    /// Waits for a connection.
+    /// Waits for a connection. One for which there is no memory is closed, and the error is `OutOfMemory`.
     pub(crate) fn accept(&self, alloc: Global, _running: Running) -> io::Result<Accepted> {
         let (stream, _) = self.listener.accept()?;
         match Accepted::of(alloc, stream) {

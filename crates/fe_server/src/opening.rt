@@ -1,4 +1,4 @@
-//! Opening the store and making the socket, and then serving.
+//! What `femem serve` does: it opens the store, makes the socket, and then serves (`docs/proved.md`, "Server").
 
 ghost use Rattle.std.specs.Prelude.{◌≡◌, ◌≢◌, ◌<◌, ℕ, false, IsTrue, All, IfOk, IsErrOf};
 ghost use Rattle.fe_mail.specs.Books.{AddUp};
@@ -50,25 +50,25 @@ impl Unopened {
     }
 }
 
-/// Serves the store that the settings name, at the socket that they name, and gives what the server left. It opens the
-/// store before it makes the socket, so the socket's file means that the server is ready.
+/// Serves the store that the settings name, at the socket that they name, and gives what the server left, or why it did not begin. It
+/// opens the store before it makes the socket, so the socket's file means that the server is ready.
 pub fn serve<R: Files<File = File> + Net + Clock + Threads + Wait + Sync, G: Gate + Sync>(
     rt: &R,
     alloc: Global,
     settings: &Settings,
     gate: &G,
 ) -> Result<Result<Served<FileDisk>, Failed<FileDisk>>, Unopened>
-    // The store that was opened was served: its keeper is returned with what was stored since, and its account says
-    // what was issued.
+    // The store that was opened was served: its keeper is returned with what was stored since, and its account says which answers were
+    // issued, that is handed out.
     ensures served { IfOk result (WasServed ⟦<FileDisk as Disk>⟧) }
     ensures add_up { IfOk result (λ answer. IfOk answer (λ served. AddUp served.audit.books)) }
     ensures unspent { IfOk result (λ answer. IfOk answer (λ served. served.audit.books.spent ≡ false)) }
     ensures borne_out { IfOk result (λ answer. IfOk answer
         (λ served. All (IsBorneOut served.keeper.state served.audit.sent) served.audit.receipts)) }
-    // A server of a bounded number of connections has compared the receipts of each.
+    // A server of a bounded number of connections (`accepts`) has compared the receipts of each.
     ensures whole { IfOk result (λ answer. IfOk answer
         (λ served. 0 < settings.now.accepts → IsTrue served.audit.whole)) }
-    // A wrong size is reported only of a file that has one, and a missing store only if none was to be made.
+    // A wrong size is reported only of a file that has one, and an unformatted file only if the settings do not say to format it.
     ensures wrong_size { (found : ℕ) → IsErrOf result (served.Store (store.Size found)) → found ≢ device_bytes }
     ensures unformatted { IsErrOf result (served.Store store.Unformatted) → settings.now.format ≡ false }
 {

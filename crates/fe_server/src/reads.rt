@@ -1,4 +1,5 @@
-//! How many reads are made from a connection.
+//! How many reads are made from a connection at most: as many as the setting `turns` says (`docs/settings.md`), or none if it, or its
+//! write side, gets no thread.
 
 ghost use Rattle.std.specs.Prelude.{◌≡◌};
 ghost use Rattle.fe_server.specs.Sides.{most_reads};
@@ -28,7 +29,7 @@ impl Unstarted {
 pub(crate) enum ReadLimit {
     /// As many as the settings say.
     All,
-    /// None, since a thread of it could not be started.
+    /// None, since it gets no thread, or none for its write side.
     None(Unstarted),
 }
 

@@ -1,4 +1,5 @@
-//! The register: which connections a server has.
+//! The register: which connections a server has, and which clients wait for a place among them (`ARCHITECTURE.md`, "Threads"). A
+//! connection's seats are the rights of its two sides in the hall, the front that all threads share (`docs/model.md`, "The hall").
 
 ghost use Rattle.std.specs.Prelude.{◌≡◌, ◌↔◌, ◌⊎◌, ◌+◌, ◌-◌, ◌^◌, ◌<◌, ◌≤◌, ◌∷◌, ◌++◌, [], true, false, IfOk, IfErr, OnErr, OnOk, IsTrue};
 ghost use Rattle.fe_server.specs.FinishedConnections.{IsAdded, without};
@@ -15,8 +16,9 @@ use std::net::Shutdown;
 use std::os::unix::net::UnixStream;
 use std::thread::JoinHandle;
 
-/// The right to one connection: at most `most` are there at once and, unless `accepts` is 0, at most that many come in all. Only
-/// `Register::enter` makes it. It is not `Drop`: a connection cannot end without giving it back to `Register::leave`.
+/// The right to one connection: at most `most` (the setting `connections`) are there at once and, unless `accepts` is 0, at most that
+/// many come in all. Only `Register::enter` makes it. It is not `Drop`: a connection cannot end without giving it back to
+/// `Register::leave`.
 pub(crate) struct Admission {
     /// The number of the connection, which no other one has.
     pub(crate) conn: u64,
@@ -24,8 +26,8 @@ pub(crate) struct Admission {
     accepts: u64,
 }
 
-/// Shows why no more connections could come: `most` were there, `accepts` came in all, or the server had ended. Only a
-/// register makes it.
+/// Shows that one more connection could not come: no place was free beside those kept for clients who wait, `accepts` came in all, or the
+/// server had ended. Only a register makes it.
 #[derive(Drop)]
 pub(crate) struct Full {
     most: u64,
@@ -76,8 +78,8 @@ pub(crate) struct Ending {
     end: CommitEnd,
 }
 
-/// Shows that a server has ended, and how its committing side did. Only `Register::shut_all` makes it, and a server
-/// gives neither its books nor its account without it.
+/// Shows that a server has ended, and how its committing side did. Only `Register::shut_all` makes it, and a server that has begun gives
+/// neither its books nor its account without it.
 #[derive(Drop)]
 pub(crate) struct ServerEnded {
     end: CommitEnd,
@@ -102,7 +104,7 @@ pub(crate) struct Register<C: Tally, M: Tally> {
     arrivals: Vec<Arrival<C, M>>,
     /// How many connections were admitted, which is the number of the next.
     admitted: u64,
-    /// How many of them have seats in the hall, or are about to get them.
+    /// How many of them got seats in the hall, or are about to get them.
     came: u64,
     /// How many connections the server has.
     present: u64,
@@ -135,7 +137,8 @@ impl<C: Tally, M: Tally> Register<C, M> {
         }
     }
 
-    /// Keeps a connection until its thread takes it, and its handle until it leaves. Gives it back if there is no memory for it.
+    /// Keeps a connection until its thread takes it, and its handle until it leaves. Gives it back if there is no memory for it, or its
+    /// socket can't be shared once more.
     pub(crate) fn put(&mut self, arrival: Arrival<C, M>) -> Result<Waiting, Unkept<C, M>>
         ensures put { OnOk result (self.new.arrivals.items ≡ self.old.arrivals.items ++ arrival ∷ []) }
         ensures handle { OnOk result (IsAdded (λ handle. handle.conn ≡ arrival.connection.admission.conn)
@@ -184,8 +187,9 @@ impl<C: Tally, M: Tally> Register<C, M> {
         !self.over && self.came < accepts && accepts - self.came <= self.awaited
     }
 
-    /// Keeps a client for its thread, and for it the place of a connection that is about to end. Each place is kept once, so
-    /// nobody waits again for a connection that was awaited in vain. Returns the client if there is no such place, or no memory.
+    /// Keeps a client for its thread, and for it the place of a connection that is about to end. Each place is kept once, so nobody waits
+    /// again for a connection that was awaited in vain. Returns the client if there is no such place, if as many clients wait as there are
+    /// places, if the server has ended, or if there is no memory.
     pub(crate) fn put_late(
         &mut self,
         accepted: Accepted,
@@ -241,7 +245,7 @@ impl<C: Tally, M: Tally> Register<C, M> {
         ensures refused { OnErr result ((self.new.admitted ≡ self.old.admitted) × (self.new.came ≡ self.old.came)
             × (self.new.present ≡ self.old.present)) }
         ensures awaited { self.new.awaited ≡ awaited_after expected self.old.awaited }
-        // Only a full register refuses a connection.
+        // It is refused only if the server has ended, no place is free beside those kept for others, all came, or no number is left.
         ensures why { OnErr result ((self.old.over ≡ true)
             ⊎ (most ≤ self.old.present + kept_from expected self.old.awaited)
             ⊎ ((0 < accepts) × (accepts ≤ self.old.came)) ⊎ (2 ^ 64 ≤ self.old.admitted + 1)) }
@@ -279,7 +283,7 @@ impl<C: Tally, M: Tally> Register<C, M> {
         self.handles.retain(|handle| handle.conn != conn);
     }
 
-    /// Takes a connection off the count of those that came, since the hall made no seats for it. It has still to leave.
+    /// Takes a connection off the count of those that came, since the hall made no seats for it, and closes it. It has still to leave.
     pub(crate) fn refuse(&mut self, unserved: Unserved) -> Admission
         ensures came { self.new.came ≡ self.old.came - 1 }
         ensures present { self.new.present ≡ self.old.present }
@@ -340,7 +344,7 @@ impl<C: Tally, M: Tally> Register<C, M> {
         Ok(Running(()))
     }
 
-    /// Ends the register of a server that has ended. Each client was taken right after it was put, so none is dismissed here.
+    /// Ends the register of a server that has ended. By then each client that was put was taken, so none is dismissed here.
     pub(crate) fn close(self) {
         let Register {
             arrivals,

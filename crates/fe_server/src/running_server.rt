@@ -1,5 +1,5 @@
-//! What the threads of a server share: the hall, which is one front under a lock, the register of the connections, and what those
-//! did that have ended.
+//! What the threads of a server share (`ARCHITECTURE.md`, "Threads"): the hall, one front under a lock, with a seat for each side of a
+//! connection (`docs/model.md`, "The hall"), the register of connections, and what those did that have ended.
 
 ghost use Rattle.std.specs.Prelude.{◌≡◌, ◌∷◌, [], IfOk, IfErr, nat_lt};
 ghost use Rattle.fe_front.specs.Front.{IsFirst};
@@ -32,17 +32,17 @@ use std::sync::{Condvar, CondvarTimeouts, Mutex, Wait};
 use std::thread::SpawnError;
 use std::time::{Clock, Duration};
 
-/// How many milliseconds the write sides have for writing what was issued, once nothing is stored any more.
+/// How many milliseconds the write sides have to write the mails that are left, once nothing is stored any more.
 const LAST_WAIT: u64 = 400;
 
-/// What the threads of a server share. `C` counts calls, and `M` mails.
+/// What the threads of a server share. `C` and `M` name the hall's ledgers (`Tally`) of calls and of mails.
 pub(crate) struct RunningServer<C: Tally, M: Tally> {
     pub(crate) hall: Hall<C, M>,
     register: Mutex<Register<C, M>>,
     /// What the connections did that have ended.
     finished: Mutex<FinishedConnections<C, M>>,
-    /// The condition variable that is rung when a place may be free, when a client who waited for one waits no more, and when the
-    /// server ends.
+    /// The condition variable that is rung when a place for a connection may be free, when a client who waited for one waits no more, and
+    /// when the server ends.
     freed: Condvar,
     /// How many connections may be there at once.
     most: u64,
@@ -61,7 +61,8 @@ pub(crate) struct Opened<C: Tally, M: Tally> {
 }
 
 impl<C: Tally, M: Tally> Opened<C, M> {
-    /// A server with no connection, whose front begins with a copy of a state; and the right to make connections.
+    /// A server with no connection, whose front begins with a copy of a state; the seat of its committing side; and the right to make
+    /// connections. Fails if memory is short, or if the listener can't get a second handle.
     pub(crate) fn new(
         alloc: Global,
         state: &State,
@@ -141,15 +142,15 @@ impl<C: Tally, M: Tally> Opened<C, M> {
 impl<C: Tally, M: Tally> RunningServer<C, M> {
     /// Admits one more connection if there is room for it, beside the clients who wait.
     pub(crate) fn enter<R: Wait>(&self, rt: &R) -> Result<Admission, Full>
-        // Only the register says that it is full, with as many as the settings say.
+        // The admission, or the refusal, has the bounds of the settings. Only the register makes either.
         ensures bounds { IsBoundBy self.now.most self.now.accepts result }
     {
         let (most, accepts) = (self.most, self.accepts);
         self.register.lock(rt).enter(None, most, accepts)
     }
 
-    /// Keeps a client until its thread takes it, and for it a place that is about to be free. Returns the client if no place is,
-    /// or each such place was already waited for.
+    /// Keeps a client until its thread takes it, and for it a place that is about to be free. Returns the client if each such place was
+    /// already waited for, as many clients wait as there are places, the server has ended, or there is no memory.
     pub(crate) fn put_late<R: Wait>(
         &self,
         rt: &R,
@@ -164,7 +165,8 @@ impl<C: Tally, M: Tally> RunningServer<C, M> {
         self.register.lock(rt).take_late()
     }
 
-    /// Waits for a place that is about to be free, at most `millis` milliseconds, and admits the client for whom it is kept.
+    /// Waits for a place that is about to be free, at most `millis` milliseconds, and then admits the client for whom it is kept, if there
+    /// is room.
     pub(crate) fn enter_late<R: Clock + Wait>(
         &self,
         rt: &R,
@@ -187,7 +189,7 @@ impl<C: Tally, M: Tally> RunningServer<C, M> {
         entered
     }
 
-    /// Keeps a connection until its thread takes it. Gives it back if there is no memory for it.
+    /// Keeps a connection until its thread takes it. Gives it back if there is no memory for it, or its socket can't be shared once more.
     pub(crate) fn put<R: Wait>(
         &self,
         rt: &R,
@@ -242,8 +244,9 @@ impl<C: Tally, M: Tally> RunningServer<C, M> {
         (keeper, over, seat)
     }
 
-    /// Ends the server after its committing side: no connection comes any more, and those that are there end. A write side ends
-    /// its stream once it has written what was issued. If its client does not take that in time, the stream is ended here.
+    /// Ends the server after its committing side: no connection comes any more, and those that are there end. A write side ends its
+    /// stream once it has written the mails of its box, and a read side ends it as soon as it has another message. A stream that neither
+    /// has ended in time is ended here.
     fn end<R: Clock + Wait>(&self, rt: &R, end: CommitEnd) -> ServerEnded
         ensures { result.end ≡ end }
     {
@@ -288,7 +291,7 @@ impl<C: Tally, M: Tally> RunningServer<C, M> {
         self.hall.stop(rt);
     }
 
-    /// Stops the hall because a read side ended as a book of the hall is full.
+    /// Stops the hall because a read side ended as a book of the hall, a count of calls or mails, is full.
     pub(crate) fn spend_calls<R: Wait>(&self, rt: &R, _seat: &CallSeat<C>)
         requires { _seat.now.last_answer ≡ LastAnswer.Spent }
     {

@@ -1,3 +1,5 @@
+//! A fault at the start of a server, for which `femem serve` prints one line (`docs/operating.md`, "What a server says").
+
 use fe_store::OpenFault;
 
 /// Why a store is not served.

@@ -1,8 +1,10 @@
+//! Part of what `serve` returns, at an end without a fault (`docs/proved.md`, "Server").
+
 use fe_disk::Disk;
 use fe_hall::Audit;
 use fe_keeper::Keeper;
 
-/// What a server leaves that ended by itself: its books, and the keeper of its store.
+/// What a server leaves that ended without a fault: the result of closing its hall, with the books, and the keeper of its store.
 #[derive(Drop)]
 pub struct Served<D: Disk> {
     pub audit: Audit,

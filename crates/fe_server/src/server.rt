@@ -1,4 +1,4 @@
-//! Serving an opened store at a listener, up to the books at the end.
+//! Serving an opened store at a listener, up to the books at the end (`docs/proved.md`, "Server").
 
 ghost use Rattle.std.specs.Prelude.{◌≡◌, ◌<◌, ◌∷◌, [], false, IsTrue, All, IfOk, nat_lt};
 ghost use Rattle.fe_mail.specs.Books.{AddUp};
@@ -35,7 +35,8 @@ use std::thread;
 use std::thread::{Promise, Scope, Threads};
 use std::time::Clock;
 
-/// Serves the clients of a listener over the store of a keeper.
+/// Serves the clients of a listener over the store of a keeper, until as many connections as the setting `accepts` says (0: no bound)
+/// have come and ended, or a fault ends the server: `Device`, `Memory` or `Strange` (`StopFault`).
 pub fn serve_store<D: Disk + Drop + Send, G: Gate + Sync, R: Clock + Threads + Wait + Sync>(
     rt: &R,
     alloc: Global,
@@ -44,23 +45,23 @@ pub fn serve_store<D: Disk + Drop + Send, G: Gate + Sync, R: Clock + Threads + W
     keeper: Keeper<D>,
     gate: &G,
 ) -> Result<Served<D>, Failed<D>>
-    // However it ends, the keeper is returned: it is the one before, with what was stored since; and the answer is that
-    // of the committing side's end.
+    // However it ends, the keeper is returned: it is the one before, with what was stored since. Its fault, or none, is one
+    // that the committing side's end allows.
     ensures committed { (end : CommitEnd)
         × HasCommitted D.Disk keeper (keeper_in result) end
         × IsAnswerAt end (fault_in result) }
-    // The books of a server that ended by itself: each call and each mail is in one column.
+    // After `Ok` the books add up, each call and each mail in one column, and are not spent.
     ensures add_up { IfOk result (λ served. AddUp served.audit.books) }
     ensures unspent { IfOk result (λ served. served.audit.books.spent ≡ false) }
-    // Nothing that is stored or was sent contradicts a receipt.
+    // After `Ok` nothing that is stored or was sent contradicts a receipt.
     ensures borne_out { IfOk result
         (λ served. All (IsBorneOut served.keeper.state served.audit.sent) served.audit.receipts) }
-    // If the number of connections is bounded, these are the receipts of each of them.
+    // After `Ok`, if the number of connections is bounded, these are the receipts of every write side.
     ensures whole { IfOk result (λ served. 0 < settings.now.accepts → IsTrue served.audit.whole) }
-    // Of each answer in the account's history: it was issued to a connection that had asked for its session before. If
-    // the account's `own` is true, as after `Ok`, it is also the one of its entry, in a group that was stored before,
-    // and each image since the end of that group's append stands for a state with it; or it was kept from the
-    // beginning. Each receipt's answer is in that history.
+    // Of each answer in the account's history: it was issued to a connection that had asked for its session before. If the account's
+    // `own` is true, as after `Ok`, it is also the one of its entry, in a group that was stored before, or it was kept from the beginning.
+    // For one in a group, over an honest disk that had not failed before, each image that a stop leaves since the end of that group's
+    // append stands for a state with the group. Each receipt's answer is in that history.
     ensures acknowledged { (end : CommitEnd) × IsAnswerAt end (fault_in result)
         × IsAcknowledged D.Disk keeper (keeper_in result) end (account_in result) }
 {
@@ -118,7 +119,8 @@ fn serve_as<
     closed(opened, over, seat, keeper)
 }
 
-/// Closes what was served. If the committing side ended with a fault, the account is returned instead.
+/// Closes the hall of a server that has ended. If the committing side ended with a fault, or the closing finds one, the account is returned
+/// in place of the audit.
 fn closed<C: Tally, M: Tally, D: Disk>(
     opened: Opened<C, M>,
     over: ServerEnded,
@@ -152,7 +154,7 @@ fn closed<C: Tally, M: Tally, D: Disk>(
     }
 }
 
-/// What a server leaves if memory is short before it serves a client.
+/// What a server that can't begin leaves. Memory is short, or its listener can't get a second handle; both are reported as `Memory`.
 fn unserved<D: Disk>(keeper: Keeper<D>, account: Account) -> Failed<D>
     ensures committed { HasCommittedAndNoted D.Disk keeper result.keeper hall.Stopped
         (act.Began keeper.state ∷ []) }
@@ -168,7 +170,7 @@ fn unserved<D: Disk>(keeper: Keeper<D>, account: Account) -> Failed<D>
     }
 }
 
-/// What the committing thread returns. Its clauses are what that thread promises of the keeper.
+/// The promise of the committing thread: what it returns follows from the keeper with which it began.
 #[derive(Drop)]
 struct Committed<D: Disk + Drop> {
     before: Snapshot<Keeper<D>>,
@@ -181,7 +183,7 @@ impl<D: Disk + Drop, M: Tally> Promise<(Keeper<D>, ServerEnded, StoreSeat<M>)> f
         HasCommittedAndNoted D.Disk p.before.value r.0 r.1.end r.2 };
 }
 
-/// Serves clients, and stores what they do. Returns the keeper.
+/// Serves clients, and stores what they do. Returns the keeper, how the server ended, and the committing side's seat.
 fn run<
     C: Tally + Send + Sync,
     M: Tally + Send + Sync,

@@ -1,4 +1,4 @@
-//! A handle by which the stream of a connection is ended from outside.
+//! A handle by which the stream of a connection is ended from outside (`docs/DECISIONS.md`, "Server").
 
 ghost use Rattle.std.specs.Prelude.{◌≡◌};
 

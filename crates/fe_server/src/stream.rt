@@ -1,4 +1,4 @@
-//! The two directions of a connection, over a reader and over a writer.
+//! The two directions of a connection, over any reader and over any writer, for its two sides in the hall (`docs/proved.md`, "Server").
 
 ghost use Rattle.std.specs.Prelude.{◌≡◌};
 

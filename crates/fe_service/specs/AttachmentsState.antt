@@ -1,5 +1,5 @@
 -- What a contract sees of the attachments: the sessions that have one, and the requests that wait, by session and
--- number. An attachment says which connection has the session, and whether the session is closing (`docs/model.md`, "The service").
+-- number. An attachment says which connection has the session, and whether the session is closing (`docs/model.md`, "Waiting requests").
 use Rattle.std.specs.Prelude.{◌≡◌, ◌==◌, ℕ, ◌≤◌, List, Bool, true, false, not, Option, Some, None, IsSome, refl, slice_index_or}
 use Rattle.std.specs.Option.{option_map, option_map_or, option_and_then}
 use Rattle.std.specs.Ordering.{nat_cmp}
@@ -14,7 +14,7 @@ use Rattle.fe_service.specs.contracts.waiting_request.WaitingRequest.{the_row as
 use Rattle.fe_state.specs.Limits.{most_sessions, most_arrays, window_length, most_waiting}
 
 -- the length of each added array; the attachments, by session; the requests that wait, by session and number; and for
--- each node the request that it represents
+-- each node the request that it represents, if any
 pub record AttachmentsState : Type 0 where
   pub arrays : FinMap nat_cmp ℕ
   pub attachments : FinMap nat_cmp Attachment
@@ -37,11 +37,11 @@ attachments_code =
 
 -- ---- attachments
 
--- an attachment that nobody has
+-- the attachment of a session that no connection has and that is not closing
 abbrev pub free_attachment : Attachment
 free_attachment = record { holder = None; closing = false }
 
--- the connection that has a session, if it has an attachment and one has it
+-- the connection that has a session, if one has it
 abbrev pub holder_of : FinMap nat_cmp Attachment → ℕ → Option ℕ
 holder_of attachments session = option_and_then (λ attachment. attachment.holder) (get attachments session)
 
@@ -49,10 +49,11 @@ holder_of attachments session = option_and_then (λ attachment. attachment.holde
 abbrev pub is_closing : FinMap nat_cmp Attachment → ℕ → Bool
 is_closing attachments session = option_map_or (λ attachment. attachment.closing) (get attachments session) false
 
--- the attachments with another holder for a session, or with the session marked as closing; nothing else changes
+-- the attachments with another holder for a session; if it has no attachment, it gets one
 abbrev pub with_holder : FinMap nat_cmp Attachment → ℕ → Option ℕ → FinMap nat_cmp Attachment
 with_holder attachments session holder = insert attachments session (record { holder = holder; closing = is_closing attachments session })
 
+-- the attachments with a session marked as closing; if it has no attachment, it gets one
 abbrev pub with_closing : FinMap nat_cmp Attachment → ℕ → FinMap nat_cmp Attachment
 with_closing attachments session = insert attachments session (record { holder = holder_of attachments session; closing = true })
 
@@ -87,10 +88,11 @@ pub record IsRequestOn (w : AttachmentsState) (array index node : ℕ) (request 
 abbrev pub NoneOfSession : FinMap pair_cmp WaitingAccess → ℕ → Type 0
 NoneOfSession waiting session = (number : ℕ) → get waiting (session, number) ≡ None
 
--- the requests of a session, and how many they are
+-- the requests of a session
 abbrev pub of_session : FinMap pair_cmp WaitingAccess → ℕ → FinMap pair_cmp WaitingAccess
 of_session waiting session = retain_keys waiting (λ key. key.0 == session)
 
+-- how many requests of a session wait
 abbrev pub count_of : FinMap pair_cmp WaitingAccess → ℕ → ℕ
 count_of waiting session = len (of_session waiting session)
 
@@ -100,7 +102,7 @@ without_session waiting session = retain_keys waiting (λ key. not (key.0 == ses
 
 -- the invariant: attachments, requests and arrays stay within their limits; each request is of a session that has an
 -- attachment, and on a word of an added array; a session has at most as many requests as its window has numbers; and a
--- node represents a waiting request
+-- request that a node represents waits
 pub record IsWithinLimits (w : AttachmentsState) : Type 0 where
   pub attachments : len w.attachments ≤ most_sessions
   pub has_attachment : (key : ℕ × ℕ) (waiter : WaitingAccess) → get w.waiting key ≡ Some waiter → IsSome (get w.attachments key.0)

@@ -1,4 +1,4 @@
--- What the events of the front leave of a service: the state, the sessions' attachments, and what waits.
+-- What the events of the front require of a service, and what they leave of it: the state, the sessions' attachments, and what waits.
 -- See `docs/model.md`, "The service".
 use Rattle.std.specs.Prelude.{◌≡◌, ℕ, ◌+◌, ◌<◌, ◌≤◌, List, [], ◌∷◌, ◌++◌, length, false, Option, Some, None, IsSome, IsSomeAnd}
 use Rattle.std.specs.Option.{option_map, option_map_or}
@@ -20,7 +20,7 @@ use Rattle.fe_service.specs.Service.{Serves}
 use Rattle.fe_service.specs.ServiceState.{ServiceState}
 use Rattle.fe_state.specs.Limits.{most_event_entries, greatest_place, most_waiting, most_sessions}
 
--- a session may finish this number: it is in the window, nothing is kept for it, and it does not wait
+-- a session may finish this number: it is in the window, nothing is kept for it, and no request waits under it
 pub record IsFree (s : ServiceState) (session number : ℕ) : Type 0 where
   pub usable : IsSomeAnd (get s.state.sessions session) (λ x. IsUsable x number)
   pub new : get s.waiting (session, number) ≡ None
@@ -65,10 +65,11 @@ settled s session floor = entered s (Settled session floor)
 abbrev pub closed : ServiceState → ℕ → ServiceState
 closed s session = record (entered s (Closed session)) { waiting = without_session s.waiting session; attachments = with_closing s.attachments session }
 
--- the service after waiting requests of a session were withdrawn, all of them or one
+-- the service after all waiting requests of a session were withdrawn
 abbrev pub withdrawn : ServiceState → ℕ → ServiceState
 withdrawn s session = record s { waiting = without_session s.waiting session }
 
+-- the service after the request of a session's number was withdrawn, if it waited
 abbrev pub cancelled : ServiceState → ℕ → ℕ → ServiceState
 cancelled s session number = record s { waiting = remove s.waiting (session, number) }
 
@@ -76,7 +77,7 @@ cancelled s session number = record s { waiting = remove s.waiting (session, num
 abbrev pub held : ServiceState → ℕ → Option ℕ → ServiceState
 held s session holder = record s { attachments = with_holder s.attachments session holder }
 
--- the service after a session that is closing left
+-- the service after the attachment of a session was removed
 abbrev pub left : ServiceState → ℕ → ServiceState
 left s session = record s { attachments = remove s.attachments session }
 
@@ -84,8 +85,8 @@ left s session = record s { attachments = remove s.attachments session }
 abbrev pub waited : ServiceState → ℕ → ℕ → WaitingAccess → ServiceState
 waited s session number waiter = record s { waiting = insert s.waiting (session, number) waiter }
 
--- a session may settle at this floor now: the floor may rise to it, all requests that wait have that number or a greater
--- one, and there is room for the entry
+-- a session may settle at this floor now: the floor may rise to it, all its requests that wait have that number or a greater one, and there
+-- is room for the entries of an event
 pub record MaySettle (s : ServiceState) (session floor : ℕ) : Type 0 where
   pub rises : IsSomeAnd (get s.state.sessions session) (λ x. MayRise x.floor floor)
   pub above : (number : ℕ) (w : WaitingAccess) → get s.waiting (session, number) ≡ Some w → floor ≤ number
@@ -96,12 +97,12 @@ pub record IsAttachable (s : ServiceState) (session : ℕ) : Type 0 where
   pub not_closing : is_closing s.attachments session ≡ false
   pub attachment : get s.attachments session ≡ None → len s.attachments < most_sessions
 
--- a session may be attached now: it is attachable, and there is room for the entry
+-- a session may be attached now: it is attachable, and there is room for the entries of an event
 pub record MayAttach (s : ServiceState) (session : ℕ) : Type 0 where
   pub attachable : IsAttachable s session
   pub room : HasRoom s
 
--- a session may be closed now: it is in the state, and there is room for the entry
+-- a session may be closed now: it is in the state, and there is room for the entries of an event
 pub record MayClose (s : ServiceState) (session : ℕ) : Type 0 where
   pub exists : IsSome (get s.state.sessions session)
   pub room : HasRoom s

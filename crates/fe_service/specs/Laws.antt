@@ -6,7 +6,7 @@ use Rattle.fe_state.specs.declared.entry.Entry.{Entry}
 use Rattle.fe_service.specs.Service.{WaitingAccesses, AreUsable, Serves}
 use Rattle.fe_state.specs.Limits.{greatest_place}
 
--- If there is a place for each entry that a service makes, the entries are legal one after the other.
+-- If each waiting request is usable and there is a place for each entry that serves one, these entries are legal one after the other.
 abbrev pub ServesLegally : Type 0
 ServesLegally = (s s' : ServerState) (waiting waiting' : WaitingAccesses) (es : List Entry)
     → AreUsable s waiting → s.place + length es ≤ greatest_place → Serves s waiting es s' waiting' → AreLegal s es

@@ -1,5 +1,5 @@
--- The service of waiting requests: which of them may be served, and what serving them leaves. A request waits until its
--- word has the tag that its operation needs (`docs/model.md`, "The service").
+-- The service of waiting requests: which of them may be served, and what serving them leaves. A request may be served once it has a reply:
+-- once its word has the tag that its operation needs, or its array is gone (`docs/model.md`, "The service").
 use Rattle.std.specs.Prelude.{◌≡◌, ℕ, Some, None, IsSome, IsSomeAnd, false, List, [], ◌∷◌}
 use Rattle.std.specs.FinMap.{FinMap, get, remove}
 use Rattle.fe_waits.specs.Pair.{pair_cmp}

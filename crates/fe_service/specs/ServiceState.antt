@@ -37,17 +37,18 @@ service_code =
 abbrev pub is_open : FinMap nat_cmp Attachment → ℕ → Bool
 is_open attachments session = option_map_or (λ attachment. not attachment.closing) (get attachments session) false
 
--- What is always true: each request that waits has a session and a number of its window; none of them may be served;
+-- What is always true: each request that waits has its session in the state and a number that is usable there; none of them may be served;
 -- and the sessions of the state are those that have an attachment and are not closing.
 pub record IsService (s : ServiceState) : Type 0 where
   pub usable : AreUsable s.state s.waiting
   pub quiet : IsQuiet s.state s.waiting
   pub has_attachment : (session : ℕ) → is_some (get s.state.sessions session) ≡ is_open s.attachments session
 
+-- a service as its callers see it, given its parts
 abbrev pub service_of : ServiceInner → ServiceState
 service_of p = record { state = p.state; attachments = p.attachments.attachments; waiting = p.attachments.waiting; pending = p.pending }
 
--- the parts are those of a service, and the waiting lists have each array with its length
+-- the parts are those of a service, and the waiting lists have exactly the state's arrays, each with its length
 pub record AreSoundParts (p : ServiceInner) : Type 0 where
   pub service : IsService (service_of p)
   pub arrays : (id : ℕ) → get p.attachments.arrays id ≡ words_in (get p.state.arrays id)

@@ -1,3 +1,5 @@
+//! The attachments of the sessions, and the requests that wait, by session (`docs/model.md`, "Waiting requests").
+
 ghost use Rattle.std.specs.Prelude.{◌≡◌, ◌↔◌, ◌<◌, ◌≤◌, Some, None, false, IfOk, IfSome, IsSome, IsNone};
 ghost use Rattle.std.specs.FinMap as map;
 ghost use Rattle.fe_waits.specs.Waiting.{IsWord, NoneOnWord, ListsWaitingRequestsOf};
@@ -17,12 +19,12 @@ use fe_words::Op;
 use std::alloc::{AllocError, Global};
 use std::marker::Model;
 
-/// The number of guesses at the position of a session.
+/// How many positions of sessions among the occupants are remembered, as guesses for later look-ups.
 pub(crate) const GUESSES: usize = 256;
 
 /// The attachments of the sessions, and the requests that wait, each on a word and in its session.
 ///
-/// Only `new` takes memory. A node, one waiting request, is good until the next change.
+/// Of its methods only `new` and `waiting_requests` allocate memory. A node stands for one waiting request until the next change.
 pub struct Attachments {
     pub(crate) waits: Waits,
     pub(crate) occupants: Occupants,
@@ -30,7 +32,8 @@ pub struct Attachments {
     pub(crate) owners: Vec<Option<u64>>,
     /// The slots that no session has.
     pub(crate) slots: Vec<u8>,
-    /// The position where a session was found last, in the cell of its number's remainder. Any position is good.
+    /// The position where a session was found last among the occupants, in the cell that is its number's remainder by `GUESSES`. A
+    /// wrong position only makes a look-up take longer.
     pub(crate) guesses: [usize; GUESSES],
 }
 
@@ -110,7 +113,7 @@ impl Attachments {
         Some(occupant.attachment)
     }
 
-    /// Begins a session: it has an attachment, which the connection holds, if one does.
+    /// Gives a session that has no attachment one, held by a connection or by none. Fewer than `SESSIONS` sessions must have one.
     pub(crate) fn begin_session(&mut self, session: u64, holder: Option<u64>)
         requires new { map.get self.old.attachments session ≡ None }
         requires room { map.len self.old.attachments < most_sessions }
@@ -127,7 +130,7 @@ impl Attachments {
             .insert(session, Occupant { slot, attachment });
     }
 
-    /// A connection holds a session, which gets an attachment if it has none.
+    /// Gives a session that is not closing to a connection. A session without an attachment gets one, for which there must be room.
     pub(crate) fn attach(&mut self, session: u64, conn: u64)
         requires open { is_closing self.old.attachments session ≡ false }
         requires room { map.get self.old.attachments session ≡ None → map.len self.old.attachments < most_sessions }

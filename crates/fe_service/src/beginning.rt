@@ -1,3 +1,5 @@
+//! What the service of a state begins with: its sessions' attachments and its arrays (`docs/model.md`, "Waiting requests").
+
 ghost use Rattle.std.specs.Prelude.{◌≡◌, ℕ, IfOk};
 ghost use Rattle.std.specs.FinMap.{get, empty};
 ghost use Rattle.fe_state.specs.Directory.{words_in};
@@ -8,7 +10,7 @@ use fe_state::State;
 use fe_waits::Waits;
 use std::alloc::AllocError;
 
-// Gives each session of the state its attachment.
+// Gives each session of the state an attachment that no connection has.
 pub(crate) fn begin_sessions(state: &State, attachments: &mut Attachments)
     requires { attachments.old.attachments ≡ empty }
     ensures attachments { AreFreeAttachments state.now.sessions attachments.new.attachments }
@@ -22,7 +24,7 @@ pub(crate) fn begin_sessions(state: &State, attachments: &mut Attachments)
     }
 }
 
-// Each array of the state comes on the waiting lists, with its length.
+// Adds each array of the state, with its length, to the waiting lists. Fails only if memory runs out.
 pub(crate) fn add_arrays(state: &State, waits: &mut Waits) -> Result<(), AllocError>
     requires { waits.old.arrays ≡ empty }
     ensures arrays { IfOk result (λ _. (id : ℕ) → get waits.new.arrays id ≡ words_in (get state.now.arrays id)) }

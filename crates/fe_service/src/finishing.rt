@@ -1,3 +1,6 @@
+//! Completing a request that operates on a word, or makes or removes an array, and what it lets complete of those that wait
+//! (`docs/model.md`, "The service").
+
 ghost use Rattle.std.specs.Prelude.{◌≡◌, ◌+◌, List, [], length as length_of, OnOk, OnErr};
 ghost use Rattle.fe_state.specs.declared.entry.Entry.{Entry};
 ghost use Rattle.fe_state.specs.declared.entry.Entry.TheVariants.{Finished};
@@ -11,7 +14,8 @@ use fe_words::{Tag, Word};
 use std::alloc::AllocError;
 
 impl Service {
-    /// Finishes a request that writes a word, and serves those that wait on it. It counts the entries.
+    /// Finishes an operation on a word, and serves the requests that wait on the word and may then be served. Returns how many entries that
+    /// made.
     pub(crate) fn finish_write(
         &mut self,
         session: u64,
@@ -39,7 +43,7 @@ impl Service {
         1 + self.inner.serve_word(array, index)
     }
 
-    /// Finishes a removal, and serves those that wait on the array's words. It counts the entries.
+    /// Finishes a removal, and serves those that wait on the array's words. Returns how many entries that made.
     pub(crate) fn finish_remove(
         &mut self,
         session: u64,
@@ -67,7 +71,7 @@ impl Service {
         1 + served
     }
 
-    /// Makes an array. Fails only if memory runs out; then nothing has changed.
+    /// Makes an array. Fails only if memory runs out for its words or its waiting lists; then nothing has changed.
     pub(crate) fn finish_create(
         &mut self,
         session: u64,

@@ -1,8 +1,8 @@
-//! Laws of the service of waiting requests, which hold apart from any code.
+//! Laws of the service of waiting requests, which hold apart from any code (`docs/model.md`, "The service").
 
 ghost use Rattle.fe_service.specs.Laws.{ServesLegally};
 
-/// The entries that a service makes are legal one after the other.
+/// The entries that serve usable waiting requests are legal one after the other, if there is a place for each.
 pub fn service_is_legal()
     ensures { ServesLegally }
 {}

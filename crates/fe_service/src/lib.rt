@@ -1,4 +1,4 @@
-//! The service of what waits: which requests complete, and what that leaves.
+//! The service of what waits: which requests complete, and what that leaves (`docs/model.md`, "The service").
 #![tactic(auto)]
 
 mod attachment;

@@ -1,3 +1,5 @@
+//! Which sessions have an attachment, and which slot of the waiting lists each has (`docs/model.md`, "Waiting requests").
+
 ghost use Rattle.std.specs.Prelude.{◌≡◌, option_copied};
 ghost use Rattle.std.specs.FinMap.{get};
 ghost use Rattle.fe_service.specs.within.Slots.{slot_in};
@@ -17,7 +19,7 @@ pub(crate) struct Occupant {
     pub(crate) attachment: Attachment,
 }
 
-// The slot of a session that has an attachment.
+// The slot of a session, if it has an attachment.
 pub(crate) fn slot_of(occupants: &Occupants, session: u64) -> Option<u8>
     ensures { result ≡ slot_in occupants.now session }
 {
@@ -25,7 +27,7 @@ pub(crate) fn slot_of(occupants: &Occupants, session: u64) -> Option<u8>
     Some(occupant.slot)
 }
 
-// Looks up a session, first at a guessed position. Any guess is allowed.
+// Looks up a session, first at a guessed position of the table. Any guess is allowed.
 pub(crate) fn occupant_near(occupants: &Occupants, guess: usize, session: u64) -> Option<&Occupant>
     ensures { option_copied result ≡ get occupants.now session }
 {

@@ -1,3 +1,6 @@
+//! The service: a request completes or waits, and waiting requests are served as soon as they can complete (`docs/model.md`,
+//! "The service"; attachments: "Waiting requests").
+
 ghost use Rattle.std.specs.Prelude.{◌≡◌, ◌+◌, ◌≤◌, List, [], length, Some, None, IsSome, IfOk, OnErr, is_some, true, false};
 ghost use Rattle.std.specs.FinMap.{get, len, empty};
 ghost use Rattle.fe_state.specs.State as states;
@@ -49,8 +52,8 @@ impl Model for Service {
 }
 
 impl Service {
-    /// The service of a state in which nothing waits. Allocates the memory for all attachments, waiting lists and
-    /// entries; fails only if memory runs out.
+    /// A service over a state, in which nothing waits and no connection has a session. Allocates the memory for all attachments, waiting
+    /// requests and pending entries; fails only if memory runs out.
     pub fn new(alloc: Global, state: State) -> Result<Service, AllocError>
         ensures state { IfOk result (λ service. service.state ≡ state) }
         ensures attachments { IfOk result (λ service. AreFreeAttachments state.sessions service.attachments) }
@@ -88,7 +91,7 @@ impl Service {
         &self.inner.attachments
     }
 
-    /// Looks for a session and the array of a request, so that the look-ups of them that follow take one comparison
+    /// Looks for a session, and for the array of an access, so that the look-ups of them that follow take one comparison
     /// each.
     pub fn aim(&mut self, session: u64, request: &Request)
         ensures { self.new ≡ self.old }
@@ -195,9 +198,9 @@ impl Service {
         attachments.owners[occupant.slot as usize] = None;
     }
 
-    /// Completes a request with its reply and its effect, and serves the waiting requests that this lets through. It
-    /// returns how many entries were made, 1 to `EVENT_ENTRIES`. Fails only if memory runs out for the words of a new
-    /// array; then nothing has changed.
+    /// Completes a request with its reply and its effect, and serves the waiting requests that this lets through. It returns how many
+    /// entries were made, 1 to `EVENT_ENTRIES`. Fails only if memory runs out for the words or the waiting lists of a new array; then
+    /// nothing has changed.
     pub fn complete(
         &mut self,
         session: u64,
@@ -253,7 +256,7 @@ impl Service {
         attachments.waits.add(slot, number, array, index, op);
     }
 
-    /// Takes the entries that were made, and goes on with an empty list.
+    /// Takes the entries that were made, and goes on with `spare`, which has none.
     pub fn take_pending(&mut self, spare: Entries) -> Entries
         requires { spare ≡ [] }
         ensures entries { result ≡ self.old.pending }

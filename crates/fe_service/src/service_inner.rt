@@ -1,3 +1,5 @@
+//! The parts of the service. Waiting requests that can complete do so at once, each with an entry (`docs/model.md`, "The service").
+
 ghost use Rattle.std.specs.Prelude.{◌≡◌, ◌≢◌, ◌+◌, ◌<◌, ◌≤◌, ℕ, true, false, List, [], ◌∷◌, ◌++◌, length as length_of, Some};
 ghost use Rattle.std.specs.FinMap.{get};
 ghost use Rattle.fe_words.specs.declared.word.Tag.{Tag};
@@ -14,7 +16,7 @@ use crate::attachments::Attachments;
 use crate::waiting_request::WaitingRequest;
 use fe_state::{Effect, Entries, Entry, Request, State};
 
-/// The state, the attachments with what waits, and the entries made since the last cut.
+/// The state, the attachments with what waits, and the entries made and not yet taken.
 #[derive(Drop)]
 pub(crate) struct ServiceInner {
     pub(crate) state: State,
@@ -22,7 +24,7 @@ pub(crate) struct ServiceInner {
     pub(crate) pending: Entries,
 }
 
-/// The request of a waiting turn.
+/// The request of a call that waits.
 pub(crate) fn request_of(waiting_request: &WaitingRequest) -> Request
     ensures { result ≡ request_of (waiting_access_of waiting_request.now) }
 {
@@ -44,7 +46,7 @@ impl ServiceInner {
         let _ = self.attachments.waiting_count();
     }
 
-    /// Makes a legal entry that needs no memory, with its effect.
+    /// Carries out a legal entry that makes no array, with its effect, and adds it to the pending ones. Allocates nothing.
     pub(crate) fn enter(&mut self, entry: Entry, effect: Effect)
         requires legal { IsLegal self.old.state entry }
         requires effect { effect ≡ effect_in (directory_of self.old.state) entry }
@@ -89,7 +91,8 @@ impl ServiceInner {
         true
     }
 
-    /// Serves the requests that wait on the word, until none may be served. Returns their number.
+    /// Serves the requests that wait on the word one after another, up to one that may not be served. Returns how many it served. If there
+    /// is a tag at which all of them wait, none that is left on the word may be served.
     pub(crate) fn serve_word(&mut self, array: u64, index: u32) -> u32
         requires word { IsWord self.old.attachments.arrays array index }
         requires able { MayServe self.old }
@@ -107,7 +110,7 @@ impl ServiceInner {
         count
     }
 
-    /// Serves the requests that wait on any of this many words of an array that is gone. Returns their number.
+    /// Serves the requests on each word of an array, which has this length, as `serve_word` does. Returns how many it served.
     pub(crate) fn serve_array(&mut self, array: u64, length: u32) -> u32
         requires there { get self.old.attachments.arrays array ≡ Some length }
         requires able { MayServe self.old }

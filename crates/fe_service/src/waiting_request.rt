@@ -1,10 +1,12 @@
+//! Waiting requests, each with its session (`docs/model.md`, "Waiting requests").
+
 ghost use Rattle.std.specs.Prelude.{◌≡◌};
 
 use fe_waits::Row;
 use fe_words::Op;
 
-/// A request that waits until its word has the tag that its operation needs, or its array is removed. A `Row` is the same with the
-/// session's slot in place of the session.
+/// A request that waits for its word to have the tag that its operation needs. It also ends if its array is removed, or if it is withdrawn
+/// (cancelled, or its session closed or its connection ended). A `Row` is the same with the session's slot in place of the session.
 #[derive(Clone, Copy, PartialEq, Eq)]
 pub struct WaitingRequest {
     pub session: u64,

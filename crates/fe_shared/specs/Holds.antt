@@ -25,7 +25,7 @@ use Rattle.fe_shared.specs.declared.unconnected.Unconnected.TheVariants as uncon
 abbrev pub MakesEvent : SharedState → SharedState → Type 0
 MakesEvent s t = (t.used ≡ true) × (t.stopped ≡ s.stopped)
 
--- No event was made in this hold: the front is as it was, and the hall neither stopped nor started again.
+-- A call that makes no event: the front is as it was, and the hall neither stopped nor started again.
 abbrev pub MakesNoEvent : SharedState → SharedState → Type 0
 MakesNoEvent s t = (t.front ≡ s.front) × (t.used ≡ s.used) × (t.stopped ≡ s.stopped)
 
@@ -51,7 +51,7 @@ IsUnconnected f connections_made conn (unconnected.Spent all) = (is_connected f 
 abbrev pub Leaves : SharedState → ℕ → SharedState → Type 0
 Leaves s conn t = ((count : ℕ) × FrontStep s.front (event.Gone conn count) [] t.front) × MakesEvent s t
 
--- Why no mail comes any more for a connection whose box is empty. `None` says that one may come.
+-- Why a write side whose box is empty ends. `None`: it does not, since a mail may come.
 abbrev pub Ends : FrontState → Bool → ℕ → Option Taking → Type 0
 Ends f stopped conn (Some (taking.Mail mail more)) = ⊥
 Ends f stopped conn (Some taking.Gone) = is_connected f conn ≡ false
@@ -59,7 +59,7 @@ Ends f stopped conn (Some taking.Stopped) = (is_connected f conn ≡ true) × (s
 Ends f stopped conn (Some taking.Spent) = most_counted ≤ f.books.taken
 Ends f stopped conn None = (is_connected f conn ≡ true) × (stopped ≡ false)
 
--- A look into a connection's box took its first mail; or the box was empty, and this is why none comes any more.
+-- A look into a connection's box took its first mail; or the box was empty, and this is why the write side ends, if it does.
 abbrev pub LooksInto : FrontState → Bool → ℕ → Option Taking → FrontState → Type 0
 LooksInto f stopped conn (Some (taking.Mail mail more)) g = FrontStep f (event.TakeMail conn (Some mail)) [] g × (more ≡ has_mail g conn)
 LooksInto f stopped conn (Some taking.Gone) g = FrontStep f (event.TakeMail conn None) [] g × Ends g stopped conn (Some taking.Gone)
@@ -71,11 +71,11 @@ LooksInto f stopped conn None g = FrontStep f (event.TakeMail conn None) [] g ×
 abbrev pub TakesMail : SharedState → ℕ → Option Taking → SharedState → Type 0
 TakesMail s conn taken t = LooksInto s.front s.stopped conn taken t.front × MakesEvent s t
 
--- Nothing more comes for a connection: it is not connected, or the hall is stopped.
+-- No more messages of a connection are handled: the hall is stopped, or it is not connected.
 abbrev pub IsOver : FrontState → Bool → ℕ → Type 0
 IsOver f stopped conn = (stopped ≡ true) ⊎ (is_connected f conn ≡ false)
 
--- Nothing more comes for a connection from what was made before this place: it is over, or all of it is durable and its box empty.
+-- A read side need not wait for the entries before this place: its connection is over, or they are durable and its box is empty.
 abbrev pub IsDrained : FrontState → Bool → ℕ → ℕ → Type 0
 IsDrained f stopped conn place = IsOver f stopped conn ⊎ ((place ≤ f.durable) × (has_mail f conn ≡ false))
 
@@ -84,8 +84,8 @@ abbrev pub IsUnposted : FrontState → Batch → Unposted → Type 0
 IsUnposted f batch (unposted.Full full) = posts_more f.books batch ≡ false
 IsUnposted f batch (unposted.Strange strange) = (posts_more f.books batch ≡ true) × (¬ IsOut f.out batch)
 
--- A batch was cut; or none was, and if the hall is stopped all that was made is durable, so nothing is left to store;
--- or another side cut batches, and nothing happens.
+-- A batch was cut; or none was, and the hall is stopped and all that was made is durable, so that nothing is left to store; or another
+-- side cut batches, and nothing happens. `None`: no batch was cut, but one may be later.
 abbrev pub HandsOut : FrontState → Bool → Option CutOutcome → FrontState → Type 0
 HandsOut f stopped (Some (cutting.Batch cut)) g = FrontStep f (event.Cut (Some cut.batch)) [] g
 HandsOut f stopped (Some (cutting.Stopped all)) g = FrontStep f (event.Cut None) [] g × (stopped ≡ true) × (g.durable ≡ g.service.state.place)
@@ -96,7 +96,7 @@ HandsOut f stopped None g = FrontStep f (event.Cut None) [] g
 abbrev pub Cuts : SharedState → Option CutOutcome → SharedState → Type 0
 Cuts s cutting t = HandsOut s.front s.stopped cutting t.front × MakesEvent s t
 
--- the batch that was cut was cut in this history
+-- this history has the cut of the batch, if one was cut, after as many others as its count says
 abbrev pub IsCutIn : CutOutcome → List Act → Type 0
 IsCutIn (cutting.Batch cut) acts = WasCut acts cut.count cut.batch
 IsCutIn (cutting.Stopped all) acts = Unit {0}

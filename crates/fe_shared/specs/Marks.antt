@@ -55,7 +55,7 @@ abbrev pub made_entries : List Batch → Option Batch → FrontState → List En
 made_entries posted out f = entries_in posted ++ (entries_in (out_batches out) ++ f.service.pending)
 
 -- A front whose posted batches, this many, were stored in the history, and whose batch that is out was cut next. Its state is the
--- one after all entries made, each answered as the operation table says, and each answer in its boxes is of a posted entry. A
+-- one after all entries made, each *finished* one with the reply to its request, and each answer in its boxes is of a posted entry. A
 -- connection has only sessions that it asked for in that history, and each answer in its box is of one of them.
 pub record IsMarked (f : FrontState) (count : ℕ) (acts : List Act) : Type 0 where
   pub begun : ServerState

@@ -19,7 +19,7 @@ pub record CallSeatState : Type 0 where
   pub calls : ℕ
   -- its messages that were taken, in their order
   pub messages : List ClientMessage
-  -- the place after all entries that were made when the last of them was taken
+  -- the place after all entries that were made when the last of them was taken, 0 if none was
   pub place : ℕ
   -- what the hall last answered the side
   pub last_answer : LastAnswer
@@ -36,7 +36,7 @@ pub record MailSeatState : Type 0 where
   pub mails : ℕ
   -- the mails that it took, in their order
   pub taken : List Mail
-  -- whether more were in its box then
+  -- whether more were in its box when it took the last one, false if it took none
   pub more : Bool
   -- what the hall last answered the side
   pub last_answer : LastAnswer
@@ -66,7 +66,7 @@ both_seats s t = record { connections = s.connections + t.connections; amount = 
 abbrev pub most_connections : ℕ
 most_connections = 2 ^ 62
 
--- a ledger that counts so many parts in all has one for each connection that a hall makes, and one for its book
+-- A ledger has all its parts: one for each connection that a hall makes, and one for its book.
 abbrev pub IsWholeLedger : ℕ → ℕ → Type 0
 IsWholeLedger all parts = (all ≡ parts) × (all ≡ most_connections + 1)
 

@@ -1,4 +1,4 @@
--- What a call on the part under the lock shows by a value that nothing else makes (`docs/model.md`, "The hall").
+-- What a call on the part under the lock shows by a value that nothing else makes (`docs/proved.md`, "Server").
 use Rattle.std.specs.Prelude.{ℕ, Bool}
 use Rattle.fe_state.specs.declared.batch.Batch.{Batch}
 

@@ -1,5 +1,5 @@
 -- Which read sides (connections' reading threads) wait for their boxes, that is until the mails there are taken.
--- See `docs/model.md`, "The hall".
+-- See `docs/DECISIONS.md`, "Hall".
 use Rattle.std.specs.Prelude.{ℕ, Bool, List, ◌==◌}
 use Rattle.std.specs.List.{list_any}
 use Rattle.fe_shared.specs.declared.watchers.Watcher.{Watcher}

@@ -6,9 +6,8 @@ pub enum LastAnswer {
     Served,
     /// The hall has no such connection, or none any more.
     Gone,
-    /// The hall is stopped. A writing thread learns of it only once no mail is left for it.
+    /// The hall is stopped. A writing thread learns of it only when its box is empty.
     Stopped,
-    /// A book, a count of the hall, has come to its limit, so the hall counts no more. A writing thread learns of it only once no
-    /// mail is left for it.
+    /// A book, a count of the hall, is at its limit, 2^63 - 8192. A writing thread learns of it only when its box is empty.
     Spent,
 }

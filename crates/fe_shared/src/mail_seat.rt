@@ -1,3 +1,5 @@
+//! The seat of a connection's write side (`docs/model.md`, "The hall"). A box has the mails of a connection that wait to go out.
+
 ghost use Rattle.std.specs.Prelude.{◌≡◌, ◌+◌, true};
 ghost use Rattle.fe_shared.specs.Seats.{first_mail_seat, mail_taken, IsNewPart, one_seat};
 
@@ -18,7 +20,7 @@ pub struct MailSeat<M: Tally> {
     share: Share<M>,
     conn: u64,
     taken: MailLog,
-    /// Whether more mails were in the box when one was taken.
+    /// Whether more mails were in the box when the last one was taken; false if none was.
     more: bool,
     last_answer: LastAnswer,
     /// Whether the side removed its connection.
@@ -67,14 +69,15 @@ impl<M: Tally> MailSeat<M> {
         self.conn
     }
 
-    /// Whether more mails were in the box when the last one was taken.
+    /// Whether more mails were in the box when the last one was taken; false if none was.
     pub fn more(&self) -> bool
         ensures { result ≡ self.now.more }
     {
         self.more
     }
 
-    /// Notes that a mail was taken. It is counted here and in the book. `more` says whether others are in the box.
+    /// Notes that a mail was taken. It is counted here and in the book, and the side's last answer is `Served`. `more` says
+    /// whether others are in the box.
     pub(crate) fn take(&mut self, book: &mut Book<M>, mail: &Mail, more: bool)
         ensures seat { self.new ≡ mail_taken self.old mail.now more }
         ensures book { book.new.total ≡ book.old.total + 1 }
@@ -100,7 +103,7 @@ impl<M: Tally> MailSeat<M> {
         self.departed = true;
     }
 
-    /// The seats of its one connection.
+    /// The seat, as the seats of one connection, to which others can be added.
     pub fn into_seats(self) -> Seats<M>
         ensures { result ≡ one_seat self.mails }
     {

@@ -1,3 +1,5 @@
+//! Part of the seat of a connection's read side, its reading thread (`docs/model.md`, "The hall").
+
 use fe_wire::ClientMessage;
 use std::snapshot::Snapshot;
 

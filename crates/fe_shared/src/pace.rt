@@ -1,14 +1,17 @@
+//! The pace of a connection: how far its write side, the thread that takes its mails, lags behind its read side, the one that reads
+//! messages and may have to wait (`docs/DECISIONS.md`, "Hall").
+
 use std::alloc::Global;
 
 /// How many paces are kept, each for the numbers of connections with one remainder.
 const PACES: u64 = 256;
 
-/// The most mails of a connection that may be left to take while its read side goes on without a look at its box. A box
-/// of 128 mails has room for these, for those of 32 messages more, and for the answers that wait, 32 at most.
+/// The most mails of a connection that may be left to take while its read side goes on without a look at its box, the mails that wait to
+/// go out. A box of 128 mails has room for these, for those of 32 messages more, and for the answers to requests that wait, 32 at most.
 const CLOSE: u32 = 64;
 
-/// How far the write side of a connection is behind its read side: the messages handled, less the mails taken. A message gives one
-/// mail at most. The answers to what waited before the connection came are not counted, so this is never below 0.
+/// How far the write side of a connection is behind its read side: the messages handled, less the mails taken, and at least 0, since a
+/// mail may also answer what waited before the connection came. A message gives one mail at most.
 #[derive(Clone, Copy)]
 struct Pace {
     conn: u64,
@@ -58,7 +61,7 @@ impl Paces {
         }
     }
 
-    /// Whether the write side of a connection is close behind its read side.
+    /// Whether the write side of a connection is at most `CLOSE` behind its read side; false if the connection has no pace.
     pub(crate) fn is_close(&self, conn: u64) -> bool {
         match self.rows.get((conn % PACES) as usize) {
             Some(pace) => pace.conn == conn && pace.behind <= CLOSE,

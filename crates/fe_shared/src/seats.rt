@@ -5,7 +5,7 @@ use fe_history::Tally;
 use std::marker::Model;
 use std::sync::ledger::{Book, Share};
 
-/// The seats of one side, the reading or the writing threads, of several connections, added up (`docs/model.md`, "The hall"). Contracts
+/// The seats of one side, the reading or the writing threads, of any connections, added up (`docs/model.md`, "The hall"). Contracts
 /// see the number of connections, and how many calls (of reading threads) or mails (of writing threads) their seats counted in all.
 #[derive(Drop)]
 pub struct Seats<L: Tally> {

@@ -1,5 +1,6 @@
 //! What is under the lock of a hall: the front, with a ledger of its calls and one of the mails that were taken. A ledger has
-//! parts whose counts add up to its own, and exists in proofs alone; a hold is one time that a thread has the lock.
+//! parts whose counts add up to its own, and exists in proofs alone; a hold is one time that a thread has the lock
+//! (`docs/model.md`, "The hall").
 
 ghost use Rattle.std.specs.Prelude.{IsNone, ◌≡◌, ◌≢◌, ◌+◌, ◌≤◌, ◌↔◌, ℕ, List, [], true, false, Ok, Err, Some, None, IsTrue, IsErr, IfErr, IfOk, OnOk, OnErr, IfSome, MatchOption};
 ghost use Rattle.fe_state.specs.declared.entry.Entry.{Entry};
@@ -38,7 +39,7 @@ use std::sync::ledger::{Blank, Book, Share};
 /// The most connections that a hall makes.
 const CONNECTIONS: u64 = 1 << 62;
 
-/// The parts of each ledger of a hall: one for each connection that it may make, and one for the book.
+/// How many parts each ledger of a hall has: one for each connection that it may make, and one for the book.
 pub const PARTS: u64 = CONNECTIONS + 1;
 
 /// The most that a book of a hall may count before its sides end. One post more stays below 2^63.
@@ -173,12 +174,12 @@ impl Model for Rest {
 }
 
 /// Shows that the seats that were handed in were not those of all connections that were made, or that another side
-/// stored groups. Only the audit of a hall makes one.
+/// stored groups. Only `Shared::audit` and `SeatMissing::in_account` make one.
 #[derive(Clone, Copy, PartialEq, Eq)]
 pub struct SeatMissing(());
 
 impl SeatMissing {
-    /// Whether another side than the hall's own stored groups in this account.
+    /// Shows that this account's history has groups that the committing side did not note; `None` if it has no such groups.
     pub fn in_account(account: &Account) -> Option<SeatMissing>
         ensures { IsNone result ↔ (account.now.own ≡ true) }
     {
@@ -265,8 +266,8 @@ impl<C: Tally, M: Tally> Shared<C, M> {
         Ok(NewSeats::new(calls, mails, conn))
     }
 
-    /// Handles a message, or records in its seat why it does not. If there is no room for the message, does nothing and
-    /// returns `None`. The history learns which session the message asks for.
+    /// Handles a message, or records in the read side's seat why it does not. If there is no room for the message, does nothing and returns
+    /// `None`. If the message asks for a session, the history learns which.
     pub fn handle(
         &mut self,
         alloc: Global,
@@ -354,7 +355,7 @@ impl<C: Tally, M: Tally> Shared<C, M> {
         HasStopped(())
     }
 
-    /// Whether a connection gets nothing more: it is gone, or the hall is stopped.
+    /// Whether no more messages of a connection are handled: it is gone, or the hall is stopped.
     pub fn is_over(&self, conn: u64) -> bool
         ensures { IsTrue result ↔ IsOver self.now.front self.now.stopped conn }
     {
@@ -370,7 +371,8 @@ impl<C: Tally, M: Tally> Shared<C, M> {
         }
     }
 
-    /// Whether nothing made before this place is left to take for a connection: all of it is durable, and its box is empty.
+    /// Whether a read side need not wait for the entries before this place: they are durable and its box is empty; or its connection is
+    /// gone, or the hall stopped.
     fn is_drained(&self, conn: u64, place: u64) -> bool
         ensures { IsTrue result ↔ IsDrained self.now.front self.now.stopped conn place }
     {
@@ -398,8 +400,9 @@ impl<C: Tally, M: Tally> Shared<C, M> {
         Some(Rest { conn, short })
     }
 
-    /// Whether the read side of a connection may hand on more: its write side is close behind, or has taken what came of all that
-    /// was made before, or there is no memory to note that the side waits. If it may not, it is noted as waiting.
+    /// Whether the read side of a connection may hand on more messages: its write side is close behind; or the entries before `place_then` are
+    /// durable and its box is empty; or the connection is gone, or the hall stopped; or there is no memory to note that the side waits. If
+    /// it may not, it is noted as waiting.
     pub fn may_go_on(&mut self, conn: u64, place_then: &PlaceThen) -> bool
         ensures waits { result ≡ false → ¬ IsDrained self.old.front self.old.stopped conn place_then.now }
         ensures watched { result ≡ false → IsTrue (waits self.new.watched conn) }
@@ -412,15 +415,15 @@ impl<C: Tally, M: Tally> Shared<C, M> {
         self.watchers.add(conn).is_err()
     }
 
-    /// Whether all entries that were made before are stored and posted.
+    /// Whether all entries before `place_then` are stored and posted.
     pub fn is_durable(&self, place_then: &PlaceThen) -> bool
         ensures { IsTrue result ↔ (place_then.now ≤ self.now.front.durable) }
     {
         self.front.durable() >= place_then.place
     }
 
-    /// Whether the read side of a connection that waits has to go on waiting: something of what was made before is left
-    /// to take, and its write side has taken nothing since it was noted that the side waits.
+    /// Whether a timed wait of a connection's read side goes on: it has to wait for the entries before `place_then` (`is_drained`), and
+    /// its write side has taken nothing since it was noted that the side waits.
     pub fn is_stuck(&self, conn: u64, place_then: &PlaceThen) -> bool
         ensures { IsTrue result → ¬ IsDrained self.now.front self.now.stopped conn place_then.now }
     {
@@ -434,7 +437,7 @@ impl<C: Tally, M: Tally> Shared<C, M> {
         self.front.books().mails
     }
 
-    /// Takes the first mail out of a connection's box, or records in its seat why none comes. `None` says that one may come.
+    /// Takes the first mail out of a connection's box, or records in the write side's seat why none comes. `None` says that one may come.
     pub fn take_mail(&mut self, seat: &mut MailSeat<M>) -> Option<Taking>
         requires fresh { self.old.used ≡ false }
         ensures takes { TakesMail self.old seat.old.conn result self.new }

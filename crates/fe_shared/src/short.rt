@@ -1,4 +1,4 @@
-//! Calls that take memory for a connection. A value that only they make shows that memory was short.
+//! Calls that take memory for a connection. A value that only they make shows that memory was short (`docs/proved.md`, "Server").
 
 ghost use Rattle.std.specs.Prelude.{◌≡◌, ◌+◌, ◌<◌, ◌++◌, None, ℕ, List, length, vec_len, vec_capacity, IfOk, OnOk, OnErr};
 ghost use Rattle.std.specs.FinMap.{get};
@@ -37,7 +37,7 @@ pub fn reserve_one<T>(list: &mut Vec<T>) -> Result<(), Short>
     }
 }
 
-/// Makes an empty box for a connection (`Front::connect`).
+/// Makes a connection with an empty box, for its mails that wait to go out (`Front::connect`).
 pub(crate) fn connect(front: &mut Front, conn: u64) -> Result<(), Short>
     requires unconnected { get front.old.connections conn ≡ None }
     ensures connected { OnOk result (front.new ≡ connected front.old conn) }

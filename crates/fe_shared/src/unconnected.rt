@@ -1,3 +1,5 @@
+//! Part of the hall, which makes each connection, with seats for its two sides (`docs/model.md`, "The hall").
+
 use crate::shared::{AllMade, InUse};
 use crate::short::Short;
 
@@ -6,6 +8,7 @@ use crate::short::Short;
 pub enum Unconnected {
     /// A connection with that number is connected.
     InUse(InUse),
+    /// Memory was short.
     NoMemory(Short),
     /// All connections that a hall makes, 2^62, were made.
     Spent(AllMade),

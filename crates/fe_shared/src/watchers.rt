@@ -1,4 +1,4 @@
-//! Which read sides (connections' reading threads) wait for their boxes, that is until the mails there are taken.
+//! Which read sides (reading threads) wait for their boxes, that is until the mails there are taken (`docs/DECISIONS.md`, "Hall").
 
 ghost use Rattle.std.specs.Prelude.{◌≡◌, ℕ, IsTrue, OnOk};
 ghost use Rattle.fe_front.specs.ConnectionSet.{may_have};

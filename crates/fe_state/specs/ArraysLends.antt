@@ -7,6 +7,6 @@ use Rattle.fe_state.specs.declared.array.Array.{Array}
 use Rattle.fe_state.specs.contracts.array.Array.{the_row as array_row}
 use Rattle.fe_state.specs.contracts.arrays.Arrays.{the_row}
 
--- the id has the last value written through r, and every other id keeps its array
+-- the id has the array that r ends with, and every other id keeps its array
 abbrev pub lends_array : MutBor (FinMap nat_cmp Array) → ℕ → MutBor Array → Fml
 lends_array arrays id r = Lends the_row array_row arrays r (insert arrays.now id)

@@ -16,7 +16,8 @@ restored Created d = record { arrays = remove d.arrays (d.next_id - 1); next_id 
 restored (Removed id a) d = record { arrays = insert d.arrays id a; next_id = d.next_id }
 restored (Wrote id index w) d = record { arrays = put_word d.arrays id index w (get d.arrays id); next_id = d.next_id }
 
--- an array that may be added to a directory under an id: it has room there, and the id and the name are free
+-- an array that may be added to a directory under an id: it may be there (`IsArray`), the id and the name are free, and there is room for
+-- one array more and for its words
 pub record MayBeAdded (d : Directory) (id : ℕ) (a : Array) : Type 0 where
   pub array : IsArray d id a
   pub id_free : get d.arrays id ≡ None
@@ -24,7 +25,7 @@ pub record MayBeAdded (d : Directory) (id : ℕ) (a : Array) : Type 0 where
   pub few_arrays : len d.arrays < most_arrays
   pub few_words : word_count d.arrays + length a.words ≤ most_words
 
--- a directory that a change may have left: what it made, removed or wrote can be put back
+-- a directory in which a change can be undone: the array made is there, the one removed may be added, the word written exists
 abbrev pub CanRestore : Change → Directory → Type 0
 CanRestore Nothing d = Unit {0}
 CanRestore Created d = IsSome (get d.arrays (d.next_id - 1))

@@ -35,7 +35,7 @@ directory_code =
 abbrev pub first_directory : Directory
 first_directory = record { arrays = empty; next_id = 1 }
 
--- the words of all arrays together
+-- how many words all arrays have together
 abbrev pub word_count : FinMap nat_cmp Array → ℕ
 word_count arrays = total (λ a. length a.words) arrays
 
@@ -62,7 +62,7 @@ creation d name size =
     else if nat_lt most_words (word_count d.arrays + size) then answer.WordLimit
     else answer.Array d.next_id size
 
--- the answer to a look-up by name
+-- the answer to a look-up by name, given the array of that name, if there is one
 abbrev pub found : Option (ℕ × Array) → Answer
 found None = answer.NoArray
 found (Some e) = answer.Array e.0 (length e.1.words)
@@ -72,17 +72,17 @@ abbrev pub answer_of : Reply → Answer
 answer_of (reply.Value v) = answer.Value v
 answer_of reply.Done = answer.Done
 
--- the answer to an operation on a word, if the word exists: that of the operation table
+-- the answer to an operation on a word: that of the operation table, None if it has none; `BadIndex` if the word does not exist
 abbrev pub accessed : Option Word → Op → Option Answer
 accessed None op = Some answer.BadIndex
 accessed (Some w) op = option_map (λ after. answer_of after.1) (table op w)
 
--- the answer to an operation on a word of an array, if the array exists
+-- the answer to an operation on a word of an array; `NoArray` if the array does not exist
 abbrev pub access : Option Array → ℕ → Op → Option Answer
 access None index op = Some answer.NoArray
 access (Some a) index op = accessed (slice_get a.words index) op
 
--- the answer to an access that would have to wait: `NotNow` if it must not wait
+-- the answer to an access, given that of its operation: without one it is `NotNow` if the access must not wait, else the access waits
 abbrev pub at_once : Bool → Option Answer → Option Answer
 at_once no_wait None = if no_wait then Some answer.NotNow else None
 at_once no_wait (Some a) = Some a
@@ -102,7 +102,7 @@ pub record IsArray (d : Directory) (id : ℕ) (a : Array) : Type 0 where
   pub some_words : 1 ≤ length a.words
   pub few_words : length a.words ≤ most_words
 
--- a directory whose arrays, names and words are within the limits
+-- a directory within the limits, in which no two arrays have one name
 pub record IsDirectory (d : Directory) : Type 0 where
   pub next_id : 1 ≤ d.next_id
   pub few_arrays : len d.arrays ≤ most_arrays

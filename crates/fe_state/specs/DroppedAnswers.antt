@@ -22,7 +22,7 @@ keeping_all m (d ∷ ds) = keeping_all (insert m d.number d.kept) ds
 abbrev pub kept_again : Session → ℕ → ℕ → List Dropped → Session
 kept_again s floor answers dropped = record { floor = floor; kept = keeping_all s.kept (take answers dropped) }
 
--- the first `answers` of the dropped answers are those of numbers in the window of a floor
+-- there are at least `answers` dropped answers, and the first `answers` of them are for numbers in the window of a floor
 pub record AreDropped (floor answers : ℕ) (dropped : List Dropped) : Type 0 where
   pub there : answers ≤ length dropped
   pub in_window : (k : ℕ) (d : Dropped) → k < answers → IsInWindow floor (slice_index_or dropped k d).number
@@ -34,7 +34,7 @@ pub record MayLower (s : Session) (floor : ℕ) : Type 0 where
   pub within_window : s.floor ≤ floor + window_length
   pub in_window : (number : ℕ) (k : Kept) → get s.kept number ≡ Some k → number < floor + window_length
 
--- a session that does not exist may be opened again, with a floor and answers that it may have
+-- a session that does not exist may be opened again with this floor and these answers, while fewer than the most sessions exist
 pub record MayReopen (floor answers : ℕ) (dropped : List Dropped) (sessions : FinMap nat_cmp Session) (session : ℕ) : Type 0 where
   pub least : 1 ≤ floor
   pub most : floor ≤ greatest_floor
@@ -42,7 +42,7 @@ pub record MayReopen (floor answers : ℕ) (dropped : List Dropped) (sessions : 
   pub free : get sessions session ≡ None
   pub few : len sessions < most_sessions
 
--- the answers for the numbers from `floor` on and below `end` were dropped: they were added to those dropped earlier,
+-- answers for numbers in the window of `floor`, at most `end` - `floor` of them, were dropped: they were added to those dropped earlier,
 -- and to keep them again gives what was kept before
 pub record WereDropped (floor end : ℕ) (before after : FinMap nat_cmp Kept) (old new : List Dropped) : Type 0 where
   -- the answers dropped, the latest first

@@ -36,7 +36,7 @@ abbrev pub put_word : FinMap nat_cmp Array → ℕ → ℕ → Word → Option A
 put_word arrays id index w None = arrays
 put_word arrays id index w (Some a) = insert arrays id (with_word a index w)
 
--- the arrays after an operation: the word is what the operation table says; an operation that waits changes nothing
+-- the arrays after an operation, given the word and answer that the operation table has for it; with none, they stay as they are
 abbrev pub operated : FinMap nat_cmp Array → ℕ → ℕ → Option (Word × Reply) → FinMap nat_cmp Array
 operated arrays id index None = arrays
 operated arrays id index (Some after) = put_word arrays id index after.0 (get arrays id)
@@ -53,12 +53,12 @@ performed d (Find name) = d
 performed d (Remove id) = record { arrays = remove d.arrays id; next_id = d.next_id }
 performed d (Access id index op no_wait) = operated_on d id index op
 
--- an answer that is a new array
+-- an answer that gives an array: to a request for a new one, it means that the array is made
 abbrev pub IsNewArray : Answer → Type 0
 IsNewArray (answer.Array id size) = Unit {0}
 IsNewArray _ = ⊥
 
--- a request that makes an array
+-- a request that makes an array in the directory
 abbrev pub CreatesArray : Directory → Request → Type 0
 CreatesArray d (Create name size tag) = IsNewArray (creation d name size)
 CreatesArray d _ = ⊥
@@ -73,7 +73,7 @@ abbrev pub removing : ℕ → Option Array → Effect
 removing id None = effect.Nothing
 removing id (Some a) = effect.Remove id
 
--- the effect of an operation that leaves this word, or waits
+-- the effect of an operation, given the word and answer that the operation table has for it; with none, it has no effect
 abbrev pub writing : ℕ → ℕ → Option (Word × Reply) → Effect
 writing id index None = effect.Nothing
 writing id index (Some after) = effect.Write id index after.0

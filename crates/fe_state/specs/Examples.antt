@@ -59,7 +59,7 @@ pub record ExampleEffects : Type 0 where
 abbrev pub attached : ServerState
 attached = record { arrays = empty; sessions = insert empty 7 first_session; next_id = 1; place = 1 }
 
--- what is kept of the request to find an array named a, the entry at place 1
+-- what is kept of the request to find an array named a, whose entry has place 1
 abbrev pub no_array_a : Kept
 no_array_a = record { request = Find (codes "a"); answer = answer.NoArray; place = 1 }
 

@@ -1,5 +1,5 @@
--- What the older of the two store formats, format 1, has room for: names of at most 16 bytes, and no request that must not wait.
--- See `docs/model.md`, "The state of the server".
+-- What the older of the two store formats, format 1, has room for: names of at most 16 bytes, no request that must not wait, and no answer
+-- `NotNow`. See `docs/model.md`, "The state of the server".
 use Rattle.std.specs.Prelude.{ℕ, Bool, true, false, not, ◌&&◌, nat_le, List, length}
 use Rattle.fe_state.specs.declared.answer.Answer.{Answer}
 use Rattle.fe_state.specs.declared.answer.Answer.TheVariants.{NotNow}
@@ -12,7 +12,7 @@ use Rattle.fe_state.specs.declared.entry.Entry.TheVariants.{Attached, Closed, Se
 abbrev pub name_fits_format_1 : List ℕ → Bool
 name_fits_format_1 name = nat_le (length name) 16
 
--- a request with such a name, or one that may wait
+-- a request whose name, if it has one, is no longer than that, and that may wait, if it is an access
 abbrev pub request_fits_format_1 : Request → Bool
 request_fits_format_1 (Create name size tag) = name_fits_format_1 name
 request_fits_format_1 (Find name) = name_fits_format_1 name

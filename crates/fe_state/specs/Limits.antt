@@ -1,4 +1,5 @@
--- The limits of the server. `docs/model.md`, "The state of the server", has them in words.
+-- The limits of the server. `docs/model.md` has them in words ("The state of the server", "Waiting requests", "The front"), apart from
+-- that of a batch.
 use Rattle.std.specs.Prelude.{ℕ}
 
 -- the most sessions
@@ -37,6 +38,6 @@ most_waiting = 2048
 abbrev pub most_event_entries : ℕ
 most_event_entries = 2049
 
--- the most entries of a batch: an event comes only while at most 2,048 are pending
+-- the most entries of a batch: an event makes entries only while at most 2,048 earlier ones are pending
 abbrev pub most_batch_entries : ℕ
 most_batch_entries = 4097

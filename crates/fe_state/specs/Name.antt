@@ -1,3 +1,4 @@
+-- Which names an array may have (`docs/model.md`, "The state of the server").
 use Rattle.std.specs.Prelude.{ℕ, Bool, ◌&&◌, ◌||◌, ◌==◌, nat_le, List, length}
 use Rattle.std.specs.List.{list_all}
 use Rattle.fe_state.specs.Limits.{longest_name}

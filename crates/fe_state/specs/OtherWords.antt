@@ -1,4 +1,4 @@
--- What a request does to the words that it isn't about (`docs/model.md`, "The state of the server").
+-- A request leaves the words that it is not about as they are (`docs/model.md`, "The state of the server").
 use Rattle.std.specs.Prelude.{◌≡◌, ℕ}
 use Rattle.std.specs.FinMap.{get}
 use Rattle.fe_state.specs.Directory.{Directory, word_in}

@@ -7,7 +7,7 @@ use Rattle.fe_state.specs.Limits.{longest_name}
 abbrev pub padded : ℕ → List ℕ → List ℕ
 padded n bytes = bytes ++ replicate (n - length bytes) 0
 
--- a front of the cells with zeros after it gives the cells back
+-- if all cells after the first n are zeros, the first n cells, padded, are the cells
 pub padded-take : (n : ℕ) (cells : List ℕ) → (n ≤ longest_name) × (length cells ≡ longest_name) × (drop n cells ≡ replicate (longest_name - n) 0) → (length (take n cells) ≡ n) × (padded longest_name (take n cells) ≡ cells)
 padded-take n cells h =
     let long : length (take n cells) ≡ n = length-take-le n cells (omega (arith, h.0, h.1)) in

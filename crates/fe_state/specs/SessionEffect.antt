@@ -25,8 +25,8 @@ SessionsAllow sessions (Closed session) = IsSome (get sessions session)
 SessionsAllow sessions (Settled session floor) = IsSomeAnd (get sessions session) (λ x. MayRise x.floor floor)
 SessionsAllow sessions (Finished session number request answer) = IsSomeAnd (get sessions session) (λ x. IsUsable x number)
 
--- The sessions after an entry; its place is its number in the history. A new session begins with floor 1, and one that exists stays as it
--- is. A raised floor drops the answers below it. If the session does not exist, nothing changes.
+-- The sessions after an entry; its place is the number of entries before it. An attached session that is new begins with floor 1, and one
+-- that exists stays as it is. A raised floor drops the answers below it. Other entries of a session that does not exist change nothing.
 abbrev pub sessions_after : FinMap nat_cmp Session → ℕ → Entry → FinMap nat_cmp Session
 sessions_after sessions place (Attached session floor) = opened sessions session
 sessions_after sessions place (Closed session) = remove sessions session

@@ -1,6 +1,5 @@
--- Sessions. A client numbers its requests in a session, so that one it repeats takes effect once. A session has a
--- window of numbers, the least of which is its floor, and keeps the answer of each number of the window that was used
--- (`docs/model.md`, "The state of the server").
+-- Sessions. A client numbers its requests in a session, so that one it repeats takes effect once. A session has a window, the 32 numbers
+-- from its floor on, and keeps the answer to each request that finished under one of them (`docs/model.md`, "The state of the server").
 use Rattle.std.specs.Prelude.{ℕ, ◌+◌, ◌≤◌, ◌<◌, nat_le, refl, Option, Some, None, if◌then◌else◌}
 use Rattle.std.specs.Ordering.{nat_cmp}
 use Rattle.std.specs.Coded.{Coded, code_by, coded×, coded_ℕ}
@@ -9,7 +8,7 @@ use Rattle.fe_state.specs.declared.kept.Kept.{Kept}
 use Rattle.fe_state.specs.contracts.kept.Kept.{the_row}
 use Rattle.fe_state.specs.Limits.{window_length, greatest_floor}
 
--- a session: its floor, and what is kept for a number
+-- a session: its floor, and what is kept, by number
 pub record Session : Type 0 where
   pub floor : ℕ
   pub kept : FinMap nat_cmp Kept
@@ -19,11 +18,11 @@ abbrev pub session_code : Coded Session
 session_code =
     code_by (ℕ × FinMap nat_cmp Kept) (coded× coded_ℕ (code coded_ℕ the_row.coded)) (λ s. (s.floor, s.kept)) (λ p. record { floor = p.0; kept = p.1 }) (λ _. refl)
 
--- a session that begins: every number from 1 on is new
+-- a session that begins: its floor is 1, and nothing is kept
 abbrev pub first_session : Session
 first_session = record { floor = 1; kept = empty }
 
--- the window of a session: 32 numbers from its floor on, each of which it may use once
+-- the number is in the window of a session with this floor: the 32 numbers from the floor on, which it may use once each
 pub record IsInWindow (floor number : ℕ) : Type 0 where
   pub not_below : floor ≤ number
   pub not_beyond : number < floor + window_length

@@ -97,7 +97,7 @@ pub record IsSession (place : ℕ) (s : Session) : Type 0 where
   pub most : s.floor ≤ greatest_floor
   pub kept : (number : ℕ) (k : Kept) → get s.kept number ≡ Some k → IsInWindow s.floor number × (k.place < place)
 
--- a state within the limits, which all states of the server are: it has exactly one image
+-- a state within the limits, which all states of the server are: in format 2 it has exactly one image
 pub record IsWithinLimits (s : ServerState) : Type 0 where
   pub place : s.place < 2 ^ 63
   pub directory : IsDirectory (directory_of s)

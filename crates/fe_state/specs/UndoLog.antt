@@ -87,7 +87,7 @@ before u dropped s =
     let d = restored u.change (directory_of s) in
     record { arrays = d.arrays; sessions = put_back u.session_change dropped s.sessions u.session; next_id = d.next_id; place = s.place - 1 }
 
--- a state that the entry may have left
+-- the entry can be undone in this state, and that leads to a state within the limits
 pub record CanUndo (u : Undo) (dropped : List Dropped) (s : ServerState) : Type 0 where
   pub directory : CanRestore u.change (directory_of s)
   pub sessions : CanPutBack u.session_change dropped s.sessions u.session

@@ -1,3 +1,5 @@
+//! The answers of the server; a request gets the first one that applies (`docs/model.md`, "The state of the server").
+
 /// The answer that a request gets once it completes.
 #[derive(Clone, Copy, PartialEq, Eq)]
 pub enum Answer {
@@ -14,12 +16,12 @@ pub enum Answer {
     NameTaken,
     /// There are 64 arrays already.
     ArrayLimit,
-    /// All arrays together would have too many words.
+    /// All arrays together would have more than 65,536 words.
     WordLimit,
-    /// The name is no name of 1 to 32 letters `a` to `z`, digits or underscores.
+    /// The name does not have 1 to 32 bytes, or has one other than `a` to `z`, `0` to `9` and `_`.
     BadName,
     /// The length is not 1 to 65,536 words.
     BadLength,
-    /// The word does not have the tag that the operation needs, and the request must not wait.
+    /// The word does not have the tag, full or empty, that the operation needs, and the request must not wait.
     NotNow,
 }

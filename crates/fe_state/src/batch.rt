@@ -1,3 +1,6 @@
+//! Batches of entries, the steps of the history. The store takes a batch whole or not at all, as one group (`docs/store.md`,
+//! "The life of a store").
+
 ghost use Rattle.std.specs.Prelude.{◌≡◌, ◌+◌, ◌<◌, ◌≤◌, [], ◌∷◌, ◌++◌, length, IfOk};
 ghost use Rattle.std.specs.List.{list_all};
 ghost use Rattle.fe_state.specs.Format.{entry_fits_format_1};
@@ -35,7 +38,7 @@ impl Model for Entries {
 }
 
 impl Entries {
-    /// No entries yet. Allocates the memory for all.
+    /// No entries yet. Allocates the memory for all; fails only if memory runs out.
     pub fn new(alloc: Global) -> Result<Entries, AllocError>
         ensures { IfOk result (λ entries. entries ≡ []) }
     {
@@ -52,7 +55,7 @@ impl Entries {
         &self.items
     }
 
-    /// Adds an entry at the end. Allocates nothing.
+    /// Adds an entry at the end. There must be fewer than `BATCH_ENTRIES`. Allocates nothing.
     pub fn push(&mut self, entry: Entry)
         requires { length self.old < most_batch_entries }
         ensures { self.new ≡ self.old ++ entry ∷ [] }
@@ -78,7 +81,7 @@ pub struct Batch {
 }
 
 impl Batch {
-    /// A batch with no entries yet. Allocates the memory for all.
+    /// A batch with no entries yet. Allocates the memory for all; fails only if memory runs out.
     pub fn new(alloc: Global, first: u64) -> Result<Batch, AllocError>
         ensures first { IfOk result (λ batch. batch.first ≡ first) }
         ensures empty { IfOk result (λ batch. batch.entries ≡ []) }
@@ -99,7 +102,7 @@ impl Batch {
             .all(|entry| entry.fits_format_1())
     }
 
-    /// Adds an entry at the end. Allocates nothing.
+    /// Adds an entry at the end. There must be fewer than `BATCH_ENTRIES`. Allocates nothing.
     pub fn push(&mut self, entry: Entry)
         requires { length self.old.entries < most_batch_entries }
         ensures first { self.new.first ≡ self.old.first }

@@ -1,3 +1,5 @@
+//! The part of an undo log that concerns the arrays (`docs/model.md`, "The state of the server").
+
 use crate::array::Array;
 use fe_words::Word;
 

@@ -1,3 +1,6 @@
+//! The directory, the arrays with the next array id: how it answers requests, and how they change it (`docs/model.md`,
+//! "The state of the server").
+
 ghost use Rattle.std.specs.Prelude.{◌≡◌, ◌≤◌, ◌<◌, ◌+◌, ◌^◌, length, is_some, IsSome, IfOk, IfSome, OnErr, OnOk, Some, None};
 ghost use Rattle.std.specs.Option.{option_map};
 ghost use Rattle.std.specs.FinMap.{get, insert, len};
@@ -24,7 +27,7 @@ use std::marker::Model;
 pub struct Directory {
     pub(crate) arrays: Arrays,
     pub(crate) next_id: u64,
-    /// The words of all arrays together.
+    /// How many words all arrays have together.
     words: u32,
     alloc: Global,
 }
@@ -44,8 +47,8 @@ impl Model for Directory {
 }
 
 impl Directory {
-    /// A directory with no arrays, in which the next one gets this id. Allocates the memory for the ids and names of
-    /// all; fails only if memory runs out.
+    /// A directory with no arrays, in which the next one gets this id, at least 1. Allocates the memory for the ids and names of 64 arrays;
+    /// fails only if memory runs out.
     pub fn starting(alloc: Global, next_id: u64) -> Result<Directory, AllocError>
         requires { 1 ≤ next_id }
         ensures { IfOk result (λ directory. directory ≡ record { arrays = first_directory.arrays; next_id = next_id }) }
@@ -189,7 +192,7 @@ impl Directory {
         }
     }
 
-    /// Restores the arrays as they were before a change. Allocates nothing.
+    /// Restores the directory as it was before a change. Allocates nothing.
     pub(crate) fn restore(&mut self, change: Change)
         requires { CanRestore change self.old }
         ensures { self.new ≡ restored change self.old }
@@ -208,7 +211,7 @@ impl Directory {
         }
     }
 
-    /// Puts an array at an id. Allocates nothing.
+    /// Adds an array that the directory may hold, under a free id below the next one. Allocates nothing.
     pub fn insert(&mut self, id: u64, array: Array)
         requires { MayBeAdded self.old id array }
         ensures { self.new ≡ record { arrays = insert self.old.arrays id array; next_id = self.old.next_id } }

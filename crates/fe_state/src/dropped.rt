@@ -1,3 +1,5 @@
+//! An undo log has the answers that its entries dropped, so that an undo can restore them (`docs/model.md`, "The state of the server").
+
 use crate::kept::Kept;
 
 /// An answer that a session kept for a number and has dropped.

@@ -1,3 +1,6 @@
+//! The part of an entry's effect that concerns the arrays; an entry is a step of the history (`docs/model.md`,
+//! "The state of the server").
+
 use fe_words::Word;
 
 /// What a request changes of the arrays once it completes.

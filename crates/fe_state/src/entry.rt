@@ -1,13 +1,15 @@
+//! The entries of the server's history, and which of them store format 1 has room for (`docs/model.md`, "The state of the server").
+
 ghost use Rattle.std.specs.Prelude.{◌≡◌};
 ghost use Rattle.fe_state.specs.Format.{request_fits_format_1, entry_fits_format_1};
 
 use crate::answer::Answer;
 use crate::request::Request;
 
-/// A step of the history: what was done to the state, with the answer that it gave.
+/// A step of the history: what was done to the state, and, for a request, the answer that it got.
 #[derive(Clone, Copy, PartialEq, Eq)]
 pub enum Entry {
-    /// A connection attached the session, with this floor.
+    /// A connection attached the session, and gets its replies from then on. The session has this floor.
     Attached {
         session: u64,
         floor: u64,
@@ -16,7 +18,7 @@ pub enum Entry {
     Closed {
         session: u64,
     },
-    /// The floor of the session, the least number of its window, rose to this one.
+    /// The floor of the session, the least number of its window, is this one from then on. It is not lower than before.
     Settled {
         session: u64,
         floor: u64,

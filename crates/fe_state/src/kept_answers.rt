@@ -1,3 +1,5 @@
+//! Walks over the answers that a session keeps for request numbers (`docs/model.md`, "The state of the server").
+
 ghost use Rattle.std.specs.Prelude.{◌≡◌, ◌≤◌};
 ghost use Rattle.std.specs.FinMap.{entries, len};
 ghost use Rattle.std.specs.Iterator.{YieldsFirstBy, item_count};
@@ -13,7 +15,7 @@ use std::marker::Model;
 #[derive(Drop)]
 pub struct KeptAnswers<'a> {
     session: &'a Session,
-    /// The answers for the numbers below this one were given already.
+    /// Only what is kept for the numbers from this one on is left.
     next: u64,
 }
 
@@ -47,7 +49,7 @@ impl<'a> KeptAnswers<'a> {
         KeptAnswers { session, next }
     }
 
-    /// How many answers are left, 0 to `WINDOW`.
+    /// How many answers are left: at most 32, one for each number of the session's window.
     pub fn len(&self) -> usize
         ensures count { result ≡ len self.now }
         ensures few { result ≤ window_length }

@@ -1,3 +1,6 @@
+//! Laws of the state, of its history and of waiting requests (`docs/model.md`, "The state of the server"). Each function states one, and
+//! does nothing.
+
 ghost use Rattle.std.specs.Prelude.{◌≡◌, ◌+◌, ◌-◌, ◌*◌, ◌^◌};
 ghost use Rattle.fe_state.specs.History.{KeepsLimits, FinishesOnce, JoinsAndCuts};
 ghost use Rattle.fe_state.specs.Ids.{IdsNeverReturn};
@@ -11,17 +14,17 @@ pub fn limits_are_kept()
     ensures { KeepsLimits }
 {}
 
-/// A request number takes effect at most once between the opening and the end of its session.
+/// If a number of a session finishes twice in a history, the session was closed in between.
 pub fn numbers_finish_once()
     ensures { FinishesOnce }
 {}
 
-/// A history cut after any whole group is a history, and two histories one after the other are one.
+/// A history that is cut between groups is two histories, and two histories one after the other are one.
 pub fn histories_join_and_cut()
     ensures { JoinsAndCuts }
 {}
 
-/// The definitions give the worked examples of `docs/model.md`.
+/// The definitions give the worked examples of `specs/Examples.antt`.
 pub fn examples_hold()
     ensures answers { ExampleAnswers }
     ensures effects { ExampleEffects }
@@ -57,7 +60,7 @@ pub fn entry_limits_are()
     ensures batch { BATCH_ENTRIES ≡ most_batch_entries }
 {}
 
-/// The limits that are computed from other limits.
+/// The limits that the definitions have as numbers, by the formulas that these numbers come from.
 pub fn limits_follow()
     ensures floor { greatest_floor ≡ 2 ^ 63 - window_length }
     ensures place { greatest_place ≡ 2 ^ 63 - 1 }

@@ -1,3 +1,5 @@
+//! The requests on arrays and their words (`docs/model.md`, "The state of the server" and "Words").
+
 use crate::name::Name;
 use fe_words::{Op, Tag};
 

@@ -1,3 +1,5 @@
+//! One of the server's sessions, in which a client numbers its requests (`docs/model.md`, "The state of the server").
+
 ghost use Rattle.std.specs.Prelude.{◌≡◌, ◌↔◌, ℕ, ◌+◌, ◌-◌, ◌%◌, ◌^◌, ◌≤◌, ◌<◌, [], ◌∷◌, Some, IsTrue, IfSome, IfNone, nat_le, option_copied, vec_len, vec_capacity};
 ghost use Rattle.std.specs.FinMap as map;
 ghost use Rattle.fe_state.specs.declared.kept.Kept.{Kept};
@@ -19,7 +21,7 @@ use std::alloc::{AllocError, Global};
 use std::marker::Model;
 
 /// A session: its floor, and what is kept for the numbers of its window, which are the `WINDOW` numbers from the floor
-/// on. A number of the window is usable while nothing is kept for it. It owns no allocated memory.
+/// on. A number of the window is usable while nothing is kept for it. A session owns no allocated memory.
 #[derive(Drop)]
 pub struct Session {
     pub(crate) floor: u64,
@@ -41,7 +43,7 @@ impl Model for Session {
 }
 
 impl Session {
-    /// A session that begins: every number from 1 on is new.
+    /// A session that begins: its floor is 1, and it keeps nothing.
     pub fn new() -> Session
         ensures { result ≡ first_session }
     {
@@ -139,7 +141,7 @@ impl Session {
         }
     }
 
-    /// Raises the floor, by `WINDOW` at the most, and drops what was kept below it.
+    /// Raises the floor to this number, at most `WINDOW` higher and at most `GREATEST_FLOOR`, and drops what was kept below it.
     pub fn raise(&mut self, floor: u64)
         requires { MayRise self.old.floor floor }
         ensures { self.new ≡ raised self.old floor }
@@ -150,8 +152,8 @@ impl Session {
         self.floor = floor;
     }
 
-    /// Drops what is kept below a number, and appends it to `dropped`, which has room for `WINDOW` more. The floor
-    /// stays.
+    /// Drops what is kept for numbers below `end`, at most `WINDOW` above the floor, and appends it to `dropped`, which has room for
+    /// `WINDOW` more. The floor stays.
     pub(crate) fn drop_below(&mut self, end: u64, dropped: &mut Vec<Dropped>)
         requires least { self.old.floor ≤ end }
         requires most { end ≤ self.old.floor + window_length }

@@ -1,3 +1,6 @@
+//! What an entry, a step of the history, needs of the sessions and changes of them, and how that is undone (`docs/model.md`,
+//! "The state of the server").
+
 ghost use Rattle.std.specs.Prelude.{◌≡◌, ◌↔◌, ◌≤◌, ◌<◌, length, take, IsTrue, IsSomeAnd, None};
 ghost use Rattle.std.specs.Bool.{OnTrue, OnFalse};
 ghost use Rattle.std.specs.FinMap.{get, insert, remove, len};
@@ -16,7 +19,7 @@ use crate::undo::{SessionChange, Undo};
 use crate::undo_log::UndoLog;
 use fe_table::Table;
 
-// A function that moves a whole session, some 3 KB, is not inlined, so that a request that finishes pays for no such local.
+// A function that moves a whole session, some 3 KB, is not inlined, so that finishing a request needs no room on the stack for one.
 
 /// The sessions by number.
 pub type Sessions = Table<Session, SESSIONS>;
@@ -86,7 +89,7 @@ fn open(sessions: &mut Sessions, session: u64) -> bool
     is_new
 }
 
-/// Carries out an entry, and adds it to the log with its change of the arrays.
+/// Carries out what an entry changes of the sessions, and adds the entry to the log; `change` is what it changed of the arrays.
 pub fn record_entry(
     sessions: &mut Sessions,
     place: u64,
@@ -141,7 +144,7 @@ pub fn record_entry(
     }
 }
 
-/// Carries out an entry that cannot be undone.
+/// Carries out what an entry changes of the sessions, so that it cannot be undone.
 pub fn advance(sessions: &mut Sessions, place: u64, entry: &Entry)
     requires { SessionsAllow sessions.old entry.now }
     ensures { sessions.new ≡ sessions_after sessions.old place entry.now }
@@ -175,7 +178,7 @@ fn drop_session(sessions: &mut Sessions, session: u64)
     let _ = sessions.remove(session);
 }
 
-// Keeps the latest of the dropped answers again.
+// Keeps the latest `answers` of the log's dropped answers again.
 fn keep_again(here: &mut Session, log: &UndoLog, answers: usize)
     requires { AreDropped here.old.floor answers log.now.dropped }
     ensures floor { here.new.floor ≡ here.old.floor }
@@ -198,7 +201,7 @@ fn reopen(sessions: &mut Sessions, session: u64, floor: u64, log: &UndoLog, answ
     sessions.insert(session, before);
 }
 
-/// Brings the sessions before the latest entry of a log back.
+/// Restores the sessions as they were before the latest entry of the log, whose changes `undo` has.
 pub fn restore(sessions: &mut Sessions, undo: &Undo, log: &UndoLog)
     requires { CanPutBack undo.now.session_change log.now.dropped sessions.old undo.now.session }
     ensures { sessions.new ≡ put_back undo.now.session_change log.now.dropped sessions.old undo.now.session }

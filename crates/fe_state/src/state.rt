@@ -1,3 +1,6 @@
+//! The server state: how a request is answered, and what an entry, a step of the history, changes (`docs/model.md`,
+//! "The state of the server").
+
 ghost use Rattle.std.specs.Prelude.{◌≡◌, ◌+◌, ◌-◌, ◌^◌, ◌<◌, ◌≤◌, ◌↔◌, length, slice_get, None, IfOk, IfSome, OnOk, OnErr, IsOk, IsSome, IsSomeAnd, option_copied};
 ghost use Rattle.std.specs.Option.{option_map};
 ghost use Rattle.std.specs.FinMap.{get, keys, entries, len, empty, insert};
@@ -39,7 +42,7 @@ pub struct Illegal;
 /// The arrays and sessions after the entries so far.
 ///
 /// It allocates the memory for all sessions and for the ids and names of all arrays when it is made. After that only
-/// the words of a new array take memory.
+/// `copy` and the words of a new array take memory.
 pub struct State {
     directory: Directory,
     sessions: Sessions,
@@ -91,7 +94,8 @@ impl State {
         State::starting(alloc, 0, 1)
     }
 
-    /// A state with no arrays and no sessions, at a place of the history. Fails only if memory runs out.
+    /// A state with no arrays and no sessions, at a place from 0 to 2^63 - 1, with a next array id from 1 to the place + 1. Fails only if
+    /// memory runs out.
     pub fn starting(alloc: Global, place: u64, next_id: u64) -> Result<State, AllocError>
         requires place { place < 2 ^ 63 }
         requires least { 1 ≤ next_id }
@@ -123,7 +127,7 @@ impl State {
         })
     }
 
-    /// What a request is answered, with what it changes, or `None` where it has to wait.
+    /// The answer to a request and what it changes, or `None` if it has to wait.
     pub fn look(&self, request: &Request) -> Option<(Answer, Effect)>
         ensures answer { option_map (λ x. x.0) result ≡ reply self.now request.now }
         ensures effect { IfSome result (λ x. x.1 ≡ effect_of (directory_of self.now) request.now) }
@@ -151,7 +155,7 @@ impl State {
         self.look(request).map(|x| x.0)
     }
 
-    /// The effect of an entry that may come next. It is `Illegal` exactly if the entry is not legal here.
+    /// What an entry that may come next changes in the arrays. It is `Illegal` exactly if the entry is not legal here.
     pub fn examine(&self, entry: &Entry) -> Result<Effect, Illegal>
         ensures legal { IsOk result ↔ IsLegal self.now entry.now }
         ensures effect { IfOk result (λ effect. effect ≡ effect_in (directory_of self.now) entry.now) }
@@ -173,7 +177,7 @@ impl State {
         }
     }
 
-    /// Whether an entry may come next. It is `Illegal` exactly where the entry is not legal here.
+    /// Whether an entry may come next. It is `Illegal` exactly if the entry is not legal here.
     pub fn check(&self, entry: &Entry) -> Result<(), Illegal>
         ensures { IsOk result ↔ IsLegal self.now entry.now }
     {
@@ -255,7 +259,7 @@ impl State {
         log.clear();
     }
 
-    /// The word at an index of an array.
+    /// The word at an index of an array, if both exist.
     pub fn word(&self, array: u64, index: u32) -> Option<Word>
         ensures { result ≡ word_in (get self.now.arrays array) index }
     {
@@ -270,22 +274,22 @@ impl State {
         Some(self.directory.arrays.get(array)?.words.len())
     }
 
-    /// What is kept for a number of a session.
+    /// What is kept for a number of a session, if the session exists and something is.
     pub fn kept(&self, session: u64, number: u64) -> Option<&Kept>
         ensures { option_copied result ≡ kept_in (get self.now.sessions session) number }
     {
         self.sessions.get(session)?.kept(number)
     }
 
-    /// The floor of a session, which is the least number of its window.
+    /// The floor of a session, which is the least number of its window, if the session exists.
     pub fn floor(&self, session: u64) -> Option<u64>
         ensures { result ≡ option_map (λ x. x.floor) (get self.now.sessions session) }
     {
         Some(self.sessions.get(session)?.floor())
     }
 
-    /// Looks for a session, at a guessed position first, and for the array of a request, so that the look-ups of them
-    /// that follow take one comparison each. Any guess is good.
+    /// Looks for a session, at a guessed position first, and for the array of an access, so that look-ups of them,
+    /// if they were found, take one comparison each until the next `aim`, as long as their positions stay the same. Any guess is good.
     pub fn aim(&mut self, session: u64, guess: usize, request: &Request)
         ensures { self.new ≡ self.old }
     {
@@ -403,7 +407,7 @@ fn creating(answer: Answer) -> Effect
     }
 }
 
-/// Carries out what an entry changes of the arrays.
+/// Carries out what an entry changes in the arrays.
 fn enact(directory: &mut Directory, entry: &Entry, effect: Effect) -> Result<Change, AllocError>
     requires id { directory.old.next_id < 2 ^ 63 }
     requires effect { effect ≡ effect_in directory.old entry.now }

@@ -1,9 +1,11 @@
+//! What an undo log has of each entry, a step of the history, to undo it (`docs/model.md`, "The state of the server").
+
 ghost use Rattle.std.specs.Prelude.{◌≡◌};
 ghost use Rattle.fe_state.specs.UndoLog.{answers_of};
 
 use crate::change::Change;
 
-/// What an entry changed of the state. The answers that it dropped are in the log.
+/// What an entry changed of the state, in the session that it names and in the arrays. The answers that it dropped are in the log.
 #[derive(Drop)]
 pub struct Undo {
     pub session: u64,
@@ -21,7 +23,7 @@ pub enum SessionChange {
     Closed { floor: u64, answers: usize },
     /// The floor was this one, and this many answers were kept below the new one.
     Settled { floor: u64, answers: usize },
-    /// The number has an answer that is new.
+    /// What is kept for this number is new.
     Kept(u64),
 }
 

@@ -1,3 +1,5 @@
+//! The log by which entries, the steps of the history, are undone (`docs/model.md`, "The state of the server").
+
 ghost use Rattle.std.specs.Prelude.{◌≡◌, ◌-◌, ◌<◌, ◌≤◌, ◌↔◌, ◌∷◌, length, slice_get, IfOk, IsTrue, Some, option_copied};
 ghost use Rattle.std.specs.Option.{option_map};
 ghost use Rattle.std.specs.FinMap.{empty};
@@ -18,8 +20,8 @@ use std::marker::Model;
 
 /// What entries changed, so that they can be undone from the latest to the first.
 ///
-/// It allocates its memory when it is made. The answers that a session dropped when it was settled or closed are in a
-/// part that the other entries never touch.
+/// It allocates its memory when it is made. The answers that a session dropped when it was settled or closed are in `dropped`,
+/// which entries of other kinds never touch.
 #[derive(Drop)]
 pub struct UndoLog {
     room: usize,
@@ -54,7 +56,7 @@ impl UndoLog {
         })
     }
 
-    /// Whether one more entry has room.
+    /// Whether there is room for one more entry.
     pub fn has_room(&self) -> bool
         ensures { IsTrue result ↔ (length self.now.undos < self.now.room) }
     {
@@ -76,7 +78,7 @@ impl UndoLog {
         self.undos.last()
     }
 
-    /// An answer that was dropped, by its position, from the latest on.
+    /// The dropped answer at a position. The latest is at 0.
     pub(crate) fn dropped_at(&self, position: usize) -> &Dropped
         requires { position < length self.now.dropped }
         ensures { Some result.now ≡ slice_get self.now.dropped position }
@@ -98,7 +100,7 @@ impl UndoLog {
         self.undos.push_reserved(undo);
     }
 
-    /// Settles a session, and adds the entry that does so. Allocates nothing.
+    /// Settles a session, and adds the entry that does so; `change` is what that entry changed of the arrays. Allocates nothing.
     #[inline(never)]
     pub(crate) fn settle(&mut self, session: u64, here: &mut Session, floor: u64, change: Change)
         requires room { length self.old.undos < self.old.room }
@@ -123,7 +125,8 @@ impl UndoLog {
         });
     }
 
-    /// Drops all answers of a session that is closed, and adds the entry that closes it. Allocates nothing.
+    /// Drops all answers of a session that is closed, and adds the entry that closes it; `change` is what that entry changed of the
+    /// arrays. Allocates nothing.
     #[inline(never)]
     pub(crate) fn close(&mut self, session: u64, here: &mut Session, change: Change)
         requires room { length self.old.undos < self.old.room }

@@ -1,3 +1,5 @@
+//! The words of one array; a word is a value and a tag, full or empty (`docs/model.md`, "Words").
+
 ghost use Rattle.std.specs.Prelude.{◌≡◌, ◌<◌, ◌^◌, replicate, length, slice_get, slice_set, IfOk, Some};
 ghost use Rattle.fe_words.specs.Table.{word};
 
@@ -30,7 +32,7 @@ impl Model for Words {
 }
 
 impl Words {
-    /// New words of value 0 with the tag. Fails only if memory runs out.
+    /// This many words of value 0 with the tag. Fails only if memory runs out.
     pub fn new(alloc: Global, length: u32, tag: Tag) -> Result<Words, AllocError>
         ensures { IfOk result (λ words. words ≡ replicate length (word 0 tag)) }
     {

@@ -1,7 +1,8 @@
-//! The files next to a store: `PATH.new`, which is being made, and `PATH.before-format`, the bytes that a formatting replaced.
+//! The files next to a store (`docs/store.md`, "The file"): `PATH.new`, which is being made, and `PATH.before-format`, the bytes that a
+//! formatting replaced.
 //!
-//! A server names or removes `PATH.new` only while it has the lock of that file and has seen that the name leads to it. So two
-//! servers that start at once never remove or name each other's file.
+//! A server names `PATH.new`, or removes one that is no second name of another file, only while it has the lock of that file and has seen
+//! that the name leads to it. So two servers that start at once never remove or name each other's file.
 
 ghost use Rattle.std.specs.Prelude.{◌≡◌, length};
 ghost use Rattle.fe_disk.specs.FileDisk.{file_size};
@@ -79,7 +80,7 @@ pub(crate) fn tidy<R: Files<File = File>>(rt: &R, alloc: Global, path: &str) {
     }
 }
 
-/// Removes `PATH.new` as `tidy` does, but fails if a file stays. `others` are bytes that are kept elsewhere.
+/// Removes `PATH.new` as `tidy` does, but fails if a file stays. A byte that `others` has at the same place may be overwritten too.
 fn clear<R: Files<File = File>>(
     rt: &R,
     alloc: Global,
@@ -118,7 +119,7 @@ fn is_at<R: Files<File = File>>(rt: &R, path: &str, file: &Metadata) -> bool {
     }
 }
 
-/// Keeps these bytes in a new file, which appears whole or not at all.
+/// Keeps these bytes in a new file, which appears whole or not at all. Fails if a file has its name by then.
 fn copy<R: Files<File = File>>(
     rt: &R,
     alloc: Global,

@@ -1,3 +1,5 @@
+//! Why a store is not opened, and why a file next to it is not made, kept or removed (`docs/store.md`, "The file").
+
 ghost use Rattle.std.specs.Prelude.{◌≡◌};
 ghost use Rattle.fe_keeper.specs.Opened.{IsOpenFault};
 ghost use Rattle.fe_store.specs.within.Faults.{IsOpenFaultOf};
@@ -10,7 +12,7 @@ use std::io;
 /// Why a store is not opened.
 #[derive(Clone, Copy, PartialEq, Eq)]
 pub enum OpenFault {
-    /// The store has no file, another program has it, or its device failed.
+    /// The store's file is missing, no plain file or locked by another server; its device failed; or a file next to it is in the way.
     Device,
     /// Memory ran out.
     Memory,
@@ -18,7 +20,7 @@ pub enum OpenFault {
     Size(u64),
     /// The device doesn't have the size of a store, or neither slot is valid.
     Unformatted,
-    /// The slot that counts is wrong at this offset of the device, in bytes (`docs/formats.md`, "Device").
+    /// The slot that counts is wrong at this offset of the device, in bytes (`docs/formats.md`, "Journal area").
     Damaged(usize),
 }
 

@@ -15,9 +15,9 @@ use std::alloc::Global;
 use std::fs::File;
 use std::rt::Files;
 
-/// Opens the store in a file. With `format`, a missing file is made, and an unformatted store is formatted once its bytes are kept
-/// in `PATH.before-format`. Errors: `Device` if there is no such file, another program has it or it can't be read, made or kept;
-/// `Size` if it has another size; `Unformatted` or `Damaged` if it holds no state; `Memory` if memory runs out.
+/// Opens the store in a file. With `format`, a missing file is made, and an unformatted store is formatted once the bytes that this would
+/// lose are kept in `PATH.before-format`. Errors: `Device` if there is no such file, another server has it locked, or a call of it or of a
+/// file next to it fails; `Size` if it has another size; `Unformatted` or `Damaged` if it holds no state; `Memory` if memory runs out.
 pub fn open_store<R: Files<File = File>>(
     rt: &R,
     alloc: Global,

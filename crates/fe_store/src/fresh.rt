@@ -1,13 +1,13 @@
-//! Bytes of a store that may be overwritten without loss.
+//! Bytes of a store that may be overwritten without loss, when it is formatted or a `PATH.new` removed (`docs/store.md`, "The file").
 
 use fe_journal::image_of;
 
-/// The header of slot 0 in a new store: its magic, generation 1, and the length of the empty image (`docs/formats.md`, "Device").
+/// The header of slot 0 in a new store: its magic, generation 1, and the length of its image, 24 (`docs/formats.md`, "Device").
 const HEADER: [u8; 20] = [
     70, 69, 77, 69, 77, 83, 84, 50, 0, 0, 0, 0, 0, 0, 0, 1, 0, 0, 0, 24,
 ];
 
-/// The offset in the empty image of its only byte that is not zero: the last of its next array id (`docs/formats.md`, "Image").
+/// The offset in that image of its only byte that is not zero: the last of the next array id (`docs/formats.md`, "Image").
 const NEXT_ID: usize = 15;
 
 /// The byte that a new store has at this offset. The gate of its header is open, and its image begins after the gate.

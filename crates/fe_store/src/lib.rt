@@ -1,4 +1,4 @@
-//! The store in a file: it is opened, or made (`docs/store.md`, "The file").
+//! Opening a store on a disk or in a file, or making a new one (`docs/store.md`, "Opening a store" and "The file").
 #![tactic(auto)]
 
 mod beside;

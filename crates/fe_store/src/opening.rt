@@ -1,4 +1,5 @@
-//! Opening the store on a disk, or making a new one there.
+//! Opening the store on a disk (`docs/store.md`, "Opening a store"), or making a new one there. A keeper is an open store and the
+//! state that it stands for (`docs/model.md`, "The keeper").
 
 ghost use Rattle.std.specs.Prelude.{◌≡◌, false, IfOk, IfErr};
 ghost use Rattle.fe_disk.specs.Runs.{without_disk};
@@ -19,8 +20,8 @@ use std::alloc::Global;
 pub fn open_existing<D: Disk>(alloc: Global, disk: D) -> Result<Keeper<D>, (OpenFault, D)>
     // What is read of the disk stands for the keeper's state, and so does each image that a stop may leave.
     ensures opened { D.honest disk → IfOk result (IsOpenedFrom D.Disk (D.seen disk)) }
-    // The keeper is ready. `Unformatted` and `Damaged` are reported only of a disk that is so. A store that stands for a state
-    // is refused only if the device fails or memory runs out.
+    // The keeper's device works, and no checkpoint is under way. Of an honest disk `Unformatted` and `Damaged` are reported only if it is
+    // so, and a store that stands for a state is refused only if the device fails or memory runs out.
     ensures ends { EndsOpening D.Disk disk result }
     // Memory runs out only if the header of the slot that counts is right and, once the whole store is read, also the
     // lengths of its groups and the first fields of its image.
@@ -29,6 +30,7 @@ pub fn open_existing<D: Disk>(alloc: Global, disk: D) -> Result<Keeper<D>, (Open
     // No stop leaves what could not be left before, and what is read stays the same.
     ensures reads { D.honest disk → OnlyReads D.Disk disk (disk_after result) }
 
+    // It makes a sync and four reads at most, and reports `Device` exactly if one of these calls failed.
     ensures device { AsksToOpen D.Disk fault.Device (without_disk result) disk
         (disk_after result) }
 {
@@ -43,8 +45,8 @@ pub fn open_existing<D: Disk>(alloc: Global, disk: D) -> Result<Keeper<D>, (Open
 pub fn open_on<D: Disk>(alloc: Global, disk: D, format: bool) -> Result<Keeper<D>, (OpenFault, D)>
     // The keeper has the state that the disk stands for, or that of a new store if there was none and one was asked for.
     ensures opened { D.honest disk → IfOk result (IsOpenedAs D.Disk (D.seen disk) format) }
-    // The keeper is ready. `Unformatted` and `Damaged` are reported only of a disk that is so. A store that stands for a state
-    // is refused only if the device fails or memory runs out.
+    // The keeper's device works, and no checkpoint is under way. Of an honest disk `Unformatted` and `Damaged` are reported only if it is
+    // so, and a store that stands for a state is refused only if the device fails or memory runs out.
     ensures ends { EndsOpening D.Disk disk result }
     // Unless the disk is unformatted and `format` is set, no stop leaves what could not be left before, and what is read
     // stays the same.

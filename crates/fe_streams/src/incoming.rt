@@ -1,4 +1,4 @@
-//! A reader together with what was read from it.
+//! A reader together with what was read from it (`docs/proved.md`, "Desk").
 
 ghost use Rattle.std.specs.Prelude.{◌≡◌, ◌<◌, ◌≤◌, length, Some, IfOk, IfSome, option_map};
 ghost use Rattle.std.specs.Io.KnownBytes.{IsAtEnd, WriteAppends};

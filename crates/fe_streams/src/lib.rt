@@ -1,4 +1,4 @@
-//! One read or write of any stream, repeated if a signal interrupts it.
+//! One read or write of any stream, repeated if a signal interrupts it (`docs/proved.md`, "Desk").
 #![tactic(auto)]
 
 ghost use Rattle.std.specs.Prelude.{◌≡◌, ◌<◌, ◌≤◌, length, IfOk};
@@ -9,7 +9,7 @@ mod incoming;
 pub use incoming::Incoming;
 use std::io::{ErrorKind, Write};
 
-/// How often an interrupted call is tried.
+/// How often a call that a signal interrupts is tried at most.
 const TRIES: u64 = 1 << 40;
 
 /// A read or a write failed, for a reason other than a signal, or a signal interrupted 2^40 tries; or a writer took no byte. Only the

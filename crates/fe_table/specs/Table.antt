@@ -1,4 +1,4 @@
--- A table: a finite map, stored as the list of its entries in ascending order of their keys.
+-- A table: a finite map, stored as the list of its keys in ascending order and the list of their values.
 use Rattle.std.specs.Prelude.{◌≡◌, ℕ, ◌<◌, ◌≤◌, List, length, slice_get, slice_index_or, T}
 use Rattle.std.specs.List.{zip}
 use Rattle.std.specs.Ordering.{nat_cmp}
@@ -10,7 +10,7 @@ use Rattle.std.specs.Borrow.{Bor}
 abbrev pub shown_entry : {X : Type 0} → ℕ × Bor X → ℕ × X
 shown_entry e = (e.0, e.1.now)
 
--- the map with another value for the key at a position of the ascending order
+-- the map with another value for the key at a position of the ascending order, or the same map if it has no such position
 abbrev pub put_at : {X : Type 0} → FinMap nat_cmp X → ℕ → X → FinMap nat_cmp X
 put_at m position x = option_map_or (λ e. insert m e.0 x) (slice_get (entries m) position) m
 

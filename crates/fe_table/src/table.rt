@@ -1,3 +1,5 @@
+//! Tables, finite maps such as those of the arrays and sessions in the server state (`docs/model.md`, "The state of the server").
+
 ghost use Rattle.std.specs.Prelude.{◌≡◌, ◌<◌, ◌≤◌, IfOk, IfErr, None, Some, IsSome, option_copied, slice_get};
 ghost use Rattle.std.specs.Option.{option_map};
 ghost use Rattle.std.specs.FinMap as map;
@@ -62,7 +64,7 @@ impl<V, const ROOM: usize> Table<V, ROOM> {
         })
     }
 
-    /// The number of keys.
+    /// The number of keys, at most `ROOM`.
     pub fn len(&self) -> usize
         ensures len { result ≡ map.len self.now }
         ensures fits { result ≤ ROOM }
@@ -121,8 +123,8 @@ impl<V, const ROOM: usize> Table<V, ROOM> {
         }
     }
 
-    /// Looks for a key, first at a guessed position, and returns its position, or the guess if the key is absent. Any
-    /// guess is allowed. Later lookups of the key take one comparison each while the key stays at that position.
+    /// Looks for a key, first at a guessed position, and returns its position, or the guess if the key is absent. Any guess is allowed.
+    /// Until the next `aim`, look-ups of a key that was found take one comparison each while it stays at that position.
     pub fn aim(&mut self, key: u64, guess: usize) -> usize
         ensures { self.new ≡ self.old }
     {
@@ -146,7 +148,7 @@ impl<V, const ROOM: usize> Table<V, ROOM> {
 }
 
 impl<V: Drop, const ROOM: usize> Table<V, ROOM> {
-    /// Adds a new key with its value.
+    /// Adds a new key with its value. There must be fewer than `ROOM` keys.
     pub fn insert(&mut self, key: u64, value: V)
         requires absent { map.get self.old key ≡ None }
         requires room { map.len self.old < ROOM }

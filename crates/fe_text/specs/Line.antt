@@ -11,11 +11,11 @@ use Rattle.fe_text.specs.Limits.{longest_line}
 use Rattle.fe_text.specs.declared.line.Line.{Line}
 use Rattle.fe_text.specs.declared.line.Line.TheVariants.{Message, Gone, Hold, Flush, Stop, Check}
 
--- the number of a connection, if it is one: 1 to 999
+-- this number, if it may be a connection's: 1 to 999
 abbrev in_range : ℕ → Option ℕ
 in_range conn = if nat_lt conn 1 then None else if nat_lt 999 conn then None else Some conn
 
--- the number of a connection's name: the letter c and the number
+-- the number in a connection's name, which is the letter c and that number
 unfoldable pub conn_of : List ℕ → Option ℕ
 conn_of [] = None
 conn_of (letter ∷ digits) = if letter == 99 then (number_of digits >>= in_range) else None

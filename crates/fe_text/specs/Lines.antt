@@ -17,7 +17,8 @@ abbrev pub HasNoFeed : List ℕ → Type 0
 HasNoFeed [] = Unit {0}
 HasNoFeed (byte ∷ bytes) = ((byte == 10) ≡ false) × HasNoFeed bytes
 
--- what a read took from the bytes that are left, or None if it was interrupted
+-- What a read did to the bytes that are left: it took as many as the count says, or was interrupted and took none (None). A count of 0
+-- means the end, if the piece has bytes.
 abbrev pub ReadsSome : Option (List ℕ) → Option (List ℕ) → List ℕ → Option ℕ → Type 0
 ReadsSome old new piece None = Keeps old new
 ReadsSome old new piece (Some count) = (count ≤ length piece) × Consumes old new (take count piece) × (count ≡ 0 → 0 < length piece → IsAtEnd new)

@@ -21,7 +21,7 @@ answer_text BadName = codes "bad-name"
 answer_text BadLength = codes "bad-length"
 answer_text NotNow = codes "not-now"
 
--- the name of the refusal with this code
+-- the name of the refusal with this code, 1 to 10
 unfoldable pub refusal_text : ℕ → List ℕ
 refusal_text code =
     if code == 1 then codes "not-attached"

@@ -1,4 +1,4 @@
--- The names printed for the codes of refusals are the front's own (`docs/model.md`, "Schedules").
+-- The names printed for the codes of refusals are those of `fe_mail` (`docs/formats.md`, "Replies").
 use Rattle.std.specs.Prelude.{◌≡◌}
 use Rattle.fe_mail.specs.Refusal.{code_of, name_of}
 use Rattle.fe_mail.specs.declared.refusal.Refusal.{Refusal}

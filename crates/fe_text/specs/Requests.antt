@@ -37,12 +37,13 @@ create_in words = do
   tag ← tag_named size.1
   Some (Create bytes length_of tag)
 
--- NAME, which is one word
+-- the find of the name that the word is
 abbrev find_named : List ℕ → Option Request
 find_named word = do
   name ← name_in word
   Some (Find name)
 
+-- NAME, which is one word
 unfoldable pub find_in : List ℕ → Option Request
 find_in words = option_map_or (λ _. None) (words_at words) (find_named words)
 
@@ -52,7 +53,7 @@ remove_in words = do
   array ← number_of words
   Some (Remove array)
 
--- the words before `nowait`, and that it is there
+-- the word, and true, if the bytes after it are `nowait`
 abbrev flagged_in : List ℕ → List ℕ → Option (List ℕ × Bool)
 flagged_in word flag = if bytes_eq flag (codes "nowait") then Some (word, true) else None
 

@@ -1,4 +1,4 @@
--- The words of a line, and what each may spell (`docs/model.md`, "Schedules").
+-- The words of a line, and what each may spell (`docs/schedules.md`, "Lines").
 use Rattle.std.specs.Prelude.{ℕ, ◌+◌, ◌-◌, ◌^◌, List, length, take, drop, position, codes, Option, Some, None, nat_lt, nat_le, ◌==◌, ◌&&◌, if◌then◌else◌}
 use Rattle.std.specs.Option.{option_map}
 use Rattle.std.specs.Fmt.{decimal}

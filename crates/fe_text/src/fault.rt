@@ -1,7 +1,7 @@
-/// Why a stream was not read or written to its end.
+/// Why a stream was not read or written to its end (`docs/schedules.md`, "Lines").
 #[derive(Clone, Copy, PartialEq, Eq)]
 pub enum StreamFault {
-    /// The stream can't be read or written any further.
+    /// A call of the stream failed, a write took no bytes, or the limit of reads or writes is reached.
     Input,
     /// Memory ran out.
     Memory,

@@ -13,20 +13,20 @@ pub const LONGEST_LINE: usize = 99;
 /// The greatest number of a connection; the least is 1.
 const GREATEST_CONNECTION: u64 = 999;
 
-/// A line of a schedule.
+/// A line of a schedule. `parse` gives only connections from 1 to 999.
 #[derive(Clone, Copy, PartialEq, Eq)]
 pub enum Line {
     /// A connection sends a message.
     Message { conn: u64, message: ClientMessage },
     /// A connection ends.
     Gone { conn: u64 },
-    /// From here on nothing is stored or posted.
+    /// From here on, until the hold ends, what is pending is stored and posted only before a message that finds no room.
     Hold,
     /// What is pending is stored and posted, and a hold ends.
     Flush,
     /// The server stops and its store is opened again; a hold ends.
     Stop,
-    /// A whole checkpoint is made.
+    /// A whole checkpoint is made, if anything was stored since the last one.
     Check,
 }
 
@@ -77,7 +77,7 @@ fn plain_in(word: &[u8]) -> Option<ClientMessage>
     }
 }
 
-/// The message `attach S`, `cancel NUM`, `settle F` or `NUM REQUEST`.
+/// The message `attach SESSION`, `cancel NUMBER`, `settle FLOOR` or `NUMBER REQUEST`.
 #[tactic(auto, unfolding(crate::specs::Line::numbered_in))]
 fn numbered_in(first: &[u8], words: &[u8]) -> Option<ClientMessage>
     ensures message { result ≡ numbered_in first.now words.now }

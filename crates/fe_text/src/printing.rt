@@ -70,7 +70,7 @@ pub fn print_reply(
     }
 }
 
-/// Prints the name of a connection and a space, if it has one.
+/// Prints the name of a connection and a space, or nothing without a connection.
 fn print_name(text: &mut String, conn: Option<u64>) -> Result<(), AllocError>
     ensures { OnOk result (string_bytes text.new ≡ string_bytes text.old ++ name_text conn) }
 {
@@ -80,7 +80,7 @@ fn print_name(text: &mut String, conn: Option<u64>) -> Result<(), AllocError>
     }
 }
 
-/// Prints each line of a report, preceded by the name of the connection.
+/// Prints each line of a report, preceded by the name of the connection, if there is one.
 fn print_report(text: &mut String, conn: Option<u64>, report: &str) -> Result<(), AllocError>
     ensures { OnOk result (string_bytes text.new
         ≡ string_bytes text.old ++ flat_map (report_line conn) (lines report.now)) }

@@ -71,7 +71,7 @@ fn find_in(words: &[u8]) -> Option<Request>
     }
 }
 
-/// `A`, the number of an array.
+/// `ARRAY`, a number.
 #[tactic(auto, unfolding(crate::specs::Requests::remove_in))]
 fn remove_in(words: &[u8]) -> Option<Request>
     ensures { result ≡ remove_in words.now }
@@ -97,7 +97,7 @@ fn last_in(words: &[u8]) -> Option<(&[u8], bool)>
     }
 }
 
-/// `A I`, or `A I nowait`.
+/// `ARRAY INDEX`, or `ARRAY INDEX nowait`.
 #[tactic(auto, unfolding(crate::specs::Requests::access_in))]
 fn access_in(op: Op, words: &[u8]) -> Option<Request>
     ensures { result ≡ access_in op words.now }
@@ -114,7 +114,7 @@ fn access_in(op: Op, words: &[u8]) -> Option<Request>
     })
 }
 
-/// `A I V`, or `A I V nowait`.
+/// `ARRAY INDEX OPERAND`, or `ARRAY INDEX OPERAND nowait`.
 #[tactic(auto, unfolding(crate::specs::Requests::writing_access_in))]
 fn writing_access_in(name: &[u8], words: &[u8]) -> Option<Request>
     ensures { result ≡ writing_access_in name.now words.now }
@@ -134,7 +134,7 @@ fn writing_access_in(name: &[u8], words: &[u8]) -> Option<Request>
     })
 }
 
-/// `create NAME LENGTH full|empty`, `find NAME`, `remove A`, `OP A I` or `OP A I V`, the last two with or without
+/// `create NAME LENGTH full|empty`, `find NAME`, `remove ARRAY`, `OP ARRAY INDEX` or `OP ARRAY INDEX OPERAND`, the last two with or without
 /// `nowait`.
 #[tactic(auto, unfolding(crate::specs::Requests::request_in, crate::specs::Requests::access_named))]
 pub(crate) fn request_in(words: &[u8]) -> Option<Request>

@@ -1,4 +1,4 @@
-//! Reading a stream in pieces, and writing text to one.
+//! Reading a stream in pieces, and writing text to one, with the bounds on reads and writes of a schedule (`docs/schedules.md`, "Lines").
 
 ghost use Rattle.std.specs.Prelude.{◌≡◌, ◌↔◌, ℕ, [], length, string_bytes, take, vec_len, IfOk, IfErr, OnOk};
 ghost use Rattle.std.specs.IoError.{error_kind};
@@ -37,8 +37,8 @@ pub fn buffer(alloc: Global, count: usize) -> Result<Vec<u8>, StreamFault>
     vec![in alloc; 0; count].map_err(|_| StreamFault::Memory)
 }
 
-/// Reads once, and returns how many bytes were read, 0 at the end of the stream. `None` means that a signal
-/// interrupted the read. If the read fails, nothing was taken from the stream.
+/// Reads once, and returns how many bytes were read: 0 at the end of the stream, or if `piece` has no bytes. `None` means that a signal
+/// interrupted the read. If the read fails, nothing was taken from the stream, and the fault is that of `stream_fault`.
 pub fn read_once<R: Read>(reader: &mut R, piece: &mut [u8]) -> Result<Option<usize>, StreamFault>
     ensures reads { IfOk result (ReadsSome (R.remaining reader.old) (R.remaining reader.new) piece.new) }
     ensures len { length piece.new ≡ length piece.old }
@@ -55,8 +55,8 @@ pub fn read_once<R: Read>(reader: &mut R, piece: &mut [u8]) -> Result<Option<usi
     }
 }
 
-/// Writes the whole text. If the writer fails, a prefix of the text is written. A write of no bytes, or 2^40 writes
-/// that don't finish the text, are faults of the writer.
+/// Writes the whole text. If the writer fails, a prefix of the text is written. A write that takes no bytes, or 2^40 writes for the text,
+/// are faults of the writer.
 pub fn write_text<W: Write>(writer: &mut W, text: &[u8]) -> Result<(), StreamFault>
     ensures ok { OnOk result (Appends (W.contents writer.old) (W.contents writer.new) text.now) }
     ensures front { (count : ℕ) × Appends (W.contents writer.old) (W.contents writer.new) (take count text.now) }

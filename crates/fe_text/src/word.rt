@@ -1,4 +1,4 @@
-//! The words of a line: how a line is split, and what each word may spell.
+//! The words of a line: how a line is split, and what each word may spell (`docs/schedules.md`, "Lines").
 
 ghost use Rattle.std.specs.Prelude.{◌≡◌, ◌<◌, ◌==◌, length, position, IfSome};
 ghost use Rattle.std.specs.Option.{option_map};
@@ -72,6 +72,7 @@ pub(crate) fn name_in(word: &[u8]) -> Option<Name>
     Name::new(word)
 }
 
+/// The tag that the word names: `full` or `empty`.
 #[tactic(auto, unfolding(crate::specs::Words::tag_named))]
 pub(crate) fn tag_named(word: &[u8]) -> Option<Tag>
     ensures { result ≡ tag_named word.now }

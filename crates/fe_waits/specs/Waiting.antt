@@ -11,7 +11,7 @@ use Rattle.fe_waits.specs.declared.row.Row.{Row}
 use Rattle.fe_waits.specs.contracts.row.Row.{the_row as row_row}
 use Rattle.fe_waits.specs.Pair.{pair_cmp}
 
--- what a request waits for: its word, and the operation on it
+-- a waiting request without its slot and number: the array and the index of its word, and its operation
 pub record WaitingAccess : Type 0 where
   pub array : ℕ
   pub index : ℕ
@@ -27,8 +27,7 @@ waiting_access_code =
     (λ t. record { array = t.0; index = t.1.0; op = t.1.1 })
     (λ _. refl)
 
--- the length of each added array; the waiting requests, by slot and number; and for each node the request that it
--- represents
+-- the length of each added array; the waiting requests, by slot and number; and for each node the request that it represents, if any
 pub record Waiting : Type 0 where
   pub arrays : FinMap nat_cmp ℕ
   pub members : FinMap pair_cmp WaitingAccess
@@ -103,10 +102,11 @@ NoneOnWord members array index = (key : ℕ × ℕ) (waiter : WaitingAccess) →
 abbrev pub NoneOnArray : FinMap pair_cmp WaitingAccess → ℕ → Type 0
 NoneOnArray members array = (key : ℕ × ℕ) (waiter : WaitingAccess) → get members key ≡ Some waiter → waiter.array ≢ array
 
--- the requests of a slot, and their number
+-- the requests of a slot
 abbrev pub of_slot : FinMap pair_cmp WaitingAccess → ℕ → FinMap pair_cmp WaitingAccess
 of_slot members slot = retain_keys members (λ key. key.0 == slot)
 
+-- how many requests a slot has
 abbrev pub count_of : FinMap pair_cmp WaitingAccess → ℕ → ℕ
 count_of members slot = len (of_slot members slot)
 
@@ -125,7 +125,7 @@ pub record ArraysBecome (old new : Waiting) (these : FinMap nat_cmp ℕ) : Type 
   pub members : new.members ≡ old.members
 
 -- the invariant: slots are below 64, each request is on a word of an added array, a slot has at most 32 requests,
--- there are at most 2,048 requests and at most 64 arrays, and a node represents a waiting request
+-- there are at most 2,048 requests and at most 64 arrays, and a request that a node represents waits
 pub record IsWithinLimits (w : Waiting) : Type 0 where
   pub slots : (key : ℕ × ℕ) (waiter : WaitingAccess) → get w.members key ≡ Some waiter → key.0 < 64
   pub words : (key : ℕ × ℕ) (waiter : WaitingAccess) → get w.members key ≡ Some waiter → IsWord w.arrays waiter.array waiter.index

@@ -1,3 +1,6 @@
+//! The waiting requests, each on a list of its word and on one of its session (`docs/model.md`, "Waiting requests"). A slot, 0 to 63,
+//! stands for a session.
+
 ghost use Rattle.std.specs.Prelude.{◌≡◌, ◌≢◌, ◌↔◌, ◌<◌, Some, None, IfOk, OnErr, IfSome, IsSome, IsNone, IfNone};
 ghost use Rattle.std.specs.FinMap as map;
 ghost use Rattle.fe_waits.specs.Waiting.{key_of, waiting_access_of, row_of, row_at, of_slot, count_of, without_slot, IsWord, IsNodeOn, NoneOnWord, NoneOnArray, ListsWaitingRequestsOf, MembersBecome, ArraysBecome, IsWithinLimits};
@@ -20,7 +23,8 @@ const NODES: u32 = 2048;
 
 /// The waiting requests of at most 64 sessions, on the words of at most 64 arrays.
 ///
-/// Only `new`, `add_array` and `waiting_requests` allocate memory. A node, one waiting request, is valid until the next change.
+/// Only `new`, `add_array` and `waiting_requests` allocate memory. A node that a call returns stands for one waiting request until the
+/// next change.
 pub struct Waits {
     pool: Pool<Row>,
     sessions: Chains,
@@ -112,8 +116,8 @@ impl Waits {
         let _ = self.words.remove(array);
     }
 
-    /// Adds a waiting request with a new slot and number. It goes to the end of its word's list, but no clause
-    /// promises the order in which `first_on` finds the requests of a word.
+    /// Adds a waiting request under a slot and number that no other has. The slot must have fewer than 32. The request goes to the end of
+    /// its word's list, but no clause promises the order in which `first_on` finds the requests of a word.
     pub fn add(&mut self, slot: u8, number: u64, array: u64, index: u32, op: Op)
         requires slot { slot < 64 }
         requires new { map.get self.old.members (slot, number) ≡ None }
@@ -157,7 +161,7 @@ impl Waits {
         *self.pool.get(node)
     }
 
-    /// Removes the request that the node represents.
+    /// Removes the request that the node represents, and returns it.
     pub fn finish(&mut self, node: Node) -> Row
         requires { IsSome (row_of self.old node) }
         ensures row { row_of self.old node ≡ Some result }
@@ -207,7 +211,7 @@ impl Waits {
         Ok(waiting_requests)
     }
 
-    /// Removes the request with this slot and number, if it waits.
+    /// Removes the request with this slot and number, if it waits, and returns it.
     pub fn cancel(&mut self, slot: u8, number: u64) -> Option<Row>
         requires slot { slot < 64 }
         ensures row { result ≡ row_at self.old.members slot number }

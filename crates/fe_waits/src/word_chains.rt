@@ -1,3 +1,5 @@
+//! For each word of each array, the list of the requests that wait on it (`docs/model.md`, "Waiting requests").
+
 ghost use Rattle.std.specs.Prelude.{◌≡◌, Some, IsSome};
 ghost use Rattle.fe_waits.specs.within.WordChains.{chain_at, with_chain};
 
@@ -8,7 +10,7 @@ use fe_table::Table;
 /// The maximum number of arrays.
 pub(crate) const ARRAYS: usize = 64;
 
-/// The chain of each word of the added arrays. An array is found by binary search among at most 64 ids.
+/// The chain of each word of the added arrays, by the array's id.
 pub(crate) type WordChains = Table<Chains, ARRAYS>;
 
 // The chain of an existing word.

@@ -19,6 +19,7 @@ abbrev pub IsHeld : Version → Bool → List ℕ → Type 0
 IsHeld version false held = IsUnfinished version held
 IsHeld version true held = held ≡ []
 
+-- what is always true of a decoder's fields between two steps
 pub record IsDecoderState (p : DecoderState) : Type 0 where
   pub within : p.len ≤ 50
   pub cells : length p.cells ≡ 51

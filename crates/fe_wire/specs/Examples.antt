@@ -1,4 +1,4 @@
--- Worked frames, byte by byte: those of docs/formats.md ("An exchange"), and one of each other kind. Computed by the checker.
+-- Worked frames, byte by byte: those of `docs/formats.md`, "Frames", and one of each other kind. Computed by the checker.
 use Rattle.std.specs.Prelude.{◌≡◌, [], ◌∷◌, ◌++◌, true, false, codes}
 use Rattle.fe_words.specs.declared.word.Tag.TheVariants.{Full, Empty}
 use Rattle.fe_words.specs.declared.op.Op.TheVariants.{ReadFe, ReadXx, WriteEf}
@@ -61,6 +61,9 @@ pub record ExampleReplies : Type 0 where
       0 ∷ []
   pub value : reply_spelling (server.Answer 3 (answer.Value 42)) ≡
       0 ∷ 0 ∷ 0 ∷ 22 ∷ 66 ∷ 0 ∷ 0 ∷ 0 ∷ 0 ∷ 0 ∷ 0 ∷ 0 ∷ 3 ∷ 1 ∷ 0 ∷ 0 ∷ 0 ∷ 0 ∷ 0 ∷ 0 ∷ 0 ∷ 42 ∷ 0 ∷ 0 ∷ 0 ∷
+      0 ∷ []
+  pub value_again : reply_spelling (server.Answer 4 (answer.Value 42)) ≡
+      0 ∷ 0 ∷ 0 ∷ 22 ∷ 66 ∷ 0 ∷ 0 ∷ 0 ∷ 0 ∷ 0 ∷ 0 ∷ 0 ∷ 4 ∷ 1 ∷ 0 ∷ 0 ∷ 0 ∷ 0 ∷ 0 ∷ 0 ∷ 0 ∷ 42 ∷ 0 ∷ 0 ∷ 0 ∷
       0 ∷ []
   pub not_now : reply_spelling (server.Answer 5 answer.NotNow) ≡
       0 ∷ 0 ∷ 0 ∷ 22 ∷ 66 ∷ 0 ∷ 0 ∷ 0 ∷ 0 ∷ 0 ∷ 0 ∷ 0 ∷ 5 ∷ 11 ∷ 0 ∷ 0 ∷ 0 ∷ 0 ∷ 0 ∷ 0 ∷ 0 ∷ 0 ∷ 0 ∷ 0 ∷ 0 ∷

@@ -94,7 +94,7 @@ plain_of kind body =
     else if kind == 9 then ended body Report
     else None
 
--- the message that a frame with this kind and body spells in either version
+-- the message that a frame with this kind and body spells in version 2, which has every message
 unfoldable pub message_of : ℕ → List ℕ → Option ClientMessage
 message_of kind body =
     if kind == 2 then create_of false body

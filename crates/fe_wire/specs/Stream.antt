@@ -48,7 +48,7 @@ kind_field bytes = slice_index bytes 4
 abbrev pub front_frame : List ℕ → List ℕ
 front_frame bytes = take (4 + length_field bytes) bytes
 
--- The four bytes of the length have come, and no frame has this length.
+-- The four bytes of the length have come, and the length is 0 or above the greatest of the version.
 abbrev pub HasBadLength : Version → List ℕ → Type 0
 HasBadLength v bytes = (4 ≤ length bytes) × ((length_field bytes ≡ 0) ⊎ (longest v < length_field bytes))
 

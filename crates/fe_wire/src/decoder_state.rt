@@ -1,3 +1,5 @@
+//! The state of a decoder, which reads the frames of one client's stream as its pieces come (`docs/formats.md`, "Frames").
+
 ghost use Rattle.std.specs.Prelude.{◌≡◌, ◌+◌, ◌<◌, ◌≤◌, ◌++◌, false, length, take, option_to_list};
 ghost use Rattle.fe_wire.specs.Stream.{length_field, fault_of};
 ghost use Rattle.fe_wire.specs.DecoderState.{IsDecoderState, Consumes, held_of, decoding};
@@ -27,7 +29,7 @@ pub struct DecoderState {
 }
 
 impl DecoderState {
-    /// Copies bytes of the piece, up to the known end of the current frame, and returns how many.
+    /// Copies bytes of the piece, at most to the end of the frame's length field or, if that has come, of the frame. Returns how many.
     fn fill(&mut self, piece: &[u8]) -> usize
         requires state { IsDecoderState self.old }
         requires good { self.old.is_bad ≡ false }
@@ -53,9 +55,8 @@ impl DecoderState {
         count
     }
 
-    /// Reads to the end of the current frame, to the end of the piece, or to where the frame turns out bad. Returns
-    /// how many bytes it read, and the frame's message. A frame that is complete in the piece is read there, without
-    /// a copy.
+    /// Reads one byte of the piece or more, and none beyond the current frame unless that is bad. Returns how many it read, and the message
+    /// if the frame is now complete. A frame that is complete in the piece is read there, without a copy.
     pub fn step(&mut self, piece: &[u8]) -> (usize, Option<ClientMessage>)
         requires state { IsDecoderState self.old }
         requires good { self.old.is_bad ≡ false }

@@ -1,3 +1,5 @@
+//! What a decoder gives for a piece of a client's stream (`docs/model.md`, "Frames").
+
 use crate::client_message::ClientMessage;
 
 /// The result of decoding a piece of the stream.

@@ -1,4 +1,4 @@
-//! Reading the fields of frames that are not plain numbers.
+//! Reading the names in frames, and bodies of one number or two (`docs/formats.md`, "Frames").
 
 ghost use Rattle.std.specs.Prelude.{◌≡◌, length};
 ghost use Rattle.fe_wire.specs.Reading.{number_of, two_numbers_of, least_name, name_of, are_zero, ended};

@@ -1,3 +1,5 @@
+//! Building a frame: its length, its kind and the field of a name (`docs/formats.md`, "Frames").
+
 ghost use Rattle.std.specs.Prelude.{◌≡◌, ◌+◌, ◌≤◌, [], ◌∷◌, ◌++◌, length};
 ghost use Rattle.std.specs.Int.{w32, to_be_bytes};
 ghost use Rattle.fe_wire.specs.Spelling.{is_long, name_field};
@@ -11,7 +13,7 @@ use fe_state::{NAME_BYTES, Name};
 /// A frame under construction.
 pub type Frame = Fields<FRAME_BYTES>;
 
-/// Whether the name has more than 16 bytes, so that its frame has the kind for long names.
+/// Whether the name has more than 16 bytes, so that its frame has a kind for long names.
 pub fn is_long(name: &Name) -> bool
     ensures { result ≡ is_long name.now }
 {
@@ -28,7 +30,7 @@ pub fn frame_of(length: u32, kind: u8) -> Frame
     frame
 }
 
-/// Appends the length of the name, its bytes and the zeros after them. There must be room for them.
+/// Appends the length of the name, its bytes and the zeros after them. There must be room for 33 bytes, as many as a long name takes.
 pub fn put_name(frame: &mut Frame, name: &Name)
     requires { length frame.old + 33 ≤ 51 }
     ensures field { frame.new ≡ frame.old ++ name_field name.now }

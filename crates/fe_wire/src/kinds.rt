@@ -51,14 +51,14 @@ pub const REFUSED: u8 = 70;
 
 pub const REPORT: u8 = 71;
 
-/// The kind of a create, by its name.
+/// The kind of a create, by whether its name has more than 16 bytes.
 pub fn create_kind(is_long: bool) -> u8
     ensures { result ≡ create_kind is_long }
 {
     if is_long { CREATE_LONG } else { CREATE }
 }
 
-/// The kind of a find, by its name.
+/// The kind of a find, by whether its name has more than 16 bytes.
 pub fn find_kind(is_long: bool) -> u8
     ensures { result ≡ find_kind is_long }
 {

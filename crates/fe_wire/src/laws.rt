@@ -1,4 +1,5 @@
-//! Laws of the grammar of frames, which hold of streams and messages apart from any decoder.
+//! Laws of clients' streams of frames, of what decoders make of them, and of the server's replies (`docs/model.md`, "Frames"). Each
+//! function states one, and does nothing.
 
 ghost use Rattle.std.specs.Prelude.{◌≡◌, ◌+◌};
 ghost use Rattle.fe_wire.specs.Stream.{longest};
@@ -18,7 +19,7 @@ pub fn has_reading()
     ensures { EachHasReading }
 {}
 
-/// Two decoders of one version that have read the same stream have the same messages and are in the same state,
+/// Two decoders of one version that have read the same stream from the same offset have the same messages and are in the same state,
 /// whatever the pieces.
 pub fn one_outcome()
     ensures { HasOneOutcome }
@@ -39,7 +40,7 @@ pub fn one_reply_reading()
     ensures { HasOneReplyReading }
 {}
 
-/// The frames of the worked examples have the bytes that `docs/formats.md` gives them.
+/// Worked frames have the bytes given. All frames of `docs/formats.md`, "Frames", are among them.
 pub fn frames_are_spelled()
     ensures messages { ExampleMessages }
     ensures replies { ExampleReplies }

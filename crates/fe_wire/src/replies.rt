@@ -1,4 +1,4 @@
-//! Reading the server's replies from their frames (`docs/formats.md`, "Replies").
+//! Reading the server's replies from their frames (`docs/formats.md`, "Frames").
 
 ghost use Rattle.std.specs.Prelude.{◌≡◌, Some, IfOk, IfSome, OnErr};
 ghost use Rattle.fe_wire.specs.Spelling.{reply_spelling, ReplyFits, IsReport};
@@ -38,7 +38,7 @@ fn refused_of(body: &[u8]) -> Option<ServerMessage>
     ended(rest, ServerMessage::Refused { number, code })
 }
 
-/// The reply that a frame with this kind and body spells, unless it is a report.
+/// The reply that a frame with this kind and body spells, or `None` if it spells none or the kind is that of a report.
 #[tactic(auto, unfolding(crate::specs::within::Replies::reply_of_kind))]
 fn reply_of_kind(kind: u8, body: &[u8]) -> Option<ServerMessage>
     ensures { result ≡ reply_of_kind kind body.now }

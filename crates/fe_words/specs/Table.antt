@@ -14,8 +14,8 @@ use Rattle.fe_words.specs.declared.word.Reply.TheVariants.{Value, Done}
 abbrev pub word : ℕ → Tag → Word
 word value tag = record { value = value; tag = tag }
 
--- The eight rows: what an operation does to a word with this tag and value. It leaves a word and
--- gives an answer, or it waits. A word that becomes empty keeps its old value, except under purge.
+-- The eight rows: the word that an operation leaves of one with this tag and value, and the answer, or None if the word lacks the tag that
+-- the operation needs. A word that becomes empty keeps its old value, except under purge.
 abbrev pub row : Op → Tag → ℕ → Option (Word × Reply)
 row ReadFe Full old = Some (word old Empty, Value old)
 row ReadFe Empty old = None
@@ -31,7 +31,7 @@ row Purge tag old = Some (word 0 Empty, Done)
 row (IntFetchAdd operand) Full old = Some (word ((old + operand) % 2 ^ 64) Full, Value old)
 row (IntFetchAdd operand) Empty old = None
 
--- the operation table: the word after the operation and its answer, or None if the operation waits
+-- the operation table: the word after the operation and its answer, or None if the word lacks the tag that the operation needs
 abbrev pub table : Op → Word → Option (Word × Reply)
 table op w = row op w.tag w.value
 
@@ -52,11 +52,11 @@ Meets tag need.Any = Unit {0}
 Meets tag need.Full = tag ≡ Full
 Meets tag need.Empty = tag ≡ Empty
 
--- the table has no row exactly when the need is not met
+-- the table gives nothing exactly when the word does not have the tag that the operation needs
 abbrev pub IsUndefinedWhereUnmet : Type 0
 IsUndefinedWhereUnmet = (op : Op) (w : Word) → IsNone (table op w) ↔ (¬ Meets w.tag (need_of op))
 
--- the operation's name in schedules and reports
+-- the operation's name in schedules and reports, without its operand
 abbrev pub name_of : Op → List ℕ
 name_of ReadFe = codes "readfe"
 name_of ReadFf = codes "readff"

@@ -1,3 +1,5 @@
+//! The table of operations: what each needs of a word, does to it and answers (`docs/model.md`, "Words").
+
 ghost use Rattle.std.specs.Prelude.{◌≡◌};
 ghost use Rattle.fe_words.specs.Table.{table, need_of, name_of, IsUndefinedWhereUnmet};
 
@@ -18,7 +20,7 @@ pub enum Op {
 }
 
 impl Op {
-    /// The tag the word must have; the operation waits until it does.
+    /// The tag that the word must have for the operation to be done.
     pub fn need(self) -> Need
         ensures { result ≡ need_of self }
     {
@@ -34,7 +36,7 @@ impl Op {
         }
     }
 
-    /// The word after the operation and its answer, or `None` if the operation waits.
+    /// The word after the operation and its answer, or `None` if the word lacks the tag that the operation needs.
     pub fn rule(self, word: Word) -> Option<(Word, Reply)>
         ensures { result ≡ table self word }
     {
@@ -55,7 +57,7 @@ impl Op {
         }
     }
 
-    /// The name of the operation in schedules and reports, without its operand.
+    /// The name of the operation in schedules and reports (`docs/schedules.md`, "Lines"), without its operand.
     pub fn name(self) -> &'static str
         ensures { result.now ≡ name_of self }
     {
@@ -90,7 +92,7 @@ fn empty(value: u64) -> Word
     }
 }
 
-/// An operation waits exactly when its word does not have the tag it needs.
+/// An operation has no answer exactly when its word does not have the tag that it needs.
 pub fn waits_where_unmet()
     ensures { IsUndefinedWhereUnmet }
 {}

@@ -1,3 +1,5 @@
+//! Tagged words, and what operations need of them and answer (`docs/model.md`, "Words").
+
 /// Whether a word is full or empty.
 #[derive(Clone, Copy, PartialEq, Eq)]
 pub enum Tag {
@@ -17,6 +19,7 @@ pub struct Word {
 pub enum Need {
     Full,
     Empty,
+    /// Either tag will do.
     Any,
 }
 

@@ -1,3 +1,4 @@
+-- Definitions that no public clause rests on.
 pub mod Faults
 pub mod Statuses
 pub mod Served

@@ -1,3 +1,5 @@
+//! The faults of the commands, and the line and status of each (`docs/operating.md`, "What a server says").
+
 ghost use Rattle.std.specs.Prelude.{◌≡◌};
 ghost use Rattle.femem.specs.within.Faults.{status_of};
 
@@ -19,10 +21,10 @@ pub(crate) enum Fault {
     /// The input can't be read to its end, or the output can't be written.
     #[error("femem: input")]
     Input,
-    /// Memory ran out.
+    /// Memory ran out, or a server could not start its committing thread or get a second handle of its listener.
     #[error("femem: memory")]
     Memory,
-    /// The store's file is missing, or its device failed.
+    /// The store's file is missing, no plain file or locked by another server; its device failed; or a file next to it is in the way.
     #[error("femem: store device")]
     Device,
     /// The store's file has this many bytes, which is not the size of a store.
@@ -46,10 +48,10 @@ pub(crate) enum Fault {
     /// The settings file can't be read, or is not UTF-8.
     #[error("femem: settings: unreadable")]
     Unreadable,
-    /// The socket can't be made, or the server at the other end broke the connection or the rules of frames.
+    /// `serve` can't make the socket; or `call` finds no server, or its connection fails, ends before a reply or brings a bad frame.
     #[error("femem: socket")]
     Socket,
-    /// A lower layer returned what a correct one never returns.
+    /// A lower layer returned what a correct one never returns, or the server's count of calls or of mails is full.
     #[error("femem: strange")]
     Strange,
 }

@@ -1,5 +1,5 @@
 //! The program `femem`: `run` runs a schedule from standard input, `serve` serves a store at a socket, `call` sends lines
-//! from standard input to a server, and `look` shows what is in a store.
+//! from standard input to a server, and `look` shows what is in a store (`docs/commands.md`, "Commands").
 #![tactic(auto)]
 
 ghost use Rattle.std.specs.Prelude.{◌≡◌, ℕ, true, take, is_ok, IfOk, IfErr, OnOk};
@@ -47,8 +47,8 @@ const SHORT: u8 = 3;
 /// The descriptor of standard error, the last of the three standard streams.
 const STANDARD_ERROR: i32 = 2;
 
-/// Replaces each closed standard stream by an unconnected socket, so that every read and write of it fails. Otherwise
-/// the next socket would get that descriptor, and a server would receive what is meant for standard output.
+/// Replaces each closed standard stream by an unconnected socket, so that every read and write of it fails. Otherwise the next file or
+/// socket would get that descriptor, and a server, for one, would receive what `femem call` writes to standard output.
 fn hold_closed_streams() {
     for _stream in 0..=STANDARD_ERROR {
         let fd = unsafe { c::socket(c::AF_UNIX, c::SOCK_STREAM | c::SOCK_CLOEXEC, 0) };
@@ -107,7 +107,7 @@ fn run_by<R: Read, W: Write>(
     Ok(ended?)
 }
 
-/// Serves with the settings in a file, and writes the books at the end.
+/// Serves with the settings in a file, and writes the books, the counts of calls and mails, once the server has ended without a fault.
 fn serve_by<R: Files<File = File> + Net + Clock + Threads + Wait + Sync + AllocGlobal, W: Write>(
     rt: &R,
     path: &str,

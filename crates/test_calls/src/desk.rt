@@ -9,10 +9,10 @@ use fe_disk::Liar;
 use std::alloc::Global;
 use std::process::Abort;
 
-/// The refusals of a creation and of a report because memory is short, up to the number.
+/// The code of a refusal for lack of memory (`docs/formats.md`, "Replies").
 const NO_MEMORY: u8 = 8;
 
-/// The report if nothing waits.
+/// The frame of the report if nothing waits.
 const NONE_WAITS: &[u8] = b"\0\0\0\x0b\x47waiting 0\n";
 
 /// The bytes of a new store, except those that are zero: slot 0 has generation 1 and the image of the first state
@@ -101,7 +101,7 @@ fn is_refusal(frame: &[u8]) -> bool {
     frame.len() == 14 && frame[4] == 70 && frame[13] == NO_MEMORY
 }
 
-// How many refusals for lack of memory were written. All else that was written is these frames, or the first of them.
+// How many refusals for lack of memory were written. All else that was written must be these frames, or the first of them.
 fn refusals_in(rt: &impl Abort, written: &[u8], frames: &[u8]) -> usize {
     let mut found: usize = 0;
     let (mut written, mut frames) = (written, frames);
@@ -169,8 +169,8 @@ fn frames_for(rt: &impl Abort, alloc: Global, path: &Path, conn: u64) -> Vec<u8>
     frames
 }
 
-// Checks what was written to the connection, apart from refusals for lack of memory. If no frames are expected, nothing
-// may be written.
+// Checks that these frames were written to the connection, and besides them at most one refusal for lack of memory. If no frames are
+// expected, nothing may be written.
 fn check_written(rt: &impl Abort, desk: &Desk<Liar>, conn: u64, frames: &[u8]) {
     let written = written_to(desk, conn);
     assert!(rt; !frames.is_empty() || written.is_empty());

@@ -6,15 +6,15 @@ use fe_words::{Op, Tag};
 use std::alloc::Global;
 use std::process::Abort;
 
-/// What a client sends. All but an attach is about array `cells`, or the array of an id.
+/// What a client sends.
 #[derive(Clone, Copy)]
 pub enum Said {
     Attach(u64),
-    /// A call makes the array of this many words, under a number.
+    /// A call under this number makes array `cells`, with this many words, all with this tag.
     Create(u64, u32, Tag),
-    /// A call removes array 1.
+    /// A call under this number removes array 1.
     Remove(u64),
-    /// A call operates on a word of array 1.
+    /// A call under this number operates on the word of array 1 with this index.
     Access(u64, u32, Op),
     Report,
 }
@@ -109,7 +109,7 @@ pub fn put_expected(rt: &impl Abort, out: &mut Vec<u8>, expected: ExpectedReply)
     }
 }
 
-/// The first of the frames of at most 255 bytes, and those after it.
+/// The first of these frames, which must have at most 259 bytes, and those after it.
 pub fn first_frame<'a>(rt: &impl Abort, frames: &'a [u8]) -> (&'a [u8], &'a [u8]) {
     assert!(rt; frames.len() >= 4 && &frames[..3] == [0, 0, 0].as_slice());
     let length = 4 + frames[3] as usize;

@@ -1,4 +1,4 @@
-//! The lists of words and of sessions, used together until nothing waits.
+//! The lists of words and of sessions, used together: filled, emptied and filled again.
 
 ghost use Rattle.std.specs.Prelude.{◌≡◌, ◌<◌, Some, IfOk};
 ghost use Rattle.std.specs.FinMap as map;
@@ -71,7 +71,7 @@ fn cancel_each(rt: &impl Abort, waits: &mut Waits)
     }
 }
 
-/// Finishes some requests on each slot's word and drops all requests of every second slot; then finishes the rest.
+/// For each slot, finishes up to 20 requests on one of the words, and drops what is left of the slot if it is odd. Then finishes the rest.
 fn empty(rt: &impl Abort, waits: &mut Waits)
     requires { map.get waits.old.arrays 1 ≡ Some 8 }
     ensures { map.get waits.new.arrays 1 ≡ Some 8 }

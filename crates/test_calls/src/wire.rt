@@ -1,4 +1,4 @@
-//! A stream of frames, with the bytes of `docs/formats.md`.
+//! Frames that are read in pieces, and read and written when memory runs out. They are given as bytes (`docs/formats.md`, "Frames").
 
 use fe_state::{Name, Request};
 use fe_wire::{
@@ -9,7 +9,7 @@ use std::alloc::{AllocError, Global};
 use std::process::Abort;
 use std::test::Fail;
 
-/// The client's frames of the first test path: attach, create, `writeef`, `readfe`, `readxx`.
+/// A client's frames (`docs/formats.md`, "Frames", has the exchange): attach, create, `writeef`, `readfe`, `readxx`.
 const FRAMES: [&[u8]; 5] = [
     b"\0\0\0\x09\x01\0\0\0\0\0\0\0\x07",
     b"\0\0\0\x1f\x02\0\0\0\0\0\0\0\x01\x05cells\0\0\0\0\0\0\0\0\0\0\0\0\0\0\x02\0",
@@ -35,7 +35,7 @@ fn access(number: u64, op: Op) -> ClientMessage {
     ClientMessage::Call { number, request }
 }
 
-/// The messages of the first test path.
+/// The messages of `FRAMES`.
 fn first_path(rt: &impl Abort) -> [ClientMessage; 5] {
     let name = Name::new(b"cells").expect(rt, "five bytes");
     let (length, tag) = (2, Tag::Empty);

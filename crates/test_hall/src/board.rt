@@ -24,6 +24,7 @@ pub struct Client {
     heard: usize,
     /// The number of windows that it has sent.
     said: usize,
+    /// How its sides ended, if they have.
     pub read_end: Option<ReadEnd>,
     pub write_end: Option<WriteEnd>,
 }
@@ -81,6 +82,7 @@ impl Board {
         })
     }
 
+    /// The clients, that of connection 1 first.
     pub fn clients(&self) -> &[Client] {
         self.clients.as_slice()
     }

@@ -8,7 +8,7 @@ use std::sync::{Mutex, Wait};
 use std::thread;
 use std::time::{Clock, Duration};
 
-/// How often a half checks whether it may go on, at intervals of a millisecond.
+/// How often a half checks at most whether it may go on, at intervals of a millisecond. Then it fails.
 const TURNS: usize = 100_000;
 
 /// The half from which a client's messages are read.
@@ -27,6 +27,7 @@ pub struct ClientRead<'r, 'b, 'h, R> {
 }
 
 impl<'r, 'b, 'h, R: Clock + Wait> ClientRead<'r, 'b, 'h, R> {
+    /// The half of a connection that has sent nothing yet. A read gives at most `piece` bytes.
     pub fn new(
         rt: &'r R,
         alloc: Global,
@@ -107,6 +108,7 @@ pub struct ClientWrite<'r, 'b, R> {
 }
 
 impl<'r, 'b, R: Clock + Wait> ClientWrite<'r, 'b, R> {
+    /// The half of a connection.
     pub fn new(rt: &'r R, board: &'b Mutex<Board>, conn: u64) -> ClientWrite<'r, 'b, R> {
         ClientWrite { rt, board, conn }
     }

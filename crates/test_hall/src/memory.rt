@@ -47,7 +47,7 @@ const USED: u32 = 480_010;
 
 const USED_LATER: u32 = 320_010;
 
-/// A client that attaches again and again.
+/// The stream of a client that attaches again and again.
 fn stream(alloc: Global) -> Result<Vec<u8>, AllocError> {
     let mut bytes = Vec::new(alloc);
     for _ in 0..ATTACHES {

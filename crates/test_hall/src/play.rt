@@ -11,9 +11,9 @@ pub type Replies = &'static [(u64, Hear)];
 pub enum Step {
     /// A connection sends this.
     Says(u64, Say, Replies),
-    /// A connection sends this message, this many times at once. There is no reply.
+    /// A connection sends this message, this many times at once. No reply is awaited.
     Repeats(u64, Say, usize),
-    /// A connection sends these bytes. There is no reply.
+    /// A connection sends these bytes. No reply is awaited.
     Spells(u64, &'static [u8]),
     /// From here on the syncs of the store are held back.
     Holds,
@@ -26,6 +26,7 @@ pub enum Step {
 }
 
 impl Step {
+    /// The replies that come before the next step is made.
     pub fn replies(&self) -> Replies {
         match self {
             Step::Says(_, _, replies) | Step::LetsGo(replies) => *replies,
@@ -78,6 +79,7 @@ pub struct Play {
     pub is_deaf: bool,
     /// How both sides of each connection end.
     pub ends: (ReadEnd, WriteEnd),
+    /// How the committing side ends.
     pub commit_end: CommitEnd,
     /// The numbers of calls: made, completed, waiting, withdrawn, repeated and refused.
     pub calls: [u64; 6],

@@ -18,7 +18,7 @@ pub struct Register<C: Tally, M: Tally> {
 }
 
 impl<C: Tally, M: Tally> Register<C, M> {
-    /// A register with no connections. `receipts` are none yet.
+    /// A register of no connections. `receipts` has none yet.
     pub fn new(alloc: Global, receipts: GatheredReceipts<M>) -> Register<C, M> {
         Register {
             calls: None,
@@ -46,6 +46,7 @@ impl<C: Tally, M: Tally> Register<C, M> {
         let _ = self.receipts.add(receipts);
     }
 
+    /// The number of receipts.
     pub fn receipts(&self) -> usize {
         self.receipts.list().as_slice().len()
     }

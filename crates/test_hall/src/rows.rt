@@ -230,7 +230,7 @@ pub const FEW_TURNS: Play = Play {
     ..STAYING
 };
 
-/// Thirteen reads are just enough for it, and its reply still comes.
+/// Thirteen reads of one byte are just enough for the first message, and its reply still comes.
 pub const LAST_TURN: Play = Play {
     script: Script::Steps(&[Step::Says(1, Say::Attach(7), &[(1, Hear::Welcome(7))])]),
     reads: Some(13),
@@ -318,7 +318,7 @@ pub const WORDS: Play = Play {
     ..STAYING
 };
 
-/// Each of 64 clients empties and fills a word 16 times in each of its two windows.
+/// Each of 64 clients empties and fills each of the sixteen words once in each of its two windows.
 pub const WINDOWS: Play = Play {
     script: Script::Windows(2),
     connections: 64,

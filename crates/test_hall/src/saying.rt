@@ -33,7 +33,7 @@ pub enum Hear {
     Goodbye(u64),
 }
 
-/// The message that is sent, or `None` if the name is not a name.
+/// The message that is sent. It is never `None`: `cells` is short enough for a name.
 pub fn message_of(say: Say) -> Option<ClientMessage> {
     let (number, request) = match say {
         Say::Attach(session) => return Some(ClientMessage::Attach { session }),

@@ -131,7 +131,7 @@ fn finish<C: Tally, M: Tally, D: Disk + Drop>(
     }
 }
 
-/// A hall around a front with a copy of a state, and the seat of the hall's committing side.
+/// A hall around a front with a copy of a state, the seat of the hall's committing side, and the right to make connections.
 pub fn hall_over<C: Tally, M: Tally>(
     alloc: Global,
     state: &State,

@@ -40,6 +40,7 @@ pub fn format_of(word: &str) -> Result<Format, Trouble> {
 }
 
 impl Bench {
+    /// A bench with a disk of no bytes, no names and no calls.
     pub fn new(alloc: Global) -> Result<Bench, Trouble> {
         Ok(Bench {
             alloc,
@@ -53,7 +54,7 @@ impl Bench {
     }
 
     /// Carries out a line that checks nothing: `let NAME BYTES`, `disk SIZE`, `store FORMAT`, `write PLACE BYTES`,
-    /// `calls LEVEL`, or `- CALL`, which adds a call.
+    /// `calls LEVEL`, which begins a list of calls, or `- CALL`, which adds a call to it.
     pub fn set(&mut self, word: &str, rest: &str) -> Result<(), Trouble> {
         match word {
             "let" => {
@@ -121,7 +122,7 @@ impl Bench {
         Ok(self.disk.stopped(Torn::Kept)?)
     }
 
-    /// What is found on the disk; empty if it has no store.
+    /// What is found on the disk. It is empty if that is a fault, and for calls of a disk.
     pub fn start(&self) -> Result<Vec<u8>, Trouble> {
         if self.level == Level::Disk {
             return Ok(Vec::new(self.alloc));

@@ -123,7 +123,7 @@ impl Bench {
         swept(self.alloc, told?, wanted)
     }
 
-    // `stop FROM TO TORN BYTES`: what is found after a stop after each number of device calls in this range.
+    // `stop FROM TO TORN BYTES`: what is found after a stop of this kind, or of `any`, after FROM to TO device calls.
     fn stop(&self, rest: &str) -> Result<Verdict, Trouble> {
         let (from, rest) = first_number(rest)?;
         let (to, rest) = first_number(rest)?;
@@ -232,6 +232,8 @@ impl Bench {
         &[]
     }
 
+    // Whether what was written to the connection has this many lines from this offset on, begins there with these bytes and ends with
+    // `$last_line`.
     fn is_reported(&self, rest: &str) -> Result<Verdict, Trouble> {
         let (conn, rest) = first_number(rest)?;
         let (at, rest) = first_number(rest)?;

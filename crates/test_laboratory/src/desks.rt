@@ -71,7 +71,7 @@ fn take<D: Disk>(desk: &mut Desk<D>, act: &Act, made: &mut Made) -> Result<(), T
     Ok(())
 }
 
-// Records a trace: what was written, the groups, and the two states one of which must be found on the disk.
+// Records a trace: what was written, the groups, and two states; one of them must be found on the disk.
 fn tell(alloc: Global, trace: &Trace, start: &[u8], made: &mut Made) -> Result<(), Trouble> {
     for port in trace.ports.iter() {
         let bytes = Vec::from_slice(alloc, port.written.as_slice())?;
@@ -108,7 +108,7 @@ fn image_after(
     }
 }
 
-// The image of the state after the groups. Each answer that was written must be in the state.
+// The image of the state after the groups. Each welcome and each answer that was written must be in the state.
 fn built(
     alloc: Global,
     trace: &Trace,

@@ -9,7 +9,7 @@ use fe_keeper::{Fault, Keeper};
 use fe_state::{BATCH_ENTRIES, Batch, Entry, State};
 use std::alloc::Global;
 
-/// Opens a store, and makes the calls up to the first that is refused.
+/// Opens a store, and makes the calls up to the first that fails.
 pub fn made<D: Disk>(alloc: Global, disk: D, acts: &[Act]) -> (D, Result<Made, Trouble>) {
     match Keeper::open(alloc, disk) {
         Ok(keeper) => {
@@ -21,7 +21,7 @@ pub fn made<D: Disk>(alloc: Global, disk: D, acts: &[Act]) -> (D, Result<Made, T
     }
 }
 
-/// Makes the calls up to the first that is refused.
+/// Makes the calls up to the first that fails.
 pub fn make_all<D: Disk>(
     alloc: Global,
     keeper: &mut Keeper<D>,
@@ -86,8 +86,8 @@ fn batch_of(alloc: Global, first: u64, entries: &[Entry]) -> Result<Batch, Fault
     Ok(batch)
 }
 
-// Records what may be found if the device failed in a call. Every later call must be refused, and the replica
-// unchanged.
+// Records what may be found after a call that failed. If it was the device that failed, every later call must be refused, and the replica
+// must stay as it is.
 fn meet<D: Disk>(
     alloc: Global,
     keeper: &mut Keeper<D>,
@@ -149,7 +149,7 @@ pub fn found<D: Disk>(alloc: Global, disk: D) -> (D, Result<Vec<u8>, Fault>) {
     }
 }
 
-/// The place of the store, how many bytes of its journal are used, and its format.
+/// The place of the store, how many bytes of its journal are used, and its format; or the fault of its opening.
 pub fn opened<D: Disk>(alloc: Global, disk: D) -> (D, Result<String, Trouble>) {
     match Keeper::open(alloc, disk) {
         Ok(keeper) => {

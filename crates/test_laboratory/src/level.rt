@@ -18,6 +18,7 @@ pub enum Level {
 }
 
 impl Level {
+    /// The level with this name.
     pub fn of(word: &str) -> Result<Level, Trouble> {
         match word {
             "disk" => Ok(Level::Disk),
@@ -28,7 +29,7 @@ impl Level {
         }
     }
 
-    /// Makes the calls on the disk, which has a store with this image, except at the level of a disk.
+    /// Makes the calls on the disk, which has a store, except at the level of a disk. `start` is the image of the state in a desk's store.
     pub fn made<D: Disk>(
         self,
         alloc: Global,

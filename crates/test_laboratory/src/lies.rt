@@ -57,7 +57,7 @@ impl<'a> Lie<'a> {
         }
     }
 
-    // Makes each call of a keeper. None may end with a fault of the device, which never fails.
+    // Makes each call of a keeper. None may end with a fault, except a mismatch.
     fn keep(&self, keeper: &mut Keeper<Liar>) -> Result<LiarOutcome, Trouble> {
         let image = image_of(self.alloc, keeper.state())?;
         let mut is_sound = true;
@@ -83,7 +83,7 @@ impl<'a> Lie<'a> {
         }
     }
 
-    // Takes every step of a desk.
+    // Takes every step of a desk. None may end with a fault.
     fn sit(&self, desk: &mut Desk<Liar>) -> Result<LiarOutcome, Trouble> {
         let image = image_of(self.alloc, desk.keeper().state())?;
         let made = take_all(self.alloc, desk, self.acts)?;
@@ -92,7 +92,7 @@ impl<'a> Lie<'a> {
     }
 
     /// Whether a store with this byte changed opens as expected: with a fault, in the `same` state, in the `other`
-    /// state, or, for a desk, like a keeper (`kept`).
+    /// state, or, for a desk, like a keeper (`kept`); and whether the calls after that end as they may.
     pub fn is_as(&self, at: usize, change: u8, wanted: &str) -> Result<bool, Trouble> {
         let liar = self.changed(at, change)?;
         let (found, is_sound) = match self.level {
@@ -109,7 +109,7 @@ impl<'a> Lie<'a> {
         Ok(is_wanted && is_sound)
     }
 
-    // Whether a keeper opens the same store with the same result.
+    // Whether a keeper opens the same store with the same result: the same state, or the same fault in what was read.
     fn is_kept(
         &self,
         at: usize,

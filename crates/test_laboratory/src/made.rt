@@ -17,13 +17,14 @@ pub struct Written {
 /// The result of calls on a disk.
 #[derive(Drop)]
 pub struct Made {
-    /// The fault of the first call that failed.
+    /// The fault of the opening, or of the first call that failed.
     pub fault: Option<Fault>,
-    /// For each call `y` or `n`, or `x` if it failed.
+    /// For each call `y` if it answered true, `n` if false, or `x` if it failed.
     pub told: String,
-    /// Whether everything was right after the fault.
+    /// Whether all was right that is checked of the calls themselves.
     pub is_sound: bool,
-    /// The images of two states, one of which must be found on the disk. Both are empty if no store was opened.
+    /// The images of one state or two: what is found on the disk must be one of them. Both are empty if no store was opened, and after
+    /// calls of a disk or a journal.
     pub before: Vec<u8>,
     pub after: Vec<u8>,
     /// What a desk wrote, and the number of entries in each group that it gave its store.
@@ -68,7 +69,7 @@ impl Made {
         Ok(false)
     }
 
-    /// Whether the image is one that may be found.
+    /// Whether the image is one that may be found: one of those two, or `start` if both are empty.
     pub fn allows(&self, image: &[u8], start: &[u8]) -> bool {
         if self.before.is_empty() {
             return image == start;

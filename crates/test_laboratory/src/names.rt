@@ -18,6 +18,7 @@ pub struct Names {
 }
 
 impl Names {
+    /// No names yet.
     pub fn new(alloc: Global) -> Names {
         Names {
             alloc,

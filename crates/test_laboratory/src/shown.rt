@@ -4,7 +4,7 @@ use fe_codec::Format;
 use fe_keeper::Fault;
 use std::alloc::{AllocError, Global};
 
-/// A fault's name, followed by its number in braces.
+/// A fault's name, with its place or offset in braces if it has one.
 pub fn fault_text(alloc: Global, fault: &Fault) -> Result<String, AllocError> {
     match fault {
         Fault::Device => String::from_str(alloc, "Device"),

@@ -34,6 +34,7 @@ pub struct Tally<D> {
 }
 
 impl<D: Disk> Tally<D> {
+    /// The disk, with no calls counted yet.
     pub fn new(inner: D) -> Tally<D> {
         Tally {
             inner,

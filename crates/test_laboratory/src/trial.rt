@@ -15,7 +15,7 @@ pub const TORN: [Torn; 4] = [Torn::Kept, Torn::Lost, Torn::Byte(0x01), Torn::Byt
 /// More device calls than any run makes.
 pub const PLENTY: u64 = 100;
 
-/// The device calls of an opening (`docs/store.md`).
+/// How many device calls an opening makes (`docs/store.md`, "Opening a store").
 const OPENING: u64 = 5;
 
 /// Calls on a store.
@@ -84,7 +84,7 @@ impl<'a> Trial<'a> {
         }
     }
 
-    // Whether a stop of this kind leaves what is allowed, also after stops at each device call of an opening.
+    // Whether a stop of this kind, and then one at each device call of an opening in turn, leave what is allowed.
     fn leaves_behind_stops(
         &self,
         disk: &MemoryDisk,

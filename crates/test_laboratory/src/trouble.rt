@@ -7,11 +7,11 @@ use std::io;
 pub enum Trouble {
     /// Memory ran out.
     Memory,
-    /// The line is outside the syntax.
+    /// The line is outside the syntax, uses a name that was not given, or has entries that are not legal.
     Syntax,
-    /// The disk has no such bytes, or a call failed that should not.
+    /// The disk has no such bytes or no store, a call failed that should not, or a reply that a desk wrote is not in its state.
     Disk,
-    /// Standard input is not UTF-8, or standard output can't be written.
+    /// Standard input can't be read or is not UTF-8, or standard output can't be written.
     Stream,
 }
 

@@ -41,7 +41,7 @@ pub fn byte_of(pair: &[u8]) -> Result<u8, Trouble> {
     }
 }
 
-/// The kind of stop: `kept`, `lost`, or a byte.
+/// The kind of stop: `kept`, `lost`, or a byte as two hexadecimal digits.
 pub fn torn_of(word: &str) -> Result<Torn, Trouble> {
     match word {
         "kept" => Ok(Torn::Kept),

@@ -14,19 +14,20 @@ use std::thread::Threads;
 use std::time::Duration;
 use std::{env, fs, process, thread};
 
-/// How often to check for something that another thread does, at intervals of a millisecond.
+/// How often to check at most for something that another thread does, at intervals of a millisecond.
 const TURNS: usize = 100_000;
 
 /// How many seconds a client waits for the server's reply: as long as a test may take.
 const PATIENCE: u64 = 60;
 
+/// The books of the server at its end: how many calls and mails there were.
 const BOOKS: &str =
     "calls 3 completed 3 waiting 0 withdrawn 0 repeated 0 refused 0\nmails 5 taken 5 dropped 0 left 0\n";
 
 /// The number of answers to the two clients.
 const ANSWERS: usize = 3;
 
-/// Makes the messages of the first connection wait while they are held.
+/// Makes the messages of connection 0, the first one, wait while the hold is on.
 #[derive(Drop)]
 struct Barrier {
     hold: SyncHold,
@@ -64,7 +65,7 @@ fn connected<R: Net + Clock + Abort>(rt: &R, socket: &str) -> UnixStream {
     None.expect(rt, "there is a server")
 }
 
-/// Sends the lines, and checks that each is answered with these answers.
+/// Sends the lines, and checks that these answers are printed.
 fn asks(rt: &(impl Abort + AllocGlobal), stream: &UnixStream, lines: &[u8], answers: &[u8]) {
     let mut connection = StreamConnection::new(stream, stream);
     let mut reader = lines;

@@ -42,7 +42,8 @@ desk_of p = record { run_state = run_state_of p; keeper = p.keeper; synced = p.t
 abbrev pub unstored : DeskRunState → List Entry
 unstored s = cut_entries s.handed ++ s.front.service.pending
 
--- the batch that the desk has is the one that is out of the front
+-- the batch that the desk has is the one that is out of the front: it begins at the same place and is as long; and one that is cut is not
+-- empty
 abbrev pub IsHanded : Handed → Option Out → Type 0
 IsHanded Nothing out = out ≡ None
 IsHanded (Cut batch) out = IsOut out batch × (0 < length batch.entries)
@@ -54,8 +55,8 @@ pub record IsAhead (s : DeskRunState) (replica : ServerState) : Type 0 where
   pub legal : AreLegal replica (unstored s)
   pub state : s.front.service.state ≡ after_all replica (unstored s)
 
--- Each connection has a client; all groups are stored but perhaps the last, where the disk failed; and each image that a
--- stop may leave stands for a prefix of the history that holds the groups that are stored.
+-- The front is ahead of the replica; each connection has a client; all groups are stored unless the device failed; and over an honest
+-- disk each image that a stop may leave stands for a prefix of the history that holds the groups that are stored.
 pub record IsDesk {D : Type 0} (model : Ghosts D) (d : DeskState D) : Type 0 where
   pub tied : IsAhead d.run_state d.keeper.state
   pub known : (conn : ℕ) → is_connected d.run_state.front conn ≡ true → is_some (find conn d.run_state.clients) ≡ true

@@ -29,14 +29,14 @@ pub record Stores {D : Type 0} (model : Ghosts D) (old new : DeskState D) : Type
   pub fine : Works model old.keeper new.keeper
   pub grows : StoresMore old new
 
--- the device failed the batch that was at hand where this holds
+-- the device failed to store the batch at hand, where `Until` was true of the run
 pub record Loses {D : Type 0} (model : Ghosts D) (Until : DeskRunState → Type 0) (old new : DeskState D) : Type 0 where
   pub last : DeskRunState
   pub until : Until last
   pub tears : Tears last new
   pub failed : Breaks model old.keeper new.keeper
 
--- the faults of such a call: memory is short where it stops (`Short`), or the device failed it where it stopped (`Until`)
+-- the faults of such a call: memory is short where it stops (`Short`), or the device fails to store a batch where it stops (`Until`)
 abbrev pub Faults : {D : Type 0} → Ghosts D → (DeskState D → Type 0) → (DeskRunState → Type 0) → DeskState D → DeskState D → Fault → Type 0
 Faults model Short Until old new Device = Loses model Until old new
 Faults model Short Until old new Failed = ⊥
@@ -60,6 +60,7 @@ PieceFaults model Short Until old new (desk.Store cause) = (cause ≡ Device) ×
 PieceFaults model Short Until old new (desk.NoMemory fed) = Stores model old new × Short fed new.run_state
 PieceFaults model Short Until old new desk.Unwritten = ⊥
 
+-- such a call that reads a piece: it is done, or has one of these faults
 pub record GoesPiece {D : Type 0} (model : Ghosts D) (Done : DeskRunState → Type 0) (Short : Bool → DeskRunState → Type 0) (Until : DeskRunState → Type 0)
     (result : Result (Unit {0}) DeskFault) (old new : DeskState D) : Type 0 where
   pub desk : IsDesk model new
@@ -78,12 +79,12 @@ pub record IsUnstored {D : Type 0} (old new : DeskState D) : Type 0 where
   pub at_hand : HasCut old.run_state
   pub same : new ≡ old
 
--- memory was short for the batch at hand, where this holds
+-- memory was short for the batch at hand, where `Until` is true of the run
 pub record IsShort {D : Type 0} (Until : DeskRunState → Type 0) (new : DeskState D) : Type 0 where
   pub until : Until new.run_state
   pub at_hand : HasCut new.run_state
 
--- A call comes to a standing, or stops where this holds, for whichever fault.
+-- A call leads to this state of the run, or stops where `Until` is true of it, for either fault.
 abbrev pub GoesTo : {D : Type 0} → Ghosts D → DeskRunState → (DeskRunState → Type 0) → Result (Unit {0}) Fault → DeskState D → DeskState D → Type 0
 GoesTo model there Until result old new = Goes model (Is there) (IsShort Until) Until result old new
 
@@ -95,7 +96,7 @@ WasBegun s conn t = (is_making s conn ≡ true) × (t ≡ s)
 abbrev pub TakesLeft : DeskRunState → ℕ → DeskRunState → Type 0
 TakesLeft s conn t = TakesAll (with_left s conn []) conn (left_of s conn) t
 
--- memory was short for the next of them: it is left, with those after it, and they are taken on later as at once
+-- memory was short for the next of them: it is left, with those after it, and to take these later comes to the same as to take all at once
 pub record LeavesSome (s : DeskRunState) (conn : ℕ) (t : DeskRunState) : Type 0 where
   pub stops : StopsBefore s conn t
   pub still : 0 < length (left_of t conn)
@@ -105,13 +106,13 @@ pub record LeavesSome (s : DeskRunState) (conn : ℕ) (t : DeskRunState) : Type 
 abbrev pub TakesStream : DeskRunState → ℕ → List ℕ → DeskRunState → Type 0
 TakesStream s conn piece t = TakesBytes s (find conn s.clients) piece t
 
--- memory was short for them: what was read and where it stopped; given again they are taken as at once
+-- memory was short for them: what was read, and where it stopped; to give the rest again comes to the same as to take all at once
 pub record LeavesStream (s : DeskRunState) (conn : ℕ) (piece : List ℕ) (fed : Bool) (t : DeskRunState) : Type 0 where
   pub stops : StopsShort fed s conn piece t
   pub read : MatchBool fed (ReadsPiece s conn piece t) (ReadsNone s t)
   pub again : (u : DeskRunState) → TakesStream t conn (if fed then [] else piece) u → TakesStream s conn piece u
 
--- the device failed a batch while they were taken
+-- the device failed to store a batch while they were taken
 abbrev pub StopsStream : DeskRunState → ℕ → List ℕ → DeskRunState → Type 0
 StopsStream s conn piece last = StopsBefore s conn last ⊎ StopsBehind s conn piece last
 
@@ -137,6 +138,7 @@ pub record IsBroken {D : Type 0} (model : Ghosts D) (old : DeskState D) (step : 
   pub silent : outputs new.run_state ≡ outputs old.run_state
   pub failed : Breaks model old.keeper new.keeper
 
+-- how a step that acts ends, by its answer
 abbrev pub ActEnds : {D : Type 0} → Ghosts D → DeskState D → Step → DeskState D → Result (Unit {0}) DeskFault → Type 0
 ActEnds model old step new (Ok done) = HasActed model old step new
 ActEnds model old step new (Err (desk.Store cause)) = (cause ≡ Device) × IsBroken model old step new
@@ -163,6 +165,7 @@ pub record StillHolds (s t : DeskRunState) : Type 0 where
   pub owes : t.owes ≡ true
   pub writes : WritesSome s t
 
+-- the boxes are emptied, or memory is short for some of the mails
 abbrev pub Empties : Result (Unit {0}) AllocError → DeskRunState → DeskRunState → Type 0
 Empties result s t = MatchResult result (λ _. HasEmptied s t) (λ _. StillHolds s t)
 

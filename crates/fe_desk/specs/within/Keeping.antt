@@ -10,7 +10,7 @@ use Rattle.fe_desk.specs.DeskRunState.{Client, written_out, all_written_out, all
 use Rattle.fe_desk.specs.within.Desk.{IsDesk}
 use Rattle.fe_disk.specs.declared.disk.Disk.{Ghosts}
 
--- the state, what is pending and what is out stay, and no connection comes
+-- the state, what is pending, what is out and what is durable stay, and no connection comes
 pub record KeepsFront (f g : FrontState) : Type 0 where
   pub state : g.service.state ≡ f.service.state
   pub pending : g.service.pending ≡ f.service.pending
@@ -40,14 +40,14 @@ pub record OnlyWrites {D : Type 0} (model : Ghosts D) (old new : DeskState D) : 
 pub record KeepsEmpty (f g : FrontState) : Type 0 where
   pub empty : (conn : ℕ) → mails_on f.connections conn ≡ [] → mails_on g.connections conn ≡ []
 
--- some mails of a client are written and some are not; to write the rest later comes to the same as to write all at once
+-- mails of a client are written, maybe not all; to write the rest later comes to the same as to write all at once
 pub record IsWrittenOutLater (f : FrontState) (c : Client) (g : FrontState) (d : Client) : Type 0 where
   pub conn : d.conn ≡ c.conn
   pub output : (more : List ℕ) × (d.written ≡ c.written ++ more)
   pub front : emptied_box g d.conn ≡ emptied_box f c.conn
   pub client : written_out g d ≡ written_out f c
 
--- some mails of these clients are written and some are not; to write the rest later comes to the same as to write all at once
+-- mails of these clients are written, maybe not all; to write the rest later comes to the same as to write all at once
 pub record AreWrittenOutLater (f : FrontState) (cs : List Client) (g : FrontState) (ds : List Client) : Type 0 where
   pub front : all_emptied g ds ≡ all_emptied f cs
   pub clients : all_written_out g ds ≡ all_written_out f cs

@@ -1,4 +1,4 @@
--- Sets of the connections that may have a mail (`docs/model.md`, "The desk").
+-- Sets that have every connection with a mail (`docs/model.md`, "The desk").
 use Rattle.std.specs.Prelude.{◌≡◌, ◌⊎◌, ℕ, IsTrue, []}
 use Rattle.fe_mail.specs.Connections.{mails_on}
 use Rattle.fe_front.specs.ConnectionSet.{may_have}

@@ -11,7 +11,7 @@ pub counts_now_law : (size : ℕ) (image : List ℕ) (events : List DiskEvent) (
 counts_now_law size image [] t left now may = (now, may)
 counts_now_law size image (event ∷ earlier) t left now may = inl (now, may)
 
--- none was left after the last call
+-- no image was left at a moment later than now
 none_later : (size : ℕ) (image : List ℕ) (events : List DiskEvent) (t : ℕ) (left : List ℕ) → length events < t → LeftSince size image events t left → ⊥
 none_later size image [] t left late since = let le = since.0 in omega arith
 none_later size image (event ∷ earlier) t left late (inl since) = let le = since.0 in omega arith

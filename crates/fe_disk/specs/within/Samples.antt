@@ -1,5 +1,5 @@
 -- What a `Sample` says of the bytes of a file: it has some bytes that were written there, and their offset.
--- See `docs/model.md`, "The disk".
+-- See `docs/store.md`, "The file".
 use Rattle.std.specs.Prelude.{◌≡◌, ◌⊎◌, ℕ, ◌+◌, ◌≤◌, List, ◌∷◌, length, take, min}
 use Rattle.fe_disk.specs.Disk.{bytes_at, after_write}
 use Rattle.fe_disk.specs.declared.sample.Sample.{Sample}
@@ -29,6 +29,6 @@ pub record Precedes (byte : ℕ) (old new : Sample) : Type 0 where
   pub count : new.length ≡ old.length + 1
   pub same : taken new ≡ byte ∷ taken old
 
--- No byte of this range belongs to the sample.
+-- The range ends at or before the beginning of the sample, or begins at or after its end.
 abbrev pub IsApart : Sample → ℕ → ℕ → Type 0
 IsApart sample at n = (sample.at + sample.length ≤ at) ⊎ (at + n ≤ sample.at)

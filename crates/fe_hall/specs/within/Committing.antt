@@ -7,7 +7,8 @@ use Rattle.fe_history.specs.declared.act.Act.{Act}
 use Rattle.fe_hall.specs.Commits.{AppendsAreNoted, Commits, EndsAs}
 use Rattle.fe_hall.specs.declared.commit_end.CommitEnd.{CommitEnd}
 
--- the keeper's state was kept, at each moment of the call and after it
+-- The keeper's state is the same. Over an honest disk that had not failed, each image that a stop leaves during the call stands for it; so
+-- does each that it leaves afterwards, if the disk has still not failed.
 abbrev pub KeepsStanding : {D : Type 0} → Ghosts D → KeeperState D → KeeperState D → Type 0
 KeepsStanding model old new = Rests model old new × IsDurable model new
 

@@ -1,4 +1,4 @@
--- What a write side does on the way.
+-- What a write side adds to the history of a hall (`docs/headline.md`, "Every acknowledged answer").
 use Rattle.std.specs.Prelude.{ℕ, List}
 use mathlib.Core.List.{IsPrefix}
 use Rattle.fe_mail.specs.declared.mail.Mail.{Mail}

@@ -10,7 +10,8 @@ use Rattle.fe_disk.specs.declared.disk.Disk.{Ghosts}
 abbrev pub state_of : {D : Type 0} → Inside D → JournalState D
 state_of j = record { disk = j.disk; slot = j.slot; format = j.format; generation = j.generation; used = j.used; begun = j.begun; has_failed = j.has_failed }
 
--- the disk has a store's size, the buffer an area's, and the gate after the groups lies in the area
+-- the disk has a store's size, the buffer an area's, the gate after the groups lies in the area, and of a slot begun no more is written
+-- than its image's length, which its format allows
 pub record IsJournal {D : Type 0} (model : Ghosts D) (j : Inside D) : Type 0 where
   pub device : model.size j.disk ≡ device_bytes
   pub buffer : vec_len j.buffer ≡ area_bytes

@@ -9,7 +9,7 @@ use Rattle.fe_format.specs.declared.format.Format.{Format}
 use Rattle.fe_format.specs.declared.format.Format.TheVariants.{Two}
 use Rattle.fe_keeper.specs.declared.checkpoint.Checkpoint.{Checkpoint}
 
--- how many bytes the longest batch has as a group of format 2
+-- how many bytes the longest batch has as the payload of a group of format 2
 abbrev pub batch_bytes : ℕ
 batch_bytes = most_batch_entries * record_bytes Two
 
@@ -35,7 +35,7 @@ pub record HasMoreToCatchUp (entries : List Entry) (old new : Checkpoint) : Type
   pub room : vec_capacity old.catch_up ≤ vec_capacity new.catch_up
   pub fits : FitsGroup Two entries
 
--- a checkpoint under way catches up with more entries
+-- a checkpoint under way, if there is one, catches up with more entries
 abbrev pub CatchesUp : List Entry → Option Checkpoint → Option Checkpoint → Type 0
 CatchesUp entries None None = Unit {0}
 CatchesUp entries None (Some c) = ⊥

@@ -89,7 +89,7 @@ pub record CarriesDraft {T D : Type 0} (model : Ghosts D) (result : Result T Jou
 
 -- ---- calls of the device
 
--- How many device calls make room for a batch. A whole checkpoint, if the batch needs one, has this many slices.
+-- How many device calls make room for a batch at most. A whole checkpoint, if the batch needs one, has this many slices.
 pub record MakesRoom {D : Type 0} (store : StoreState D) (entries : List Entry) (whole : ℕ) (before after : Calls) : Type 0 where
   pub none : IsTrue (fits store entries) → MakesAtMost 0 0 0 before after
   pub to_finish : must_begin store entries ≡ false → MakesAtMost 0 (slices_left store.checkpoint + 2) 2 before after

@@ -1,4 +1,4 @@
--- Which fault a keeper returns for a fault of the layers below it (`docs/model.md`, "The keeper").
+-- Which fault a keeper returns for a fault of its journal or its store, or a refusal of its replica (`docs/model.md`, "The keeper").
 use Rattle.fe_journal.specs.declared.fault.JournalFault.{JournalFault}
 use Rattle.fe_journal.specs.declared.fault.JournalFault.TheVariants as journal
 use Rattle.fe_journal.specs.declared.fault.StoreFault.{StoreFault}

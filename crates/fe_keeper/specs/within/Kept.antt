@@ -10,7 +10,8 @@ use Rattle.fe_disk.specs.declared.disk.Disk.{Ghosts}
 abbrev pub kept_of : {D : Type 0} → Inside D → KeeperState D
 kept_of k = record { state = k.state; store = store_of k.store }
 
--- The log is empty and has room for a batch, and a disk that is honest and has not failed upholds the state.
+-- The store and the state agree on the place, and the log is empty and has room for a batch. Over an honest disk that has not failed, the
+-- store upholds the state.
 pub record IsKept {D : Type 0} (model : Ghosts D) (k : Inside D) : Type 0 where
   pub store : IsStore k.store
   pub place : k.store.place ≡ k.state.place

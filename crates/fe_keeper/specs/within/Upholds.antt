@@ -21,7 +21,7 @@ use Rattle.fe_disk.specs.declared.disk.Disk.{Ghosts}
 
 -- ---- over any disk
 
--- The generation leaves room for the next: below what an image of the state now would allow, once something came since the image.
+-- An image of the state now may have the next generation, unless the slot that counts is of format 2 and nothing came since its image.
 abbrev pub IsNumbered : {D : Type 0} → ℕ → JournalState D → Type 0
 IsNumbered place j = (j.generation ≤ place + 1) ⊎ ((j.generation ≤ place + 2) × (j.used ≡ 0) × (j.format ≡ Two))
 

@@ -1,4 +1,4 @@
--- How a node in the vector, a `Cell`, appears in the columns. No public clause cites this module.
+-- How a node in a pool's vector, a `Cell`, appears in the columns. No public clause cites this module.
 -- See `docs/model.md`, "Waiting requests".
 use Rattle.std.specs.Prelude.{ℕ, List, map, Option, Some, None}
 use Rattle.fe_pool.specs.Columns.{Link, Columns}
@@ -19,11 +19,12 @@ module _ {T : Type 0} where
   follower_of (Free follower) = follower
   follower_of (Taken _) = None
 
-  -- the neighbours of a taken node
+  -- the neighbours of a taken node on its list of a word
   abbrev pub word_link_of : Cell T → Link
   word_link_of (Free _) = None
   word_link_of (Taken entry) = entry.of_word
 
+  -- the neighbours of a taken node on its list of a session
   abbrev pub session_link_of : Cell T → Link
   session_link_of (Free _) = None
   session_link_of (Taken entry) = entry.of_session

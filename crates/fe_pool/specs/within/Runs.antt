@@ -80,9 +80,8 @@ IsFreeRun followers first (node ∷ nodes) = (first ≡ Some node) × IsFreeRun 
 abbrev pub contents : {T : Type 0} → Columns T → Contents T
 contents c = record { items = c.items; of_word = lists c.of_word; of_session = lists c.of_session }
 
--- the invariant of every pool: all columns have one length, the free nodes from `first_free` on are exactly those
--- without an item, each once, a free node is on no list, and each node that has neighbours is on a list that agrees
--- with them
+-- the invariant of every pool: there are fewer than 2^32 nodes, all columns have one length, the free nodes from `first_free` on are
+-- exactly those without an item, each once, a free node is on no list, and each node that has neighbours is on a list that agrees with them
 pub record IsPool {T : Type 0} (c : Columns T) (first_free : Option ℕ) : Type 0 where
   pub fits : length c.items < 2 ^ 32
   pub followers_length : length c.followers ≡ length c.items

@@ -1,4 +1,4 @@
--- The frames at the front of some bytes (`docs/model.md`, "Schedules").
+-- The frames at the front of some bytes (`docs/formats.md`, "Frames").
 use Rattle.std.specs.Prelude.{ℕ, ◌+◌, List, length, take, drop, Option, Some, None, nat_lt, if◌then◌else◌}
 use Rattle.fe_wire.specs.Stream.{length_field}
 

@@ -9,8 +9,8 @@ use Rattle.fe_server.specs.Serving.{HasCommitted, IsAnswerAt, account_in, fault_
 use Rattle.fe_server.specs.declared.failed.Failed.{Failed}
 use Rattle.fe_server.specs.declared.served.Served.{Served}
 
--- The store of a keeper was served: the keeper is returned with what was stored since, the answer is that of the committing side's
--- end, the account says what was issued, and the audit, if there is one, is settled.
+-- The store of a keeper was served: the keeper is returned with what was stored since, the answer is one that the committing side's end
+-- allows (`IsAnswerAt`), `IsAcknowledged` holds of the account, and the audit, if there is one, is settled.
 pub record HasServed {D : Type 0} (model : Ghosts D) (keeper : KeeperState D) (accepts : ℕ) (answer : Result (Served D) (Failed D)) : Type 0 where
   pub committed : (end : CommitEnd) × HasCommitted model keeper (keeper_in answer) end × IsAnswerAt end (fault_in answer)
   pub acknowledged : (end : CommitEnd) × IsAnswerAt end (fault_in answer) × IsAcknowledged model keeper (keeper_in answer) end (account_in answer)

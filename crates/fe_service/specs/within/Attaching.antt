@@ -1,5 +1,5 @@
 -- How the attachments of the sessions change, and what waits with them. No public clause cites this module.
--- See `docs/model.md`, "The service".
+-- See `docs/model.md`, "Waiting requests".
 use Rattle.std.specs.Prelude.{◌≡◌, ℕ}
 use Rattle.std.specs.Ordering.{nat_cmp}
 use Rattle.std.specs.FinMap.{FinMap}

@@ -14,7 +14,7 @@ use Rattle.fe_service.specs.declared.service_inner.ServiceInner.{ServiceInner}
 abbrev pub IsQuietAt : ServerState → WaitingAccesses → ℕ → ℕ → Type 0
 IsQuietAt s waiting array index = (key : ℕ × ℕ) (w : WaitingAccess) → get waiting key ≡ Some w → IsOn w array index → reply s (request_of w) ≡ None
 
--- all requests that wait on the word wait if this is its tag
+-- all requests that wait on the word would have to wait if this were its tag
 abbrev pub WaitAtTag : WaitingAccesses → ℕ → ℕ → Tag → Type 0
 WaitAtTag waiting array index tag = (key : ℕ × ℕ) (w : WaitingAccess) → get waiting key ≡ Some w → IsOn w array index → row w.op tag 0 ≡ None
 
@@ -36,7 +36,7 @@ pub record MayServe (p : ServiceInner) : Type 0 where
   pub places : p.state.place + len p.attachments.waiting ≤ greatest_place
   pub room : length p.pending + len p.attachments.waiting ≤ most_batch_entries
 
--- an entry more, of the request of one that waited on the word
+-- one entry more, which serves a request that waited on the word; the attachments and the arrays stay
 pub record TakesTurn (old new : ServiceInner) (array index : ℕ) (e : Entry) : Type 0 where
   pub turn : IsTurn old.state old.attachments.waiting e
   pub on_word : IsOn turn.waiter array index
@@ -46,7 +46,7 @@ pub record TakesTurn (old new : ServiceInner) (array index : ℕ) (e : Entry) : 
   pub arrays : new.attachments.arrays ≡ old.attachments.arrays
   pub pending : new.pending ≡ old.pending ++ e ∷ []
 
--- entries more, of requests that waited
+-- more entries, which serve requests that waited, one after the other; the attachments and the arrays stay
 pub record TakesTurns (old new : ServiceInner) (es : List Entry) : Type 0 where
   pub turns : AreTurns old.state old.attachments.waiting es
   pub state : new.state ≡ after_all old.state es

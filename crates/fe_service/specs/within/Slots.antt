@@ -1,5 +1,5 @@
 -- Which slot of the waiting lists (`fe_waits`) each session has. No public clause cites this module.
--- See `docs/model.md`, "The service".
+-- See `docs/model.md`, "Waiting requests".
 use Rattle.std.specs.Prelude.{◌≡◌, ◌↔◌, ℕ, ◌+◌, ◌<◌, ◌≤◌, List, [], ◌∷◌, ◌++◌, zero, suc, map, length, Option, Some, None, IsSome, slice_get, slice_index_or, unwrap_or}
 use Rattle.std.specs.Option.{option_map}
 use Rattle.std.specs.Ordering.{nat_cmp}
@@ -42,9 +42,11 @@ session_key owners key = (owner_of owners key.0, key.1)
 abbrev pub by_session : List (Option ℕ) → FinMap pair_cmp WaitingAccess → FinMap pair_cmp WaitingAccess
 by_session owners members = rekeyed (session_key owners) (λ waiter. waiter) members
 
+-- the request of a row, with the session instead of its slot
 abbrev pub request_from : List (Option ℕ) → Row → WaitingRequest
 request_from owners row = record { session = owner_of owners row.slot; number = row.number; array = row.array; index = row.index; op = row.op }
 
+-- the same for the row of each node, if it has one
 abbrev pub requests_from : List (Option ℕ) → List (Option Row) → List (Option WaitingRequest)
 requests_from owners nodes = map (option_map (request_from owners)) nodes
 
@@ -59,9 +61,8 @@ pub record AreFree (owners : List (Option ℕ)) (slots : List ℕ) : Type 0 wher
   pub vacant : (i slot : ℕ) → slice_get slots i ≡ Some slot → owner_at owners slot ≡ None
   pub once : (i j slot : ℕ) → slice_get slots i ≡ Some slot → slice_get slots j ≡ Some slot → i ≡ j
 
--- the invariant of the waiting lists, the occupants, the slots' owners and the free slots, whose vector has this
--- capacity: occupants and owners agree, each slot is free or has an owner, and requests wait only in slots that
--- have an owner
+-- the invariant of the waiting lists, the occupants, the slots' owners and the free slots, whose vector has this capacity, enough for all
+-- slots: occupants and owners agree, each slot is free or has an owner, and requests wait only in slots that have an owner
 pub record AreAttachments (waits : Waiting) (occupants : FinMap nat_cmp Occupant) (owners : List (Option ℕ)) (slots : List ℕ) (capacity : ℕ) : Type 0 where
   pub sized : length owners ≡ most_sessions
   pub agree : (session slot : ℕ) → (slot_in occupants session ≡ Some slot) ↔ (owner_at owners slot ≡ Some session)

@@ -1,4 +1,5 @@
-//! How the part under the lock hands batches out, and takes back those that were stored.
+//! How what is under the hall's lock cuts batches, and posts those that were stored (`ARCHITECTURE.md`, "Threads"). A batch that was cut
+//! and not posted is out. Each cut is noted in the hall's history (`docs/headline.md`, "Every acknowledged answer").
 
 ghost use Rattle.std.specs.Prelude.{◌≡◌, ◌+◌, ℕ, [], Some, false, IfErr, IfOk, IfSome, IsTrue, OnOk, OnErr, length};
 ghost use Rattle.fe_front.specs.ConnectionSet.{may_have};
@@ -58,7 +59,7 @@ pub enum CutOutcome {
     Strange(Uncut),
 }
 
-/// Shows that a batch was posted: contracts see the place after its entries. Only a post makes one.
+/// Shows that a batch was posted: contracts see the place, the number of entries, after it. Only a post makes one.
 #[derive(Drop)]
 pub struct Posted {
     durable: u64,
@@ -70,7 +71,7 @@ impl Model for Posted {
     ghost view = { λ p. p.durable };
 }
 
-/// Shows that a book has no room for the mails of a batch. Only a post makes one.
+/// Shows that a book, a count of the hall, has no room for the mails of a batch. Only a post makes one.
 #[derive(Clone, Copy)]
 pub struct FullBook(());
 
@@ -118,9 +119,9 @@ impl<C: Tally, M: Tally> Shared<C, M> {
         Some(CutOutcome::Batch(CutBatch { batch, count }))
     }
 
-    /// Posts the batch that is out, once it is stored: its entries are durable, and each is mailed to its connection. Adds
-    /// the connections whose boxes change. The batch is not posted if a book has no room for its mails. The connections whose read sides wait for
-    /// their boxes are added in any case.
+    /// Posts the batch that is out, once it is stored: its entries are durable, and each one's mail goes into the box of the connection
+    /// that has its session. Adds to `changed` the connections whose boxes change and, in any case, those whose read sides wait. The batch
+    /// is not posted if a book has no room for its mails, or if it is not the one that is out.
     pub fn post(
         &mut self,
         batch: Batch,

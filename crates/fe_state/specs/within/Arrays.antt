@@ -6,7 +6,7 @@ use Rattle.std.specs.Ordering.{nat_cmp}
 use Rattle.indexmap.specs.IndexSet.{IndexSet, index_set_len, spare}
 use Rattle.fe_state.specs.Limits.{most_arrays}
 
--- a set that says at which position of the table each id stands, with room for `most_arrays`
+-- a set that says at which position of the table each id stands, with room for `most_arrays` in all
 pub record IsIndex {S X : Type 0} (ids : IndexSet ℕ S) (arrays : FinMap nat_cmp X) : Type 0 where
   -- it has the ids of the arrays, in rising order, which is that of creation
   pub order : ids.keys ≡ keys arrays

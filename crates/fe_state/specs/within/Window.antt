@@ -1,11 +1,11 @@
--- A session's window, the numbers that it may use, in a ring of cells; and how far its floor may rise.
+-- A session's window, the numbers that it may use, in a ring of cells.
 -- See `docs/model.md`, "The state of the server".
 use Rattle.std.specs.Prelude.{◌≡◌, ℕ, zero, suc, ◌+◌, ◌%◌, ◌≤◌, List, length, Option, Some, None, slice_index_or}
 use Rattle.std.specs.Ordering.{nat_cmp}
 use Rattle.std.specs.FinMap.{FinMap, empty, insert}
 use Rattle.fe_state.specs.Limits.{window_length, greatest_floor}
 
--- the cell of a number is that of its remainder by the window
+-- what the cell of a number holds: the one at the number's remainder by the window's length
 abbrev pub cell_of : {X : Type 0} → List (Option X) → ℕ → Option X
 cell_of cells number = slice_index_or cells (number % window_length) None
 

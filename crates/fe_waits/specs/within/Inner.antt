@@ -37,7 +37,7 @@ pub record AreListed {Position : Type 0} (nodes : List (Option Row)) (pool : Con
 abbrev pub empty_chain : Chain
 empty_chain = record { first = None; last = None; length = 0 }
 
--- which list of each family a request belongs to: that of its slot, and that of its word
+-- the slot whose list a request is on
 abbrev pub session_of : Row → ℕ
 session_of row = row.slot
 
@@ -45,6 +45,7 @@ session_of row = row.slot
 abbrev pub IsNodeOfSlot : Waiting → ℕ → ℕ → Type 0
 IsNodeOfSlot w slot node = (row : Row) × (row_of w node ≡ Some row) × (session_of row ≡ slot)
 
+-- the word whose list a request is on: its array and its index
 abbrev pub word_of : Row → ℕ × ℕ
 word_of row = (row.array, row.index)
 
@@ -52,9 +53,9 @@ word_of row = (row.array, row.index)
 abbrev pub length_of : Chain → ℕ
 length_of chain = chain.length
 
--- the invariant of the pool, the sessions' chains, the words' chains and the count: no two requests have the same
--- key, each request is on its session's list and on its word's list, once on each, a session's list has at most 32
--- nodes and as many as the slot has requests, and the count is the number of all requests
+-- the invariant of the pool, the sessions' chains, the words' chains and the count: there are 2,048 nodes, 64 sessions' chains and at most
+-- 64 arrays, no two requests have the same key, each request is on its session's list and on its word's list, a session's list has at most
+-- 32 nodes and as many as the slot has requests, and the count is the number of all requests, and of the nodes on all sessions' lists
 pub record IsKept (pool : Contents Row) (sessions : List Chain) (words : FinMap nat_cmp (List Chain)) (waiting : ℕ) : Type 0 where
   pub sized : length pool.items ≡ 2048
   pub slots : length sessions ≡ 64

@@ -1,5 +1,5 @@
--- What the functions that read a reply's frame return: the reply, or None if the bytes spell none (`docs/formats.md`, "Frames", has
--- the kinds).
+-- What the functions that read a reply's frame return: the reply or, of `parts_of`, the frame's kind and body; None if the bytes spell none
+-- (`docs/formats.md`, "Frames", has the kinds).
 use Rattle.std.specs.Prelude.{ℕ, List, length, ◌&&◌, Option, Some, None, nat_lt, nat_le, ◌==◌, if◌then◌else◌}
 use Rattle.std.specs.Str.{is_utf8}
 use Rattle.std.specs.Int.{w32, w64}

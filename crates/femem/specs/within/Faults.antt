@@ -78,7 +78,7 @@ abbrev pub of_serve : ServeFault → Fault
 of_serve (serve.Store why) = of_store why
 of_serve serve.Socket = fault.Socket
 
--- the fault if a call ended before its input did
+-- the fault if `femem call` did not do all that its input asks
 abbrev pub of_call : CallFault → Fault
 of_call (call.Line number) = fault.Line number
 of_call call.Socket = fault.Socket

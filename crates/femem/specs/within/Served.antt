@@ -19,7 +19,7 @@ pub record AreSettings (settings : Settings) : Type 0 where
   pub parsed : parse_document text ≡ Some document
   pub are : IsSettingsOf document settings
 
--- the file can't be read, memory for its text ran out, or some text in it is refused with this fault
+-- the file can't be read, memory for its text ran out, or some text is refused with this fault
 abbrev pub RefusesFile : Fault → Type 0
 RefusesFile end = (end ≡ fault.Unreadable) ⊎ ((end ≡ fault.Memory) ⊎ ((text : List ℕ) × (why : SettingsFault) × RefusesText text why × (end ≡ of_settings why)))
 

@@ -18,6 +18,7 @@ abbrev pub shown_status : ErrorKind → Bool → ℕ
 shown_status k true = words_status k
 shown_status k false = if words_status k == 0 then status_of fault.Input else words_status k
 
+-- the status is one for these words, whether what they print could be written or not
 abbrev pub IsWordsStatus : ErrorKind → ℕ → Type 0
 IsWordsStatus k status = (written : Bool) × (status ≡ shown_status k written)
 
