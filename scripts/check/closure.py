@@ -28,7 +28,7 @@ class Module:
                 continue
             elif found and not line.startswith(" "):
                 current = self.definitions.setdefault(found[1] or found[2], [])
-            if current is not None and line.strip() and not line.startswith(("--", "use ", "pub mod")):
+            if current is not None and line.strip() and not line.strip().startswith(("--", "use ", "pub mod")):
                 current.append(line)
 
     def take_import(self, line):
