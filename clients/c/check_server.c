@@ -298,14 +298,14 @@ static void waiting(void) {
   femem_close(other);
 
   femem *brief = opened(9, &(femem_settings){.wait = 5000, .reconnect = 300});
-  femem *plain = opened(10, &(femem_settings){.wait = 5000, .reconnect = FEMEM_NEVER});
+  femem *plain = opened(10, &(femem_settings){.wait = 60000, .reconnect = FEMEM_NEVER});
   stop_server();
   uint64_t value;
   ERROR(femem_readxx(brief, array, 0, &value), FEMEM_UNREACHABLE);
   ERROR(femem_readxx(plain, array, 0, &value), FEMEM_DISCONNECTED);
   start_server();
-  ERROR(femem_reconnect(plain, 5000), FEMEM_OK);
-  ERROR(femem_wait(plain, femem_number(plain), &answer, 5000), FEMEM_OK);
+  ERROR(femem_reconnect(plain, 60000), FEMEM_OK);
+  ERROR(femem_wait(plain, femem_number(plain), &answer, 60000), FEMEM_OK);
   CHECK(answer.value == 77);
   femem_close(brief);
   femem_close(plain);

@@ -84,9 +84,12 @@ static void start_server(void) {
   }
 }
 
+/* On a busy machine an attach may take longer than a client with brief settings tries: then it is made again. */
 static femem *opened(uint64_t session, const femem_settings *settings) {
   femem *client;
-  femem_error error = femem_open(&client, path, session, settings);
+  femem_error error;
+  do error = femem_open(&client, path, session, settings);
+  while (error == FEMEM_TIMEOUT && settings->reconnect > 0 && settings->reconnect < usual.reconnect);
   if (error) give_up(femem_error_text(error));
   return client;
 }
