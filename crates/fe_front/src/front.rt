@@ -365,6 +365,6 @@ impl Front {
     pub fn attached(&self, session: u64) -> bool
         ensures { result ≡ is_attached self.now session }
     {
-        self.holder(session).is_some() && !self.is_closing(session)
+        self.service.attachments().holder(session).is_some() && !self.is_closing(session)
     }
 }

@@ -44,7 +44,7 @@ impl Front {
         ensures freed { self.new ≡ freed self.old session }
     {
         let _ = self.state();
-        if let Some(conn) = self.holder(session) {
+        if let Some(conn) = self.service.attachments().holder(session) {
             self.part(conn, session);
         }
     }

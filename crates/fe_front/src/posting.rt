@@ -29,7 +29,7 @@ impl Front {
         ensures notes { Notes self.old self.new changed.old changed.new }
     {
         let _ = self.state();
-        if let Some(conn) = self.holder(session_of(entry)) {
+        if let Some(conn) = self.service.attachments().holder(session_of(entry)) {
             changed.add(conn);
             self.put(conn, Mail::of(entry, place));
         }

@@ -22,16 +22,6 @@ impl Front {
         self.service.state().place() + EVENT_ENTRIES as u64 > GREATEST_PLACE
     }
 
-    /// The connection that has a session, if one has it.
-    pub(crate) fn holder(&self, session: u64) -> Option<u64>
-        ensures { result ≡ holder_of self.now.service.attachments session }
-    {
-        match self.service.attachments().attachment(session) {
-            Some(attachment) => attachment.holder,
-            None => None,
-        }
-    }
-
     /// Whether a session's close is made and not yet posted.
     pub(crate) fn is_closing(&self, session: u64) -> bool
         ensures { result ≡ is_closing self.now.service.attachments session }

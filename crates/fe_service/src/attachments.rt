@@ -3,7 +3,7 @@
 ghost use Rattle.std.specs.Prelude.{◌≡◌, ◌↔◌, ◌<◌, ◌≤◌, Some, None, false, IfOk, IfSome, IsSome, IsNone};
 ghost use Rattle.std.specs.FinMap as map;
 ghost use Rattle.fe_waits.specs.Waiting.{IsWord, NoneOnWord, ListsWaitingRequestsOf};
-ghost use Rattle.fe_service.specs.AttachmentsState.{is_closing, waiting_request_at, count_of, IsRequestOn, IsWithinLimits};
+ghost use Rattle.fe_service.specs.AttachmentsState.{holder_of, is_closing, waiting_request_at, count_of, IsRequestOn, IsWithinLimits};
 ghost use Rattle.fe_service.specs.within.Attaching.{AttachmentsBecome, DropsRequests};
 ghost use Rattle.fe_state.specs.Limits.{most_sessions, window_length};
 
@@ -111,6 +111,15 @@ impl Attachments {
         let guess = self.guesses[(session % GUESSES as u64) as usize];
         let occupant = occupant_near(&self.occupants, guess, session)?;
         Some(occupant.attachment)
+    }
+
+    /// The connection that has a session, if one has it.
+    pub fn holder(&self, session: u64) -> Option<u64>
+        ensures { result ≡ holder_of self.now.attachments session }
+    {
+        let guess = self.guesses[(session % GUESSES as u64) as usize];
+        let occupant = occupant_near(&self.occupants, guess, session)?;
+        occupant.attachment.holder
     }
 
     /// Gives a session that has no attachment one, held by a connection or by none. Fewer than `SESSIONS` sessions must have one.

@@ -1,4 +1,4 @@
-use Rattle.std.proofs.Common.{rules, ◌≡◌, ℕ, refl, sym, ◌∙◌}
+use Rattle.std.proofs.Common.{rules, ◌≡◌, ℕ, refl, sym, ap, ◌∙◌}
 use Rattle.fe_state.specs.declared.entry.Entry.{Entry}
 use Rattle.fe_state.specs.declared.entry.Entry.TheVariants.{Attached, Closed, Settled, Finished}
 use Rattle.fe_front.specs.Front.{FrontState}
@@ -6,13 +6,14 @@ use Rattle.fe_front.specs.Noting.{Notes}
 use Rattle.fe_front.specs.Posting.{delivered, posted_entry}
 use Rattle.fe_front.proofs.Agreement.{connection_there}
 use Rattle.fe_front.proofs.Noting.{notes_not, notes_then, notes_mailed, notes_ended}
+use Rattle.fe_service.specs.AttachmentsState.{holder_of}
 use Rattle.fe_front.proofs.front.Front.post_entry.Goals.{in-Some, in_default}
 use Rattle.fe_front.proofs.front.Front.post_entry.Goals as goal
 
 pub put-requires : goal.put-requires
 put-requires c =
     let old = c.args.self.now in
-    record { connected = connection_there old.connections c.in-Some.conn c.session_of.result ((c.state.ensures.front.tied.agree c.session_of.result c.in-Some.conn).0 (sym c.holder.ensures ∙ c.in-Some.is)) }
+    record { connected = connection_there old.connections c.in-Some.conn c.session_of.result ((c.state.ensures.front.tied.agree c.session_of.result c.in-Some.conn).0 (ap (λ attachments. holder_of attachments c.session_of.result) (sym (c.attachments.ensures.attachments ∙ ap (λ (f : FrontState). f.service.attachments) c.self.view_is)) ∙ sym c.holder.ensures ∙ c.in-Some.is)) }
 
 pub returns-in-Closed-clause-notes : goal.returns-in-Closed-clause-notes
 returns-in-Closed-clause-notes c =
