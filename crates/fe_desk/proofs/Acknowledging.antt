@@ -26,7 +26,6 @@ use Rattle.fe_front.specs.Steps as front
 use Rattle.fe_front.specs.Steps.{has_no_cut}
 use Rattle.fe_front.specs.Posting as posting
 use Rattle.fe_front.proofs.Keeping.{posted_all-keeps, dropped-keeps}
-use Rattle.fe_front.proofs.Coming.{posted-stays, dropped-stays}
 use Rattle.fe_messages.specs.Answers.{IsFinishedAt, AreAnswered}
 use Rattle.fe_messages.specs.Asking.{HasOnly}
 use Rattle.fe_messages.specs.Mails.{reply_of}
@@ -46,7 +45,8 @@ use Rattle.fe_desk.specs.Stopping.{MayBegin, StopsMaking, TakesFirst, StopsBefor
 use Rattle.fe_desk.specs.Messages.{left_of, read_by}
 use Rattle.fe_desk.proofs.Emptying.{same_number}
 use Rattle.fe_desk.proofs.Answered.{posts_stand}
-use Rattle.fe_desk.proofs.Messaging.{Makes, MayAsk, KeptStand, StandsTo, message_made, message_stands}
+use Rattle.fe_messages.proofs.Entering.{Leaves, message_leaves}
+use Rattle.fe_desk.proofs.Messaging.{MayAsk, KeptStand, StandsTo, message_answered, message_stands}
 use Rattle.fe_desk.proofs.Holding.{Tells, AllTell, Holds, HoldsAt, Remains, times_lose, way_remains, remains_hold, first_of}
 
 -- ---- a batch is cut
@@ -175,7 +175,7 @@ posted_front begun asked f cs batch groups h =
     let last = h.way.0 in
     let g : FrontState = posting.posted f batch in
     let keeps = posted_all-keeps f batch.entries batch.first in
-    let same : made_entries groups (Stored batch) f ≡ made_entries groups Nothing g = ap (λ (es : List Entry). entries_of groups ++ es) (sym (posted-stays f batch).pending) in
+    let same : made_entries groups (Stored batch) f ≡ made_entries groups Nothing g = ap (λ (es : List Entry). entries_of groups ++ es) (sym keeps.pending) in
     let answered : AreAnswered begun (entries_of groups) = (answered-split begun (entries_of groups) f.service.pending h.answered).0 in
     record {
       state = keeps.state ∙ h.state ∙ ap (λ (es : List Entry). after_all begun es) same;
@@ -295,7 +295,7 @@ gone_holds begun asked s conn h = by (is_making s conn)
     leaves =
         let keeps = dropped-keeps s.front conn in
         remains_hold begun asked s.front (front.dropped s.front conn) s.clients (on_client conn (λ c. record c { left = [] }) s.clients) s.handed s.groups
-        (record { state = keeps.state; pending = (dropped-stays s.front conn).pending; out = keeps.out; durable = keeps.durable }) (dropped_loses s.front conn)
+        (record { state = keeps.state; pending = keeps.pending; out = keeps.out; durable = keeps.durable }) (dropped_loses s.front conn)
         (boxes-dropped (StandsTo begun s.groups asked) s.front conn h.boxes) (changed_tell begun asked s.groups conn (λ c. record c { left = [] }) (λ c is t. (t.0, tt)) s.clients h.tell) h
 
     by : (b : Bool) → HoldsAt begun asked (record (with_left (if b then record s { making = None } else s) conn []) { front = front.dropped s.front conn })
@@ -319,14 +319,14 @@ module _ (begun : ServerState) (asked : ℕ → ℕ → Bool) (below : KeepsBelo
       kept_stands begun (entries_of groups) (cut_entries handed ++ f.service.pending) session number k h.answered (below session number)
       (sym (ap (λ (s : ServerState). kept_in (get s.sessions session) number) h.state) ∙ kept) (omega (arith, most, durable))
 
-  made_holds : (f g : FrontState) (es : List Entry) (cs : List Client) (handed : Handed) (groups : List (List Entry)) → Makes f es g → AllIn (StandsTo begun groups asked) g.connections → HasOnly (MayAsk asked) g
-      → Holds begun asked f cs handed groups → Holds begun asked g cs handed groups
-  made_holds f g es cs handed groups m boxes has h =
+  made_holds : (f g : FrontState) (es : List Entry) (cs : List Client) (handed : Handed) (groups : List (List Entry)) → Leaves f es g → AreAnswered f.service.state es → AllIn (StandsTo begun groups asked) g.connections
+      → HasOnly (MayAsk asked) g → Holds begun asked f cs handed groups → Holds begun asked g cs handed groups
+  made_holds f g es cs handed groups m answered boxes has h =
       let before : List Entry = made_entries groups handed f in
       let same : before ++ es ≡ made_entries groups handed g =
       append_assoc (entries_of groups) (cut_entries handed ++ f.service.pending) es ∙ ap (λ (xs : List Entry). entries_of groups ++ xs) (append_assoc (cut_entries handed) f.service.pending es)
       ∙ ap (λ (xs : List Entry). entries_of groups ++ (cut_entries handed ++ xs)) (sym m.pending) in
-      let more : AreAnswered begun (before ++ es) = answered-append begun before es h.answered (subst (λ (s : ServerState). AreAnswered s es) h.state m.answered) in
+      let more : AreAnswered begun (before ++ es) = answered-append begun before es h.answered (subst (λ (s : ServerState). AreAnswered s es) h.state answered) in
       record {
         state = m.state ∙ ap (λ (s : ServerState). after_all s es) h.state ∙ sym (after-append begun before es) ∙ ap (λ (xs : List Entry). after_all begun xs) same;
         answered = subst (λ (xs : List Entry). AreAnswered begun xs) same more;
@@ -342,7 +342,8 @@ module _ (begun : ServerState) (asked : ℕ → ℕ → Bool) (below : KeepsBelo
       let there : HoldsAt begun asked u = roomy_holds begun asked s conn h in
       let kept : KeptStand begun u.groups asked u.front = kept_stand u.front u.clients u.handed u.groups there in
       subst (λ (x : DeskRunState). HoldsAt begun asked x) (sym takes.after)
-      (made_holds u.front takes.front takes.entries u.clients u.handed u.groups (message_made u.front takes.front conn m takes.entries takes.takes)
+      (made_holds u.front takes.front takes.entries u.clients u.handed u.groups
+      (message_leaves u.front takes.front conn m takes.entries takes.takes) (message_answered u.front takes.front conn m takes.entries takes.takes)
       (message_stands begun u.groups asked u.front takes.front conn m takes.entries there.has kept takes.takes there.boxes)
       (message_has (MayAsk asked) u.front takes.front conn m takes.entries asks takes.takes there.has) there)
 

@@ -21,7 +21,6 @@ use Rattle.fe_desk.specs.Crash.{DeskState}
 use Rattle.fe_desk.specs.Acknowledged.{cut_entries}
 use Rattle.fe_desk.specs.within.Desk.{IsDesk, IsHanded, client_of}
 use Rattle.fe_desk.specs.within.Keeping.{Stays}
-use Rattle.fe_front.proofs.Coming.{dropped-stays}
 use Rattle.fe_desk.proofs.Places.{numbers_changed, found_by_numbers, found_more, found_last, found_there, port_changed}
 use Rattle.fe_disk.specs.declared.disk.Disk.{Ghosts}
 
@@ -148,9 +147,8 @@ pub gone_stays : {D : Type 0} (model : Ghosts D) (s : DeskRunState) (k : KeeperS
 gone_stays model s k n f clients conn front left =
     let cs = on_client conn (λ c. record c { left = [] }) s.clients in
     let keeps = dropped-keeps s.front conn in
-    let stays = dropped-stays s.front conn in
-    let known : AreKnown s.front s.clients → AreKnown (dropped s.front conn) cs = λ known q there. found_by_numbers s.clients cs q (numbers_changed s.clients conn (λ c. record c { left = [] }) (λ c. refl)) ∙ known q (stays.none_comes q there) in
-    let is : KeepsMade s.front (dropped s.front conn) = record { state = keeps.state; pending = stays.pending; out = keeps.out } in
+    let known : AreKnown s.front s.clients → AreKnown (dropped s.front conn) cs = λ known q there. found_by_numbers s.clients cs q (numbers_changed s.clients conn (λ c. record c { left = [] }) (λ c. refl)) ∙ known q (keeps.none_comes q there) in
+    let is : KeepsMade s.front (dropped s.front conn) = record { state = keeps.state; pending = keeps.pending; out = keeps.out } in
     record {
       desk = λ desk. moved_desk model s k n f clients (unmade_for s conn) s.owes desk (subst (KeepsMade s.front) (sym front) is)
           (subst (λ (g : FrontState). AreKnown g clients) (sym front) (subst (AreKnown (dropped s.front conn)) (sym left) (known desk.known)));

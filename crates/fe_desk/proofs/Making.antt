@@ -15,7 +15,7 @@ use Rattle.fe_desk.specs.DeskRunState.{DeskRunState}
 use Rattle.fe_desk.specs.Storing.{cut, cleared, committed, made, is_making, with_room, begun_room, roomy}
 use Rattle.fe_desk.specs.Crash.{DeskState, Advances, disk_of}
 use Rattle.fe_desk.specs.within.Desk.{IsDesk, IsAhead, IsHanded}
-use Rattle.fe_front.proofs.Coming.{posted-stays}
+use Rattle.fe_front.proofs.Keeping.{posted_all-keeps}
 use Rattle.fe_desk.proofs.Groups.{advances_kept, desk_kept}
 use Rattle.fe_disk.specs.declared.disk.Disk.{Ghosts}
 
@@ -36,8 +36,8 @@ cleared_pending s = by s.handed
   where
     by : (h : Handed) → (cleared (record s { handed = h })).front.service.pending ≡ s.front.service.pending
     by Nothing = refl
-    by (Cut batch) = (posted-stays s.front batch).pending
-    by (Stored batch) = (posted-stays s.front batch).pending
+    by (Cut batch) = (posted_all-keeps s.front batch.entries batch.first).pending
+    by (Stored batch) = (posted_all-keeps s.front batch.entries batch.first).pending
 
 -- where no batch is out, a cut leaves nothing pending
 cut_pending : (f : FrontState) → f.out ≡ None → length (front.cut f).service.pending ≡ 0

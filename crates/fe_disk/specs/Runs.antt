@@ -3,7 +3,6 @@
 use Rattle.std.specs.Prelude.{◌≡◌, ◌⊎◌, ◌↔◌, ℕ, ◌+◌, ◌≤◌, List, Result, Ok, Err, IsErr, IsErrOf, OnOk}
 use Rattle.fe_disk.specs.Disk.{Elapses, Rises, MakesAtMost}
 use Rattle.fe_disk.specs.Outcome.{EndsCall}
-use Rattle.fe_disk.specs.declared.calls.Calls.{Calls}
 use Rattle.fe_disk.specs.declared.disk.Disk.{Ghosts}
 
 -- Time went on through a run of calls, as it does through one.

@@ -32,7 +32,7 @@ use Rattle.fe_front.specs.Steps.{parted, released, freed, departed, withdrawn_fr
 use Rattle.fe_front.specs.declared.out.Out.{Out}
 use Rattle.fe_front.specs.declared.outcome.Outcome.{Outcome}
 use Rattle.fe_front.specs.declared.outcome.Outcome.TheVariants as outcome
-use Rattle.fe_front.proofs.Keeping.{released-keeps, freed-keeps, dropped-keeps, mailed-keeps}
+use Rattle.fe_front.proofs.Keeping.{released-keeps, freed-keeps, dropped-keeps, mailed-keeps, cancelled-keeps, repeated-keeps}
 
 below_now : (a b : ℕ) → nat_lt a b ≡ true → a < b
 below_now a b e = omega (arith, ltb-true)
@@ -218,27 +218,13 @@ module _ (mark : ℕ) (P : List Mail → Type 0) (nothing : P []) (less : (ms : 
 
 -- ---- the mark
 
-repeated_mark : (f : FrontState) (conn session number : ℕ) → (repeated f conn session number).durable ≡ f.durable
-repeated_mark f conn session number = by (kept_at g session number)
-  where
-    g : FrontState
-    g = record f { books = call_repeated f.books }
-
-    chosen : (m : Mail) (b : Bool) → (if b then mailed g conn m else g).durable ≡ f.durable
-    chosen m true = (mailed-keeps g conn m).durable
-    chosen m false = refl
-
-    by : (o : Option Kept) → (option_map_or (λ (k : Kept). if nat_lt k.place g.durable then mailed g conn (mail.Answer session number k.answer k.place) else g) o g).durable ≡ f.durable
-    by None = refl
-    by (Some k) = chosen (mail.Answer session number k.answer k.place) (nat_lt k.place g.durable)
-
 called_mark : (f g : FrontState) (conn session number : ℕ) (request : Request) (o : Outcome) (es : List Entry)
     → Called f conn session number request o es g → g.durable ≡ f.durable
 called_mark f g conn session number request (outcome.Completed n) es r = ap (λ (h : FrontState). h.durable) r.rest
 called_mark f g conn session number request outcome.Waits es r = ap (λ (h : FrontState). h.durable) r.rest
-called_mark f g conn session number request outcome.AlreadyWaiting es r = ap (λ (h : FrontState). h.durable) r.rest ∙ repeated_mark f conn session number
-called_mark f g conn session number request outcome.SentAgain es r = ap (λ (h : FrontState). h.durable) r.rest ∙ repeated_mark f conn session number
-called_mark f g conn session number request outcome.NotYetSynced es r = ap (λ (h : FrontState). h.durable) r.rest ∙ repeated_mark f conn session number
+called_mark f g conn session number request outcome.AlreadyWaiting es r = ap (λ (h : FrontState). h.durable) r.rest ∙ (repeated-keeps f conn session number).durable
+called_mark f g conn session number request outcome.SentAgain es r = ap (λ (h : FrontState). h.durable) r.rest ∙ (repeated-keeps f conn session number).durable
+called_mark f g conn session number request outcome.NotYetSynced es r = ap (λ (h : FrontState). h.durable) r.rest ∙ (repeated-keeps f conn session number).durable
 
 cut_mark : (f : FrontState) → (cut f).durable ≡ f.durable
 cut_mark f = by (has_no_cut f)
@@ -270,9 +256,7 @@ mark_rises f f' (Attach conn session) es front step =
 mark_rises f f' (Call conn number request o) es front step = let same = called_mark f f' conn step.0 number request o es step.2 in omega (arith, same)
 mark_rises f f' (Settle conn floor) es front step = let same = ap (λ (g : FrontState). g.durable) step.2.front in omega (arith, same)
 mark_rises f f' (Bye conn) es front step = let same = ap (λ (g : FrontState). g.durable) step.2.front in omega (arith, same)
-mark_rises f f' (Cancel conn number) es front step =
-    let same = ap (λ (g : FrontState). g.durable) step.2.front ∙ (mailed-keeps (cancelled_from f step.0 number) conn (mail.Withdrawn number)).durable in
-    omega (arith, same)
+mark_rises f f' (Cancel conn number) es front step = let same = ap (λ (g : FrontState). g.durable) step.2.front ∙ (cancelled-keeps f conn step.0 number).durable in omega (arith, same)
 mark_rises f f' (Gone conn count) es front step = let same = ap (λ (g : FrontState). g.durable) step.1.front ∙ (dropped-keeps f conn).durable in omega (arith, same)
 mark_rises f f' (Cut batch) es front step = let same = ap (λ (g : FrontState). g.durable) step.1.front ∙ cut_mark f in omega (arith, same)
 mark_rises f f' (Post batch) es front step =

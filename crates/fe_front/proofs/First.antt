@@ -21,14 +21,14 @@ use Rattle.fe_mail.proofs.MailCounts.{mails_in-empty}
 use Rattle.fe_front.specs.within.Inside.{IsSound}
 
 -- nobody has a session
-nobody : (sessions : FinMap nat_cmp Session) (attachments : FinMap nat_cmp Attachment) → AreFreeAttachments sessions attachments → (session : ℕ) → holder_of attachments session ≡ None
+pub nobody : (sessions : FinMap nat_cmp Session) (attachments : FinMap nat_cmp Attachment) → AreFreeAttachments sessions attachments → (session : ℕ) → holder_of attachments session ≡ None
 nobody sessions attachments has_attachment session = ap (option_and_then (λ (attachment : Attachment). attachment.holder)) (has_attachment session) ∙ by (get sessions session)
   where
     by : (o : Option Session) → option_and_then (λ (attachment : Attachment). attachment.holder) (option_map (λ _. free_attachment) o) ≡ None
     by None = refl
     by (Some x) = refl
 
-no_session : (m : FinMap nat_cmp Connection) → m ≡ empty → (conn : ℕ) → session_on m conn ≡ None
+pub no_session : (m : FinMap nat_cmp Connection) → m ≡ empty → (conn : ℕ) → session_on m conn ≡ None
 no_session m is conn = ap (λ m. session_on m conn) is ∙ ap (option_and_then (λ (c : Connection). c.session)) (get-empty nat_cmp conn)
 
 pub first_sound : (state : ServerState) (service : ServiceState) (connections : FinMap nat_cmp Connection) (books : Books) (durable : ℕ) (spare : List Entry)

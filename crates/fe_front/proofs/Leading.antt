@@ -1,5 +1,5 @@
 -- The entries of a step are legal, and lead to the state after it.
-use Rattle.std.proofs.Common.{◌≡◌, ℕ, ◌-◌, ◌^◌, ◌<◌, Bool, true, false, List, [], length, Option, Some, None, refl, sym, ap, subst, ◌∙◌, arith}
+use Rattle.std.proofs.Common.{◌≡◌, ℕ, ◌-◌, ◌^◌, ◌<◌, Bool, true, false, List, [], length, refl, sym, ap, subst, ◌∙◌, arith}
 use Rattle.std.specs.Prelude.{nat_lt, if◌then◌else◌, Ok}
 use Rattle.std.specs.Option.{option_map_or}
 use Rattle.std.specs.FinMap.{get}
@@ -14,20 +14,17 @@ use Rattle.fe_service.proofs.Attaching.{attach_legal}
 use Rattle.fe_service.proofs.Turns.{finished_usable, serves_legally}
 use Rattle.fe_front.specs.Front.{FrontState, IsFront, is_spent}
 use Rattle.fe_front.specs.Event.{Event, Connect, Attach, Call, Settle, Bye, Cancel, Gone, Cut, Post, TakeMail, GiveMail}
-use Rattle.fe_front.specs.Call.{Called, Completed, Repeats, repeated, kept_at}
+use Rattle.fe_front.specs.Call.{Called, Completed, Repeats, repeated}
 use Rattle.fe_front.specs.Refusals.{attaching, addressed, settling, leaving}
 use Rattle.fe_front.specs.Step.{FrontStep, OneEntry, NoEntry, Leads}
-use Rattle.fe_front.specs.Steps.{connected, attached_to, settled_to, closed_by, cancelled_from, cancelled_by, dropped, released, taken, mailed, cut, has_no_cut}
+use Rattle.fe_front.specs.Steps.{connected, attached_to, settled_to, closed_by, cancelled_by, dropped, released, taken, mailed, cut, has_no_cut}
 use Rattle.fe_front.specs.Posting.{posted}
-use Rattle.fe_mail.specs.Books.{call_repeated}
 use Rattle.fe_mail.specs.Connections.{mails_on}
-use Rattle.fe_mail.specs.declared.mail.Mail.TheVariants as mail
-use Rattle.fe_state.specs.declared.kept.Kept.{Kept}
 use Rattle.fe_front.specs.declared.outcome.Outcome.{Outcome}
 use Rattle.fe_front.specs.declared.outcome.Outcome.TheVariants as outcome
 use Rattle.fe_front.proofs.Admitted.{leaves, settles, own_there, may_rise_to, free_within}
 use Rattle.fe_front.proofs.Counts.{waiting-served}
-use Rattle.fe_front.proofs.Keeping.{released-keeps, freed-keeps, mailed-keeps, dropped-keeps, posted_all-keeps}
+use Rattle.fe_front.proofs.Keeping.{released-keeps, freed-keeps, mailed-keeps, dropped-keeps, posted_all-keeps, cancelled-keeps, repeated-keeps}
 use Rattle.fe_front.proofs.Attaching.{attaches, left_of}
 
 -- an event that makes no entry and leaves the state
@@ -68,18 +65,8 @@ unchosen : (f g : FrontState) (b : Bool) → g.service.state ≡ f.service.state
 unchosen f g true same = refl
 unchosen f g false same = same
 
-again-state : (f : FrontState) (conn session number : ℕ) → (repeated f conn session number).service.state ≡ f.service.state
-again-state f conn session number = by (kept_at g session number)
-  where
-    g : FrontState
-    g = record f { books = call_repeated f.books }
-
-    by : (o : Option Kept) → (option_map_or (λ (k : Kept). if nat_lt k.place g.durable then mailed g conn (mail.Answer session number k.answer k.place) else g) o g).service.state ≡ f.service.state
-    by None = refl
-    by (Some k) = chosen g (mailed g conn (mail.Answer session number k.answer k.place)) (nat_lt k.place g.durable) (mailed-keeps g conn (mail.Answer session number k.answer k.place)).state
-
 repeat_leads : (f f' : FrontState) (conn session number : ℕ) (request : Request) (o : Outcome) (es : List Entry) → Repeats f conn session number request o es f' → Leads f es f'
-repeat_leads f f' conn session number request o es r = still f f' (repeated f conn session number) es (record { entries = r.entries; front = r.rest }) (again-state f conn session number)
+repeat_leads f f' conn session number request o es r = still f f' (repeated f conn session number) es (record { entries = r.entries; front = r.rest }) (repeated-keeps f conn session number).state
 
 complete_leads : (f f' : FrontState) (conn session number : ℕ) (request : Request) (n : ℕ) (es : List Entry) → IsFront f → addressed f conn number ≡ Ok session
     → Completed f session number request n es f' → Leads f es f'
@@ -124,8 +111,7 @@ steps_lead f f' (Attach conn session) es front limits step = attach_leads f f' c
 steps_lead f f' (Call conn number request o) es front limits step = call_leads f f' conn step.0 number request o es front step.1 step.2
 steps_lead f f' (Settle conn floor) es front limits step = settle_leads f f' conn step.0 floor es front step.1 step.2
 steps_lead f f' (Bye conn) es front limits step = bye_leads f f' conn step.0 es front step.1 step.2
-steps_lead f f' (Cancel conn number) es front limits step =
-    still f f' (cancelled_by f conn step.0 number) es step.2 (mailed-keeps (cancelled_from f step.0 number) conn (mail.Withdrawn number)).state
+steps_lead f f' (Cancel conn number) es front limits step = still f f' (cancelled_by f conn step.0 number) es step.2 (cancelled-keeps f conn step.0 number).state
 steps_lead f f' (Gone conn count) es front limits step = still f f' (dropped f conn) es step.1 (dropped-keeps f conn).state
 steps_lead f f' (Cut batch) es front limits step = still f f' (cut f) es step.1 (unchosen f _ (has_no_cut f) refl)
 steps_lead f f' (Post batch) es front limits step = still f f' (posted f batch) es step.1 (posted_all-keeps f batch.entries batch.first).state

@@ -1,7 +1,6 @@
 -- How formatting, which makes a new store on a disk, ends (`docs/store.md`, "Formatting").
-use Rattle.std.specs.Prelude.{◌≡◌, ◌≢◌, ◌↔◌, ◌⊎◌, ℕ, Result, Ok, Err, IfErr, OnOk}
+use Rattle.std.specs.Prelude.{◌≡◌, ◌≢◌, ◌↔◌, ◌⊎◌, Result, Ok, Err, IfErr, OnOk}
 use Rattle.fe_disk.specs.Disk.{Rises, MakesAtMost, MakesJust}
-use Rattle.fe_disk.specs.declared.calls.Calls.{Calls}
 use Rattle.fe_journal.specs.Layout.{device_bytes}
 use Rattle.fe_journal.specs.Journal.{JournalState}
 use Rattle.fe_journal.specs.declared.fault.StoreFault.{StoreFault}

@@ -3,7 +3,6 @@
 -- See `docs/model.md`, "The journal".
 use Rattle.std.specs.Prelude.{◌≡◌, ◌↔◌, ◌+◌, ◌≤◌, ℕ, Bool, List, [], ◌∷◌, ◌++◌, length, Option, Some, None, IsSome, Result, IsTrue, IsErrOf, OnOk, OnErr, false, true}
 use Rattle.fe_disk.specs.Disk.{bytes_at, LeavesJust, Rises, MakesAtMost}
-use Rattle.fe_disk.specs.declared.calls.Calls.{Calls}
 use Rattle.fe_journal.specs.Layout.{header_of, gate_of, image_of, other_than, number_at, IsGateShut}
 use Rattle.fe_format.specs.Layout.{magic_of, IsImageLength, IsPayloadLength}
 use Rattle.fe_journal.specs.Groups.{end_of_groups}

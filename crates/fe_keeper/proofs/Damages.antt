@@ -21,7 +21,7 @@ use Rattle.fe_keeper.specs.Damage.{IsWrongIn, IsWrongAt, IsDamagedAt, MayLackMem
 use Rattle.fe_keeper.specs.within.Faults.{fault_of_store}
 use Rattle.fe_keeper.specs.Laws.{AreToldApart}
 use Rattle.fe_keeper.specs.declared.fault.Fault.{Fault}
-use Rattle.fe_keeper.specs.declared.fault.Fault.TheVariants.{Device, NoMemory, Damaged, Unformatted}
+use Rattle.fe_keeper.specs.declared.fault.Fault.TheVariants.{Device, NoMemory, Damaged}
 use Rattle.fe_keeper.proofs.Bases.{fields_stand}
 use Rattle.fe_keeper.proofs.Going.{none_bad}
 use Rattle.fe_keeper.proofs.Openings.{stands_by}

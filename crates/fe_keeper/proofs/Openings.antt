@@ -2,7 +2,6 @@
 use Rattle.std.proofs.Common.{◌≡◌, ◌∙◌, ℕ, List, Result, Ok, Err, sym, subst}
 use Rattle.std.specs.Prelude.{IfOk, IfErr}
 use Rattle.fe_disk.specs.Runs.{without_disk}
-use Rattle.fe_disk.specs.declared.calls.Calls.{Calls}
 use Rattle.fe_state.specs.State.{ServerState}
 use Rattle.fe_format.specs.declared.format.Format.{Format}
 use Rattle.fe_journal.specs.Contents.{Contents, Holds}

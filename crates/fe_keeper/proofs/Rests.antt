@@ -8,7 +8,6 @@ use Rattle.fe_journal.specs.Layout.{slice_bytes}
 use Rattle.fe_journal.specs.declared.fault.JournalFault.{JournalFault}
 use Rattle.fe_disk.specs.Disk.{MakesAtMost}
 use Rattle.fe_disk.specs.Runs.{LeavesOnly}
-use Rattle.fe_disk.specs.declared.calls.Calls.{Calls}
 use Rattle.fe_disk.proofs.Moments.{joined}
 use Rattle.fe_state.specs.State.{ServerState}
 use Rattle.fe_format.specs.declared.format.Format.{Format}

@@ -12,7 +12,7 @@ use Rattle.fe_replica.specs.declared.taking.Refused.{Refused}
 use Rattle.fe_replica.specs.declared.taking.Refused.TheVariants as replica
 use Rattle.fe_keeper.specs.within.Faults.{fault_of_refused}
 use Rattle.fe_keeper.specs.declared.fault.Fault.{Fault}
-use Rattle.fe_keeper.specs.declared.fault.Fault.TheVariants.{NoMemory, Mismatch}
+use Rattle.fe_keeper.specs.declared.fault.Fault.TheVariants.{NoMemory}
 use Rattle.fe_keeper.specs.Stands.{StandsFor, StandsForEither, EachStandsFor}
 use Rattle.fe_journal.specs.declared.fault.JournalFault.{JournalFault}
 use Rattle.fe_keeper.specs.Keeper.{KeeperState, StoreState, slices_of}

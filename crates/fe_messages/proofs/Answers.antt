@@ -1,5 +1,5 @@
 -- Entries that are answered as the operation table says, and the answers that are kept after them.
-use Rattle.std.proofs.Common.{◌≡◌, ◌⊎◌, inl, inr, ℕ, ◌+◌, ◌<◌, List, [], ◌∷◌, ◌++◌, length, Option, Some, None, refl, ap, subst, ◌∙◌, arith, append_assoc}
+use Rattle.std.proofs.Common.{◌≡◌, inl, inr, ℕ, ◌+◌, ◌<◌, List, [], ◌∷◌, ◌++◌, length, Option, Some, None, refl, ap, subst, ◌∙◌, arith, append_assoc}
 use Rattle.fe_state.specs.History.{AreLegal}
 use Rattle.std.specs.FinMap.{get}
 use Rattle.fe_state.specs.Sessions.{Session, kept_in}

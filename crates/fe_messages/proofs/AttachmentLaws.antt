@@ -1,18 +1,17 @@
 -- Sessions and connections let go of each other, and come together only where a connection asks for a session.
 use Rattle.std.proofs.Common.{◌≡◌, ◌⊎◌, inl, inr, ℕ, ◌+◌, Bool, true, false, List, [], ◌∷◌, length, drop, Option, Some, None, refl, sym, ap, subst, ◌∙◌}
 use Rattle.std.specs.Prelude.{nat_lt, is_some, if◌then◌else◌, option_and_then, Ok, Err}
-use Rattle.std.specs.Option.{option_map, option_map_or}
+use Rattle.std.specs.Option.{option_map_or}
 use Rattle.std.specs.Ordering.{nat_cmp}
-use Rattle.std.specs.FinMap.{FinMap, empty, get, get-empty, insert, remove}
+use Rattle.std.specs.FinMap.{FinMap, get, insert, remove}
 use Rattle.fe_state.proofs.Maps.{get_inserted, get_beside, get_removed, get_left, same_or_other}
 use Rattle.fe_state.specs.declared.entry.Entry.{Entry}
 use Rattle.fe_state.specs.declared.entry.Entry.TheVariants.{Attached, Closed, Settled, Finished}
 use Rattle.fe_state.specs.declared.kept.Kept.{Kept}
 use Rattle.fe_state.specs.declared.request.Request.{Request}
-use Rattle.fe_state.specs.Sessions.{Session}
-use Rattle.fe_service.specs.AttachmentsState.{holder_of, is_closing, with_holder, free_attachment}
+use Rattle.fe_service.specs.AttachmentsState.{holder_of, is_closing, with_holder}
 use Rattle.fe_service.specs.declared.attachment.Attachment.{Attachment}
-use Rattle.fe_service.specs.Events.{left, floor_of, AreFreeAttachments}
+use Rattle.fe_service.specs.Events.{left, floor_of}
 use Rattle.fe_mail.specs.Books.{mail_refused_by_box, mail_taken, call_repeated}
 use Rattle.fe_mail.specs.Connections.{first_connection, session_on, mails_on, with_session, with_mails}
 use Rattle.fe_mail.specs.Mail.{session_of, mail_of}
@@ -23,6 +22,7 @@ use Rattle.fe_mail.specs.declared.refusal.Refusal.TheVariants.{NotAttached, Clos
 use Rattle.fe_mail.proofs.Lookups.{session_on-with_mails, session_on-with_session, session_on-with_session-beside}
 use Rattle.fe_wire.specs.declared.client_message.ClientMessage.{ClientMessage}
 use Rattle.fe_wire.specs.declared.client_message.ClientMessage.TheVariants as message
+use Rattle.fe_front.proofs.First.{nobody, no_session}
 use Rattle.fe_front.specs.Front.{FrontState, is_connected, IsFirst}
 use Rattle.fe_front.specs.Steps.{parted, released, freed, departed, withdrawn_from, unboxed, dropped, boxed, overflowed, mailed, connected, attached_to, settled_to, closed_by, cancelled_from, taken}
 use Rattle.fe_front.specs.Posting.{delivered, vacated, ended, posted_entry, posted_all, posted}
@@ -188,16 +188,6 @@ posted_loses f batch =
     record { holders = λ q c has. all.holders q c has; sessions = λ q s has. all.sessions q s has }
 
 -- ---- what comes together
-
-nobody : (sessions : FinMap nat_cmp Session) (attachments : FinMap nat_cmp Attachment) → AreFreeAttachments sessions attachments → (session : ℕ) → holder_of attachments session ≡ None
-nobody sessions attachments has_attachment session = ap (option_and_then (λ (attachment : Attachment). attachment.holder)) (has_attachment session) ∙ by (get sessions session)
-  where
-    by : (o : Option Session) → option_and_then (λ (attachment : Attachment). attachment.holder) (option_map (λ _. free_attachment) o) ≡ None
-    by None = refl
-    by (Some x) = refl
-
-no_session : (m : FinMap nat_cmp Connection) → m ≡ empty → (conn : ℕ) → session_on m conn ≡ None
-no_session m is conn = ap (λ m. session_on m conn) is ∙ ap (option_and_then (λ (c : Connection). c.session)) (get-empty nat_cmp conn)
 
 -- where more is asked for
 pub has_more : (asked more : ℕ → ℕ → Type 0) (f : FrontState) → ((conn session : ℕ) → asked conn session → more conn session) → HasOnly asked f → HasOnly more f

@@ -1,5 +1,5 @@
 -- What a message of a connection does to the front: it is an event, or is refused (`docs/model.md`, "Messages and mails").
-use Rattle.std.specs.Prelude.{◌≡◌, ◌⊎◌, ℕ, List, [], ◌∷◌, Err}
+use Rattle.std.specs.Prelude.{◌≡◌, ◌⊎◌, ℕ, List, [], Err}
 use Rattle.fe_state.specs.declared.entry.Entry.{Entry}
 use Rattle.fe_state.specs.declared.request.Request.{Request}
 use Rattle.fe_mail.specs.declared.mail.Mail.TheVariants as mail

@@ -29,7 +29,6 @@ use Rattle.fe_front.specs.Posting.{IsOut, posted, posted_entry}
 use Rattle.fe_front.specs.Refusals.{addressed}
 use Rattle.fe_front.specs.Steps.{connected, cut, dropped, has_no_cut, taken}
 use Rattle.fe_front.specs.declared.out.Out.{Out}
-use Rattle.fe_front.proofs.Coming.{dropped-stays, posted-stays}
 use Rattle.fe_front.proofs.Keeping.{dropped-keeps, posted_all-keeps}
 use Rattle.fe_messages.specs.Answers.{AreAnswered, IsAnswerIn, TellsAnswerIn}
 use Rattle.fe_messages.specs.Enters.{Enters}
@@ -173,7 +172,7 @@ pub gone_marked : (f g : FrontState) (conn count : ℕ) (acts : List Act) → g 
 gone_marked f g conn count acts is marked =
     let keeps = dropped-keeps f conn in
     marked_still (dropped f conn) g count acts is
-    (remains_marked f (dropped f conn) count acts (record { state = keeps.state; pending = (dropped-stays f conn).pending; out = keeps.out; durable = keeps.durable })
+    (remains_marked f (dropped f conn) count acts (record { state = keeps.state; pending = keeps.pending; out = keeps.out; durable = keeps.durable })
     (dropped_loses f conn) (λ P. boxes-dropped P f conn) marked)
 
 pub taken_marked : (f g : FrontState) (conn count : ℕ) (acts : List Act) → g ≡ taken f conn → IsMarked f count acts → IsMarked g count acts
@@ -383,7 +382,7 @@ module _ (f g : FrontState) (batch : Batch) (count : ℕ) (acts seat later : Lis
       let size : length (batch.entries ++ []) ≡ length batch.entries = ap length (append-nil batch.entries) in
       let made : made_entries m.posted (Some b) f ≡ made_entries now None g =
       ap (λ (x : Batch). made_entries m.posted (Some x) f) one.1 ∙ sym (append_assoc (entries_in m.posted) (entries_in (batch ∷ [])) pending) ∙ ap (λ (es : List Entry). es ++ pending) (sym entries)
-      ∙ ap (λ (es : List Entry). entries_in now ++ es) (sym (ap (λ (h : FrontState). h.service.pending) is ∙ (posted-stays f batch).pending)) in
+      ∙ ap (λ (es : List Entry). entries_in now ++ es) (sym (ap (λ (h : FrontState). h.service.pending) is ∙ (posted_all-keeps f batch.entries batch.first).pending)) in
       let all : AreAnswered begun (made_entries now None g) = subst (λ (es : List Entry). AreAnswered begun es) made answered in
       let posts : AllPosted (λ conn session. Unit {0}) (λ conn. TellsAnswerIn begun (entries_in now)) batch.entries batch.first =
       posts_tell begun (entries_in now) (entries_in m.posted) batch.entries [] batch.first (answered-split begun (entries_in now) (g.service.pending) all).0 entries (omega (arith, same_place.0, first, m.durable)) in

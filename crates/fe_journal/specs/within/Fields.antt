@@ -1,5 +1,5 @@
 -- How the fields of a `Journal` give what its callers see, and what holds of them (`docs/model.md`, "The journal").
-use Rattle.std.specs.Prelude.{◌≡◌, ◌≤◌, ◌<◌, ℕ, vec_len}
+use Rattle.std.specs.Prelude.{◌≡◌, ◌≤◌, ◌<◌, vec_len}
 use Rattle.std.specs.Option.{ForSome}
 use Rattle.fe_journal.specs.Journal.{JournalState}
 use Rattle.fe_journal.specs.Layout.{device_bytes, area_bytes}

@@ -1,5 +1,5 @@
 -- How the fields of a `Keeper` give what its callers see, and what holds of them between its calls (`docs/model.md`, "The keeper").
-use Rattle.std.specs.Prelude.{◌≡◌, ◌≤◌, ℕ, List, false}
+use Rattle.std.specs.Prelude.{◌≡◌, ◌≤◌, false}
 use Rattle.fe_state.specs.Limits.{most_batch_entries}
 use Rattle.fe_state.specs.UndoLog.{empty_log}
 use Rattle.fe_keeper.specs.Keeper.{KeeperState}

@@ -1,5 +1,5 @@
 -- A checkpoint, and the slot that the journal began for it, as slices of its image are written (`docs/model.md`, "The keeper").
-use Rattle.std.specs.Prelude.{◌≡◌, ℕ, ◌+◌, List, Some, vec_len}
+use Rattle.std.specs.Prelude.{◌≡◌, ◌+◌, Some, vec_len}
 use Rattle.fe_state.specs.State.{ServerState}
 use Rattle.fe_format.specs.declared.format.Format.TheVariants.{Two}
 use Rattle.fe_journal.specs.Contents.{Contents}
