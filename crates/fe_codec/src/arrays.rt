@@ -1,13 +1,13 @@
 //! Reading the arrays of an image, the bytes of a server state (`docs/formats.md`, "Image").
 
-ghost use Rattle.std.specs.Prelude.{◌≡◌, ℕ, ◌+◌, ◌-◌, ◌≤◌, ◌<◌, ◌&&◌, not, false, ◌==◌, take, if◌then◌else◌, nat_le, nat_lt, true, length, is_some, IfOk, OnOk, IsSome, None};
+ghost use Rattle.std.specs.Prelude.{◌≡◌, ℕ, ◌+◌, ◌-◌, ◌≤◌, ◌<◌, ◌&&◌, not, false, ◌==◌, take, if◌then◌else◌, true, length, is_some, IfOk, OnOk, IsSome, None};
 ghost use Rattle.std.specs.List.{list_all};
 ghost use Rattle.std.specs.Int.{w32};
 ghost use Rattle.std.specs.FinMap.{get, len};
 ghost use Rattle.fe_state.specs.Name.{is_plain};
 ghost use Rattle.fe_state.specs.Directory.{named, word_in, word_count};
 ghost use Rattle.fe_format.specs.Layout.{name_bytes};
-ghost use Rattle.fe_codec.specs.FirstFault.{number_in, is_after, id_at, name_length_at, is_name_row, new_name_at, tag_at, word_at, next_word, next_array, repeated, with_new_array};
+ghost use Rattle.fe_codec.specs.FirstFault.{number_in, is_after, id_at, name_length_at, is_name_row, new_name_at, tag_at, word_at, next_word, next_array, repeated};
 ghost use Rattle.fe_codec.specs.Given.{Gives};
 ghost use Rattle.fe_codec.specs.Loading.{ChangesWords, AddsArray, HasNoneAfter};
 ghost use Rattle.fe_state.specs.Limits.{most_arrays, most_words};

@@ -1,6 +1,6 @@
 //! Entries, the steps of the history, as records (`docs/formats.md`, "Entry record").
 
-ghost use Rattle.std.specs.Prelude.{◌≡◌, ◌+◌, ◌<◌, ◌≤◌, ◌↔◌, ◌++◌, length, Some, IfSome, IsSome, OnOk, OnErr, IsOk, IsTrue, vec_len, vec_capacity};
+ghost use Rattle.std.specs.Prelude.{◌≡◌, ◌+◌, ◌<◌, ◌≤◌, ◌↔◌, ◌++◌, Some, IfSome, OnOk, OnErr, IsOk, IsTrue, vec_len, vec_capacity};
 ghost use Rattle.fe_format.specs.Layout.{record_bytes};
 ghost use Rattle.fe_codec.specs.Reading.{is_numbered, is_of_format, is_record, record_entry};
 ghost use Rattle.fe_codec.specs.Record.{entry_spelling, FitsRecord, IsOfFormat, IsNumbered, CanPut};

@@ -1,7 +1,7 @@
 //! Reading a server state from its image (`docs/formats.md`, "Image").
 
 ghost use Rattle.std.specs.Prelude.{◌≡◌, ℕ, ◌≤◌, length, Err, IsOk, IfOk};
-ghost use Rattle.fe_codec.specs.FirstFault.{header_at, ended, state_at, image_at};
+ghost use Rattle.fe_codec.specs.FirstFault.{header_at, state_at, image_at};
 ghost use Rattle.fe_codec.specs.Given.{Gives, ImageGives};
 ghost use Rattle.fe_codec.specs.Image.{image_spelling, FitsImage};
 ghost use Rattle.fe_state.specs.State.{ServerState, IsWithinLimits};

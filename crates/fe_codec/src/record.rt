@@ -1,17 +1,16 @@
 //! Writing the record of an entry, a step of the server's history (`docs/formats.md`, "Entry record").
 
-ghost use Rattle.std.specs.Prelude.{◌≡◌, ℕ, ◌+◌, ◌≤◌, [], ◌∷◌, ◌++◌, List, length};
-ghost use Rattle.std.specs.Int.{w32, w64, to_be_bytes};
-ghost use Rattle.fe_codes.specs.Codes.{answer_code, answer_length, answer_number};
+ghost use Rattle.std.specs.Prelude.{◌≡◌, ◌+◌, ◌≤◌, [], ◌++◌, length};
+ghost use Rattle.std.specs.Int.{w32, to_be_bytes};
 ghost use Rattle.fe_format.specs.Layout.{name_bytes, record_bytes};
 ghost use Rattle.fe_format.specs.declared.format.Format.TheVariants.{Two};
-ghost use Rattle.fe_codec.specs.Record.{codes_field, name_field, name_row, array_row, request_row, request_codes, request_size, record_spelling, short_spelling, entry_spelling, IsShort, HasRoomForEntry, HasRow, RequestFits, FieldsFit};
+ghost use Rattle.fe_codec.specs.Record.{name_field, name_row, array_row, request_row, request_codes, request_size, short_spelling, entry_spelling, IsShort, HasRoomForEntry, HasRow, RequestFits, FieldsFit};
 ghost use Rattle.fe_state.specs.Limits.{longest_name};
 
 use crate::Format;
 use fe_codes::{answer_fields, op_code, operand_of, tag_code};
 use fe_fields::Fields;
-use fe_state::{Answer, Entry, NAME_BYTES, Name, Request};
+use fe_state::{Entry, NAME_BYTES, Name, Request};
 
 /// How many bytes a record has at most.
 pub const RECORD_BYTES: usize = 80;

@@ -1,12 +1,11 @@
 //! Writing the image of a server state (`docs/formats.md`, "Image").
 
-ghost use Rattle.std.specs.Prelude.{◌≡◌, ◌+◌, ◌^◌, ◌<◌, ◌≤◌, ◌++◌, length, flat_map, is_ok, OnOk, OnErr, IsOk, Some, slice_get, vec_len, vec_capacity};
+ghost use Rattle.std.specs.Prelude.{◌≡◌, ◌+◌, ◌^◌, ◌<◌, ◌≤◌, ◌++◌, length, flat_map, is_ok, OnOk, OnErr, IsOk, Some, vec_len, vec_capacity};
 ghost use Rattle.std.specs.FinMap.{entries};
 ghost use Rattle.std.specs.List.{AllByRecursion};
-ghost use Rattle.fe_state.specs.declared.array.Array.{Array as Held};
 ghost use Rattle.fe_codec.specs.Appending.{Appends};
 ghost use Rattle.fe_format.specs.Layout.{longest_image};
-ghost use Rattle.fe_codec.specs.Record.{IsShort, IsOfFormat, FieldsFit};
+ghost use Rattle.fe_codec.specs.Record.{FieldsFit};
 ghost use Rattle.fe_codec.specs.Image.{array_spelling, kept_spelling, session_spelling, image_spelling, ArrayOfFormat, KeptOfFormat, SessionOfFormat, HasRoomForState, StateOfFormat, entry_of_kept, ArrayFits, SessionFits, FitsImage};
 
 use crate::Format;

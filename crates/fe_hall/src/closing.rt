@@ -1,7 +1,7 @@
 //! Closing a hall (`docs/model.md`, "The hall"): its books are compared with what its seats counted, and its receipts with what is stored
 //! and what was sent. What a hall leaves, closed or not, is its account (`docs/headline.md`, "Every acknowledged answer").
 
-ghost use Rattle.std.specs.Prelude.{◌≡◌, ◌≢◌, ◌↔◌, ℕ, false, map, All, Any, Err, IfOk, IfErr, IsErr};
+ghost use Rattle.std.specs.Prelude.{◌≡◌, ◌↔◌, ℕ, false, map, All, Any, Err, IfOk, IfErr, IsErr};
 ghost use Rattle.fe_mail.specs.Books.{AddUp};
 ghost use Rattle.fe_history.specs.Acts.{IsAccountOf};
 ghost use Rattle.fe_hall.specs.Audits.{IsAudit, IsMissing, account_left};

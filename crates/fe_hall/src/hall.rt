@@ -1,6 +1,6 @@
 //! The hall: how a server's threads use one front, and wait for each other (`ARCHITECTURE.md`, "Threads"; `docs/model.md`, "The hall").
 
-ghost use Rattle.std.specs.Prelude.{◌≡◌, ◌≤◌, ◌∷◌, ◌++◌, [], ◌+◌, ℕ, IfOk, IfErr, length, true};
+ghost use Rattle.std.specs.Prelude.{◌≡◌, [], ◌+◌, ℕ, IfOk, IfErr, length, true};
 ghost use Rattle.fe_shared.specs.Seats.{HasRested, TookNoMessage, message_answered, taking_answered, IsBlankOf};
 ghost use mathlib.Core.List.{IsPrefix};
 ghost use Rattle.fe_history.specs.Acts.{WasStoredLast};

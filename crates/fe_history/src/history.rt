@@ -1,7 +1,7 @@
 //! The history of a hall (`docs/headline.md`, "Every acknowledged answer"). It exists in proofs alone, except for two atomic words
 //! (`Word` of the toolchain's `logbook`), which count the batches that were stored and cut.
 
-ghost use Rattle.std.specs.Prelude.{◌≡◌, ◌^◌, ◌==◌, ◌<◌, ◌≤◌, ◌∷◌, ◌++◌, [], true, length, IsTrue};
+ghost use Rattle.std.specs.Prelude.{◌≡◌, ◌^◌, ◌==◌, ◌<◌, ◌∷◌, [], true, length, IsTrue};
 ghost use mathlib.Core.List.{IsPrefix};
 ghost use Rattle.fe_history.specs.declared.act.Act.TheVariants as act;
 ghost use Rattle.fe_history.specs.Acts.{GoesOnFrom, IsLegal, IsStored, MayBeAppended, WasCut, cuts_in, stores_in};

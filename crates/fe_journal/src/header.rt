@@ -1,6 +1,6 @@
 //! Reading the header of a slot, and which of two slots counts (`docs/formats.md`, "Device").
 
-ghost use Rattle.std.specs.Prelude.{◌≡◌, ◌≤◌, ◌<◌, ◌^◌, length, Option, None, Some};
+ghost use Rattle.std.specs.Prelude.{◌≡◌, ◌<◌, length, Option, None, Some};
 ghost use Rattle.fe_journal.specs.Layout.{header_bytes};
 ghost use Rattle.fe_journal.specs.Reading.{IsFormatOf, IsHeader, IsCounting};
 

@@ -11,10 +11,10 @@ ghost use Rattle.fe_journal.specs.Steps.{OnlyReads};
 ghost use Rattle.fe_journal.specs.Store.{CountsAs, IsSlotRead, AreParts, IsReadable, IsStore, IsWholeStore};
 ghost use Rattle.fe_journal.specs.declared.fault.StoreFault.TheVariants.{Device, NoMemory};
 
+use crate::StoreFault;
 use crate::header::{Header, counting, header_in};
 use crate::layout::{AREA_BYTES, DEVICE_BYTES, HEADER_BYTES, area_of, header_of, image_of};
 use crate::scan::scan;
-use crate::{Format, StoreFault};
 use fe_disk::{DeviceFault, Disk};
 use std::alloc::Global;
 

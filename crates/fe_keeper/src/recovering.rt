@@ -3,11 +3,11 @@
 
 ghost use Rattle.std.specs.Prelude.{◌≡◌, ◌+◌, ◌<◌, ℕ, List, Ok, IsOk, IfOk, IfErr, OnOk, IsErrOf};
 ghost use Rattle.fe_state.specs.State.{ServerState};
-ghost use Rattle.fe_codec.specs.FirstFault.{header_at, image_at};
+ghost use Rattle.fe_codec.specs.FirstFault.{header_at};
 ghost use Rattle.fe_journal.specs.Contents.{Contents};
 ghost use Rattle.fe_journal.specs.Cursor.{Lists};
 ghost use Rattle.fe_keeper.specs.Stands.{Stands, greatest_generation};
-ghost use Rattle.fe_keeper.specs.Opened.{IsSlotFault, IsListing, IsBase, ReplaysAll, IsRecovered, ArePartsOf};
+ghost use Rattle.fe_keeper.specs.Opened.{IsSlotFault, IsListing, ReplaysAll, IsRecovered, ArePartsOf};
 ghost use Rattle.fe_keeper.specs.within.Replaying.{CanGoOn};
 ghost use Rattle.fe_keeper.specs.Damage.{IsBadFrom, IsWrongIn};
 ghost use Rattle.fe_keeper.specs.declared.fault.Fault.TheVariants.{NoMemory, Damaged};

@@ -1,6 +1,6 @@
 //! The box of a connection, in which its mails wait until they are taken (`docs/model.md`, "Mails, connections and books").
 
-ghost use Rattle.std.specs.Prelude.{◌≡◌, ◌↔◌, ◌<◌, ◌≤◌, [], ◌∷◌, ◌++◌, length, nat_lt, drop, slice_get, IfOk, IfErr, OnOk, OnErr, IsOk};
+ghost use Rattle.std.specs.Prelude.{◌≡◌, ◌↔◌, ◌<◌, ◌≤◌, [], ◌∷◌, ◌++◌, length, drop, slice_get, IfOk, IfErr, OnOk, OnErr, IsOk};
 ghost use Rattle.fe_mail.specs.Limits.{most_mails_in_box};
 
 use crate::mail::Mail;

@@ -1,6 +1,6 @@
 //! The memory of a pool of nodes, which link waiting requests into lists of words and of sessions (`docs/model.md`, "Waiting requests").
 
-ghost use Rattle.std.specs.Prelude.{◌≡◌, ◌↔◌, IsTrue, ℕ, ◌<◌, ◌^◌, IfOk, IsSome, Some, None, length, slice_index_or, slice_set, replicate, Option};
+ghost use Rattle.std.specs.Prelude.{◌≡◌, ◌<◌, ◌^◌, IfOk, IsSome, Some, None, length, slice_index_or, slice_set, replicate, Option};
 ghost use Rattle.std.specs.Option.{ForSome};
 ghost use Rattle.fe_pool.specs.Columns.{links_of, with_links, link_at, before_each, IsLoose, IsLinked};
 ghost use Rattle.fe_pool.specs.within.Runs.{with_next, with_previous};

@@ -1,7 +1,7 @@
 //! A pool of list nodes; each waiting request takes one (`docs/model.md`, "Waiting requests").
 
-ghost use Rattle.std.specs.Prelude.{◌≡◌, ◌<◌, ◌+◌, ◌↔◌, ℕ, [], ◌∷◌, ◌++◌, length, replicate, slice_set, Some, None, Option, IfOk, IsNone, IfSome, IsSome, OnSome, IfNone, Contains};
-ghost use Rattle.fe_pool.specs.Pool.{item_at, IsTaken, IsFree, list_of, lists_of, without, IsChain, IsOn, IsOff, ChangesList, IsNext, IsSound};
+ghost use Rattle.std.specs.Prelude.{◌≡◌, ◌<◌, ◌+◌, ◌↔◌, ℕ, [], ◌∷◌, ◌++◌, length, replicate, slice_set, Some, None, Option, IfOk, IsNone, IfSome, IfNone, Contains};
+ghost use Rattle.fe_pool.specs.Pool.{item_at, IsTaken, IsFree, list_of, without, IsChain, IsOn, IsOff, ChangesList, IsNext, IsSound};
 
 use crate::cells::Cells;
 use crate::chain::Chain;

@@ -1,5 +1,5 @@
 -- How serving a store ends.
-use Rattle.std.proofs.Common.{◌≡◌, ◌⊎◌, inl, inr, ℕ, ◌<◌, Bool, true, false, refl, List, [], ◌∷◌, Some, None, Result, Ok, Err, sym, ◌∙◌}
+use Rattle.std.proofs.Common.{◌≡◌, ◌⊎◌, inl, inr, ℕ, ◌<◌, Bool, true, false, refl, List, [], ◌∷◌, Some, None, Result, Ok, Err, sym}
 use Rattle.std.proofs.lemmas.Bool.{lt-ltb}
 use Rattle.std.specs.Prelude.{All, IfOk, IsTrue, nat_lt}
 use Rattle.fe_mail.specs.Books.{AddUp}

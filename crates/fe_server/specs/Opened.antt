@@ -1,5 +1,5 @@
 -- What serving a store leaves, if the store was just opened (`docs/model.md`, "The hall").
-use Rattle.std.specs.Prelude.{◌≡◌, ℕ, false, List, Option, None, Result}
+use Rattle.std.specs.Prelude.{◌≡◌, false, None, Result}
 use Rattle.fe_keeper.specs.Keeper.{KeeperState}
 use Rattle.fe_hall.specs.declared.commit_end.CommitEnd.{CommitEnd}
 use Rattle.fe_server.specs.declared.failed.Failed.{Failed}

@@ -1,7 +1,6 @@
 //! The accepting thread of a server, which takes in clients and starts a thread for each connection (`ARCHITECTURE.md`, "Threads"). The
 //! hall is the front that all threads share; it has a seat for each side of a connection (`docs/model.md`, "The hall").
 
-ghost use Rattle.std.specs.Prelude.{◌≡◌};
 ghost use Rattle.fe_server.specs.Arrivals.{HasEnded};
 
 use crate::arrival::{Arrival, ArrivalEnded};

@@ -5,7 +5,7 @@
 //! The functions that serve a connection take any reader and any writer, whose bytes their clauses name. Only one expression, in
 //! `Connection::serve`, knows that both are a socket. Seats, receipts and lists of messages are the hall's (`docs/model.md`, "The hall").
 
-ghost use Rattle.std.specs.Prelude.{◌≡◌, ◌≢◌, ◌⊎◌, ◌∷◌, ◌++◌, [], List, true, false, IfOk, IsSome, IsTrue};
+ghost use Rattle.std.specs.Prelude.{◌≡◌, ◌≢◌, [], List, true, false, IfOk, IsSome};
 ghost use Rattle.fe_history.specs.Acts.{AreIssued};
 ghost use Rattle.fe_mail.specs.declared.mail.Mail.{Mail as TakenMail};
 ghost use Rattle.fe_streams.specs.Incoming.{bytes_read};

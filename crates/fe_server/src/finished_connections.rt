@@ -1,7 +1,7 @@
 //! What the connections of a server did that have ended: what their seats count, what they sent, their receipts
 //! (`docs/model.md`, "The hall").
 
-ghost use Rattle.std.specs.Prelude.{◌≡◌, ◌⊎◌, ◌∷◌, ◌++◌, [], true, false, Some, IsTrue, All, IfOk, IfErr, IsSome, map};
+ghost use Rattle.std.specs.Prelude.{◌≡◌, ◌⊎◌, ◌∷◌, ◌++◌, [], true, false, Some, IsTrue, IfOk, IfErr, map};
 ghost use mathlib.Core.List.{IsPrefix};
 ghost use Rattle.fe_history.specs.Acts.{EachIssued, IsAccountOf};
 ghost use Rattle.fe_hall.specs.Audits.{IsAudit, account_left};

@@ -1,11 +1,11 @@
 //! The attachments of the sessions, and the requests that wait, by session (`docs/model.md`, "Waiting requests").
 
-ghost use Rattle.std.specs.Prelude.{◌≡◌, ◌↔◌, ◌<◌, ◌≤◌, Some, None, false, IfOk, IfSome, IsSome, IsNone};
+ghost use Rattle.std.specs.Prelude.{◌≡◌, ◌↔◌, ◌<◌, ◌≤◌, Some, None, false, IfOk, IfSome, IsNone};
 ghost use Rattle.std.specs.FinMap as map;
 ghost use Rattle.fe_waits.specs.Waiting.{IsWord, NoneOnWord, ListsWaitingRequestsOf};
 ghost use Rattle.fe_service.specs.AttachmentsState.{holder_of, is_closing, waiting_request_at, count_of, IsRequestOn, IsWithinLimits};
 ghost use Rattle.fe_service.specs.within.Attaching.{AttachmentsBecome, DropsRequests};
-ghost use Rattle.fe_state.specs.Limits.{most_sessions, window_length};
+ghost use Rattle.fe_state.specs.Limits.{most_sessions};
 
 use crate::attachment::Attachment;
 use crate::occupant::{Occupant, Occupants, occupant_near, slot_of};

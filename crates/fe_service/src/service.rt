@@ -2,7 +2,7 @@
 //! "The service"; attachments: "Waiting requests").
 
 ghost use Rattle.std.specs.Prelude.{◌≡◌, ◌+◌, ◌≤◌, List, [], length, Some, None, IsSome, IfOk, OnErr, is_some, true, false};
-ghost use Rattle.std.specs.FinMap.{get, len, empty};
+ghost use Rattle.std.specs.FinMap.{get, empty};
 ghost use Rattle.fe_state.specs.State as states;
 ghost use Rattle.fe_state.specs.State.{reply, MakesArray};
 ghost use Rattle.fe_state.specs.declared.entry.Entry.{Entry};

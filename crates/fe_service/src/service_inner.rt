@@ -1,6 +1,6 @@
 //! The parts of the service. Waiting requests that can complete do so at once, each with an entry (`docs/model.md`, "The service").
 
-ghost use Rattle.std.specs.Prelude.{◌≡◌, ◌≢◌, ◌+◌, ◌<◌, ◌≤◌, ℕ, true, false, List, [], ◌∷◌, ◌++◌, length as length_of, Some};
+ghost use Rattle.std.specs.Prelude.{◌≡◌, ◌≢◌, ◌+◌, ◌<◌, ℕ, true, false, List, [], ◌∷◌, ◌++◌, length as length_of, Some};
 ghost use Rattle.std.specs.FinMap.{get};
 ghost use Rattle.fe_words.specs.declared.word.Tag.{Tag};
 ghost use Rattle.fe_waits.specs.Waiting.{IsWord};

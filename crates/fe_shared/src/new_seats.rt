@@ -1,6 +1,6 @@
 //! A seat records what one side of a connection, its reading or its writing thread, did in the hall (`docs/model.md`, "The hall").
 
-ghost use Rattle.std.specs.Prelude.{◌≡◌, ◌+◌};
+ghost use Rattle.std.specs.Prelude.{◌≡◌};
 ghost use Rattle.fe_shared.specs.Seats.{first_call_seat, first_mail_seat, IsNewPart};
 
 use crate::call_seat::CallSeat;
@@ -18,7 +18,7 @@ pub struct NewSeats<C: Tally, M: Tally> {
 }
 
 impl<C: Tally, M: Tally> Model for NewSeats<C, M> {
-    ghost use Rattle.std.specs.Prelude.{◌≡◌, ◌+◌, ℕ};
+    ghost use Rattle.std.specs.Prelude.{◌≡◌, ℕ};
     ghost use Rattle.fe_shared.specs.Seats.{IsNewPart};
 
     ghost Value = { ℕ };

@@ -1,9 +1,9 @@
 //! The directory, the arrays with the next array id: how it answers requests, and how they change it (`docs/model.md`,
 //! "The state of the server").
 
-ghost use Rattle.std.specs.Prelude.{◌≡◌, ◌≤◌, ◌<◌, ◌+◌, ◌^◌, length, is_some, IsSome, IfOk, IfSome, OnErr, OnOk, Some, None};
+ghost use Rattle.std.specs.Prelude.{◌≡◌, ◌≤◌, ◌<◌, ◌+◌, ◌^◌, length, IsSome, IfOk, IfSome, OnErr, OnOk, Some, None};
 ghost use Rattle.std.specs.Option.{option_map};
-ghost use Rattle.std.specs.FinMap.{get, insert, len};
+ghost use Rattle.std.specs.FinMap.{get, insert};
 ghost use Rattle.fe_state.specs.Directory.{first_directory, named, creation, answer_of, answer_in, word_in};
 ghost use Rattle.fe_state.specs.Effect.{put_word, effect_of, performed};
 ghost use Rattle.fe_state.specs.Change.{restored, CanRestore, LeadsBack, MayBeAdded};

@@ -1,6 +1,6 @@
 //! A reader together with what was read from it (`docs/proved.md`, "Desk").
 
-ghost use Rattle.std.specs.Prelude.{◌≡◌, ◌<◌, ◌≤◌, length, Some, IfOk, IfSome, option_map};
+ghost use Rattle.std.specs.Prelude.{◌≡◌, ◌<◌, ◌≤◌, length, IfOk};
 ghost use Rattle.std.specs.Io.KnownBytes.{IsAtEnd, WriteAppends};
 ghost use Rattle.fe_streams.specs.Incoming.{HasRead, bytes_read};
 

@@ -1,7 +1,7 @@
 //! One read or write of any stream, repeated if a signal interrupts it (`docs/proved.md`, "Desk").
 #![tactic(auto)]
 
-ghost use Rattle.std.specs.Prelude.{◌≡◌, ◌<◌, ◌≤◌, length, IfOk};
+ghost use Rattle.std.specs.Prelude.{◌<◌, ◌≤◌, length, IfOk};
 ghost use Rattle.std.specs.Io.KnownBytes.{WriteAppends};
 
 mod incoming;

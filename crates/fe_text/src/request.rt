@@ -1,6 +1,6 @@
 //! The requests of a schedule's lines (`docs/schedules.md`, "Lines"). A function `.._in` reads the bytes that its comment shows.
 
-ghost use Rattle.std.specs.Prelude.{◌≡◌, IfSome};
+ghost use Rattle.std.specs.Prelude.{◌≡◌};
 ghost use Rattle.std.specs.Option.{option_map};
 ghost use Rattle.fe_text.specs.Requests.{op_named, writing_op_named, create_in, find_in, remove_in, last_in, access_in, writing_access_in, request_in};
 

@@ -1,7 +1,7 @@
 //! The waiting requests, each on a list of its word and on one of its session (`docs/model.md`, "Waiting requests"). A slot, 0 to 63,
 //! stands for a session.
 
-ghost use Rattle.std.specs.Prelude.{◌≡◌, ◌≢◌, ◌↔◌, ◌<◌, Some, None, IfOk, OnErr, IfSome, IsSome, IsNone, IfNone};
+ghost use Rattle.std.specs.Prelude.{◌≡◌, ◌↔◌, ◌<◌, Some, None, IfOk, OnErr, IfSome, IsSome, IsNone, IfNone};
 ghost use Rattle.std.specs.FinMap as map;
 ghost use Rattle.fe_waits.specs.Waiting.{key_of, waiting_access_of, row_of, row_at, of_slot, count_of, without_slot, IsWord, IsNodeOn, NoneOnWord, NoneOnArray, ListsWaitingRequestsOf, MembersBecome, ArraysBecome, IsWithinLimits};
 ghost use Rattle.fe_waits.specs.within.Inner.{IsNodeOfSlot};

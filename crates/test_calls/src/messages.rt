@@ -3,7 +3,6 @@
 use fe_state::{Answer, Name, Request};
 use fe_wire::{ClientMessage, put_message};
 use fe_words::{Op, Tag};
-use std::alloc::Global;
 use std::process::Abort;
 
 /// What a client sends.

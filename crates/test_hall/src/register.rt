@@ -1,5 +1,3 @@
-ghost use Rattle.std.specs.Prelude.{◌≡◌};
-
 use fe_disk::Disk;
 use fe_hall::{
     CallSeat, Closing, GatheredReceipts, Hall, MailSeat, Receipts, Seats, StoreSeat, Tally, close,

@@ -1,4 +1,4 @@
-use Rattle.std.proofs.Common.{◌≡◌, ℕ, ◌+◌, ◌<◌, List, Option, length, ◌∙◌, subst}
+use Rattle.std.proofs.Common.{◌≡◌, ℕ, ◌<◌, List, Option, length, ◌∙◌, subst}
 use Rattle.std.specs.Prelude.{IfSome}
 use Rattle.fe_look.specs.Slot.{EndsAt}
 use Rattle.fe_look.proofs.Slots.{parts_read}

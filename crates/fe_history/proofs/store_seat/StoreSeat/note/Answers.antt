@@ -1,4 +1,4 @@
-use Rattle.std.proofs.Common.{◌≡◌, ℕ, List, [], ◌∷◌, ◌++◌, length, sym, ap, subst, ◌∙◌, arith, rules, length-append}
+use Rattle.std.proofs.Common.{◌≡◌, ℕ, List, [], ◌∷◌, length, sym, ap, subst, ◌∙◌, arith, rules, length-append}
 use Rattle.fe_state.specs.declared.batch.Batch.{Batch}
 use Rattle.fe_history.specs.Acts.{HasStoredNext, WasCut, stores_in}
 use Rattle.fe_history.specs.declared.act.Act.{Act}
