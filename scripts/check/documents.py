@@ -6,7 +6,7 @@ import os
 import re
 import sys
 
-from . import blocks, clauses, headers, measured, names, places, rules, tried
+from . import blocks, clauses, headers, imports, measured, names, places, rules, tried
 from .texts import NAME, PAGES, READMES, TOP, bases, exists, headings, is_path, slug, split, text_of, told
 from .wire import OPS
 
@@ -138,4 +138,4 @@ def links(_place):
     return told(missing, count, 100, "links")
 
 
-CHECKS = (*blocks.CHECKS, *names.CHECKS, *clauses.CHECKS, *tried.CHECKS, *headers.CHECKS, *places.CHECKS, *measured.CHECKS, *rules.CHECKS, touched, crates, versions, pictures, links)
+CHECKS = (*blocks.CHECKS, *names.CHECKS, *clauses.CHECKS, *tried.CHECKS, *headers.CHECKS, *places.CHECKS, *measured.CHECKS, *rules.CHECKS, *imports.CHECKS, touched, crates, versions, pictures, links)

@@ -1,7 +1,7 @@
 //! Appends fields of an image, the bytes of a server state (`docs/formats.md`, "Image"), to a vector. A call fails only if the vector
 //! lacks room and memory runs out. What was in the vector stays; a `put_words` that fails may leave some words after it.
 
-ghost use Rattle.std.specs.Prelude.{◌<◌, ◌^◌, [], flat_map, is_ok, OnOk, vec_capacity};
+ghost use Rattle.std.specs.Prelude.{◌<◌, ◌^◌, flat_map, is_ok, OnOk, vec_capacity};
 ghost use Rattle.std.specs.List.{AllByRecursion};
 ghost use Rattle.std.specs.Int.{w32, w64, to_be_bytes};
 ghost use Rattle.fe_codec.specs.Appending.{Appends};

@@ -1,6 +1,6 @@
 //! Writing the record of an entry, a step of the server's history (`docs/formats.md`, "Entry record").
 
-ghost use Rattle.std.specs.Prelude.{◌≡◌, ◌+◌, ◌≤◌, [], ◌++◌, length};
+ghost use Rattle.std.specs.Prelude.{◌≡◌, ◌+◌, ◌≤◌, ◌++◌, length};
 ghost use Rattle.std.specs.Int.{w32, to_be_bytes};
 ghost use Rattle.fe_format.specs.Layout.{name_bytes, record_bytes};
 ghost use Rattle.fe_format.specs.declared.format.Format.TheVariants.{Two};
