@@ -302,6 +302,18 @@ def beside_another(place):
         server.stop()
 
 
+def datagrams_beside(place):
+    """another program's socket at PATH.new, to which no stream can connect, stays, and the path is served"""
+    server = Server(place)
+    with socket.socket(socket.AF_UNIX, socket.SOCK_DGRAM) as other:
+        other.bind(server.socket + ".new")
+        before = os.stat(server.socket + ".new")
+        server.start()
+        server.attached(7).close()
+        server.stop()
+        holds(os.path.samestat(os.stat(server.socket + ".new"), before), "the other's socket was replaced")
+
+
 # A loaded machine adds to each time, so the least of some turns is compared with a bound, and the bound is the same whatever the patience.
 MOST_TURNS = 12
 
@@ -564,6 +576,7 @@ CHECKS = (
     few_descriptors,
     long_paths,
     beside_another,
+    datagrams_beside,
     door_behind_half_closed,
     accepts_while_one_waits,
     late_client_is_the_last,

@@ -5,6 +5,7 @@ ghost use Rattle.std.specs.Prelude.{◌≡◌, ◌<◌, ◌++◌, codes, length,
 use std::alloc::Global;
 use std::fs;
 use std::fs::Metadata;
+use std::io::ErrorKind;
 use std::net::Net;
 use std::os::unix::fs::{FileTypeExt, MetadataExt};
 use std::os::unix::net::{UnixListener, UnixStream};
@@ -118,10 +119,15 @@ fn bind_beside<R: Files + Net>(rt: &R, beside: &str) -> Option<UnixListener> {
     UnixListener::bind(rt, beside).ok()
 }
 
-/// Whether a path has a socket to which this process can't connect.
+/// Whether a path has a socket at which nobody listens. One that this process may not connect to, or that is of another kind, counts
+/// as somebody's.
 fn is_left<R: Files + Net>(rt: &R, path: &str) -> bool {
-    match fs::symlink_metadata(rt, path) {
-        Ok(found) => found.file_type().is_socket() && UnixStream::connect(rt, path).is_err(),
+    let is_socket = match fs::symlink_metadata(rt, path) {
+        Ok(found) => found.file_type().is_socket(),
         Err(_) => false,
+    };
+    match UnixStream::connect(rt, path) {
+        Ok(_) => false,
+        Err(error) => is_socket && error.kind() == ErrorKind::ConnectionRefused,
     }
 }
