@@ -159,7 +159,7 @@ def definitions(_place):
     same(layout["header_bytes"], store.GATE + 1, "the header's last byte is its gate")
     most_used = re.search(r"^const MOST_USED: u32 = (\d+);$", text("crates/fe_hall/src/committing.rt"), re.M)[1]
     same(said("docs/operating.md", "A checkpoint begins once more than N bytes of the journal are used"), int(most_used), "a checkpoint begins")
-    same(defined("fe_text", "Limits"), {"longest_line": said("docs/schedules.md", "The longest line of the syntax has N bytes")}, "fe_text/Limits")
+    same(defined("fe_text", "Line"), {"longest_line": said("docs/schedules.md", "The longest line of the syntax has N bytes")}, "fe_text/Line")
     return f"{len(states) + len(boxes) + len(areas) + 1} numbers"
 
 

@@ -7,10 +7,9 @@ use Rattle.fe_text.specs.declared.fault.StreamFault.TheVariants as stream
 use Rattle.fe_client.specs.declared.fault.CallFault.{CallFault}
 use Rattle.fe_client.specs.declared.fault.CallFault.TheVariants as fault
 use Rattle.fe_client.specs.Events.{Event, received_byte, received_in}
-use Rattle.fe_client.specs.Conversation.{Conversation, TalksAll}
+use Rattle.fe_client.specs.Conversation.{Conversation, TalksAll, DoesLine, DoesPart}
 use Rattle.fe_client.specs.Ends.{Unread, Unreceived, Unanswered, ExchangeEnds, LineEnds, BreaksOff, TalksUntil}
 use Rattle.fe_client.specs.Input.{TakesFed, TakesLast, NotTaken}
-use Rattle.fe_client.specs.Talk.{DoesLine, DoesPart}
 use Rattle.fe_client.proofs.Leads.{Joins}
 
 -- one conversation goes on where another one stopped

@@ -2,7 +2,7 @@
 use Rattle.std.proofs.Common.{ℕ, List, Option, None, Some, inl, inr, refl}
 use Rattle.std.specs.Io.KnownBytes.{IsAtEnd}
 use Rattle.fe_streams.specs.declared.StreamFailed.{StreamFailed}
-use Rattle.fe_client.specs.Connection.{IsOver}
+use Rattle.fe_client.specs.Streams.{IsOver}
 
 -- a call failed
 pub over_failed : (failure : StreamFailed) (left : Option (List ℕ)) → IsOver (Some failure) left

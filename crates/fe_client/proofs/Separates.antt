@@ -4,7 +4,7 @@ use Rattle.std.specs.Prelude.{IfSome, OnErr}
 use Rattle.std.proofs.lemmas.List.{length-take}
 use Rattle.std.proofs.KnownBytes.{Appends-nil, Consumes-nil}
 use Rattle.std.specs.Io.KnownBytes.{Appends, Consumes, IsAtEnd, Keeps, WriteAppends}
-use Rattle.fe_text.specs.Lines.{ReadsSome}
+use Rattle.fe_text.specs.Line.{ReadsSome}
 use Rattle.fe_client.specs.Events.{Event, sent, received, written, read_of, read_bytes, sent_byte, received_byte, written_byte}
 use Rattle.fe_client.specs.Streams.{known, Flows, HasEnded}
 use Rattle.fe_client.proofs.Leads.{none_of, same_of}

@@ -3,7 +3,7 @@ use Rattle.std.proofs.Common.{◌≡◌, ℕ, ◌+◌, ◌-◌, Bool, true, fals
 use Rattle.std.specs.Prelude.{MatchBool}
 use Rattle.std.proofs.lemmas.List.{length-append, length-take, drop-drop, drop-take, drop_at}
 use Rattle.fe_text.proofs.LineLemmas.{both_no_feed}
-use Rattle.fe_text.specs.Lines.{HasNoFeed}
+use Rattle.fe_text.specs.Line.{HasNoFeed}
 use Rattle.fe_text.specs.declared.fault.StreamFault.TheVariants as stream
 use Rattle.fe_client.specs.declared.fault.CallFault.{CallFault}
 use Rattle.fe_client.specs.Events.{Event}

@@ -5,16 +5,12 @@ use Rattle.std.proofs.lemmas.Option.{none-some}
 use Rattle.fe_wire.specs.Spelling.{spelling, reply_spelling, ReplyFits}
 use Rattle.fe_wire.specs.declared.client_message.ClientMessage.{ClientMessage}
 use Rattle.fe_wire.specs.declared.server_message.ServerMessage.{ServerMessage}
-use Rattle.fe_client.specs.Fault.{IsOfStream}
-use Rattle.fe_text.specs.Line.{message_in, plain_in}
-use Rattle.fe_text.specs.Words.{words_at}
+use Rattle.fe_client.specs.Ends.{IsOfStream, IsFrontOf, Unsent, Unanswered, ExchangeEnds, LineEnds}
+use Rattle.fe_text.specs.Line.{message_in, plain_in, words_at}
 use Rattle.fe_text.specs.declared.fault.StreamFault.{StreamFault}
 use Rattle.fe_client.specs.declared.fault.CallFault.{CallFault}
-use Rattle.fe_client.specs.Asking.{asked}
+use Rattle.fe_client.specs.Conversation.{asked, Does, Exchanged, DoesLine, DoesPart}
 use Rattle.fe_client.specs.Events.{Event, sent, received, written, exchange, reply_text}
-use Rattle.fe_client.specs.Conversation.{Does}
-use Rattle.fe_client.specs.Ends.{IsFrontOf, Unsent, Unanswered, ExchangeEnds, LineEnds}
-use Rattle.fe_client.specs.Talk.{Exchanged, DoesLine, DoesPart}
 use Rattle.fe_client.proofs.Leads.{Joins, then_nothing, exchange_received}
 
 -- ---- an exchange

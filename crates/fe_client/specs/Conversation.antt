@@ -1,12 +1,17 @@
 -- A conversation with a server: the lines of an input, and for each an exchange of a message and its reply.
 -- See `docs/commands.md`.
-use Rattle.std.specs.Prelude.{◌≡◌, ◌≢◌, ℕ, ◌+◌, List, [], ◌∷◌, ◌++◌, Some}
-use Rattle.fe_wire.specs.Spelling.{ReplyFits}
+use Rattle.std.specs.Prelude.{ℕ, List, length, Option, None, nat_lt, if◌then◌else◌, ◌≡◌, ◌≢◌, ◌+◌, [], ◌∷◌, ◌++◌, Some, ◌≤◌}
 use Rattle.fe_wire.specs.declared.client_message.ClientMessage.{ClientMessage}
+use Rattle.fe_text.specs.Line.{message_in, HasNoFeed}
+use Rattle.fe_wire.specs.Spelling.{ReplyFits, reply_spelling}
 use Rattle.fe_wire.specs.declared.server_message.ServerMessage.{ServerMessage}
-use Rattle.fe_text.specs.Lines.{HasNoFeed}
-use Rattle.fe_client.specs.Asking.{asked}
-use Rattle.fe_client.specs.Events.{Event, exchange}
+use Rattle.fe_client.specs.Events.{Event, exchange, received_in}
+
+-- The message that a line says; none if it is outside the syntax. No line of a message has more than 94 bytes.
+unfoldable pub asked : List ℕ → Option ClientMessage
+asked line = if nat_lt 94 (length line) then None else message_in line
+
+-- ---- conversations
 
 -- what a line asks happens: nothing if it is empty, else the exchange of its message
 abbrev pub Does : List ℕ → List Event → Type 0
@@ -33,3 +38,25 @@ pub record TalksAll {S : Type 0} (leads : S → List Event → S → Type 0) (be
   pub done : List Event
   pub does : Does last done
   pub happened : leads before (so ++ (Event.Read [] ∷ done)) after
+
+-- ---- the parts of a conversation
+
+-- a message had its exchange, in which the connection was read at most once for each byte of the reply's frame
+pub record Exchanged {S : Type 0} (leads : S → List Event → S → Type 0) (message : ClientMessage) (reads now : ℕ) (before after : S) : Type 0 where
+  pub reply : ServerMessage
+  pub fits : ReplyFits reply
+  pub happened : leads before (exchange message reply) after
+  pub few : now ≤ reads + length (reply_spelling reply)
+
+-- what a line asks was done
+pub record DoesLine {S : Type 0} (leads : S → List Event → S → Type 0) (line : List ℕ) (reads now : ℕ) (before after : S) : Type 0 where
+  pub done : List Event
+  pub does : Does line done
+  pub happened : leads before done after
+  pub few : now ≤ reads + length (received_in done)
+
+-- something was done in part, and ended so
+pub record DoesPart {S : Type 0} (leads : S → List Event → S → Type 0) (before after : S) (Ends : List Event → Type 0) : Type 0 where
+  pub part : List Event
+  pub ends : Ends part
+  pub happened : leads before part after

@@ -1,16 +1,25 @@
 -- How a conversation with a server breaks off (`docs/commands.md`, "Commands").
 use Rattle.std.specs.Prelude.{◌≡◌, ◌≢◌, ◌⊎◌, ℕ, ◌+◌, ◌^◌, ◌<◌, ◌≤◌, List, [], ◌∷◌, ◌++◌, length, take, Option, None, Some, ⊤}
+use Rattle.fe_text.specs.declared.fault.StreamFault.{StreamFault}
+use Rattle.fe_text.specs.declared.fault.StreamFault.TheVariants as stream
+use Rattle.fe_client.specs.declared.fault.CallFault.{CallFault}
+use Rattle.fe_client.specs.declared.fault.CallFault.TheVariants as fault
 use Rattle.fe_wire.specs.Spelling.{spelling, reply_spelling, ReplyFits}
 use Rattle.fe_wire.specs.declared.client_message.ClientMessage.{ClientMessage}
 use Rattle.fe_wire.specs.declared.server_message.ServerMessage.{ServerMessage}
-use Rattle.fe_text.specs.Lines.{HasNoFeed}
-use Rattle.fe_client.specs.declared.fault.CallFault.{CallFault}
-use Rattle.fe_client.specs.declared.fault.CallFault.TheVariants as fault
-use Rattle.fe_client.specs.Fault.{IsOfStream}
-use Rattle.fe_client.specs.Asking.{asked}
+use Rattle.fe_text.specs.Line.{HasNoFeed}
+use Rattle.fe_client.specs.Conversation.{asked, Conversation}
 use Rattle.fe_client.specs.Events.{Event, sent, received, written, reply_text, received_in}
-use Rattle.fe_client.specs.Conversation.{Conversation}
 use Rattle.fe_client.specs.Streams.{Known, known, Flows}
+
+-- the fault of a call for a fault of a stream
+abbrev pub of_stream : StreamFault → CallFault
+of_stream stream.Input = fault.Input
+of_stream stream.Memory = fault.Memory
+
+-- the fault is one of a stream or of memory
+abbrev pub IsOfStream : CallFault → Type 0
+IsOfStream end = (why : StreamFault) × (end ≡ of_stream why)
 
 -- the first bytes are some from the front of the second
 abbrev pub IsFrontOf : List ℕ → List ℕ → Type 0

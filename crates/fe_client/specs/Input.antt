@@ -1,6 +1,6 @@
 -- What is read of a conversation's input, and what is taken of it line by line (`docs/commands.md`, "Commands").
 use Rattle.std.specs.Prelude.{◌≡◌, ◌≢◌, ◌⊎◌, ℕ, ◌-◌, Bool, true, false, List, [], ◌∷◌, ◌++◌, take, drop}
-use Rattle.fe_text.specs.Lines.{HasNoFeed}
+use Rattle.fe_text.specs.Line.{HasNoFeed}
 use Rattle.fe_client.specs.declared.fault.CallFault.{CallFault}
 use Rattle.fe_client.specs.Events.{Event}
 use Rattle.fe_client.specs.Conversation.{Conversation}

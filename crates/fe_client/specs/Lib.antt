@@ -1,9 +1,5 @@
-pub mod Fault
-pub mod Asking
-pub mod Connection
 pub mod Events
 pub mod Conversation
 pub mod Streams
 pub mod Ends
 pub mod Input
-pub mod Talk

@@ -1,11 +1,17 @@
 -- What the events of a conversation, one run of the client, do to its input, its connection and its output. The bytes of a stream
 -- are known if a contract can name them; those of a terminal or a socket are not (`None`).
-use Rattle.std.specs.Prelude.{◌≡◌, ◌⊎◌, ℕ, List, [], ◌∷◌, ◌++◌, Option, None, Some, IfSome}
+use Rattle.std.specs.Prelude.{◌≡◌, ◌⊎◌, ℕ, List, [], Option, None, Some, IsSome, ⊤, ◌∷◌, ◌++◌, IfSome}
+use Rattle.fe_streams.specs.declared.StreamFailed.{StreamFailed}
 use Rattle.std.proofs.Common.{sym, subst, inl, inr, ◌∙◌}
 use Rattle.std.specs.Io.KnownBytes.{Appends, Consumes, IsAtEnd}
 use Rattle.std.proofs.KnownBytes.{Appends-trans, Appends-nil, Consumes-trans, Consumes-nil}
 use Rattle.std.proofs.lemmas.List.Concat.{flat_map-append}
 use Rattle.fe_client.specs.Events.{Event, read_bytes, sent_byte, received_byte, written_byte, read_in, sent_in, received_in, written_in}
+
+-- A call of a stream failed, or all that it had is read. If its bytes are not known, either may be so at any time.
+abbrev pub IsOver : Option StreamFailed → Option (List ℕ) → Type 0
+IsOver failure None = ⊤
+IsOver failure (Some left) = IsSome failure ⊎ (left ≡ [])
 
 -- what the input has left, and what was sent, received and written, each if it is known
 pub record Known : Type 0 where

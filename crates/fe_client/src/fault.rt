@@ -15,7 +15,7 @@ pub enum CallFault {
 
 impl From<StreamFault> for CallFault {
     ghost use Rattle.std.specs.Prelude.{◌≡◌};
-    ghost use Rattle.fe_client.specs.Fault.{of_stream};
+    ghost use Rattle.fe_client.specs.Ends.{of_stream};
 
     ghost from_gives = { λ before fault. fault ≡ of_stream before };
 

@@ -30,7 +30,7 @@ pub(crate) struct Input {
 
 impl Input {
     ghost use Rattle.std.specs.Prelude.{◌≡◌, ◌+◌, ◌++◌, [], ◌∷◌, ℕ, List, IfOk, IfErr, OnOk, OnErr, MatchBool};
-    ghost use Rattle.fe_text.specs.Lines.{HasNoFeed};
+    ghost use Rattle.fe_text.specs.Line.{HasNoFeed};
     ghost use Rattle.fe_client.specs.Events.{Event};
     ghost use Rattle.fe_client.specs.Input.{kept_of, Fills, TakesFed, TakesLast, NotTaken};
     ghost use Rattle.fe_client.specs.Ends.{IsTooLong};

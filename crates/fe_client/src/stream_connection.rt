@@ -30,7 +30,7 @@ impl<R: Read, W: Write> StreamConnection<R, W> {
 }
 
 impl<R: Read, W: Write> Connection for StreamConnection<R, W> {
-    ghost use Rattle.fe_client.specs.Connection.{IsOver};
+    ghost use Rattle.fe_client.specs.Streams.{IsOver};
     ghost use Rattle.fe_streams.specs.Incoming.{bytes_read};
 
     ghost sent = { λ c. W.contents c.writer };

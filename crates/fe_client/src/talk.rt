@@ -5,7 +5,7 @@ ghost use Rattle.std.specs.Prelude.{◌≡◌, ◌+◌, ◌≤◌, ◌∷◌, �
 ghost use Rattle.fe_wire.specs.Spelling.{spelling, reply_spelling, ReplyFits};
 ghost use Rattle.fe_client.specs.Events.{Event, sent, received, written, reply_text};
 ghost use Rattle.fe_client.specs.Ends.{ExchangeEnds, IsFrontOf, LineEnds, Unanswered, Unsent};
-ghost use Rattle.fe_client.specs.Talk.{DoesLine, DoesPart, Exchanged};
+ghost use Rattle.fe_client.specs.Conversation.{DoesLine, DoesPart, Exchanged};
 
 use crate::asking::asked;
 use crate::fault::CallFault;

@@ -13,12 +13,10 @@ use Rattle.fe_state.specs.declared.entry.Entry.TheVariants.{Attached, Closed, Se
 use Rattle.fe_format.specs.Layout.{name_bytes}
 use Rattle.fe_format.specs.declared.format.Format.{Format}
 use Rattle.fe_format.specs.declared.format.Format.TheVariants.{One, Two}
-use Rattle.fe_codes.specs.Bytes.{IsBytes}
+use Rattle.fe_codes.specs.Reading.{IsBytes, tag_of, op_of, answer_of, ◌>>=◌}
 use Rattle.fe_codes.specs.Codes.{operand_of, answer_number, answer_length}
-use Rattle.fe_codes.specs.Reading.{tag_of, op_of, answer_of}
 use Rattle.fe_codes.proofs.CodeLaws.{op_takes, answer_takes}
 use Rattle.fe_codec.specs.Record.{RequestFits, FieldsFit}
-use Rattle.fe_codes.specs.Binding.{◌>>=◌}
 use Rattle.fe_codec.specs.Reading.{field_at, name_of, create_of, find_of, access_of, request_of, finished_of, entry_of}
 use Rattle.fe_codec.specs.FirstFault.{number}
 use Rattle.fe_codes.proofs.Splits.{IsBytes-take, IsBytes-drop}

@@ -16,7 +16,7 @@ use Rattle.fe_state.specs.Directory.{named, word_count}
 use Rattle.fe_state.specs.Effect.{new_array}
 use Rattle.fe_state.specs.State.{ServerState, with_arrays, IsWithinLimits}
 use Rattle.fe_state.specs.declared.array.Array.{Array}
-use Rattle.fe_codes.specs.Bytes.{IsBytes}
+use Rattle.fe_codes.specs.Reading.{IsBytes}
 use Rattle.fe_format.specs.Layout.{name_bytes}
 use Rattle.fe_codec.specs.Loading.{HasNoneAfter}
 use Rattle.fe_codec.specs.Record.{name_field, IsShort}

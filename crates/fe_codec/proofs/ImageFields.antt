@@ -5,7 +5,7 @@ use Rattle.std.specs.Int.{Width, w32, w64, byte_len, from_be_bytes, to_be_bytes}
 use Rattle.std.proofs.lemmas.Bool.{ltb-false, le-ltb, le-leb, lt-ltb}
 use Rattle.std.proofs.lemmas.List.{take_at, drop_at, take-append-drop, length-append, length-take}
 use Rattle.std.proofs.lemmas.Nat.{be_bytes_4, be_bytes_8, from_be_bytes-to_be_bytes_4, from_be_bytes-to_be_bytes_8}
-use Rattle.fe_codes.specs.Bytes.{IsBytes}
+use Rattle.fe_codes.specs.Reading.{IsBytes}
 use Rattle.fe_codes.proofs.Splits.{IsBytes-drop, IsBytes-take, Splits}
 use Rattle.fe_codec.specs.FirstFault.{◌followed_by◌, or_fault, row, number, number_in}
 

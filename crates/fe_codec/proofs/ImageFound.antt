@@ -9,11 +9,10 @@ use Rattle.std.proofs.lemmas.List.{append-nil}
 use Rattle.fe_state.specs.Sessions.{Session}
 use Rattle.fe_state.specs.State.{ServerState, IsWithinLimits, with_arrays, with_sessions}
 use Rattle.fe_state.specs.declared.array.Array.{Array}
-use Rattle.fe_codes.specs.Bytes.{IsBytes}
-use Rattle.fe_codec.specs.Given.{ImageGives}
-use Rattle.fe_codec.specs.Laws.{ImageIsSpelled}
+use Rattle.fe_codes.specs.Reading.{IsBytes}
+use Rattle.fe_codec.specs.Loading.{ImageGives}
+use Rattle.fe_codec.specs.Image.{ImageIsSpelled, array_spelling, session_spelling, image_spelling, ArrayOfFormat, SessionOfFormat, HasRoomForState, ArrayFits, SessionFits, FitsImage}
 use Rattle.fe_codec.specs.declared.fault.ImageFault.{ImageFault}
-use Rattle.fe_codec.specs.Image.{array_spelling, session_spelling, image_spelling, ArrayOfFormat, SessionOfFormat, HasRoomForState, ArrayFits, SessionFits, FitsImage}
 use Rattle.fe_format.specs.declared.format.Format.{Format}
 use Rattle.fe_codec.specs.declared.header.ImageHeader.{ImageHeader}
 use Rattle.fe_codec.specs.FirstFault.{◌followed_by◌, repeated, number_in, header_at, starting, next_array, next_session, ended, state_at, error_at_offset, image_at}

@@ -13,10 +13,9 @@ use Rattle.fe_words.specs.declared.word.Tag.{Tag}
 use Rattle.fe_state.specs.Name.{is_plain}
 use Rattle.fe_state.specs.Directory.{named}
 use Rattle.fe_state.specs.declared.array.Array.{Array}
-use Rattle.fe_codes.specs.Bytes.{IsBytes}
+use Rattle.fe_codes.specs.Reading.{IsBytes, tag_of}
 use Rattle.fe_codes.specs.Codes.{tag_code}
 use Rattle.fe_format.specs.Layout.{name_bytes}
-use Rattle.fe_codes.specs.Reading.{tag_of}
 use Rattle.fe_codes.proofs.CodeLaws.{tag_again, tag_takes as has_code}
 use Rattle.fe_codec.specs.Record.{name_field, name_row, IsShort}
 use Rattle.fe_codec.specs.Image.{word_spelling}

@@ -12,9 +12,8 @@ use Rattle.fe_state.specs.Sessions.{Session}
 use Rattle.fe_state.specs.State.{ServerState, IsSession, with_arrays, with_sessions}
 use Rattle.fe_state.specs.declared.array.Array.{Array}
 use Rattle.fe_codec.specs.Record.{FieldsFit}
-use Rattle.fe_codec.specs.Image.{array_spelling, session_spelling, image_spelling, entry_of_kept, KeptOfFormat, SessionOfFormat, SessionFits, FitsImage}
-use Rattle.fe_codec.specs.Given.{ImageGives}
-use Rattle.fe_codec.specs.Laws.{SpellingIsRead, ImageHasOneSpelling}
+use Rattle.fe_codec.specs.Image.{array_spelling, session_spelling, image_spelling, entry_of_kept, KeptOfFormat, SessionOfFormat, SessionFits, FitsImage, SpellingIsRead, ImageHasOneSpelling}
+use Rattle.fe_codec.specs.Loading.{ImageGives}
 use Rattle.fe_codec.specs.declared.fault.ImageFault.{ImageFault}
 use Rattle.fe_format.specs.declared.format.Format.{Format}
 use Rattle.fe_codec.specs.declared.header.ImageHeader.{ImageHeader}

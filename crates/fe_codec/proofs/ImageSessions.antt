@@ -16,7 +16,7 @@ use Rattle.fe_state.specs.State.{ServerState, with_sessions}
 use Rattle.fe_state.specs.declared.kept.Kept.{Kept}
 use Rattle.fe_state.specs.declared.entry.Entry.{Entry}
 use Rattle.fe_state.specs.declared.entry.Entry.TheVariants.{Attached, Closed, Settled, Finished}
-use Rattle.fe_codes.specs.Bytes.{IsBytes}
+use Rattle.fe_codes.specs.Reading.{IsBytes}
 use Rattle.fe_format.specs.Layout.{record_bytes}
 use Rattle.fe_codec.specs.Reading as reading
 use Rattle.fe_codec.specs.Reading.{record_entry, if_record, is_record, is_numbered, is_of_format}

@@ -13,7 +13,7 @@ use Rattle.fe_state.proofs.Maps.{get_inserted, get_beside, same_or_other}
 use Rattle.fe_state.specs.Effect.{put_word}
 use Rattle.fe_state.specs.State.{ServerState, with_arrays}
 use Rattle.fe_state.specs.declared.array.Array.{Array}
-use Rattle.fe_codes.specs.Bytes.{IsBytes}
+use Rattle.fe_codes.specs.Reading.{IsBytes}
 use Rattle.fe_codec.specs.Image.{word_spelling}
 use Rattle.fe_codec.specs.FirstFault.{repeated, word_at, with_word_at, next_word}
 use Rattle.fe_codes.proofs.Splits.{Splits, splits_then}

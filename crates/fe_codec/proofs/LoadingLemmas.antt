@@ -12,9 +12,8 @@ use Rattle.fe_words.specs.declared.word.Word.{Word}
 use Rattle.fe_words.specs.declared.word.Tag.TheVariants.{Empty}
 use Rattle.fe_state.proofs.Maps.{get_inserted, get_beside, same_or_other}
 use Rattle.fe_state.specs.Name.{is_plain}
-use Rattle.fe_state.specs.Change.{MayBeAdded}
+use Rattle.fe_state.specs.Effect.{MayBeAdded, new_array, put_word, with_word}
 use Rattle.fe_state.specs.Directory.{Directory, named, word_in, word_count}
-use Rattle.fe_state.specs.Effect.{new_array, put_word, with_word}
 use Rattle.fe_state.specs.Sessions.{Session, keeping, put_session}
 use Rattle.fe_state.specs.declared.array.Array.{Array}
 use Rattle.fe_state.specs.declared.kept.Kept.{Kept}

@@ -3,7 +3,7 @@ use Rattle.std.proofs.Common.{◌≡◌, ℕ, zero, suc, List, [], ◌∷◌, �
 use Rattle.std.specs.Prelude.{flat_map}
 use Rattle.std.specs.List.{AllByRecursion}
 use Rattle.fe_state.specs.State.{ServerState}
-use Rattle.fe_codes.specs.Bytes.{IsBytes}
+use Rattle.fe_codes.specs.Reading.{IsBytes}
 use Rattle.fe_codec.specs.FirstFault.{◌followed_by◌, is_after, repeated}
 use Rattle.fe_codec.proofs.InOrder.{Rises}
 use Rattle.fe_codes.proofs.Splits.{Splits, splits_then}

@@ -13,11 +13,10 @@ use Rattle.fe_state.specs.declared.request.Request.TheVariants.{Create, Find, Re
 use Rattle.fe_state.specs.declared.entry.Entry.{Entry}
 use Rattle.fe_state.specs.declared.entry.Entry.TheVariants.{Attached, Closed, Settled, Finished}
 use Rattle.fe_codes.specs.Codes.{tag_code, op_code, operand_of, answer_code, answer_number, answer_length}
-use Rattle.fe_codes.specs.Reading.{tag_of, op_of, answer_of}
+use Rattle.fe_codes.specs.Reading.{tag_of, op_of, answer_of, ◌>>=◌}
 use Rattle.fe_codes.proofs.CodeLaws.{tag_again, op_again, answer_again}
 use Rattle.fe_format.specs.Layout.{name_bytes, record_bytes}
 use Rattle.fe_codec.specs.Record.{flag_code, codes_field, name_row, array_row, record_spelling, short_spelling, entry_spelling, request_codes, request_row, request_size, FitsRecord, IsShort, HasRow, HasRoomForEntry, IsOfFormat, RequestFits}
-use Rattle.fe_codes.specs.Binding.{◌>>=◌}
 use Rattle.fe_codec.specs.Reading.{field_at, name_of, create_of, find_of, access_of, request_of, finished_of, entry_of}
 use Rattle.fe_format.specs.declared.format.Format.{Format}
 use Rattle.fe_format.specs.declared.format.Format.TheVariants.{One, Two}

@@ -3,7 +3,7 @@ use Rattle.std.proofs.Common.{◌≡◌, ℕ, suc, ◌-◌, ◌+◌, ◌≤◌, 
 use Rattle.fe_codec.specs.declared.fault.Fault.{Fault}
 use Rattle.fe_codec.specs.declared.fault.Fault.TheVariants.{Left, NoMemory}
 use Rattle.fe_codec.specs.FirstFault.{◌followed_by◌, repeated}
-use Rattle.fe_codec.specs.Given.{GivesFault}
+use Rattle.fe_codec.specs.Loading.{GivesFault}
 
 module _ {X : Type 0} (step : X → Result X ℕ) (count i : ℕ) (x : X) (total : Result X ℕ) (so_far : repeated step (count - i) x ≡ total) where
   pub goes_on : (y : X) → i < count → step x ≡ Ok y → repeated step (count - (i + 1)) y ≡ total

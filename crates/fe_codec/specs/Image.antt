@@ -1,5 +1,5 @@
 -- The one spelling of each server state as an image, and which states have one in a format (`docs/formats.md`, "Image").
-use Rattle.std.specs.Prelude.{ℕ, ◌^◌, ◌<◌, List, ◌∷◌, ◌++◌, length, flat_map}
+use Rattle.std.specs.Prelude.{ℕ, ◌^◌, ◌<◌, List, ◌∷◌, ◌++◌, length, flat_map, ◌≡◌, Ok}
 use Rattle.std.specs.List.{AllByRecursion}
 use Rattle.std.specs.Int.{w32, w64, to_be_bytes}
 use Rattle.std.specs.FinMap.{entries, len}
@@ -11,9 +11,11 @@ use Rattle.fe_state.specs.declared.kept.Kept.{Kept}
 use Rattle.fe_state.specs.declared.entry.Entry.{Entry}
 use Rattle.fe_state.specs.declared.entry.Entry.TheVariants.{Finished}
 use Rattle.fe_codes.specs.Codes.{tag_code}
-use Rattle.fe_codec.specs.Record.{entry_spelling, name_field, IsShort, IsOfFormat, FieldsFit}
+use Rattle.fe_codec.specs.Record.{entry_spelling, name_field, IsShort, IsOfFormat, FieldsFit, group_spelling, FitsRecord, FitsGroup}
 use Rattle.fe_format.specs.declared.format.Format.{Format}
 use Rattle.fe_format.specs.declared.format.Format.TheVariants.{One, Two}
+use Rattle.fe_codes.specs.Reading.{IsBytes}
+use Rattle.fe_codec.specs.FirstFault.{image_at}
 
 -- the bytes of a word: its tag and its value
 abbrev pub word_spelling : Word → List ℕ
@@ -77,3 +79,25 @@ pub record FitsImage (format : Format) (s : ServerState) : Type 0 where
   pub room : HasRoomForState format s
   pub arrays : AllByRecursion ArrayFits (entries s.arrays)
   pub sessions : AllByRecursion SessionFits (entries s.sessions)
+
+-- ---- laws, cited by public functions (`docs/model.md`, "Records, groups and images")
+
+-- In one format no record begins another, and no two entries have one record.
+abbrev pub EntryHasOneSpelling : Type 0
+EntryHasOneSpelling = (format : Format) (a b : Entry) (x y : List ℕ) → FitsRecord format a → FitsRecord format b → entry_spelling format a ++ x ≡ entry_spelling format b ++ y → (a ≡ b) × (x ≡ y)
+
+-- In one format no two groups of entries have one spelling.
+abbrev pub GroupHasOneSpelling : Type 0
+GroupHasOneSpelling = (format : Format) (group other : List Entry) → FitsGroup format group → FitsGroup format other → group_spelling format group ≡ group_spelling format other → group ≡ other
+
+-- Bytes that stand for a state are the state's spelling, and the format has room for it.
+abbrev pub ImageIsSpelled : Type 0
+ImageIsSpelled = (format : Format) (bytes : List ℕ) (s : ServerState) → IsBytes bytes → image_at format bytes ≡ Ok s → HasRoomForState format s × (bytes ≡ image_spelling format s)
+
+-- The spelling of a state stands for it.
+abbrev pub SpellingIsRead : Type 0
+SpellingIsRead = (format : Format) (s : ServerState) → FitsImage format s → image_at format (image_spelling format s) ≡ Ok s
+
+-- In one format no two states have one image.
+abbrev pub ImageHasOneSpelling : Type 0
+ImageHasOneSpelling = (format : Format) (s t : ServerState) → FitsImage format s → FitsImage format t → image_spelling format s ≡ image_spelling format t → s ≡ t

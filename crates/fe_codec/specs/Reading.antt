@@ -9,8 +9,7 @@ use Rattle.fe_state.specs.declared.entry.Entry.{Entry}
 use Rattle.fe_state.specs.declared.entry.Entry.TheVariants.{Attached, Closed, Settled, Finished}
 use Rattle.fe_state.specs.Format.{entry_fits_format_1}
 use Rattle.fe_format.specs.Layout.{name_bytes, record_bytes}
-use Rattle.fe_codes.specs.Binding.{◌>>=◌}
-use Rattle.fe_codes.specs.Reading.{tag_of, op_of, answer_of}
+use Rattle.fe_codes.specs.Reading.{◌>>=◌, tag_of, op_of, answer_of}
 use Rattle.fe_codec.specs.Record.{entry_spelling}
 use Rattle.fe_format.specs.declared.format.Format.{Format}
 use Rattle.fe_format.specs.declared.format.Format.TheVariants.{One, Two}

@@ -3,7 +3,7 @@ use Rattle.std.specs.Prelude.{◌≡◌, ℕ, ◌-◌, ◌*◌, ◌%◌, ◌<◌
 use Rattle.std.specs.List.{AllByRecursion}
 use Rattle.std.specs.Int.{w32, w64, to_be_bytes}
 use Rattle.fe_state.specs.Format.{entry_fits_format_1}
-use Rattle.fe_state.specs.Padding.{padded}
+use Rattle.fe_state.specs.Name.{padded}
 use Rattle.fe_state.specs.Limits.{longest_name}
 use Rattle.fe_state.specs.declared.request.Request.{Request}
 use Rattle.fe_state.specs.declared.request.Request.TheVariants.{Create, Find, Remove, Access}

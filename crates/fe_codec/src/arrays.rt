@@ -8,8 +8,7 @@ ghost use Rattle.fe_state.specs.Name.{is_plain};
 ghost use Rattle.fe_state.specs.Directory.{named, word_in, word_count};
 ghost use Rattle.fe_format.specs.Layout.{name_bytes};
 ghost use Rattle.fe_codec.specs.FirstFault.{number_in, is_after, id_at, name_length_at, is_name_row, new_name_at, tag_at, word_at, next_word, next_array, repeated};
-ghost use Rattle.fe_codec.specs.Given.{Gives};
-ghost use Rattle.fe_codec.specs.Loading.{ChangesWords, AddsArray, HasNoneAfter};
+ghost use Rattle.fe_codec.specs.Loading.{Gives, ChangesWords, AddsArray, HasNoneAfter};
 ghost use Rattle.fe_state.specs.Limits.{most_arrays, most_words};
 
 use crate::Format;

@@ -3,7 +3,7 @@
 ghost use Rattle.std.specs.Prelude.{◌≡◌, ◌+◌, ◌^◌, ◌≤◌, ◌<◌, IfOk, length};
 ghost use Rattle.std.specs.Int.{w32, w64};
 ghost use Rattle.fe_codec.specs.FirstFault.{row, number, is_after, header_at};
-ghost use Rattle.fe_codec.specs.Given.{Gives, Reads, ReadsNumberIn};
+ghost use Rattle.fe_codec.specs.Loading.{Gives, Reads, ReadsNumberIn};
 ghost use Rattle.fe_state.specs.Limits.{most_arrays, most_sessions};
 
 use crate::fault::Fault;

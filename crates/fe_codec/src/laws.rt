@@ -2,7 +2,7 @@
 //! an entry are its record, those of a state its image. Each function states one, the last the limits of the fields, and does nothing.
 
 ghost use Rattle.std.specs.Prelude.{◌≡◌, ◌+◌, ◌^◌};
-ghost use Rattle.fe_codec.specs.Laws.{EntryHasOneSpelling, GroupHasOneSpelling, ImageIsSpelled, SpellingIsRead, ImageHasOneSpelling};
+ghost use Rattle.fe_codec.specs.Image.{EntryHasOneSpelling, GroupHasOneSpelling, ImageIsSpelled, SpellingIsRead, ImageHasOneSpelling};
 ghost use Rattle.fe_format.specs.Layout.{record_bytes};
 ghost use Rattle.fe_format.specs.declared.format.Format.TheVariants.{Two};
 ghost use Rattle.fe_state.specs.Limits.{most_sessions, window_length, greatest_floor, most_arrays, greatest_place};

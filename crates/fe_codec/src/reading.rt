@@ -2,7 +2,7 @@
 
 ghost use Rattle.std.specs.Prelude.{◌≡◌, ℕ, ◌≤◌, length, Err, IsOk, IfOk};
 ghost use Rattle.fe_codec.specs.FirstFault.{header_at, state_at, image_at};
-ghost use Rattle.fe_codec.specs.Given.{Gives, ImageGives};
+ghost use Rattle.fe_codec.specs.Loading.{Gives, ImageGives};
 ghost use Rattle.fe_codec.specs.Image.{image_spelling, FitsImage};
 ghost use Rattle.fe_state.specs.State.{ServerState, IsWithinLimits};
 

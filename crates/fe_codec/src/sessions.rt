@@ -5,8 +5,7 @@ ghost use Rattle.std.specs.Option.{option_map};
 ghost use Rattle.std.specs.FinMap.{get, len};
 ghost use Rattle.fe_state.specs.Sessions.{IsInWindow};
 ghost use Rattle.fe_codec.specs.FirstFault.{is_after, kept_of, kept_at, next_kept, next_session, repeated};
-ghost use Rattle.fe_codec.specs.Given.{Gives};
-ghost use Rattle.fe_codec.specs.Loading.{KeepsKeys, HasNoneAfter};
+ghost use Rattle.fe_codec.specs.Loading.{Gives, KeepsKeys, HasNoneAfter};
 ghost use Rattle.fe_state.specs.Limits.{most_sessions};
 
 use crate::Format;

@@ -1,6 +1,6 @@
 -- A step that may give a value, and the step after it.
 use Rattle.std.proofs.Common.{◌≡◌, Option, Some, None, refl, ap}
-use Rattle.fe_codes.specs.Binding.{◌>>=◌}
+use Rattle.fe_codes.specs.Reading.{◌>>=◌}
 
 -- the value of a step that gave one
 pub bind_some : {A B : Type 0} (o : Option A) (f : A → Option B) (y : B) → (o >>= f) ≡ Some y → (x : A) × (o ≡ Some x) × (f x ≡ Some y)

@@ -1,11 +1,24 @@
 -- What a code is read as: the tag, the operation or the answer that has it, or None if there is none (`docs/formats.md`, "Codes").
-use Rattle.std.specs.Prelude.{ℕ, Option, Some, None, ◌==◌, if◌then◌else◌}
+use Rattle.std.specs.Prelude.{ℕ, ◌<◌, List, slice_index_or, Option, option_and_then, Some, None, ◌==◌, if◌then◌else◌}
 use Rattle.fe_words.specs.declared.word.Tag.{Tag}
 use Rattle.fe_words.specs.declared.word.Tag.TheVariants.{Full, Empty}
 use Rattle.fe_words.specs.declared.op.Op.{Op}
 use Rattle.fe_words.specs.declared.op.Op.TheVariants.{ReadFe, ReadFf, ReadXx, WriteEf, WriteFf, WriteXf, Purge, IntFetchAdd}
 use Rattle.fe_state.specs.declared.answer.Answer.{Answer}
 use Rattle.fe_state.specs.declared.answer.Answer.TheVariants as answers
+
+-- a list of bytes, numbers below 256: records, images and frames are such lists
+
+abbrev pub IsBytes : List ℕ → Type 0
+IsBytes bytes = (i : ℕ) → slice_index_or bytes i 0 < 256
+
+-- A `do` block over options, steps that may give no value, uses this operator.
+
+infixl 10 ◌>>=◌
+abbrev pub ◌>>=◌ : {A B : Type 0} → Option A → (A → Option B) → Option B
+o >>= f = option_and_then f o
+
+-- ---- codes
 
 unfoldable pub tag_of : ℕ → Option Tag
 tag_of code = if code == 0 then Some Empty else if code == 1 then Some Full else None

@@ -27,7 +27,7 @@ use Rattle.fe_front.specs.Steps.{has_no_cut}
 use Rattle.fe_front.specs.Posting as posting
 use Rattle.fe_front.proofs.Keeping.{posted_all-keeps, dropped-keeps}
 use Rattle.fe_messages.specs.Answers.{IsFinishedAt, AreAnswered}
-use Rattle.fe_messages.specs.Asking.{HasOnly}
+use Rattle.fe_messages.specs.Taking.{HasOnly}
 use Rattle.fe_messages.specs.Mails.{reply_of}
 use Rattle.fe_messages.proofs.Answers.{KeepsBelow, answered-append, answered-split, finished_more, kept_stands}
 use Rattle.fe_messages.proofs.Boxes.{AllIn, all_append, all_weaker, boxes-connected, boxes-dropped, boxes-posted_all}
@@ -36,12 +36,10 @@ use Rattle.fe_desk.specs.declared.handed.Handed.{Handed}
 use Rattle.fe_desk.specs.declared.handed.Handed.TheVariants.{Nothing, Cut, Stored}
 use Rattle.fe_desk.specs.declared.step.Step.{Step}
 use Rattle.fe_desk.specs.declared.step.Step.TheVariants as step
-use Rattle.fe_desk.specs.DeskRunState.{Client, DeskRunState, IsFirstRunState}
-use Rattle.fe_desk.specs.Storing.{handed_after, cut, stored, stored_from, posted, posted_from, cleared, committed, made, is_making, with_room, begun_room, roomy}
-use Rattle.fe_desk.specs.Steps.{find, on_client, new_client, clients_with, with_left, with_decoder, Connects, gone, after_frame, TakesPiece, TakesFrom, TakesBytes, Reads, Acts}
-use Rattle.fe_desk.specs.Taking.{TakesOne, TakesAll}
+use Rattle.fe_desk.specs.DeskRunState.{Client, DeskRunState, IsFirstRunState, handed_after, cut, stored, stored_from, posted, posted_from, cleared, committed, made, is_making, with_room, begun_room, roomy}
+use Rattle.fe_desk.specs.Steps.{find, on_client, new_client, clients_with, with_left, with_decoder, Connects, gone, after_frame, TakesPiece, TakesFrom, TakesBytes, Reads, Acts, TakesOne, TakesAll}
 use Rattle.fe_desk.specs.Acknowledged.{StandsOn, IsLast, IsOnItsWay, AsksFor, entries_of, cut_entries, made_entries}
-use Rattle.fe_desk.specs.Stopping.{MayBegin, StopsMaking, TakesFirst, StopsBefore, StopsUnread, StopsBehind}
+use Rattle.fe_desk.specs.Ends.{MayBegin, StopsMaking, TakesFirst, StopsBefore, StopsUnread, StopsBehind}
 use Rattle.fe_desk.specs.Messages.{left_of, read_by}
 use Rattle.fe_desk.proofs.Emptying.{same_number}
 use Rattle.fe_desk.proofs.Answered.{posts_stand}

@@ -10,15 +10,12 @@ use Rattle.fe_desk.specs.declared.fault.DeskFault.{DeskFault}
 use Rattle.fe_desk.specs.declared.fault.DeskFault.TheVariants as desk
 use Rattle.fe_desk.specs.declared.step.Step.{Step}
 use Rattle.fe_desk.specs.declared.step.Step.TheVariants as step
-use Rattle.fe_desk.specs.DeskRunState.{DeskRunState}
-use Rattle.fe_desk.specs.Storing.{stored}
+use Rattle.fe_desk.specs.DeskRunState.{DeskRunState, stored}
 use Rattle.fe_desk.specs.Steps.{find, Acts, IsAgain, TakesBytes}
 use Rattle.fe_desk.specs.Messages.{outputs, desk_fault_of}
 use Rattle.fe_desk.specs.Crash.{DeskState, Advances}
-use Rattle.fe_desk.specs.Checks.{Checks}
-use Rattle.fe_desk.specs.Ends.{Lacks, Tears, TearsStep, BreaksOff}
-use Rattle.fe_desk.specs.within.Desk.{IsDesk, IsReady}
-use Rattle.fe_desk.specs.within.Keeping.{Stays}
+use Rattle.fe_desk.specs.Ends.{Checks, Lacks, Tears, TearsStep, BreaksOff}
+use Rattle.fe_desk.specs.within.Desk.{IsDesk, IsReady, Stays}
 use Rattle.fe_desk.specs.within.Goes.{Goes, GoesAct, GoesPiece, Is, IsLacking, IsUnstored, LeavesStream, StopsStream, TakesStream}
 use Rattle.fe_desk.proofs.Advancing.{advances_as, fine_as}
 use Rattle.fe_desk.proofs.Feeding.{same_reads}

@@ -9,14 +9,13 @@ use Rattle.fe_state.specs.History.{IsHistory, AreLegal, after_groups}
 use Rattle.fe_state.specs.declared.entry.Entry.{Entry}
 use Rattle.fe_front.specs.Front.{is_connected}
 use Rattle.fe_keeper.specs.Keeper.{KeeperState}
-use Rattle.fe_keeper.specs.Prefix.{LeavesPrefix}
+use Rattle.fe_keeper.specs.Stands.{LeavesPrefix}
 use Rattle.fe_desk.specs.declared.handed.Handed.{Handed}
 use Rattle.fe_desk.specs.DeskRunState.{DeskRunState}
 use Rattle.fe_desk.specs.Steps.{find}
 use Rattle.fe_desk.specs.Crash.{DeskState, IsFrom, Advances, disk_of}
 use Rattle.fe_desk.specs.Acknowledged.{cut_entries}
-use Rattle.fe_desk.specs.within.Keeping.{HasStore}
-use Rattle.fe_desk.specs.within.Desk.{IsAhead, IsDesk, IsHanded, unstored}
+use Rattle.fe_desk.specs.within.Desk.{HasStore, IsAhead, IsDesk, IsHanded, unstored}
 use Rattle.fe_disk.specs.declared.disk.Disk.{Ghosts}
 use Rattle.fe_keeper.specs.Ends.{Works}
 

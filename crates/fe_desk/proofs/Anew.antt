@@ -5,11 +5,9 @@ use Rattle.std.proofs.lemmas.List.{map-append, take_more_set}
 use Rattle.std.proofs.Math.Seq.{map-set_same}
 use Rattle.fe_state.specs.declared.entry.Entry.{Entry}
 use Rattle.fe_keeper.specs.Stands.{EachStandsFor}
-use Rattle.fe_desk.specs.Anew.{unwritten_to, anew, desk_anew}
-use Rattle.fe_desk.specs.Crash.{DeskState, disk_of}
-use Rattle.fe_desk.specs.Quiet.{AreWritten, HasNoMail}
+use Rattle.fe_desk.specs.Crash.{unwritten_to, anew, desk_anew, DeskState, disk_of}
+use Rattle.fe_desk.specs.Steps.{AreWritten, HasNoMail, find}
 use Rattle.fe_desk.specs.DeskRunState.{Client, DeskRunState}
-use Rattle.fe_desk.specs.Steps.{find}
 use Rattle.fe_desk.specs.declared.desk_inner.DeskInner.{DeskInner}
 use Rattle.fe_desk.specs.declared.port.Port.{Port}
 use Rattle.fe_desk.specs.declared.trace.Trace.{Trace}

@@ -8,7 +8,7 @@ use Rattle.fe_state.specs.State.{ServerState, IsAnswered, directory_of, after}
 use Rattle.fe_state.specs.declared.entry.Entry.{Entry}
 use Rattle.fe_state.specs.declared.entry.Entry.TheVariants.{Attached, Closed, Settled, Finished}
 use Rattle.fe_service.specs.Service.{WaitingAccesses, AreTurns, without_turn}
-use Rattle.fe_mail.specs.Mail.{session_of, mail_of}
+use Rattle.fe_mail.specs.Connections.{session_of, mail_of}
 use Rattle.fe_messages.specs.Answers.{AreAnswered}
 use Rattle.fe_messages.proofs.Answers.{finished_at}
 use Rattle.fe_messages.proofs.Boxes.{AllPosted}

@@ -16,7 +16,7 @@ use Rattle.fe_desk.specs.Acknowledged.{IsWritten, AsksFor, StepAsksFor, IsAcknow
 use Rattle.fe_desk.specs.Crash.{DeskState}
 use Rattle.fe_desk.specs.Ends.{Tears, BreaksOff, Lacks, TearsStep, discharged_desk}
 use Rattle.fe_desk.specs.DeskRunState.{Client, DeskRunState, IsFirstRunState, emptied, discharged}
-use Rattle.fe_desk.specs.Taken.{Ends, IsStep}
+use Rattle.fe_desk.specs.Runs.{Ends, IsStep}
 use Rattle.fe_desk.proofs.Holding.{AllTell, Tells, Holds, HoldsAt, some_holds, emptied_holds, discharged_holds}
 use Rattle.fe_messages.proofs.Answers.{KeepsBelow, keeps_below}
 use Rattle.fe_desk.proofs.Acknowledging.{StepAsks, acts_hold, before_holds, unread_holds, behind_holds, first_holds}

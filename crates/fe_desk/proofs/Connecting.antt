@@ -13,14 +13,11 @@ use Rattle.fe_front.specs.Front.{FrontState, is_connected}
 use Rattle.fe_front.specs.Steps.{connected, dropped}
 use Rattle.fe_front.proofs.Keeping.{dropped-keeps}
 use Rattle.fe_desk.specs.declared.port.Port.{Port}
-use Rattle.fe_desk.specs.DeskRunState.{Client, DeskRunState}
-use Rattle.fe_desk.specs.Storing.{is_making}
+use Rattle.fe_desk.specs.DeskRunState.{Client, DeskRunState, is_making}
 use Rattle.fe_desk.specs.Steps.{find, on_client, with_left, unmade, gone, new_client, clients_with, BeginsStream, Connects}
-use Rattle.fe_desk.specs.within.Places.{IsFirstAt, Joins}
+use Rattle.fe_desk.specs.within.Desk.{IsFirstAt, Joins, IsDesk, IsHanded, client_of, Stays}
 use Rattle.fe_desk.specs.Crash.{DeskState}
 use Rattle.fe_desk.specs.Acknowledged.{cut_entries}
-use Rattle.fe_desk.specs.within.Desk.{IsDesk, IsHanded, client_of}
-use Rattle.fe_desk.specs.within.Keeping.{Stays}
 use Rattle.fe_desk.proofs.Places.{numbers_changed, found_by_numbers, found_more, found_last, found_there, port_changed}
 use Rattle.fe_disk.specs.declared.disk.Disk.{Ghosts}
 

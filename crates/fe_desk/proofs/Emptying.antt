@@ -19,13 +19,10 @@ use Rattle.fe_mail.proofs.Lookups.{mails_on-with_mails, mails_on-with_mails-besi
 use Rattle.fe_front.specs.Front.{FrontState, is_connected}
 use Rattle.fe_front.specs.Steps.{taken}
 use Rattle.fe_desk.specs.declared.port.Port.{Port}
-use Rattle.fe_desk.specs.within.Desk.{client_of}
+use Rattle.fe_desk.specs.within.Desk.{client_of, KeepsFront, KeepsEmpty, IsWrittenOutLater, AreWrittenOutLater}
 use Rattle.fe_messages.specs.Mails.{reply_of, spelled}
-use Rattle.fe_desk.specs.Mails.{taken_times, emptied_box}
-use Rattle.fe_desk.specs.Output.{output_of, Extends}
-use Rattle.fe_desk.specs.DeskRunState.{Client, unwritten, written_out, all_written_out, all_emptied}
+use Rattle.fe_desk.specs.DeskRunState.{taken_times, emptied_box, output_of, Extends, Client, unwritten, written_out, all_written_out, all_emptied}
 use Rattle.fe_desk.specs.Steps.{find}
-use Rattle.fe_desk.specs.within.Keeping.{KeepsFront, KeepsEmpty, IsWrittenOutLater, AreWrittenOutLater}
 use Rattle.fe_desk.proofs.Outputs.{extends_itself, extends_both, extends_at}
 
 -- ---- what stays, over calls one after another

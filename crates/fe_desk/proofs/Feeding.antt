@@ -7,8 +7,7 @@ use Rattle.fe_wire.specs.Stream.{Decoding}
 use Rattle.fe_front.specs.Front.{FrontState}
 use Rattle.fe_desk.specs.declared.step.Step.{Step}
 use Rattle.fe_desk.specs.declared.step.Step.TheVariants as step
-use Rattle.fe_desk.specs.Mails.{emptied_box}
-use Rattle.fe_desk.specs.DeskRunState.{Client, DeskRunState, emptied, discharged, all_written_out}
+use Rattle.fe_desk.specs.DeskRunState.{emptied_box, Client, DeskRunState, emptied, discharged, all_written_out}
 use Rattle.fe_desk.specs.Steps.{find, on_client}
 use Rattle.fe_desk.specs.Messages.{read_by, ReadsNone, TellsFed}
 use Rattle.fe_desk.proofs.Reading.{each-on_client}

@@ -11,10 +11,8 @@ use Rattle.fe_desk.specs.declared.fault.DeskFault.{DeskFault}
 use Rattle.fe_desk.specs.declared.fault.DeskFault.TheVariants as desk
 use Rattle.fe_desk.specs.DeskRunState.{DeskRunState}
 use Rattle.fe_desk.specs.Crash.{DeskState, disk_of}
-use Rattle.fe_desk.specs.Ends.{Tears}
-use Rattle.fe_desk.specs.Stopping.{HasCut}
-use Rattle.fe_desk.specs.within.Keeping.{HasStore, Stays}
-use Rattle.fe_desk.specs.within.Desk.{IsReady}
+use Rattle.fe_desk.specs.Ends.{Tears, HasCut}
+use Rattle.fe_desk.specs.within.Desk.{HasStore, Stays, IsReady}
 use Rattle.fe_desk.specs.within.Goes.{Stores, Faults, Goes, GoesPiece, PieceFaults, IsUnstored, IsShort, Is}
 use Rattle.fe_desk.specs.Messages.{desk_fault_of}
 use Rattle.fe_desk.proofs.Advancing.{store_itself, advances_as, advances_itself, advances_both, advances_then, advances_after, fine_both, fine_as}

@@ -10,18 +10,16 @@ use Rattle.fe_state.specs.declared.batch.Batch.{Batch}
 use Rattle.fe_state.specs.declared.entry.Entry.{Entry}
 use Rattle.fe_state.proofs.Histories.{history-append}
 use Rattle.fe_service.proofs.Turns.{turns_place}
-use Rattle.fe_replica.specs.Taking.{IsMismatch, Elsewhere, Empty, Illegal}
+use Rattle.fe_replica.specs.Replaying.{IsMismatch, Elsewhere, Empty, Illegal}
 use Rattle.fe_front.specs.Front as front
 use Rattle.fe_front.specs.Front.{FrontState, out_length, is_connected}
 use Rattle.fe_front.specs.Posting.{IsOut, posted}
 use Rattle.fe_front.proofs.Keeping.{posted_all-keeps}
 use Rattle.fe_front.specs.declared.out.Out.{Out}
-use Rattle.fe_keeper.specs.Stands.{StandsFor, StandsForEither, EachStandsFor}
-use Rattle.fe_keeper.specs.Prefix.{LeavesPrefix}
+use Rattle.fe_keeper.specs.Stands.{StandsFor, StandsForEither, EachStandsFor, LeavesPrefix}
 use Rattle.fe_desk.specs.declared.handed.Handed.{Handed}
 use Rattle.fe_desk.specs.declared.handed.Handed.TheVariants.{Nothing, Cut, Stored}
-use Rattle.fe_desk.specs.DeskRunState.{DeskRunState}
-use Rattle.fe_desk.specs.Storing.{handing, stored, stored_from}
+use Rattle.fe_desk.specs.DeskRunState.{DeskRunState, handing, stored, stored_from}
 use Rattle.fe_desk.specs.Steps.{find}
 use Rattle.fe_desk.proofs.Advancing.{prefix_more}
 use Rattle.fe_front.proofs.Coming.{pending-posted}

@@ -13,17 +13,16 @@ use Rattle.fe_wire.specs.declared.server_message.ServerMessage.{ServerMessage}
 use Rattle.fe_front.specs.Front.{FrontState}
 use Rattle.fe_front.specs.Steps as front
 use Rattle.fe_messages.specs.Answers.{AreAnswered}
-use Rattle.fe_messages.specs.Asking.{HasOnly}
+use Rattle.fe_messages.specs.Taking.{HasOnly}
 use Rattle.fe_messages.specs.Mails.{reply_of, spelled}
 use Rattle.fe_messages.proofs.Boxes.{AllIn, all_append, boxes-taken}
 use Rattle.fe_messages.proofs.AttachmentLaws.{Loses, itself as loses_nothing, taken_loses, has_lost, both_lose}
 use Rattle.fe_desk.specs.declared.handed.Handed.{Handed}
 use Rattle.fe_desk.specs.declared.handed.Handed.TheVariants.{Nothing, Cut, Stored}
-use Rattle.fe_desk.specs.Mails.{taken_times, emptied_box}
-use Rattle.fe_desk.specs.DeskRunState.{Client, DeskRunState, written_out, all_written_out, all_emptied, emptied, discharged}
+use Rattle.fe_desk.specs.DeskRunState.{taken_times, emptied_box, Client, DeskRunState, written_out, all_written_out, all_emptied, emptied, discharged}
 use Rattle.fe_desk.specs.Acknowledged.{StandsOn, IsOnItsWay, AsksFor, entries_of, cut_entries, made_entries}
-use Rattle.fe_desk.specs.Writing.{StopsWriting, WritesSome}
-use Rattle.fe_desk.specs.within.Keeping.{KeepsFront}
+use Rattle.fe_desk.specs.Ends.{StopsWriting, WritesSome}
+use Rattle.fe_desk.specs.within.Desk.{KeepsFront}
 use Rattle.fe_desk.proofs.Emptying.{all_emptied-keeps, times-keep, itself}
 use Rattle.fe_desk.proofs.Messaging.{MayAsk, StandsTo}
 

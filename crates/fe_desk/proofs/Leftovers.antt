@@ -11,19 +11,14 @@ use Rattle.fe_state.specs.declared.entry.Entry.{Entry}
 use Rattle.fe_state.proofs.Histories.{legal-append, after-append}
 use Rattle.fe_wire.specs.declared.client_message.ClientMessage.{ClientMessage}
 use Rattle.fe_front.specs.Front.{FrontState}
-use Rattle.fe_desk.specs.DeskRunState.{Client, DeskRunState}
-use Rattle.fe_desk.specs.Storing.{roomy}
-use Rattle.fe_messages.specs.Taking.{Takes}
-use Rattle.fe_desk.specs.Taking.{TakesOne, TakesAll}
-use Rattle.fe_desk.specs.Steps.{find, on_client, with_left}
-use Rattle.fe_messages.specs.Enters.{Enters}
+use Rattle.fe_desk.specs.DeskRunState.{Client, DeskRunState, roomy}
+use Rattle.fe_messages.specs.Taking.{Takes, Enters}
+use Rattle.fe_desk.specs.Steps.{TakesOne, TakesAll, find, on_client, with_left}
 use Rattle.fe_desk.specs.Messages.{left_of, TakesNext, EndsWith}
-use Rattle.fe_desk.specs.within.Places.{IsFirstAt}
+use Rattle.fe_desk.specs.within.Desk.{IsFirstAt, HasStore, Stays, IsAhead, IsDesk, IsReady, IsHanded, unstored, client_of}
 use Rattle.fe_desk.specs.Crash.{DeskState}
 use Rattle.fe_desk.specs.declared.port.Port.{Port}
 use Rattle.fe_desk.specs.Acknowledged.{cut_entries}
-use Rattle.fe_desk.specs.within.Keeping.{HasStore, Stays}
-use Rattle.fe_desk.specs.within.Desk.{IsAhead, IsDesk, IsReady, IsHanded, unstored, client_of}
 use Rattle.fe_desk.proofs.Places.{numbers, numbers_changed, first_by_numbers, found_first, port_here, port_changed}
 use Rattle.fe_desk.proofs.Reading.{on_client-twice, find-on_client, found-on_client, relieved, none_left, left_among, with_clients, roomy-clients, roomy-keeps, takes_one_of, takes_all-append, on_client-stays}
 use Rattle.fe_desk.proofs.Advancing.{desk_as}

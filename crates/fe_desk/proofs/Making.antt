@@ -11,8 +11,7 @@ use Rattle.fe_keeper.specs.Keeper.{KeeperState}
 use Rattle.fe_keeper.specs.Stands.{StandsFor}
 use Rattle.fe_desk.specs.declared.handed.Handed.{Handed}
 use Rattle.fe_desk.specs.declared.handed.Handed.TheVariants.{Nothing, Cut, Stored}
-use Rattle.fe_desk.specs.DeskRunState.{DeskRunState}
-use Rattle.fe_desk.specs.Storing.{cut, cleared, committed, made, is_making, with_room, begun_room, roomy}
+use Rattle.fe_desk.specs.DeskRunState.{DeskRunState, cut, cleared, committed, made, is_making, with_room, begun_room, roomy}
 use Rattle.fe_desk.specs.Crash.{DeskState, Advances, disk_of}
 use Rattle.fe_desk.specs.within.Desk.{IsDesk, IsAhead, IsHanded}
 use Rattle.fe_front.proofs.Keeping.{posted_all-keeps}

@@ -21,11 +21,10 @@ use Rattle.fe_messages.proofs.Recorded.{kept_of, kept_after}
 use Rattle.fe_messages.proofs.Answers.{KeepsBelow, finished_at, finished_more, keeps_below, legal_answered}
 use Rattle.fe_messages.proofs.Boxes.{all_weaker}
 use Rattle.fe_wire.specs.declared.server_message.ServerMessage.{ServerMessage}
-use Rattle.fe_keeper.specs.Laws.{StandsForOne}
+use Rattle.fe_keeper.specs.Damage.{StandsForOne}
 use Rattle.fe_desk.specs.Acknowledged.{AnswersStand, StandsOn, IsWritten, IsAcknowledged, entries_of, stored_groups}
 use Rattle.fe_desk.specs.Crash.{DeskState}
-use Rattle.fe_desk.specs.Laws.{Life, AreLives, kept_groups}
-use Rattle.fe_desk.specs.Lives.{Stop, all_groups, handed_by, stored_by, IsStopOf, AreStops, FinishOnceIn, AreOneStore, StopsAreLives}
+use Rattle.fe_desk.specs.Lives.{Life, AreLives, kept_groups, Stop, all_groups, handed_by, stored_by, IsStopOf, AreStops, FinishOnceIn, AreOneStore, StopsAreLives}
 use Rattle.fe_desk.specs.DeskRunState.{DeskRunState}
 use Rattle.fe_desk.proofs.Acknowledging.{entries-append, stands_behind}
 use Rattle.fe_desk.proofs.Lives.{lives_join}

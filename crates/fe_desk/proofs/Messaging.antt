@@ -13,8 +13,7 @@ use Rattle.fe_front.specs.Call.{Called, kept_at}
 use Rattle.fe_front.specs.declared.outcome.Outcome.{Outcome}
 use Rattle.fe_front.specs.declared.outcome.Outcome.TheVariants as outcome
 use Rattle.fe_messages.specs.Answers.{IsAnswerIn, AreAnswered}
-use Rattle.fe_messages.specs.Asking.{HasOnly}
-use Rattle.fe_messages.specs.Taking.{Takes}
+use Rattle.fe_messages.specs.Taking.{HasOnly, Takes}
 use Rattle.fe_messages.proofs.Boxes.{AllIn}
 use Rattle.fe_messages.proofs.Boxing.{message_boxes}
 use Rattle.fe_messages.proofs.AttachmentLaws.{addressed_has}

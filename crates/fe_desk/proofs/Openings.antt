@@ -13,20 +13,18 @@ use Rattle.fe_disk.specs.Runs.{without_disk}
 use Rattle.fe_journal.specs.Found.{AsksToOpen}
 use Rattle.fe_disk.specs.declared.calls.Calls.{Calls}
 use Rattle.fe_keeper.specs.Keeper.{KeeperState}
-use Rattle.fe_keeper.specs.Stands.{StandsFor, EachStandsFor}
+use Rattle.fe_keeper.specs.Stands.{StandsFor, EachStandsFor, LeavesPrefix}
 use Rattle.fe_keeper.specs.declared.fault.Fault.{Fault}
 use Rattle.fe_keeper.specs.declared.fault.Fault.TheVariants as keeper
 use Rattle.fe_desk.specs.declared.fault.DeskFault.{DeskFault}
 use Rattle.fe_desk.specs.declared.fault.DeskFault.TheVariants.{Store, NoMemory}
 use Rattle.fe_keeper.specs.Damage as store
 use Rattle.fe_keeper.proofs.Damages.{lacks_standing}
-use Rattle.fe_keeper.specs.Prefix.{LeavesPrefix}
 use Rattle.fe_desk.specs.Messages.{desk_fault_of}
-use Rattle.fe_desk.specs.Opened.{disk_after, TellsOpening}
+use Rattle.fe_desk.specs.Runs.{disk_after, TellsOpening, IsTraceOf}
 use Rattle.fe_desk.specs.declared.handed.Handed.{Handed}
 use Rattle.fe_desk.specs.declared.desk_inner.DeskInner.{DeskInner}
 use Rattle.fe_desk.specs.declared.port.Port.{Port}
-use Rattle.fe_desk.specs.Traces.{IsTraceOf}
 use Rattle.fe_desk.specs.DeskRunState.{Client, DeskRunState, IsFirstRunState}
 use Rattle.fe_desk.specs.Crash.{DeskState, IsFrom, disk_of}
 use Rattle.fe_desk.specs.Acknowledged.{cut_entries}

@@ -8,11 +8,8 @@ use Rattle.fe_desk.specs.declared.handed.Handed.{Handed}
 use Rattle.fe_desk.specs.declared.handed.Handed.TheVariants.{Nothing, Cut, Stored}
 use Rattle.fe_desk.specs.declared.step.Step.{Step}
 use Rattle.fe_desk.specs.declared.step.Step.TheVariants as step
-use Rattle.fe_desk.specs.Mails.{emptied_box}
+use Rattle.fe_desk.specs.DeskRunState.{emptied_box, output_of, Extends, Client, DeskRunState, unwritten, all_written_out, stored, stored_from, posted, posted_from, is_making}
 use Rattle.fe_desk.specs.Messages.{outputs}
-use Rattle.fe_desk.specs.Output.{output_of, Extends}
-use Rattle.fe_desk.specs.DeskRunState.{Client, DeskRunState, unwritten, all_written_out}
-use Rattle.fe_desk.specs.Storing.{stored, stored_from, posted, posted_from, is_making}
 use Rattle.fe_desk.specs.Steps.{find, on_client, with_left, with_decoder, new_client, clients_with, unmade, Connects, gone, TakesPiece, TakesFrom, TakesBytes, after_frame, Acts}
 use Rattle.fe_desk.proofs.Reading.{each-on_client, takes_all-keeps}
 

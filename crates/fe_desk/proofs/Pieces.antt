@@ -7,15 +7,12 @@ use Rattle.fe_wire.specs.Stream.{Decoding, CompletesMessage}
 use Rattle.fe_wire.specs.declared.client_message.ClientMessage.{ClientMessage}
 use Rattle.fe_front.specs.Front.{is_connected}
 use Rattle.fe_desk.specs.declared.port.Port.{Port}
-use Rattle.fe_desk.specs.DeskRunState.{Client, DeskRunState}
-use Rattle.fe_desk.specs.Storing.{is_making}
-use Rattle.fe_desk.specs.Taking.{TakesAll}
-use Rattle.fe_desk.specs.Steps.{find, on_client, with_left, with_decoder, gone, after_frame, Reads, TakesPiece, TakesFrom, TakesBytes}
+use Rattle.fe_desk.specs.DeskRunState.{Client, DeskRunState, is_making}
+use Rattle.fe_desk.specs.Steps.{TakesAll, find, on_client, with_left, with_decoder, gone, after_frame, Reads, TakesPiece, TakesFrom, TakesBytes}
 use Rattle.fe_desk.specs.Messages.{left_of, outputs, read_by, EndsWith, ReadsNone}
-use Rattle.fe_desk.specs.Stopping.{TakesFirst, StopsBefore, StopsBehind}
+use Rattle.fe_desk.specs.Ends.{TakesFirst, StopsBefore, StopsBehind}
 use Rattle.fe_desk.specs.Crash.{DeskState}
-use Rattle.fe_desk.specs.within.Places.{IsFirstAt}
-use Rattle.fe_desk.specs.within.Desk.{IsDesk, client_of}
+use Rattle.fe_desk.specs.within.Desk.{IsFirstAt, IsDesk, client_of}
 use Rattle.fe_desk.specs.within.Goes.{LeavesSome, LeavesStream, TakesLeft, TakesStream}
 use Rattle.fe_desk.proofs.Places.{found_first, number_here, client_there, numbers, numbers_changed, first_by_numbers, port_here, port_changed}
 use Rattle.fe_desk.proofs.Reading.{on_client-twice, find-on_client, on_client-alike, on_client-stays, found-on_client, each-on_client, relieved, left_among, left_emptied, takes_all-keeps, first_again, piece_again, later_again}

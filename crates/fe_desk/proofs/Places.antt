@@ -8,10 +8,9 @@ use Rattle.std.specs.List.{position_from}
 use Rattle.std.proofs.lemmas.Iterator.Adapters.{position_from-zero}
 use Rattle.std.proofs.lemmas.Option.{none-some, slice_get_read, same_Some, slice_get-map}
 use Rattle.fe_desk.specs.declared.port.Port.{Port}
-use Rattle.fe_desk.specs.within.Desk.{client_of}
+use Rattle.fe_desk.specs.within.Desk.{client_of, IsFirstAt, client_number_at}
 use Rattle.fe_desk.specs.DeskRunState.{Client}
 use Rattle.fe_desk.specs.Steps.{find, on_client}
-use Rattle.fe_desk.specs.within.Places.{IsFirstAt, client_number_at}
 
 -- the numbers of clients, in their order
 abbrev pub numbers : List Client → List ℕ

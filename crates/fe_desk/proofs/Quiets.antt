@@ -15,16 +15,12 @@ use Rattle.fe_desk.specs.declared.handed.Handed.TheVariants.{Nothing, Cut, Store
 use Rattle.fe_desk.specs.declared.desk_inner.DeskInner.{DeskInner}
 use Rattle.fe_desk.specs.declared.step.Step.{Step}
 use Rattle.fe_desk.specs.declared.step.Step.TheVariants as step
-use Rattle.fe_desk.specs.Mails.{emptied_box}
-use Rattle.fe_desk.specs.DeskRunState.{Client, DeskRunState, all_emptied, all_written_out, emptied, discharged}
-use Rattle.fe_desk.specs.Steps.{find, on_client, Acts, Connects, new_client, unmade}
-use Rattle.fe_desk.specs.Storing.{stored_from, is_making}
-use Rattle.fe_desk.specs.Quiet.{HasNoMail, AreWritten, mails_nothing}
-use Rattle.fe_desk.specs.within.Desk.{client_of, run_state_of}
+use Rattle.fe_desk.specs.DeskRunState.{emptied_box, Client, DeskRunState, all_emptied, all_written_out, emptied, discharged, stored_from, is_making}
+use Rattle.fe_desk.specs.Steps.{find, on_client, Acts, Connects, new_client, unmade, HasNoMail, AreWritten, mails_nothing}
+use Rattle.fe_desk.specs.within.Desk.{client_of, run_state_of, AreWrittenOutLater, KeepsFront}
 use Rattle.fe_desk.proofs.Emptying.{AreQuiet, quiet_all_emptied, quiet_all_written_out}
-use Rattle.fe_desk.specs.within.Keeping.{AreWrittenOutLater, KeepsFront}
 use Rattle.fe_desk.specs.within.Goes.{Empties}
-use Rattle.fe_desk.specs.Writing.{WritesFirst}
+use Rattle.fe_desk.specs.Ends.{WritesFirst}
 use Rattle.fe_desk.proofs.StepParts.{all_written, some_written, none_boxed, discharged_at}
 use Rattle.fe_desk.proofs.Writing.{writes_some}
 

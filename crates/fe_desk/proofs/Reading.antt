@@ -9,11 +9,9 @@ use Rattle.fe_front.specs.Front.{FrontState, is_connected, has_room}
 use Rattle.fe_front.specs.Steps.{unboxed, departed, dropped}
 use Rattle.fe_desk.specs.declared.handed.Handed.{Handed}
 use Rattle.fe_desk.specs.declared.handed.Handed.TheVariants.{Nothing, Cut, Stored}
-use Rattle.fe_desk.specs.DeskRunState.{Client, DeskRunState}
-use Rattle.fe_desk.specs.Storing.{cut, stored, stored_from, posted, posted_from, cleared, committed, is_making, made, with_room, begun_room, roomy}
+use Rattle.fe_desk.specs.DeskRunState.{Client, DeskRunState, cut, stored, stored_from, posted, posted_from, cleared, committed, is_making, made, with_room, begun_room, roomy}
 use Rattle.fe_messages.specs.Taking.{Takes}
-use Rattle.fe_desk.specs.Taking.{TakesOne, TakesAll}
-use Rattle.fe_desk.specs.Steps.{find, on_client, with_left, with_decoder, unmade, gone, after_frame, Reads, TakesPiece, TakesFrom}
+use Rattle.fe_desk.specs.Steps.{TakesOne, TakesAll, find, on_client, with_left, with_decoder, unmade, gone, after_frame, Reads, TakesPiece, TakesFrom}
 use Rattle.fe_desk.specs.Messages.{left_of}
 
 -- ---- one client among others

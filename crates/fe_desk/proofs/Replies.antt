@@ -6,7 +6,7 @@ use Rattle.std.proofs.lemmas.Grind.{flat_map-append}
 use Rattle.std.proofs.lemmas.List.{append-nil}
 use Rattle.fe_wire.specs.Spelling.{reply_spelling, ReplyFits}
 use Rattle.fe_wire.specs.declared.server_message.ServerMessage.{ServerMessage}
-use Rattle.fe_desk.specs.Frames.{AreReplies}
+use Rattle.fe_desk.specs.Messages.{AreReplies}
 
 all_append : (xs ys : List ServerMessage) → AllByRecursion ReplyFits xs → AllByRecursion ReplyFits ys → AllByRecursion ReplyFits (xs ++ ys)
 all_append [] ys f g = g

@@ -6,15 +6,13 @@ use Rattle.fe_disk.specs.Runs.{LeavesOnly}
 use Rattle.fe_disk.proofs.Moments.{started, joined, weaker}
 use Rattle.fe_state.specs.State.{ServerState}
 use Rattle.fe_state.specs.declared.entry.Entry.{Entry}
-use Rattle.fe_keeper.specs.Stands.{StandsFor, EachStandsFor}
-use Rattle.fe_keeper.specs.Prefix.{LeavesPrefix}
+use Rattle.fe_keeper.specs.Stands.{StandsFor, EachStandsFor, LeavesPrefix}
 use Rattle.fe_desk.specs.declared.fault.DeskFault.{DeskFault}
 use Rattle.fe_desk.specs.declared.running.Ran.{Ran}
 use Rattle.fe_desk.specs.declared.step.Step.{Step}
 use Rattle.fe_desk.specs.declared.trace.Trace.{Trace}
 use Rattle.fe_desk.specs.Crash.{DeskState, IsFrom, Advances, disk_of}
-use Rattle.fe_desk.specs.Runs.{GoesTo, IsOpened, IsRunTo, whole}
-use Rattle.fe_desk.specs.Taken.{IsStep, AreSteps}
+use Rattle.fe_desk.specs.Runs.{GoesTo, IsOpened, IsRunTo, whole, IsStep, AreSteps}
 use Rattle.fe_disk.specs.declared.disk.Disk.{Ghosts}
 
 -- a step more

@@ -8,13 +8,11 @@ use Rattle.fe_keeper.specs.Keeper.{KeeperState}
 use Rattle.fe_desk.specs.declared.desk_inner.DeskInner.{DeskInner}
 use Rattle.fe_desk.specs.declared.port.Port.{Port}
 use Rattle.fe_desk.specs.declared.step.Step.{Step}
-use Rattle.fe_desk.specs.Output.{output_of, Extends}
-use Rattle.fe_desk.specs.DeskRunState.{Client, DeskRunState, emptied, discharged, all_written_out, all_emptied}
+use Rattle.fe_desk.specs.DeskRunState.{output_of, Extends, Client, DeskRunState, emptied, discharged, all_written_out, all_emptied}
 use Rattle.fe_desk.specs.Steps.{find, Acts, DeskStep}
 use Rattle.fe_desk.specs.Messages.{outputs}
-use Rattle.fe_desk.specs.within.Keeping.{AreWrittenOutLater, HasStore, KeepsFront}
+use Rattle.fe_desk.specs.within.Desk.{AreWrittenOutLater, HasStore, KeepsFront, IsDesk, IsAhead, client_of, desk_of, run_state_of}
 use Rattle.fe_desk.specs.within.Goes.{Empties, HasEmptied, Settles, StillHolds}
-use Rattle.fe_desk.specs.within.Desk.{IsDesk, IsAhead, client_of, desk_of, run_state_of}
 use Rattle.fe_desk.proofs.Advancing.{desk_as, tied_as}
 use Rattle.fe_desk.proofs.Outputs.{all_written_out-extends}
 use Rattle.fe_desk.proofs.Emptying.{boxes_empty, no_box}

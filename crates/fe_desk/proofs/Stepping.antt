@@ -12,9 +12,8 @@ use Rattle.fe_desk.specs.Ends.{discharged_desk}
 use Rattle.fe_desk.specs.Messages.{outputs}
 use Rattle.fe_desk.specs.DeskRunState.{DeskRunState, discharged}
 use Rattle.fe_desk.specs.Steps.{Acts, DeskStep}
-use Rattle.fe_desk.specs.Taken.{Ends, IsSound, IsStep}
-use Rattle.fe_desk.specs.within.Desk.{IsDesk}
-use Rattle.fe_desk.specs.within.Keeping.{HasStore}
+use Rattle.fe_desk.specs.Runs.{Ends, IsSound, IsStep}
+use Rattle.fe_desk.specs.within.Desk.{IsDesk, HasStore}
 use Rattle.fe_desk.specs.within.Goes.{ActEnds, GoesAct, HasEmptied, StillHolds}
 use Rattle.fe_desk.proofs.Advancing.{fine_as, fine_both}
 use Rattle.fe_desk.proofs.Feeding.{settling_reads, fed_discharged}

@@ -7,13 +7,11 @@ use Rattle.fe_front.specs.Front.{has_room}
 use Rattle.fe_wire.specs.declared.client_message.ClientMessage.{ClientMessage}
 use Rattle.fe_desk.specs.declared.handed.Handed.{Handed}
 use Rattle.fe_desk.specs.declared.handed.Handed.TheVariants.{Nothing, Cut, Stored}
-use Rattle.fe_desk.specs.DeskRunState.{Client, DeskRunState}
-use Rattle.fe_desk.specs.Storing.{cut, cleared, committed, made, begun_room, roomy, is_making}
+use Rattle.fe_desk.specs.DeskRunState.{Client, DeskRunState, cut, cleared, committed, made, begun_room, roomy, is_making}
 use Rattle.fe_desk.specs.Steps.{on_client, with_left}
 use Rattle.fe_desk.specs.Messages.{left_of}
-use Rattle.fe_desk.specs.Stopping.{HasCut, MayBegin, StopsMaking, StopsBefore, room_begun}
+use Rattle.fe_desk.specs.Ends.{HasCut, MayBegin, StopsMaking, StopsBefore, room_begun, Tears}
 use Rattle.fe_desk.specs.Crash.{DeskState}
-use Rattle.fe_desk.specs.Ends.{Tears}
 use Rattle.fe_desk.specs.within.Desk.{IsHanded}
 use Rattle.fe_desk.specs.within.Goes.{GoesTo}
 use Rattle.fe_disk.specs.declared.disk.Disk.{Ghosts}

@@ -2,14 +2,12 @@
 use Rattle.std.proofs.Common.{◌≡◌, ℕ, Bool, true, false, true≢false, [], ◌⊎◌, inl, inr, ⊎_elim, sym, ap, ◌∙◌}
 use Rattle.std.specs.Prelude.{IsTrue}
 use Rattle.fe_mail.specs.Connections.{mails_on}
-use Rattle.fe_front.specs.ConnectionSet.{may_have}
+use Rattle.fe_front.specs.Posting.{may_have, HasItsBox}
 use Rattle.fe_front.specs.Front.{FrontState}
-use Rattle.fe_front.specs.Noting.{HasItsBox}
 use Rattle.fe_front.specs.declared.connection_set.ConnectionSet.{ConnectionSet}
 use Rattle.fe_desk.specs.declared.step.Step.{Step}
 use Rattle.fe_desk.specs.declared.step.Step.TheVariants as step
-use Rattle.fe_desk.specs.within.WithMail.{HasAllWithMail}
-use Rattle.fe_desk.specs.within.Keeping.{KeepsEmpty}
+use Rattle.fe_desk.specs.within.Desk.{HasAllWithMail, KeepsEmpty}
 
 -- those whose boxes a post changed, where no box had a mail
 pub changed_since : (f g : FrontState) (set : ConnectionSet) → ((conn : ℕ) → mails_on f.connections conn ≡ []) → ((conn : ℕ) → IsTrue (may_have set conn) ⊎ HasItsBox f g conn) → HasAllWithMail g set

@@ -14,9 +14,8 @@ use Rattle.fe_front.specs.Steps.{taken}
 use Rattle.fe_messages.specs.Mails.{reply_of, spelled}
 use Rattle.fe_desk.specs.declared.desk_inner.DeskInner.{DeskInner}
 use Rattle.fe_desk.specs.declared.port.Port.{Port}
-use Rattle.fe_desk.specs.Mails.{taken_times, emptied_box}
-use Rattle.fe_desk.specs.DeskRunState.{Client, written_out, all_written_out, all_emptied}
-use Rattle.fe_desk.specs.Writing.{StopsWriting, WritesFirst, WritesSome}
+use Rattle.fe_desk.specs.DeskRunState.{taken_times, emptied_box, Client, written_out, all_written_out, all_emptied}
+use Rattle.fe_desk.specs.Ends.{StopsWriting, WritesFirst, WritesSome}
 use Rattle.fe_desk.specs.within.Desk.{client_of, run_state_of}
 use Rattle.fe_desk.proofs.Emptying.{box_of, left_in, replaced}
 

@@ -14,7 +14,7 @@ use Rattle.fe_wire.specs.Stream.{Decoding}
 use Rattle.fe_wire.specs.declared.client_message.ClientMessage.{ClientMessage}
 use Rattle.fe_front.specs.Front.{FrontState}
 use Rattle.fe_messages.specs.Answers.{IsAnswerIn, AreAnswered}
-use Rattle.fe_messages.specs.Asking.{AsksOnly}
+use Rattle.fe_messages.specs.Taking.{AsksOnly}
 use Rattle.fe_messages.specs.Mails.{reply_of, spelled}
 use Rattle.fe_desk.specs.declared.fault.DeskFault.{DeskFault}
 use Rattle.fe_desk.specs.declared.handed.Handed.{Handed}
@@ -25,7 +25,7 @@ use Rattle.fe_desk.specs.Crash.{DeskState}
 use Rattle.fe_desk.specs.Messages.{read_by}
 use Rattle.fe_desk.specs.DeskRunState.{Client, DeskRunState, IsFirstRunState}
 use Rattle.fe_desk.specs.Steps.{Reads}
-use Rattle.fe_desk.specs.Taken.{IsStep}
+use Rattle.fe_desk.specs.Runs.{IsStep}
 use Rattle.fe_disk.specs.declared.disk.Disk.{Ghosts}
 
 -- the entries of groups, in their order

@@ -1,20 +1,19 @@
 -- What a stop leaves of a desk's store. A desk is the front, its connections' streams and the keeper of a store, in one thread.
 -- See `docs/model.md`, "The desk".
-use Rattle.std.specs.Prelude.{◌≡◌, ◌↔◌, ℕ, ◌≤◌, false, List, ◌++◌, take}
+use Rattle.std.specs.Prelude.{◌≡◌, ◌↔◌, ℕ, ◌≤◌, false, List, ◌++◌, take, [], map}
 use Rattle.fe_disk.specs.Runs.{LeavesOnly}
 use Rattle.fe_state.specs.State.{ServerState}
 use Rattle.fe_state.specs.History.{IsHistory, after_groups}
 use Rattle.fe_state.specs.declared.entry.Entry.{Entry}
 use Rattle.fe_keeper.specs.Ends.{Works, Breaks}
 use Rattle.fe_keeper.specs.Keeper.{KeeperState}
-use Rattle.fe_keeper.specs.Prefix.{LeavesPrefix}
+use Rattle.fe_keeper.specs.Stands.{LeavesPrefix}
 use Rattle.fe_keeper.specs.declared.fault.Fault.{Fault}
 use Rattle.fe_keeper.specs.declared.fault.Fault.TheVariants as keeper
 use Rattle.fe_desk.specs.declared.fault.DeskFault.{DeskFault}
 use Rattle.fe_desk.specs.declared.fault.DeskFault.TheVariants as desk
 use Rattle.fe_desk.specs.declared.handed.Handed.{Handed}
-use Rattle.fe_desk.specs.DeskRunState.{DeskRunState}
-use Rattle.fe_desk.specs.Storing.{handing}
+use Rattle.fe_desk.specs.DeskRunState.{DeskRunState, Client, handing}
 use Rattle.fe_disk.specs.declared.disk.Disk.{Ghosts}
 
 -- a desk as its callers see it: where its run stands, its keeper, and how many of the groups are known to be stored
@@ -63,3 +62,17 @@ abbrev pub TellsStep : {D : Type 0} → Ghosts D → DeskState D → DeskState D
 TellsStep model old new (desk.Store cause) = (cause ≡ keeper.Device) × Breaks model old.keeper new.keeper
 TellsStep model old new (desk.NoMemory fed) = Works model old.keeper new.keeper
 TellsStep model old new desk.Unwritten = Works model old.keeper new.keeper
+
+-- ---- a desk whose trace begins anew
+
+-- the client, with nothing written to it
+abbrev pub unwritten_to : Client → Client
+unwritten_to c = record c { written = [] }
+
+-- the state of the run, with no group and with nothing written to any client
+abbrev pub anew : DeskRunState → DeskRunState
+anew s = record s { groups = []; clients = map unwritten_to s.clients }
+
+-- the desk, with such a state of its run and no group known to be stored
+abbrev pub desk_anew : {D : Type 0} → DeskState D → DeskState D
+desk_anew d = record d { run_state = anew d.run_state; synced = 0 }

@@ -1,19 +1,33 @@
 -- Where a run of the desk stands, apart from the store: the front, what was written to each connection number, the batch on its way to
 -- the store, and the groups that were handed to it (`docs/model.md`, "The desk").
-use Rattle.std.specs.Prelude.{◌≡◌, ℕ, Bool, false, List, [], ◌∷◌, ◌++◌, Option, None, if◌then◌else◌}
+use Rattle.std.specs.Prelude.{ℕ, zero, suc, length, ◌≡◌, Bool, false, List, [], ◌∷◌, ◌++◌, Option, None, if◌then◌else◌, nat_eq}
+use Rattle.fe_mail.specs.Connections.{mails_on}
+use Rattle.fe_front.specs.Front.{FrontState, IsFirst, has_room}
+use Rattle.fe_front.specs.Steps.{taken}
 use Rattle.std.specs.Option.{option_map_or}
 use Rattle.fe_state.specs.State.{ServerState}
 use Rattle.fe_state.specs.declared.entry.Entry.{Entry}
-use Rattle.fe_mail.specs.Connections.{mails_on}
 use Rattle.fe_wire.specs.Spelling.{reply_spelling}
 use Rattle.fe_wire.specs.Stream.{Decoding}
 use Rattle.fe_wire.specs.declared.client_message.ClientMessage.{ClientMessage}
 use Rattle.fe_wire.specs.declared.server_message.ServerMessage.{ServerMessage}
-use Rattle.fe_front.specs.Front.{FrontState, IsFirst}
 use Rattle.fe_desk.specs.declared.handed.Handed.{Handed}
-use Rattle.fe_desk.specs.declared.handed.Handed.TheVariants.{Nothing}
+use Rattle.fe_desk.specs.declared.handed.Handed.TheVariants.{Nothing, Cut, Stored}
 use Rattle.fe_messages.specs.Mails.{spelled}
-use Rattle.fe_desk.specs.Mails.{emptied_box}
+use Rattle.fe_state.specs.declared.batch.Batch.{Batch}
+use Rattle.fe_front.specs.Steps as front
+use Rattle.fe_front.specs.Posting as posting
+
+-- the front after this many mails of a connection were taken
+abbrev pub taken_times : ℕ → FrontState → ℕ → FrontState
+taken_times zero f conn = f
+taken_times (suc n) f conn = taken_times n (taken f conn) conn
+
+-- the front after all mails of a connection were taken
+abbrev pub emptied_box : FrontState → ℕ → FrontState
+emptied_box f conn = taken_times (length (mails_on f.connections conn)) f conn
+
+-- ---- the state of a run
 
 -- A connection number as the desk knows it: what it has read of the stream; the messages that came whole and were not taken, because
 -- memory was short or the device failed; the reply of a mail that was taken out of its box and is not written; and what was written to it.
@@ -71,3 +85,75 @@ emptied s = record s { front = all_emptied s.front s.clients; clients = all_writ
 -- the mails that an earlier step left are written first
 abbrev pub discharged : DeskRunState → DeskRunState
 discharged s = if s.owes then emptied s else s
+
+-- ---- how what is written grows
+
+-- a client's connection number, and what was written to it
+abbrev pub output_of : Client → ℕ × List ℕ
+output_of c = (c.conn, c.written)
+
+-- What was written to each connection number comes first in what is written to it now, and numbers that came since come after.
+abbrev pub Extends : List (ℕ × List ℕ) → List (ℕ × List ℕ) → Type 0
+Extends [] new = Unit {0}
+Extends (x ∷ xs) [] = ⊥
+Extends (x ∷ xs) (y ∷ ys) = (y.0 ≡ x.0) × ((more : List ℕ) × (y.1 ≡ x.1 ++ more)) × Extends xs ys
+
+-- ---- the way of a batch: it is cut, stored as a group, and posted
+
+-- the batch on its way after a cut: the one that was cut, if there is one, or the one before
+abbrev pub handed_after : Handed → Option Batch → Handed
+handed_after before batch = option_map_or Cut batch before
+
+-- what is pending is cut into a batch, if there is something and no batch is out
+abbrev pub cut : DeskRunState → DeskRunState
+cut s = record s { front = front.cut s.front; handed = handed_after s.handed (front.next_batch s.front) }
+
+-- the run, with this batch on its way to the store
+abbrev pub handing : DeskRunState → Handed → DeskRunState
+handing s handed = record s { handed = handed }
+
+-- the batch that is cut and not yet stored becomes a group of the store
+abbrev pub stored_from : Handed → DeskRunState → DeskRunState
+stored_from Nothing s = s
+stored_from (Cut batch) s = record s { handed = Stored batch; groups = s.groups ++ batch.entries ∷ [] }
+stored_from (Stored batch) s = s
+
+abbrev pub stored : DeskRunState → DeskRunState
+stored s = stored_from s.handed s
+
+-- the batch that is stored is posted, which ends the making of room
+abbrev pub posted_from : Handed → DeskRunState → DeskRunState
+posted_from Nothing s = s
+posted_from (Cut batch) s = s
+posted_from (Stored batch) s = record s { front = posting.posted s.front batch; handed = Nothing; making = None }
+
+abbrev pub posted : DeskRunState → DeskRunState
+posted s = posted_from s.handed s
+
+-- the batch that is out is stored, if it is not yet, and posted
+abbrev pub cleared : DeskRunState → DeskRunState
+cleared s = posted (stored s)
+
+-- what is pending is cut, stored and posted
+abbrev pub committed : DeskRunState → DeskRunState
+committed s = cleared (cut s)
+
+-- whether room is being made for a message of this connection
+abbrev pub is_making : DeskRunState → ℕ → Bool
+is_making s conn = option_map_or (nat_eq conn) s.making false
+
+-- room is not being made any more
+abbrev pub made : DeskRunState → DeskRunState
+made s = record s { making = None }
+
+-- Room is made for a message: if too much is pending, what is out is stored and posted, and then what is pending.
+abbrev pub with_room : DeskRunState → DeskRunState
+with_room s = if has_room s.front then s else made (committed (cleared s))
+
+-- if making room was begun for a message of this connection before, that is finished
+abbrev pub begun_room : DeskRunState → ℕ → DeskRunState
+begun_room s conn = if is_making s conn then made (cleared s) else s
+
+-- Room is made for a message of this connection. If it was begun before, that is finished first.
+abbrev pub roomy : DeskRunState → ℕ → DeskRunState
+roomy s conn = with_room (begun_room s conn)

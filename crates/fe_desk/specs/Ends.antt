@@ -1,14 +1,165 @@
--- How a step of a desk ends if memory is short for it, or if the device fails in it (`docs/model.md`, "The desk").
-use Rattle.std.specs.Prelude.{◌≡◌, ◌⊎◌, ℕ, Bool, true, false, [], ◌∷◌, ◌++◌, List, length, IsTrue}
-use Rattle.fe_front.specs.Front.{is_connected}
-use Rattle.fe_keeper.specs.Keeper.{can_begin}
+-- What the steps of a desk do to its store, and how a step ends if memory is short for it or the device fails in it.
+-- See `docs/model.md`, "The desk".
+use Rattle.std.specs.Prelude.{◌≡◌, ◌≢◌, ◌⊎◌, ◌+◌, true, List, [], ◌∷◌, ◌++◌, length, Some, None, MatchBool, ℕ, Bool, false, IsTrue}
+use Rattle.std.specs.Option.{option_map_or}
+use Rattle.fe_mail.specs.Connections.{mails_on}
+use Rattle.fe_mail.specs.declared.mail.Mail.{Mail}
+use Rattle.fe_wire.specs.Spelling.{reply_spelling}
+use Rattle.fe_front.specs.Front.{FrontState, is_connected, has_room}
+use Rattle.fe_messages.specs.Mails.{reply_of, spelled}
+use Rattle.fe_desk.specs.DeskRunState.{taken_times, Client, DeskRunState, all_written_out, all_emptied, discharged, cut, cleared, begun_room, is_making}
+use Rattle.fe_codec.specs.Image.{image_spelling}
+use Rattle.fe_format.specs.declared.format.Format.TheVariants.{Two}
+use Rattle.fe_state.specs.State.{after_all}
+use Rattle.fe_state.specs.declared.entry.Entry.{Entry}
+use Rattle.fe_keeper.specs.Keeper.{KeeperState, StoreState, made_room, appended, can_begin, begun, stepped, finished}
 use Rattle.fe_desk.specs.declared.step.Step.{Step}
 use Rattle.fe_desk.specs.declared.step.Step.TheVariants as step
-use Rattle.fe_desk.specs.DeskRunState.{DeskRunState, discharged}
-use Rattle.fe_desk.specs.Writing.{WritesSome}
-use Rattle.fe_desk.specs.Stopping.{HasCut, StopsBefore, StopsBehind, StopsShort}
 use Rattle.fe_desk.specs.Crash.{DeskState}
-use Rattle.fe_desk.specs.Checks.{StoresMore}
+use Rattle.fe_state.specs.declared.batch.Batch.{Batch}
+use Rattle.fe_wire.specs.Stream.{Decoding, CompletesMessage}
+use Rattle.fe_wire.specs.declared.client_message.ClientMessage.{ClientMessage}
+use Rattle.fe_desk.specs.declared.handed.Handed.TheVariants as handed
+use Rattle.fe_desk.specs.Steps.{TakesAll, with_left, with_decoder, Reads}
+use Rattle.fe_desk.specs.Messages.{left_of, read_by}
+
+-- The first mails of a client are written. Memory is short for the next one: it has left its box, and its reply waits.
+pub record StopsAtMail (f : FrontState) (c : Client) (g : FrontState) (d : Client) : Type 0 where
+  pub first : List Mail
+  pub next : Mail
+  pub rest : List Mail
+  pub box : mails_on f.connections c.conn ≡ first ++ next ∷ rest
+  pub front : g ≡ taken_times (length first + 1) f c.conn
+  pub client : d ≡ record c { reply = Some (reply_of next); written = c.written ++ (option_map_or reply_spelling c.reply [] ++ spelled first) }
+
+-- Memory is short for a client: for the reply that waits, and nothing is written; or for a mail.
+abbrev pub StopsWriting : FrontState → Client → FrontState → Client → Type 0
+StopsWriting f c g d = ((c.reply ≢ None) × (g ≡ f) × (d ≡ c)) ⊎ StopsAtMail f c g d
+
+-- The clients' mails are written, one client after another, up to one for which memory is short.
+pub record WritesFirst (f : FrontState) (cs : List Client) (g : FrontState) (ds : List Client) : Type 0 where
+  pub before : List Client
+  pub client : Client
+  pub behind : List Client
+  pub last : Client
+  pub all : cs ≡ before ++ client ∷ behind
+  pub stops : StopsWriting (all_emptied f before) client g last
+  pub now : ds ≡ all_written_out f before ++ last ∷ behind
+
+-- The boxes are not all emptied: mails are owed, and the reply of one of them waits.
+pub record WritesSome (s t : DeskRunState) : Type 0 where
+  pub front : FrontState
+  pub clients : List Client
+  pub writes : WritesFirst s.front s.clients front clients
+  pub after : t ≡ record s { front = front; clients = clients; owes = true }
+
+-- ---- what steps do to the store
+
+-- the store is this one, with the disk as it is now
+abbrev pub IsStoreNow : {D : Type 0} → StoreState D → StoreState D → Type 0
+IsStoreNow is now = now ≡ record is { disk = now.disk }
+
+-- ---- groups
+
+-- a group is appended, after room is made for it if there is none, and the replica has its entries
+pub record IsAppended {D : Type 0} (old : KeeperState D) (group : List Entry) (new : KeeperState D) : Type 0 where
+  pub state : new.state ≡ after_all old.state group
+  pub store : IsStoreNow (appended (made_room old.store group) group) new.store
+
+-- groups are appended one after the other, and nothing else is done
+abbrev pub AreAppended : {D : Type 0} → KeeperState D → List (List Entry) → KeeperState D → Type 0
+AreAppended old [] new = new ≡ old
+AreAppended {D} old (group ∷ groups) new = (mid : KeeperState D) × IsAppended old group mid × AreAppended mid groups new
+
+-- the groups that came after the others were appended, and nothing else was done
+pub record StoresMore {D : Type 0} (old new : DeskState D) : Type 0 where
+  pub more : List (List Entry)
+  pub groups : new.run_state.groups ≡ old.run_state.groups ++ more
+  pub appends : AreAppended old.keeper more new.keeper
+
+-- ---- steps
+
+-- A checkpoint is begun if one can be, with the image of the replica; a slice of it is written; it is finished. Bytes and
+-- `Append` append the groups that they add, and nothing else. The other steps leave the keeper as it is.
+abbrev pub Checks : {D : Type 0} → Step → DeskState D → DeskState D → Type 0
+Checks step.CheckBegin old new =
+    MatchBool (can_begin old.keeper.store) (IsStoreNow (begun old.keeper.store (length (image_spelling Two old.keeper.state))) new.keeper.store)
+    (new.keeper ≡ old.keeper)
+Checks step.CheckStep old new = IsStoreNow (stepped old.keeper.store) new.keeper.store
+Checks step.CheckFinish old new = IsStoreNow (finished old.keeper.store) new.keeper.store
+Checks (step.Connect conn) old new = new.keeper ≡ old.keeper
+Checks (step.Bytes conn piece) old new = StoresMore old new
+Checks (step.Gone conn) old new = new.keeper ≡ old.keeper
+Checks step.Cut old new = new.keeper ≡ old.keeper
+Checks step.Append old new = StoresMore old new
+Checks step.Post old new = new.keeper ≡ old.keeper
+
+-- ---- how far a step with a piece of a stream comes
+
+-- a batch is cut and not stored: it is at hand
+pub record HasCut (s : DeskRunState) : Type 0 where
+  pub batch : Batch
+  pub handed : s.handed ≡ handed.Cut batch
+
+-- making room for a message of a connection is begun: what is out is stored and posted, and what is pending is cut; or not
+abbrev pub room_begun : DeskRunState → ℕ → DeskRunState
+room_begun s conn = record (cut (cleared s)) { making = Some conn }
+
+abbrev pub MayBegin : DeskRunState → ℕ → DeskRunState → Type 0
+MayBegin s conn t = (t ≡ s) ⊎ (t ≡ room_begun s conn)
+
+-- Room for a message of a connection is not made yet. Either it was begun for this connection before, and nothing more is done;
+-- or there is no room, what was begun is made, and room is begun or not.
+abbrev pub StopsMaking : DeskRunState → ℕ → DeskRunState → Type 0
+StopsMaking s conn t = ((is_making s conn ≡ true) × (t ≡ s)) ⊎ ((has_room s.front ≡ false) × MayBegin (begun_room s conn) conn t)
+
+-- The first of a connection's messages are taken. The next has no room, since the batch at hand is not stored: it did nothing,
+-- and it and those after it are left.
+pub record TakesFirst (s : DeskRunState) (conn : ℕ) (messages : List ClientMessage) (t : DeskRunState) : Type 0 where
+  pub taken : List ClientMessage
+  pub next : ClientMessage
+  pub behind : List ClientMessage
+  pub before : DeskRunState
+  pub last : DeskRunState
+  pub all : messages ≡ taken ++ next ∷ behind
+  pub takes : TakesAll s conn taken before
+  pub stops : StopsMaking before conn last
+  pub at_hand : HasCut last
+  pub after : t ≡ with_left last conn (next ∷ behind)
+
+-- the messages that were left of a connection are taken up to one that finds no room
+abbrev pub StopsBefore : DeskRunState → ℕ → DeskRunState → Type 0
+StopsBefore s conn t = TakesFirst (with_left s conn []) conn (left_of s conn) t
+
+-- all of them are taken, and the connection is connected: its piece is next
+pub record StopsUnread (s : DeskRunState) (conn : ℕ) (t : DeskRunState) : Type 0 where
+  pub leftovers : TakesAll (with_left s conn []) conn (left_of s conn) t
+  pub there : is_connected t.front conn ≡ true
+
+-- the piece completes a message, for which there is no memory: none of it is read
+pub record StopsUnfed (s : DeskRunState) (conn : ℕ) (piece : List ℕ) (t : DeskRunState) : Type 0 where
+  pub unread : StopsUnread s conn t
+  pub before : Decoding
+  pub was : read_by s conn ≡ Some before
+  pub completes : CompletesMessage before piece
+
+-- the piece was read, and the messages that it completes are taken up to one that finds no room
+pub record StopsBehind (s : DeskRunState) (conn : ℕ) (piece : List ℕ) (t : DeskRunState) : Type 0 where
+  pub mid : DeskRunState
+  pub before : Decoding
+  pub decoder : Decoding
+  pub more : List ClientMessage
+  pub unread : StopsUnread s conn mid
+  pub was : read_by s conn ≡ Some before
+  pub reads : Reads before decoder piece more
+  pub first : TakesFirst (with_decoder mid conn decoder) conn more t
+
+-- where a step with bytes stops if memory is short: after their piece was read (`fed`), or before
+abbrev pub StopsShort : Bool → DeskRunState → ℕ → List ℕ → DeskRunState → Type 0
+StopsShort true s conn piece t = StopsBehind s conn piece t
+StopsShort false s conn piece t = StopsBefore s conn t ⊎ StopsUnfed s conn piece t
+
+-- ---- how steps end
 
 -- ---- no memory
 

@@ -15,6 +15,9 @@ use Rattle.fe_desk.specs.declared.step.Step.TheVariants as step
 use Rattle.fe_desk.specs.DeskRunState.{DeskRunState}
 use Rattle.fe_desk.specs.Steps.{find, with_left, Reads}
 use Rattle.fe_messages.specs.Taking.{Takes}
+use Rattle.std.specs.List.{flat_map, AllByRecursion}
+use Rattle.fe_wire.specs.Spelling.{reply_spelling, ReplyFits}
+use Rattle.fe_wire.specs.declared.server_message.ServerMessage.{ServerMessage}
 
 -- the messages of a connection number that came whole and are not taken
 abbrev pub left_of : DeskRunState → ℕ → List ClientMessage
@@ -68,3 +71,9 @@ abbrev pub TellsFed : Bool → DeskRunState → Step → DeskRunState → Type 0
 TellsFed false s step t = ReadsNone s t
 TellsFed true s (step.Bytes conn piece) t = ReadsPiece s conn piece.items t
 TellsFed true s step t = ⊥
+
+-- The bytes are the frames of some replies, each with its fields in their ranges.
+pub record AreReplies (bytes : List ℕ) : Type 0 where
+  pub replies : List ServerMessage
+  pub fits : AllByRecursion ReplyFits replies
+  pub spelled : bytes ≡ flat_map reply_spelling replies

@@ -1,22 +1,121 @@
 -- What a whole run of a desk returns: the desk is opened over a store, and takes steps (`docs/model.md`, "The desk").
-use Rattle.std.specs.Prelude.{◌≡◌, ◌≢◌, ◌⊎◌, ◌↔◌, ⊤, ℕ, zero, suc, false, List, [], ◌∷◌, ◌++◌, map, take, slice_get, Option, Some, None, Result, Ok, Err}
+use Rattle.std.specs.Prelude.{◌≡◌, ◌⊎◌, ℕ, false, List, Result, Ok, Err, map, Bool, [], ◌∷◌, length, MatchBool, ◌≢◌, ◌↔◌, ⊤, zero, suc, ◌++◌, take, slice_get, Option, Some, None}
+use Rattle.fe_disk.specs.declared.calls.Calls.{Calls}
+use Rattle.fe_keeper.specs.declared.fault.Fault.TheVariants as keeper
+use Rattle.fe_desk.specs.declared.fault.DeskFault.{DeskFault}
+use Rattle.fe_keeper.specs.Damage as store
+use Rattle.fe_desk.specs.declared.fault.DeskFault.TheVariants.{Store, NoMemory, Unwritten}
+use Rattle.fe_desk.specs.Crash.{DeskState, disk_of}
+use Rattle.fe_state.specs.declared.entry.Entry.{Entry}
+use Rattle.fe_desk.specs.Messages.{outputs, TellsFed}
+use Rattle.fe_desk.specs.DeskRunState.{DeskRunState, discharged, IsFirstRunState}
+use Rattle.fe_desk.specs.declared.trace.Trace.{Trace}
+use Rattle.fe_mail.specs.Connections.{mails_on}
+use Rattle.fe_desk.specs.declared.step.Step.{Step}
+use Rattle.fe_desk.specs.Ends.{Checks, FindsNoMemory, TearsStep, discharged_desk, WritesSome}
+use Rattle.fe_desk.specs.Steps.{Acts, DeskStep, IsAgain}
+use Rattle.fe_disk.specs.declared.disk.Disk.{Ghosts}
+use Rattle.fe_keeper.specs.Ends.{Works, Breaks}
 use Rattle.fe_disk.specs.Disk.{Rises, MakesAtMost}
 use Rattle.fe_state.specs.State.{ServerState}
 use Rattle.fe_state.specs.History.{IsHistory}
 use Rattle.fe_journal.specs.Damage.{IsUnformatted}
-use Rattle.fe_journal.specs.Steps.{OnlyReads}
+use Rattle.fe_journal.specs.Journal.{OnlyReads}
 use Rattle.fe_keeper.specs.Stands.{StandsFor}
-use Rattle.fe_keeper.specs.declared.fault.Fault.TheVariants as keeper
-use Rattle.fe_desk.specs.declared.fault.DeskFault.{DeskFault}
-use Rattle.fe_desk.specs.declared.fault.DeskFault.TheVariants.{Store, NoMemory}
 use Rattle.fe_desk.specs.declared.running.Ran.{Ran}
-use Rattle.fe_desk.specs.declared.step.Step.{Step}
-use Rattle.fe_desk.specs.Crash.{DeskState, disk_of}
-use Rattle.fe_desk.specs.Opened.{IsOpenFault, TellsOpening}
-use Rattle.fe_desk.specs.DeskRunState.{IsFirstRunState}
-use Rattle.fe_desk.specs.Taken.{AreSteps}
-use Rattle.fe_desk.specs.Traces.{IsTraceOf, groups_of, written_of}
-use Rattle.fe_disk.specs.declared.disk.Disk.{Ghosts}
+
+-- the disk that is left, opened or not
+abbrev pub disk_after : {D : Type 0} → Result (DeskState D) (DeskFault × D) → D
+disk_after (Ok desk) = disk_of desk
+disk_after (Err refused) = refused.1
+
+-- the faults of opening
+abbrev pub IsOpenFault : DeskFault → Type 0
+IsOpenFault fault =
+    (fault ≡ Store keeper.Device) ⊎ ((fault ≡ NoMemory false) ⊎ ((fault ≡ Store keeper.Unformatted) ⊎ ((offset : ℕ) × (fault ≡ Store (keeper.Damaged offset)))))
+
+-- what a fault of opening says of the image that the disk reads, between these counts of calls
+abbrev pub TellsOpening : DeskFault → List ℕ → Calls → Calls → Type 0
+TellsOpening (Store fault) image before now = store.TellsStore fault image before now
+TellsOpening (NoMemory fed) image before now = store.TellsStore keeper.NoMemory image before now
+TellsOpening Unwritten image before now = ⊥
+
+-- ---- traces
+
+-- the groups of entries that were handed to the store
+abbrev pub groups_of : Trace → List (List Entry)
+groups_of t = map (λ g. g.items) t.groups.items
+
+-- the bytes written to each connection number
+abbrev pub written_of : Trace → List (ℕ × List ℕ)
+written_of t = map (λ p. (p.conn, p.written)) t.ports.items
+
+-- the trace is that of a run with this state and this many groups stored
+pub record IsTraceOf (t : Trace) (s : DeskRunState) (synced : ℕ) : Type 0 where
+  pub groups : groups_of t ≡ s.groups
+  pub written : written_of t ≡ outputs s
+  pub synced_is : t.synced ≡ synced
+
+-- ---- steps, and their answers
+
+-- ---- a step, by its answer
+
+-- the disk works, no call of it failed, and all groups are stored
+pub record IsSound {D : Type 0} (model : Ghosts D) (old new : DeskState D) : Type 0 where
+  pub fine : Works model old.keeper new.keeper
+  pub stored : new.synced ≡ length new.run_state.groups
+
+-- The step was taken, and every box is empty.
+pub record EndsWhole {D : Type 0} (model : Ghosts D) (old : DeskState D) (step : Step) (new : DeskState D) : Type 0 where
+  pub took : DeskStep old.run_state step new.run_state
+  pub boxes : (conn : ℕ) → mails_on new.run_state.front.connections conn ≡ []
+  pub checked : Checks step old new
+  pub sound : IsSound model old new
+
+-- The step took effect. Memory was short for some of its mails, which are owed now.
+pub record EndsOwing {D : Type 0} (model : Ghosts D) (old : DeskState D) (step : Step) (new : DeskState D) : Type 0 where
+  pub last : DeskRunState
+  pub acts : Acts (discharged old.run_state) step last
+  pub writes : WritesSome last new.run_state
+  pub took : DeskStep old.run_state step (discharged new.run_state)
+  pub checked : Checks step old new
+  pub sound : IsSound model old new
+
+-- Memory was short for the step. The answer says what the step did and read; nothing of it is written; and given again it comes
+-- to the same as one step.
+pub record EndsByMemory {D : Type 0} (model : Ghosts D) (fed : Bool) (old : DeskState D) (step : Step) (new : DeskState D) : Type 0 where
+  pub finds : FindsNoMemory fed step old new
+  pub read : TellsFed fed old.run_state step new.run_state
+  pub again : (next : Step) (u : DeskRunState) → IsAgain fed step next → DeskStep new.run_state next u → DeskStep old.run_state step u
+  pub silent : old.run_state.owes ≡ false → outputs new.run_state ≡ outputs old.run_state
+  pub sound : IsSound model old new
+
+-- The device failed in the step: mails that were owed are written, and nothing of the step is.
+pub record EndsByDevice {D : Type 0} (model : Ghosts D) (old : DeskState D) (step : Step) (new : DeskState D) : Type 0 where
+  pub breaks : TearsStep step (discharged_desk old) new
+  pub silent : outputs new.run_state ≡ outputs (discharged old.run_state)
+  pub failed : Breaks model old.keeper new.keeper
+
+-- how a step ends, by its answer, if the device had not failed before
+abbrev pub Ends : {D : Type 0} → Ghosts D → DeskState D → Step → Result (Unit {0}) DeskFault → DeskState D → Type 0
+Ends model old step (Ok done) new = EndsWhole model old step new
+Ends model old step (Err (Store cause)) new = (cause ≡ keeper.Device) × EndsByDevice model old step new
+Ends model old step (Err (NoMemory fed)) new = EndsByMemory model fed old step new
+Ends model old step (Err Unwritten) new = EndsOwing model old step new
+
+-- A step. After a failure of the device each step is refused, and does nothing.
+abbrev pub IsStep : {D : Type 0} → Ghosts D → DeskState D → Step → Result (Unit {0}) DeskFault → DeskState D → Type 0
+IsStep model old step result new =
+    MatchBool old.keeper.store.has_failed ((result ≡ Err (Store keeper.Failed)) × (new ≡ old)) (Ends model old step result new)
+
+-- ---- steps
+
+-- steps one after another, each with its answer
+abbrev pub AreSteps : {D : Type 0} → Ghosts D → DeskState D → List (Step × Result (Unit {0}) DeskFault) → DeskState D → Type 0
+AreSteps model old [] new = new ≡ old
+AreSteps {D} model old (given ∷ more) new = (mid : DeskState D) × IsStep model old given.0 given.1 mid × AreSteps model mid more new
+
+-- ---- whole runs
 
 -- these steps, each with the answer that it was taken
 abbrev pub whole : List Step → List (Step × Result (Unit {0}) DeskFault)

@@ -1,16 +1,31 @@
 -- What each step of a desk (a front, its connections' streams and a keeper, which owns the store, in one thread) does.
 -- See `docs/model.md`, "The desk".
-use Rattle.std.specs.Prelude.{◌≡◌, ℕ, Bool, true, false, nat_eq, List, [], ◌∷◌, ◌++◌, Option, Some, None, if◌then◌else◌, is_some, MatchBool}
-use Rattle.fe_wire.specs.Stream.{Decoding, HasRead, HasReadFrom}
+use Rattle.std.specs.Prelude.{◌≡◌, ℕ, List, [], ◌∷◌, Bool, true, false, nat_eq, ◌++◌, Option, Some, None, if◌then◌else◌, is_some, MatchBool, ⊤}
+use Rattle.fe_state.specs.declared.entry.Entry.{Entry}
 use Rattle.fe_wire.specs.declared.client_message.ClientMessage.{ClientMessage}
+use Rattle.fe_front.specs.Front.{FrontState, is_connected}
+use Rattle.fe_messages.specs.Taking.{Takes}
+use Rattle.fe_desk.specs.DeskRunState.{DeskRunState, Client, emptied, discharged, roomy, cut, stored, posted, is_making}
+use Rattle.fe_wire.specs.Stream.{Decoding, HasRead, HasReadFrom}
 use Rattle.fe_wire.specs.declared.version.Version.TheVariants.{Two}
-use Rattle.fe_front.specs.Front.{is_connected}
 use Rattle.fe_front.specs.Steps as front
 use Rattle.fe_desk.specs.declared.step.Step.{Step}
 use Rattle.fe_desk.specs.declared.step.Step.TheVariants as step
-use Rattle.fe_desk.specs.DeskRunState.{Client, DeskRunState, emptied, discharged}
-use Rattle.fe_desk.specs.Storing.{cut, stored, posted, is_making}
-use Rattle.fe_desk.specs.Taking.{TakesAll}
+use Rattle.fe_mail.specs.Connections.{mails_on}
+
+-- a message of a connection is taken, after room was made for it if there was none
+pub record TakesOne (s : DeskRunState) (conn : ℕ) (m : ClientMessage) (t : DeskRunState) : Type 0 where
+  pub entries : List Entry
+  pub front : FrontState
+  pub takes : Takes (roomy s conn).front conn m entries front
+  pub after : t ≡ record (roomy s conn) { front = front }
+
+-- messages of a connection are taken one after another
+abbrev pub TakesAll : DeskRunState → ℕ → List ClientMessage → DeskRunState → Type 0
+TakesAll s conn [] t = t ≡ s
+TakesAll s conn (m ∷ ms) t = (u : DeskRunState) × TakesOne s conn m u × TakesAll u conn ms t
+
+-- ---- steps
 
 -- ---- the client of a connection number
 
@@ -124,3 +139,28 @@ abbrev pub IsAgain : Bool → Step → Step → Type 0
 IsAgain false before next = next ≡ before
 IsAgain true (step.Bytes conn piece) (step.Bytes c p) = (c ≡ conn) × (p.items ≡ [])
 IsAgain true before next = ⊥
+
+-- ---- a desk with nothing to write to its clients
+
+-- no reply of these clients waits
+abbrev pub AreWritten : List Client → Type 0
+AreWritten [] = ⊤
+AreWritten (c ∷ cs) = (c.reply ≡ None) × AreWritten cs
+
+-- no box has a mail, no reply waits, and no step owes its mails
+pub record HasNoMail (s : DeskRunState) : Type 0 where
+  pub boxes : (conn : ℕ) → mails_on s.front.connections conn ≡ []
+  pub replies : AreWritten s.clients
+  pub owes : s.owes ≡ false
+
+-- true only of steps that make no mail; false of `Gone`, though that makes none either
+abbrev pub mails_nothing : Step → Bool
+mails_nothing (step.Connect conn) = true
+mails_nothing (step.Bytes conn piece) = false
+mails_nothing (step.Gone conn) = false
+mails_nothing step.Cut = true
+mails_nothing step.Append = true
+mails_nothing step.Post = false
+mails_nothing step.CheckBegin = true
+mails_nothing step.CheckStep = true
+mails_nothing step.CheckFinish = true

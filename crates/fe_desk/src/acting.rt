@@ -2,17 +2,14 @@
 //! connection's box.
 
 ghost use Rattle.std.specs.Prelude.{◌≡◌, ◌⊎◌, ℕ, true, false, IsTrue, OnOk, MatchResult};
-ghost use Rattle.fe_desk.specs.Output.{Extends};
+ghost use Rattle.fe_desk.specs.DeskRunState.{Extends};
 ghost use Rattle.fe_desk.specs.Messages.{outputs, desk_fault_of};
 ghost use Rattle.fe_desk.specs.Crash.{Advances};
-ghost use Rattle.fe_front.specs.ConnectionSet.{may_have};
-ghost use Rattle.fe_front.specs.Noting.{HasItsBox};
-ghost use Rattle.fe_desk.specs.Quiet.{HasNoMail};
-ghost use Rattle.fe_desk.specs.Taken.{IsStep};
-ghost use Rattle.fe_desk.specs.within.WithMail.{HasAllWithMail};
-ghost use Rattle.fe_desk.specs.within.Desk.{desk_of, run_state_of, IsDesk, IsReady};
+ghost use Rattle.fe_front.specs.Posting.{may_have, HasItsBox};
+ghost use Rattle.fe_desk.specs.Steps.{HasNoMail};
+ghost use Rattle.fe_desk.specs.Runs.{IsStep};
+ghost use Rattle.fe_desk.specs.within.Desk.{HasAllWithMail, desk_of, run_state_of, IsDesk, IsReady, OnlyWrites};
 ghost use Rattle.fe_desk.specs.within.Goes.{Empties, GoesAct, Settles};
-ghost use Rattle.fe_desk.specs.within.Keeping.{OnlyWrites};
 
 use crate::box_emptying::{add_mailed, empty_boxes};
 use crate::desk_inner::DeskInner;

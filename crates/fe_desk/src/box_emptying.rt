@@ -3,10 +3,8 @@
 
 ghost use Rattle.std.specs.Prelude.{◌≡◌, true, map, OnOk, OnErr};
 ghost use Rattle.fe_desk.specs.DeskRunState.{all_written_out, all_emptied};
-ghost use Rattle.fe_desk.specs.Writing.{WritesFirst};
-ghost use Rattle.fe_desk.specs.within.WithMail.{HasAllWithMail};
-ghost use Rattle.fe_desk.specs.within.Desk.{client_of};
-ghost use Rattle.fe_desk.specs.within.Keeping.{KeepsFront, AreWrittenOutLater};
+ghost use Rattle.fe_desk.specs.Ends.{WritesFirst};
+ghost use Rattle.fe_desk.specs.within.Desk.{HasAllWithMail, client_of, KeepsFront, AreWrittenOutLater};
 
 use crate::port::{Port, has_no_mail};
 use fe_front::{ConnectionSet, Front};

@@ -4,10 +4,8 @@ ghost use Rattle.std.specs.Prelude.{◌≡◌, false, nat_eq, [], map, position,
 ghost use Rattle.fe_front.specs.Front.{is_connected};
 ghost use Rattle.fe_desk.specs.Steps as steps;
 ghost use Rattle.fe_desk.specs.Steps.{find, on_client, Connects};
-ghost use Rattle.fe_desk.specs.Storing.{is_making};
-ghost use Rattle.fe_desk.specs.within.Places.{IsFirstAt, Joins};
-ghost use Rattle.fe_desk.specs.within.Desk.{client_of, desk_of, run_state_of};
-ghost use Rattle.fe_desk.specs.within.Keeping.{Stays};
+ghost use Rattle.fe_desk.specs.DeskRunState.{is_making};
+ghost use Rattle.fe_desk.specs.within.Desk.{IsFirstAt, Joins, client_of, desk_of, run_state_of, Stays};
 
 use crate::desk_inner::DeskInner;
 use crate::port::Port;

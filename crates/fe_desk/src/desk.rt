@@ -4,16 +4,12 @@
 ghost use Rattle.std.specs.Prelude.{◌≡◌, ◌≤◌, ℕ, Bool, false, List, length, IfOk, IfErr};
 ghost use Rattle.fe_state.specs.State.{ServerState, IsWithinLimits};
 ghost use Rattle.fe_journal.specs.Layout.{device_bytes};
-ghost use Rattle.fe_keeper.specs.Stands.{EachStandsFor};
-ghost use Rattle.fe_keeper.specs.Prefix.{LeavesPrefix};
-ghost use Rattle.fe_desk.specs.Output.{Extends};
-ghost use Rattle.fe_desk.specs.DeskRunState.{IsFirstRunState};
+ghost use Rattle.fe_keeper.specs.Stands.{EachStandsFor, LeavesPrefix};
+ghost use Rattle.fe_desk.specs.DeskRunState.{Extends, IsFirstRunState};
 ghost use Rattle.fe_desk.specs.Messages.{outputs};
-ghost use Rattle.fe_desk.specs.Crash.{DeskState, Advances, IsFrom, disk_of};
-ghost use Rattle.fe_desk.specs.Anew.{desk_anew};
-ghost use Rattle.fe_desk.specs.Taken.{IsStep};
+ghost use Rattle.fe_desk.specs.Crash.{DeskState, Advances, IsFrom, disk_of, desk_anew};
+ghost use Rattle.fe_desk.specs.Runs.{IsStep, IsTraceOf};
 ghost use Rattle.fe_desk.specs.Acknowledged.{IsAcknowledged, StepAsksFor};
-ghost use Rattle.fe_desk.specs.Traces.{IsTraceOf};
 ghost use Rattle.fe_desk.specs.declared.fault.DeskFault.TheVariants.{NoMemory};
 
 use crate::desk_inner::DeskInner;
@@ -56,7 +52,7 @@ impl<D: Disk> Model for Desk<D> {
 
     ghost use Rattle.std.specs.Prelude.{◌≡◌, true};
     ghost use Rattle.fe_desk.specs.within.Desk.{desk_of, run_state_of, IsDesk};
-    ghost use Rattle.fe_desk.specs.Quiet.{HasNoMail};
+    ghost use Rattle.fe_desk.specs.Steps.{HasNoMail};
 
     ghost view = { λ d. desk_of d.inner };
 

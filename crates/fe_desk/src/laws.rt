@@ -2,8 +2,7 @@
 //! law is a function that does nothing; its clause is proved.
 
 ghost use Rattle.fe_desk.specs.Acknowledged.{AcknowledgedStand, AnySessionMayBeAsked};
-ghost use Rattle.fe_desk.specs.Laws.{LivesJoin};
-ghost use Rattle.fe_desk.specs.Lives.{StopsAreLives, GivenAgain};
+ghost use Rattle.fe_desk.specs.Lives.{LivesJoin, StopsAreLives, GivenAgain};
 
 use fe_disk::Disk;
 use fe_keeper::images_stand_for_one;

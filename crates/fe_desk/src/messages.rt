@@ -3,10 +3,9 @@
 
 ghost use Rattle.std.specs.Prelude.{◌≡◌, ◌<◌, ◌∷◌, length};
 ghost use Rattle.fe_desk.specs.Steps.{with_left};
-ghost use Rattle.fe_desk.specs.within.Places.{IsFirstAt};
+ghost use Rattle.fe_desk.specs.within.Desk.{IsFirstAt, client_of, desk_of, run_state_of, IsReady};
 ghost use Rattle.fe_desk.specs.Messages.{left_of, outputs, desk_fault_of, EndsWith};
-ghost use Rattle.fe_desk.specs.Stopping.{StopsBefore};
-ghost use Rattle.fe_desk.specs.within.Desk.{client_of, desk_of, run_state_of, IsReady};
+ghost use Rattle.fe_desk.specs.Ends.{StopsBefore};
 ghost use Rattle.fe_desk.specs.within.Goes.{Goes, GoesPiece, LeavesSome, LeavesStream, StopsStream, TakesLeft, TakesStream};
 
 use crate::connections::place_of;

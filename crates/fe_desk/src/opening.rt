@@ -6,7 +6,7 @@ ghost use Rattle.fe_disk.specs.Runs.{without_disk as outcome};
 ghost use Rattle.fe_state.specs.State.{ServerState, first_state};
 ghost use Rattle.fe_journal.specs.Damage.{IsUnformatted};
 ghost use Rattle.fe_journal.specs.Found.{AsksToOpen};
-ghost use Rattle.fe_journal.specs.Steps.{OnlyReads};
+ghost use Rattle.fe_journal.specs.Journal.{OnlyReads};
 ghost use Rattle.fe_journal.specs.Layout.{device_bytes};
 ghost use Rattle.fe_keeper.specs.Keeper.{first_store};
 ghost use Rattle.fe_keeper.specs.Stands.{StandsFor, EachStandsFor};
@@ -15,7 +15,7 @@ ghost use Rattle.fe_desk.specs.declared.fault.DeskFault.TheVariants.{Store, NoMe
 ghost use Rattle.fe_desk.specs.DeskRunState.{IsFirstRunState};
 ghost use Rattle.fe_desk.specs.Acknowledged.{IsAcknowledged};
 ghost use Rattle.fe_desk.specs.Crash.{disk_of};
-ghost use Rattle.fe_desk.specs.Opened.{disk_after, IsOpenFault, TellsOpening};
+ghost use Rattle.fe_desk.specs.Runs.{disk_after, IsOpenFault, TellsOpening};
 
 use crate::desk::Desk;
 use crate::fault::DeskFault;

@@ -4,17 +4,14 @@
 ghost use Rattle.std.specs.Prelude.{◌≡◌, ◌≢◌, ℕ, [], nat_lt, length, ◌++◌, None, Some, true, false, IsTrue, OnOk, OnErr, IfOk, slice_get};
 ghost use Rattle.std.specs.Option.{option_map_or};
 ghost use Rattle.fe_mail.specs.Connections.{mails_on};
-ghost use Rattle.fe_front.specs.ConnectionSet.{may_have};
+ghost use Rattle.fe_front.specs.Posting.{may_have};
 ghost use Rattle.fe_front.specs.Steps.{taken};
 ghost use Rattle.fe_wire.specs.Spelling.{reply_spelling};
 ghost use Rattle.fe_wire.specs.Stream.{CompletesMessage};
-ghost use Rattle.fe_desk.specs.Mails.{emptied_box};
-ghost use Rattle.fe_desk.specs.DeskRunState.{written_out};
+ghost use Rattle.fe_desk.specs.DeskRunState.{emptied_box, written_out};
 ghost use Rattle.fe_desk.specs.Steps.{BeginsStream, Reads, new_client};
-ghost use Rattle.fe_desk.specs.Writing.{StopsWriting};
-ghost use Rattle.fe_desk.specs.within.WithMail.{HasAllWithMail};
-ghost use Rattle.fe_desk.specs.within.Desk.{client_of};
-ghost use Rattle.fe_desk.specs.within.Keeping.{KeepsFront, KeepsEmpty, IsWrittenOutLater};
+ghost use Rattle.fe_desk.specs.Ends.{StopsWriting};
+ghost use Rattle.fe_desk.specs.within.Desk.{HasAllWithMail, client_of, KeepsFront, KeepsEmpty, IsWrittenOutLater};
 
 use crate::written::Written;
 use fe_front::{ConnectionSet, Front};

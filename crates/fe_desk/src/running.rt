@@ -5,11 +5,9 @@ ghost use Rattle.std.specs.Prelude.{◌≡◌, ◌↔◌, None, List, ℕ, false
 ghost use Rattle.fe_disk.specs.Runs.{LeavesOnly};
 ghost use Rattle.fe_state.specs.State.{ServerState};
 ghost use Rattle.fe_state.specs.History.{IsHistory};
-ghost use Rattle.fe_keeper.specs.Stands.{StandsFor, EachStandsFor};
-ghost use Rattle.fe_keeper.specs.Prefix.{LeavesPrefix};
+ghost use Rattle.fe_keeper.specs.Stands.{StandsFor, EachStandsFor, LeavesPrefix};
 ghost use Rattle.fe_desk.specs.Crash.{Advances, IsFrom, disk_of};
-ghost use Rattle.fe_desk.specs.Runs.{IsRunOf, IsPastOpening, GoesTo};
-ghost use Rattle.fe_desk.specs.Traces.{groups_of};
+ghost use Rattle.fe_desk.specs.Runs.{IsRunOf, IsPastOpening, GoesTo, groups_of};
 
 use crate::desk::Desk;
 use crate::fault::DeskFault;

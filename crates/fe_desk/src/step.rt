@@ -1,7 +1,7 @@
 //! The steps of a desk, a server in one thread: what comes to it, and what it does to its store (`docs/model.md`, "The desk").
 
 ghost use Rattle.std.specs.Prelude.{◌≡◌, true};
-ghost use Rattle.fe_desk.specs.Quiet.{mails_nothing};
+ghost use Rattle.fe_desk.specs.Steps.{mails_nothing};
 
 /// A step of a desk. A step with nothing to act on only writes the mails, replies on their way out, that an earlier step left
 /// unwritten.

@@ -3,16 +3,14 @@
 
 ghost use Rattle.std.specs.Prelude.{◌≡◌, ◌⊎◌, ℕ, IsTrue, IfOk, OnOk};
 ghost use Rattle.fe_front.specs.Front.{has_room};
-ghost use Rattle.fe_front.specs.ConnectionSet.{may_have};
-ghost use Rattle.fe_front.specs.Noting.{HasItsBox};
+ghost use Rattle.fe_front.specs.Posting.{may_have, HasItsBox};
 ghost use Rattle.fe_desk.specs.declared.handed.Handed.TheVariants.{Cut};
-ghost use Rattle.fe_desk.specs.Storing as way;
-ghost use Rattle.fe_desk.specs.Storing.{stored, posted, cleared, begun_room, roomy};
+ghost use Rattle.fe_desk.specs.DeskRunState as way;
+ghost use Rattle.fe_desk.specs.DeskRunState.{stored, posted, cleared, begun_room, roomy};
 ghost use Rattle.fe_desk.specs.Crash.{with_handed};
-ghost use Rattle.fe_desk.specs.Stopping.{StopsMaking};
-ghost use Rattle.fe_desk.specs.within.Desk.{desk_of, run_state_of, IsDesk, IsReady};
+ghost use Rattle.fe_desk.specs.Ends.{StopsMaking};
+ghost use Rattle.fe_desk.specs.within.Desk.{desk_of, run_state_of, IsDesk, IsReady, Stays};
 ghost use Rattle.fe_desk.specs.within.Goes.{Goes, GoesTo, Is, IsUnstored, WasBegun};
-ghost use Rattle.fe_desk.specs.within.Keeping.{Stays};
 
 use crate::desk_inner::DeskInner;
 use crate::handed::Handed;

@@ -1,7 +1,7 @@
 //! What a desk did: which entries it gave to its store, and what it wrote to which connections (`docs/model.md`, "The desk").
 
 ghost use Rattle.std.specs.Prelude.{◌≡◌, [], map};
-ghost use Rattle.fe_desk.specs.Anew.{unwritten_to};
+ghost use Rattle.fe_desk.specs.Crash.{unwritten_to};
 ghost use Rattle.fe_desk.specs.within.Desk.{client_of};
 
 use crate::port::Port;

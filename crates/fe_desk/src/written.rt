@@ -2,7 +2,7 @@
 
 ghost use Rattle.std.specs.Prelude.{◌≡◌, ◌++◌, [], OnOk, OnErr};
 ghost use Rattle.fe_wire.specs.Spelling.{reply_spelling};
-ghost use Rattle.fe_desk.specs.Frames.{AreReplies};
+ghost use Rattle.fe_desk.specs.Messages.{AreReplies};
 
 use fe_messages::Reply;
 use std::alloc::{AllocError, Global};
@@ -16,7 +16,7 @@ pub struct Written {
 
 impl Model for Written {
     ghost use Rattle.std.specs.Prelude.{List, ℕ};
-    ghost use Rattle.fe_desk.specs.Frames.{AreReplies};
+    ghost use Rattle.fe_desk.specs.Messages.{AreReplies};
 
     ghost Value = { List ℕ };
 

@@ -2,9 +2,8 @@
 use Rattle.std.proofs.Common.{refl, ◌≡◌, ◌⊎◌, ℕ, ◌+◌, ◌-◌, ◌^◌, ◌<◌, ◌≤◌, List, ◌∷◌, length, get_or, inl, inr, ⊎_elim, sym, ◌∙◌, ap, subst, arith, Result, OnOk, OnErr}
 use Rattle.std.proofs.lemmas.Bool.{cases_lt}
 use Rattle.fe_disk.specs.Disk.{IsImage, IsTorn, Follows, Elapses, bytes_at, after_write}
-use Rattle.fe_disk.specs.Memory.{DiskEvent, Write, MemoryState, MayLeave, LeftSince, LeavesNow, LeavesSince, moment_of, image_before, disk_after_write, disk_after_fault}
+use Rattle.fe_disk.specs.Memory.{DiskEvent, Write, MemoryState, MayLeave, LeftSince, LeavesNow, LeavesSince, moment_of, image_before, disk_after_write, disk_after_fault, AreWithin}
 use Rattle.fe_disk.specs.declared.calls.Calls.{Calls}
-use Rattle.fe_disk.specs.Ranges.{AreWithin}
 use Rattle.fe_disk.proofs.Outcomes.{either}
 use Rattle.fe_disk.proofs.Images.{length-bytes_at, get_or-bytes_at, length-after_write, after_write_below, after_write_inside, after_write_above, written_back, IsImage-after_write, small_at, IsTorn-same, IsTorn-back, IsTorn-after_write}
 

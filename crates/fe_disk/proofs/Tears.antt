@@ -5,8 +5,7 @@ use Rattle.std.proofs.lemmas.List.{ext_get_or, length-replicate, get_or-replicat
 use Rattle.fe_disk.specs.Disk.{IsImage, after_write, LeavesJust}
 use Rattle.fe_disk.specs.declared.memory_disk.Torn.{Torn}
 use Rattle.fe_disk.specs.declared.memory_disk.Torn.TheVariants.{Kept, Lost, Byte}
-use Rattle.fe_disk.specs.Memory.{DiskEvent, Write, Sync, MayLeave, IsSettledAt, IsLeftBy, synced_image}
-use Rattle.fe_disk.specs.Ranges.{AreWithin, image_with_tear, image_with_tears}
+use Rattle.fe_disk.specs.Memory.{DiskEvent, Write, Sync, MayLeave, IsSettledAt, IsLeftBy, synced_image, AreWithin, image_with_tear, image_with_tears}
 use Rattle.fe_disk.proofs.Images.{length-after_write, after_write_below, after_write_inside, after_write_above}
 
 settled_or_not : (events : List DiskEvent) (i : ℕ) → IsSettledAt events i ⊎ (IsSettledAt events i → ⊥)

@@ -1,13 +1,7 @@
-pub mod Calls
 pub mod Disk
-pub mod Outcome
 pub mod Runs
 pub mod Memory
-pub mod Ranges
-pub mod Record
 pub mod Guarded
-pub mod Fuse
-pub mod FailOnce
 pub mod Liar
 pub mod FileDisk
 pub mod within

@@ -1,11 +1,16 @@
 -- What a `MemoryDisk` is, and which images its record of writes and syncs says that a stop may leave. An image is the
 -- list of all bytes of a disk (`docs/model.md`, "The disk").
-use Rattle.std.specs.Prelude.{◌≡◌, ◌⊎◌, ℕ, ◌+◌, ◌-◌, ◌^◌, ◌<◌, ◌≤◌, min, List, [], ◌∷◌, length, slice_index}
-use Rattle.fe_disk.specs.Disk.{IsImage, bytes_at, after_write}
-use Rattle.fe_disk.specs.Calls.{none}
 use Rattle.fe_disk.specs.declared.calls.Calls.{Calls}
+use Rattle.std.specs.Prelude.{◌≡◌, ◌⊎◌, ℕ, ◌+◌, ◌-◌, ◌^◌, ◌<◌, ◌≤◌, min, List, [], ◌∷◌, length, slice_index, replicate, map, reverse}
+use Rattle.fe_disk.specs.Disk.{IsImage, bytes_at, after_write}
 use Rattle.fe_disk.specs.declared.memory_disk.Torn.{Torn}
 use Rattle.fe_disk.specs.declared.memory_disk.Torn.TheVariants.{Kept, Lost, Byte}
+use Rattle.fe_disk.specs.declared.record.Call.{Call}
+use Rattle.fe_disk.specs.declared.record.Call.TheVariants.{Wrote, Synced}
+
+-- no calls
+abbrev pub none : Calls
+none = record { reads = 0; writes = 0; syncs = 0 }
 
 -- an event of the record: a write that succeeded, by its offset and the bytes that it replaced, or a sync that succeeded
 pub data DiskEvent : Type 0 where
@@ -128,3 +133,32 @@ disk_after_sync disk =
 -- the disk after a call that fails: the fault is counted, up to 2^64 - 1, and nothing else is done
 abbrev pub disk_after_fault : MemoryState → MemoryState
 disk_after_fault disk = record { image = disk.image; events = disk.events; calls = disk.calls; failures = min (disk.failures + 1) (2 ^ 64 - 1) }
+
+-- ---- the ranges that were written since the last sync, as a stop goes through them
+
+-- each write lies within this many bytes
+abbrev pub AreWithin : ℕ → List DiskEvent → Type 0
+AreWithin size [] = Unit {0}
+AreWithin size (Sync ∷ earlier) = AreWithin size earlier
+AreWithin size (Write at before ∷ earlier) = (at + length before ≤ size) × AreWithin size earlier
+
+-- what a stop does to the range of one write
+abbrev pub image_with_tear : Torn → List ℕ → ℕ → List ℕ → List ℕ
+image_with_tear Kept image at before = image
+image_with_tear Lost image at before = after_write image at before
+image_with_tear (Byte byte) image at before = after_write image at (replicate (length before) byte)
+
+-- what a stop does to the ranges of all writes since the last sync, the latest first
+abbrev pub image_with_tears : Torn → List ℕ → List DiskEvent → List ℕ
+image_with_tears torn image [] = image
+image_with_tears torn image (Sync ∷ earlier) = image
+image_with_tears torn image (Write at before ∷ earlier) = image_with_tears torn (image_with_tear torn image at before) earlier
+
+-- the event of a call; `before` is the bytes that the write replaced
+abbrev pub event_of : Call → DiskEvent
+event_of (Wrote at before) = Write at before.items
+event_of Synced = Sync
+
+-- the events of these calls, the latest first; the calls come in the order in which they were made
+abbrev pub newest_first : List Call → List DiskEvent
+newest_first calls = reverse (map event_of calls)

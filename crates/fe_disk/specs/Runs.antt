@@ -1,8 +1,7 @@
 -- What a run of device calls leaves: the images of a stop, the count of faults, and how many reads, writes and syncs were made.
 -- See `docs/model.md`, "The disk".
 use Rattle.std.specs.Prelude.{◌≡◌, ◌⊎◌, ◌↔◌, ℕ, ◌+◌, ◌≤◌, List, Result, Ok, Err, IsErr, IsErrOf, OnOk}
-use Rattle.fe_disk.specs.Disk.{Elapses, Rises, MakesAtMost}
-use Rattle.fe_disk.specs.Outcome.{EndsCall}
+use Rattle.fe_disk.specs.Disk.{Elapses, Rises, MakesAtMost, EndsCall}
 use Rattle.fe_disk.specs.declared.disk.Disk.{Ghosts}
 
 -- Time went on through a run of calls, as it does through one.

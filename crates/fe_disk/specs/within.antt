@@ -1,4 +1,3 @@
 -- Definitions that no public clause rests on.
-pub mod MemoryLaws
-pub mod MemoryFields
 pub mod Samples
+pub mod Memory

@@ -1,7 +1,6 @@
 // A disk as its users see it. An image is the list of all its bytes. `docs/model.md` has the model in plain words.
 ghost use Rattle.std.specs.Prelude.{◌≡◌, ◌+◌, ◌≤◌, ℕ, List, length, OnOk};
-ghost use Rattle.fe_disk.specs.Disk.{IsImage, bytes_at, after_write, IsTorn, Follows, AddsNone, LeavesJust, Elapses};
-ghost use Rattle.fe_disk.specs.Outcome.{EndsCall};
+ghost use Rattle.fe_disk.specs.Disk.{IsImage, bytes_at, after_write, IsTorn, Follows, AddsNone, LeavesJust, Elapses, EndsCall};
 ghost use Rattle.fe_disk.specs.declared.calls.Calls.{Calls};
 
 /// A device call failed. It carries no reason.

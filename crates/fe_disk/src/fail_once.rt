@@ -12,7 +12,7 @@ pub struct FailOnce {
 }
 
 impl FailOnce {
-    ghost use Rattle.fe_disk.specs.FailOnce.{calls_before};
+    ghost use Rattle.fe_disk.specs.Guarded.{calls_before};
 
     /// A policy that passes this many calls on before the one that fails.
     pub fn new(calls: u64) -> FailOnce
@@ -25,7 +25,7 @@ impl FailOnce {
 }
 
 impl Policy for FailOnce {
-    ghost use Rattle.fe_disk.specs.FailOnce.{calls_before, counted};
+    ghost use Rattle.fe_disk.specs.Guarded.{calls_before, counted};
 
     ghost passes = { λ once. calls_before once ≢ Some 0 };
 

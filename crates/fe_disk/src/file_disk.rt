@@ -55,7 +55,7 @@ pub struct FileDisk {
 
 impl FileDisk {
     ghost use Rattle.fe_disk.specs.FileDisk.{file_size, fault_count, calls_of};
-    ghost use Rattle.fe_disk.specs.Outcome.{EndsCall};
+    ghost use Rattle.fe_disk.specs.Disk.{EndsCall};
     ghost use Rattle.fe_disk.specs.within.Samples.{StaysRight, IsOf};
 
     /// Makes a file of this many zero bytes, which only its owner may read and write, locks it, and syncs it and its folder. If

@@ -12,7 +12,7 @@ pub struct Fuse {
 }
 
 impl Fuse {
-    ghost use Rattle.fe_disk.specs.Fuse.{calls_left};
+    ghost use Rattle.fe_disk.specs.Guarded.{calls_left};
 
     /// A fuse that passes this many calls on.
     pub fn new(calls: u64) -> Fuse
@@ -23,7 +23,7 @@ impl Fuse {
 }
 
 impl Policy for Fuse {
-    ghost use Rattle.fe_disk.specs.Fuse.{calls_left, burnt};
+    ghost use Rattle.fe_disk.specs.Guarded.{calls_left, burnt};
 
     ghost passes = { λ fuse. 0 < calls_left fuse };
 

@@ -63,8 +63,7 @@ impl<D: Disk, P: Policy + Drop> Guarded<D, P> {
 
 impl<D: Disk, P: Policy> Disk for Guarded<D, P> {
     ghost use Rattle.std.specs.Prelude.{◌≡◌, ◌+◌, ◌≤◌, length, OnOk};
-    ghost use Rattle.fe_disk.specs.Disk.{bytes_at, after_write, IsTorn, Follows, AddsNone, LeavesJust};
-    ghost use Rattle.fe_disk.specs.Outcome.{EndsCall};
+    ghost use Rattle.fe_disk.specs.Disk.{bytes_at, after_write, IsTorn, Follows, AddsNone, LeavesJust, EndsCall};
     ghost use Rattle.fe_disk.specs.Runs.{HasElapsed};
     ghost use Rattle.fe_disk.specs.Guarded.{disk_of, fault_count, inner, inner_holds, Guards};
 

@@ -1,8 +1,7 @@
 //! A disk that always reads the same bytes, for tests of a store over any bytes (`docs/proved.md`, "The store").
 
 ghost use Rattle.std.specs.Prelude.{◌≡◌, ◌⊎◌, ◌+◌, ◌-◌, ◌^◌, ◌≤◌, length, IsErr, OnOk};
-ghost use Rattle.fe_disk.specs.Disk.{bytes_at};
-ghost use Rattle.fe_disk.specs.Outcome.{EndsCall};
+ghost use Rattle.fe_disk.specs.Disk.{bytes_at, EndsCall};
 
 use crate::faults::fault;
 use crate::{Calls, DeviceFault, Disk};
@@ -18,7 +17,7 @@ pub struct Liar {
 
 impl Liar {
     ghost use Rattle.fe_disk.specs.Liar.{liar_bytes, calls_of};
-    ghost use Rattle.fe_disk.specs.Calls.{none};
+    ghost use Rattle.fe_disk.specs.Memory.{none};
 
     /// A disk as long as the list.
     pub fn new(bytes: Vec<u8>) -> Liar

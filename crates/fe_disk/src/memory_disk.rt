@@ -2,10 +2,9 @@
 //! that a stop leaves (`docs/model.md`, "The disk"). An image is all bytes of a disk.
 
 ghost use Rattle.std.specs.Prelude.{◌≡◌, ◌⊎◌, ◌+◌, ◌-◌, ◌^◌, ◌≤◌, ◌↔◌, length, IfOk, IsErr, OnOk, OnErr};
-ghost use Rattle.fe_disk.specs.Disk.{bytes_at, after_write, IsTorn, Follows, AddsNone, LeavesJust, Elapses, Rises};
-ghost use Rattle.fe_disk.specs.Outcome.{EndsCall};
+ghost use Rattle.fe_disk.specs.Disk.{bytes_at, after_write, IsTorn, Follows, AddsNone, LeavesJust, Elapses, Rises, EndsCall};
 ghost use Rattle.fe_disk.specs.Memory.{size_of, failures_of, calls_of, seen_of, moment_of, IsHonest, LeavesNow, LeavesSince, IsLeftBy, IsFresh, IsBlank, disk_after_read, disk_after_write, disk_after_sync, disk_after_fault};
-ghost use Rattle.fe_disk.specs.within.MemoryLaws.{seen_may_stay_law, left_is_image_law, counts_now_law, only_now_law};
+ghost use Rattle.fe_disk.specs.within.Memory.{seen_may_stay_law, left_is_image_law, counts_now_law, only_now_law};
 
 use crate::faults::fault;
 use crate::record::{Call, record_sync, record_write, replace, torn_copy};
@@ -40,7 +39,7 @@ impl Model for MemoryDisk {
 
     ghost Value = { MemoryState };
 
-    ghost use Rattle.fe_disk.specs.within.MemoryFields.{state_of, IsRecord};
+    ghost use Rattle.fe_disk.specs.within.Memory.{state_of, IsRecord};
 
     ghost view = { state_of };
 

@@ -3,9 +3,7 @@
 
 ghost use Rattle.std.specs.Prelude.{◌≡◌, ◌+◌, ◌≤◌, ◌∷◌, length, IfOk, OnOk, OnErr};
 ghost use Rattle.fe_disk.specs.Disk.{IsImage, bytes_at, after_write};
-ghost use Rattle.fe_disk.specs.Memory.{Write, Sync};
-ghost use Rattle.fe_disk.specs.Ranges.{AreWithin, image_with_tears};
-ghost use Rattle.fe_disk.specs.Record.{newest_first};
+ghost use Rattle.fe_disk.specs.Memory.{Write, Sync, AreWithin, image_with_tears, newest_first};
 
 use crate::Torn;
 use std::alloc::{AllocError, Global};

@@ -6,20 +6,17 @@ use Rattle.std.specs.FinMap.{get}
 use Rattle.std.proofs.lemmas.Bool.Decides.{nat_tests}
 use Rattle.fe_waits.specs.Waiting.{WaitingAccess}
 use Rattle.fe_waits.proofs.MemberLemmas.{none_some}
-use Rattle.fe_state.specs.Sessions.{Session, MayRise, kept_in}
-use Rattle.fe_state.specs.SessionEffect.{IsUsable}
+use Rattle.fe_state.specs.Sessions.{Session, MayRise, kept_in, IsUsable}
 use Rattle.fe_state.specs.declared.kept.Kept.{Kept}
 use Rattle.fe_service.specs.AttachmentsState.{is_closing}
 use Rattle.fe_service.specs.declared.attachment.Attachment.{Attachment}
-use Rattle.fe_service.specs.Service.{request_of}
-use Rattle.fe_service.specs.ServiceState.{IsService}
+use Rattle.fe_service.specs.Service.{request_of, IsService}
 use Rattle.fe_service.specs.Events.{MaySettle, IsFree, floor_of}
 use Rattle.fe_mail.specs.Connections.{session_on}
 use Rattle.fe_mail.specs.declared.refusal.Refusal.{Refusal}
 use Rattle.fe_mail.specs.declared.refusal.Refusal.TheVariants.{NotAttached, Closing, BelowFloor, BeyondWindow, StillWaiting, Spent}
 use Rattle.fe_front.specs.Front.{FrontState, IsFront, has_room, is_spent}
-use Rattle.fe_front.specs.Refusals.{and_then, own, unclosing, unspent, in_window, addressed, may_settle, settling, leaving, waits_below}
-use Rattle.fe_front.specs.Call.{kept_at, request_at}
+use Rattle.fe_front.specs.Call.{and_then, own, unclosing, unspent, in_window, addressed, may_settle, settling, leaving, waits_below, kept_at, request_at}
 use Rattle.fe_front.proofs.Agreement.{Agree}
 use Rattle.fe_front.proofs.Attaching.{room_for}
 use Rattle.fe_front.proofs.Below.{below-clear}

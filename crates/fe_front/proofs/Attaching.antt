@@ -10,13 +10,13 @@ use Rattle.fe_state.proofs.Maps.{get_inserted, get_beside, same_or_other}
 use Rattle.fe_waits.proofs.MemberLemmas.{none_some}
 use Rattle.fe_service.specs.AttachmentsState.{holder_of, with_holder, is_closing}
 use Rattle.fe_service.specs.declared.attachment.Attachment.{Attachment}
-use Rattle.fe_service.specs.ServiceState.{ServiceState}
+use Rattle.fe_service.specs.Service.{ServiceState}
 use Rattle.fe_service.specs.Events.{IsAttachable, HasRoom, held}
 use Rattle.fe_mail.specs.Connections.{session_on, with_session}
 use Rattle.fe_mail.specs.declared.refusal.Refusal.TheVariants.{NotAttached, Closing, SessionLimit, Spent}
 use Rattle.fe_mail.proofs.Lookups.{session_on-with_session, session_on-with_session-beside, is_some-with_session}
 use Rattle.fe_front.specs.Front.{FrontState, has_room, is_spent, is_connected}
-use Rattle.fe_front.specs.Refusals.{attaching, unspent, has_no_attachment}
+use Rattle.fe_front.specs.Call.{attaching, unspent, has_no_attachment}
 use Rattle.fe_front.specs.Steps.{parted, released, freed, departed, withdrawn_from}
 use Rattle.fe_front.proofs.Agreement.{Agree, connection_there, attachment_there, holder-inserted}
 

@@ -6,12 +6,10 @@ use Rattle.std.specs.FinMap.{get}
 use Rattle.std.proofs.lemmas.Bool.{cases_lt}
 use Rattle.fe_waits.specs.Waiting.{WaitingAccess}
 use Rattle.fe_state.proofs.Maps.{same_or_other}
-use Rattle.fe_state.specs.Sessions.{Session}
-use Rattle.fe_state.specs.SessionEffect.{IsUsable}
-use Rattle.fe_service.specs.Service.{WaitingAccesses}
-use Rattle.fe_service.specs.ServiceState.{ServiceState, IsService}
+use Rattle.fe_state.specs.Sessions.{Session, IsUsable}
+use Rattle.fe_service.specs.Service.{WaitingAccesses, ServiceState, IsService}
 use Rattle.fe_service.specs.Events.{floor_of}
-use Rattle.fe_front.specs.Refusals.{waits_below}
+use Rattle.fe_front.specs.Call.{waits_below}
 
 -- nothing of the session waits under a number below this one
 abbrev pub NoneBelow : WaitingAccesses → ℕ → ℕ → Type 0

@@ -16,13 +16,12 @@ use Rattle.fe_state.specs.declared.request.Request.{Request}
 use Rattle.fe_service.specs.AttachmentsState.{holder_of, is_closing}
 use Rattle.fe_service.specs.Events.{left}
 use Rattle.fe_mail.specs.Books.{mail_refused_by_box, mail_taken, call_repeated}
-use Rattle.fe_mail.specs.Connections.{first_connection, session_on, mails_on, with_session, with_mails}
-use Rattle.fe_mail.specs.Mail.{session_of, mail_of}
+use Rattle.fe_mail.specs.Connections.{first_connection, session_on, mails_on, with_session, with_mails, session_of, mail_of}
 use Rattle.fe_mail.specs.declared.connection.Connection.{Connection}
 use Rattle.fe_mail.specs.declared.mail.Mail.{Mail}
 use Rattle.fe_mail.specs.declared.mail.Mail.TheVariants as mail
 use Rattle.fe_mail.proofs.Lookups.{mails_on-with_session, mails_on-with_mails, mails_on-with_mails-beside}
-use Rattle.fe_front.specs.Boxes.{IsBelow, MailsStayDurable, BoxesStayShort}
+use Rattle.fe_front.specs.Laws.{IsBelow, MailsStayDurable, BoxesStayShort}
 use Rattle.fe_front.specs.Call.{Called, kept_at, repeated}
 use Rattle.fe_front.specs.Event.{Event, Connect, Attach, Call, Settle, Bye, Cancel, Gone, Cut, Post, TakeMail, GiveMail, IsReportOrRefusal}
 use Rattle.fe_front.specs.Front.{FrontState, IsFront, IsFirst, is_connected}

@@ -4,8 +4,7 @@ use Rattle.std.specs.Cmp.{tied_itself}
 use Rattle.std.specs.FinMap.{get, remove, len, entries, get-entries, len-entries, empty_of_len}
 use Rattle.std.specs.FinMap.Entries.{find}
 use Rattle.std.proofs.lemmas.Bool.{cases_eq, eq-eqb, ne_eqb}
-use Rattle.fe_waits.specs.Pair.{pair_cmp, pair_cmp_total}
-use Rattle.fe_waits.specs.Waiting.{WaitingAccess}
+use Rattle.fe_waits.specs.Waiting.{pair_cmp, pair_cmp_total, WaitingAccess}
 use Rattle.fe_waits.proofs.MemberLemmas.{len-remove_old, len-positive, none_some, get-of_slot, without-none, count-remove, without-remove}
 use Rattle.fe_state.specs.State.{ServerState, after}
 use Rattle.fe_state.specs.declared.entry.Entry.{Entry}

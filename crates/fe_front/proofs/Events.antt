@@ -16,10 +16,9 @@ use Rattle.fe_front.specs.Front.{FrontState, is_connected, is_spent}
 use Rattle.fe_front.specs.Event as event
 use Rattle.fe_front.specs.Step.{FrontStep}
 use Rattle.fe_front.specs.Steps.{attached_to, settled_to, closed_by, cancelled_by, taken, mailed}
-use Rattle.fe_front.specs.Refusals.{attaching, settling, leaving, cancelling, has_no_attachment}
-use Rattle.fe_front.specs.Call.{call_refused_by}
+use Rattle.fe_front.specs.Call.{attaching, settling, leaving, cancelling, has_no_attachment, call_refused_by}
 use Rattle.fe_front.specs.Posting.{IsOut, posted}
-use Rattle.fe_front.specs.Rising.{refused_to}
+use Rattle.fe_front.specs.Laws.{refused_to}
 use Rattle.fe_front.specs.declared.out.Out.{Out}
 
 -- an event takes a front to another, with some entries

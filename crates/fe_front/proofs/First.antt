@@ -4,8 +4,7 @@ use Rattle.std.specs.Prelude.{option_and_then}
 use Rattle.std.specs.Option.{option_map}
 use Rattle.std.specs.Ordering.{nat_cmp}
 use Rattle.std.specs.FinMap.{FinMap, empty, get, len, get-empty, len-empty}
-use Rattle.fe_waits.specs.Pair.{pair_cmp}
-use Rattle.fe_waits.specs.Waiting.{WaitingAccess}
+use Rattle.fe_waits.specs.Waiting.{pair_cmp, WaitingAccess}
 use Rattle.fe_waits.proofs.MemberLemmas.{none_some}
 use Rattle.fe_state.specs.Sessions.{Session}
 use Rattle.fe_state.specs.State.{ServerState}
@@ -13,7 +12,7 @@ use Rattle.fe_state.specs.declared.entry.Entry.{Entry}
 use Rattle.fe_service.specs.AttachmentsState.{holder_of, free_attachment}
 use Rattle.fe_service.specs.declared.attachment.Attachment.{Attachment}
 use Rattle.fe_service.specs.Events.{AreFreeAttachments}
-use Rattle.fe_service.specs.ServiceState.{ServiceState}
+use Rattle.fe_service.specs.Service.{ServiceState}
 use Rattle.fe_mail.specs.Books.{Books, Balances}
 use Rattle.fe_mail.specs.Connections.{session_on, mails_in}
 use Rattle.fe_mail.specs.declared.connection.Connection.{Connection}

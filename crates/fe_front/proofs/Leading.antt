@@ -9,13 +9,12 @@ use Rattle.fe_state.specs.declared.entry.Entry.{Entry}
 use Rattle.fe_state.specs.declared.entry.Entry.TheVariants.{Attached, Closed, Settled, Finished}
 use Rattle.fe_state.specs.declared.request.Request.{Request}
 use Rattle.fe_service.specs.Events.{IsAttachable, floor_of}
-use Rattle.fe_service.specs.ServiceState.{ServiceState, IsService}
+use Rattle.fe_service.specs.Service.{ServiceState, IsService}
 use Rattle.fe_service.proofs.Attaching.{attach_legal}
 use Rattle.fe_service.proofs.Turns.{finished_usable, serves_legally}
 use Rattle.fe_front.specs.Front.{FrontState, IsFront, is_spent}
 use Rattle.fe_front.specs.Event.{Event, Connect, Attach, Call, Settle, Bye, Cancel, Gone, Cut, Post, TakeMail, GiveMail}
-use Rattle.fe_front.specs.Call.{Called, Completed, Repeats, repeated}
-use Rattle.fe_front.specs.Refusals.{attaching, addressed, settling, leaving}
+use Rattle.fe_front.specs.Call.{Called, Completed, Repeats, repeated, attaching, addressed, settling, leaving}
 use Rattle.fe_front.specs.Step.{FrontStep, OneEntry, NoEntry, Leads}
 use Rattle.fe_front.specs.Steps.{connected, attached_to, settled_to, closed_by, cancelled_by, dropped, released, taken, mailed, cut, has_no_cut}
 use Rattle.fe_front.specs.Posting.{posted}

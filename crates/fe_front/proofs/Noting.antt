@@ -12,9 +12,7 @@ use Rattle.fe_mail.specs.declared.mail.Mail.{Mail}
 use Rattle.fe_mail.proofs.Lookups.{is_some-with_mails, mails_on-with_mails-beside, is_some-with_session, mails_on-with_session}
 use Rattle.fe_front.specs.Front.{FrontState, is_connected}
 use Rattle.fe_front.specs.Steps.{parted, freed, departed, withdrawn_from, unboxed, dropped, boxed, overflowed, mailed}
-use Rattle.fe_front.specs.Posting.{vacated, ended}
-use Rattle.fe_front.specs.ConnectionSet.{may_have}
-use Rattle.fe_front.specs.Noting.{HasItsBox, Notes}
+use Rattle.fe_front.specs.Posting.{vacated, ended, may_have, HasItsBox, Notes}
 use Rattle.fe_front.specs.declared.connection_set.ConnectionSet.{ConnectionSet}
 
 -- ---- one connection

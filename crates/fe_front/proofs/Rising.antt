@@ -12,8 +12,7 @@ use Rattle.fe_state.specs.declared.request.Request.{Request}
 use Rattle.fe_service.specs.AttachmentsState.{holder_of, is_closing}
 use Rattle.fe_service.specs.Events.{left}
 use Rattle.fe_mail.specs.Books.{Books, Balances, counting, moving, call_completed, call_repeated, waiter_completed, waiters_withdrawn, mail_refused_by_box, mail_taken, box_dropped}
-use Rattle.fe_mail.specs.Connections.{session_on, mails_on, mails_in, with_mails}
-use Rattle.fe_mail.specs.Mail.{session_of, mail_of}
+use Rattle.fe_mail.specs.Connections.{session_on, mails_on, mails_in, with_mails, session_of, mail_of}
 use Rattle.fe_mail.specs.declared.mail.Mail.{Mail}
 use Rattle.fe_mail.specs.declared.mail.Mail.TheVariants as mail
 use Rattle.fe_mail.specs.declared.refusal.Refusal.{Refusal}
@@ -22,7 +21,7 @@ use Rattle.fe_front.specs.Call.{Called, kept_at, repeated, waiters_completed, ca
 use Rattle.fe_front.specs.Event.{Event, Connect, Attach, Call, Settle, Bye, Cancel, Gone, Cut, Post, TakeMail, GiveMail}
 use Rattle.fe_front.specs.Front.{FrontState, IsFront, out_length, is_connected}
 use Rattle.fe_front.specs.Posting.{IsOut, delivered, vacated, posted_entry, posted_all, posted}
-use Rattle.fe_front.specs.Rising.{HaveRoom, Rise, BooksRise, calls_of, taken_of, most_mails_of, refused_to}
+use Rattle.fe_front.specs.Laws.{HaveRoom, Rise, BooksRise, calls_of, taken_of, most_mails_of, refused_to}
 use Rattle.fe_front.specs.Step.{FrontStep}
 use Rattle.fe_front.specs.Steps.{parted, released, freed, departed, withdrawn_from, unboxed, dropped, boxed, overflowed, mailed, cancelled_from, cancelled_by, taken, cut, has_no_cut}
 use Rattle.fe_front.specs.declared.out.Out.{Out}

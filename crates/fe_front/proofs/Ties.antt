@@ -2,7 +2,7 @@
 use Rattle.std.proofs.Common.{◌≡◌, ℕ, ◌+◌, length, arith}
 use Rattle.std.specs.Ordering.{nat_cmp}
 use Rattle.std.specs.FinMap.{FinMap, len}
-use Rattle.fe_service.specs.ServiceState.{ServiceState}
+use Rattle.fe_service.specs.Service.{ServiceState}
 use Rattle.fe_mail.specs.Books.{Books, Balances}
 use Rattle.fe_mail.specs.Connections.{mails_in}
 use Rattle.fe_mail.specs.declared.connection.Connection.{Connection}

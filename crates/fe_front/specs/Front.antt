@@ -7,7 +7,7 @@ use Rattle.std.specs.FinMap.{FinMap, code, empty, get, len}
 use Rattle.fe_service.specs.AttachmentsState.{holder_of, is_closing}
 use Rattle.fe_state.specs.State.{ServerState}
 use Rattle.fe_service.specs.Events.{AreFreeAttachments}
-use Rattle.fe_service.specs.ServiceState.{ServiceState, IsService, service_code}
+use Rattle.fe_service.specs.Service.{ServiceState, IsService, service_code}
 use Rattle.fe_mail.specs.Books.{Books, Balances, first_books, books_code}
 use Rattle.fe_mail.specs.Connections.{session_on, mails_in}
 use Rattle.fe_mail.specs.declared.connection.Connection.{Connection}

@@ -1,16 +1,29 @@
 -- What posting a batch leaves of a front. A batch is posted once it is stored: each entry's mail goes to its connection.
 -- See `docs/model.md`, "The front".
-use Rattle.std.specs.Prelude.{◌≡◌, ℕ, ◌+◌, if◌then◌else◌, List, [], ◌∷◌, length, Option, Some, None}
+use Rattle.std.specs.Prelude.{ℕ, ◌%◌, Bool, false, slice_index_or, ◌≡◌, ◌+◌, if◌then◌else◌, List, [], ◌∷◌, length, Option, Some, None, ◌⊎◌, IsTrue}
+use Rattle.fe_front.specs.declared.connection_set.ConnectionSet.{ConnectionSet}
 use Rattle.std.specs.Option.{option_map_or}
 use Rattle.fe_state.specs.declared.batch.Batch.{Batch}
 use Rattle.fe_state.specs.declared.entry.Entry.{Entry}
 use Rattle.fe_state.specs.declared.entry.Entry.TheVariants.{Attached, Closed, Settled, Finished}
 use Rattle.fe_service.specs.AttachmentsState.{holder_of, is_closing}
 use Rattle.fe_service.specs.Events.{left}
-use Rattle.fe_mail.specs.Mail.{session_of, mail_of}
-use Rattle.fe_front.specs.Front.{FrontState}
+use Rattle.fe_mail.specs.Connections.{session_of, mail_of, mails_on}
+use Rattle.fe_front.specs.Front.{FrontState, is_connected}
 use Rattle.fe_front.specs.Steps.{freed, mailed}
 use Rattle.fe_front.specs.declared.out.Out.{Out}
+
+-- ---- a set of connections, which tells their numbers apart by remainders alone
+
+-- how many remainders there are: connections with the same remainder of their numbers are not told apart
+abbrev pub remainder_count : ℕ
+remainder_count = 256
+
+-- the connection is in the set, or another one is whose number leaves the same remainder
+abbrev pub may_have : ConnectionSet → ℕ → Bool
+may_have set conn = slice_index_or set.remainders (conn % remainder_count) false
+
+-- ---- posting
 
 -- the batch begins where the one that is out does, and is as long
 abbrev pub IsOut : Option Out → Batch → Type 0
@@ -45,3 +58,15 @@ posted_all f (e ∷ es) place = posted_all (posted_entry f e place) es (place + 
 abbrev pub posted : FrontState → Batch → FrontState
 posted f batch =
     record (posted_all f batch.entries batch.first) { durable = batch.first + length batch.entries; out = None }
+
+-- ---- whose box it changes
+
+-- the connection is connected or not, and has its mails, as in the old state
+pub record HasItsBox (old new : FrontState) (conn : ℕ) : Type 0 where
+  pub mails : mails_on new.connections conn ≡ mails_on old.connections conn
+  pub there : is_connected new conn ≡ is_connected old conn
+
+-- each connection of the old set is in the new one, and so is each one whose box changed
+pub record Notes (old new : FrontState) (before after : ConnectionSet) : Type 0 where
+  pub still : (conn : ℕ) → IsTrue (may_have before conn) → IsTrue (may_have after conn)
+  pub noted : (conn : ℕ) → IsTrue (may_have after conn) ⊎ HasItsBox old new conn

@@ -9,9 +9,8 @@ use Rattle.fe_service.specs.Events.{floor_of}
 use Rattle.fe_mail.specs.Connections.{mails_on}
 use Rattle.fe_front.specs.Event.{Event, Connect, Attach, Call, Settle, Bye, Cancel, Gone, Cut, Post, TakeMail, GiveMail, IsReportOrRefusal}
 use Rattle.fe_front.specs.Front.{FrontState, IsFront}
-use Rattle.fe_front.specs.Call.{Called}
+use Rattle.fe_front.specs.Call.{Called, attaching, addressed, settling, leaving, cancelling}
 use Rattle.fe_front.specs.Posting.{IsOut, posted}
-use Rattle.fe_front.specs.Refusals.{attaching, addressed, settling, leaving, cancelling}
 use Rattle.fe_front.specs.Steps.{connected, attached_to, settled_to, closed_by, cancelled_by, dropped, departing, next_batch, cut, taken, mailed}
 use Rattle.fe_state.specs.Limits.{most_event_entries}
 

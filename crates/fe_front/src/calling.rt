@@ -2,8 +2,7 @@
 //! ("Mails, connections and books"). An entry is durable once the batch that has it is stored and posted.
 
 ghost use Rattle.std.specs.Prelude.{◌≡◌, ◌+◌, ◌⊎◌, ℕ, List, [], Some, None, Err, IfOk, IfErr, OnErr};
-ghost use Rattle.fe_front.specs.Call.{request_at, BeginsRequest, IsCallRefused, WantsMemory, Called, Completed, Waits, repeat_of, repeated, waiters_completed};
-ghost use Rattle.fe_front.specs.Refusals.{addressed, IsAdmitted};
+ghost use Rattle.fe_front.specs.Call.{request_at, BeginsRequest, IsCallRefused, WantsMemory, Called, Completed, Waits, repeat_of, repeated, waiters_completed, addressed, IsAdmitted};
 ghost use Rattle.fe_mail.specs.Books.{Balances};
 ghost use Rattle.fe_mail.specs.declared.refusal.Refusal as refusals;
 ghost use Rattle.fe_service.specs.Events.{HasRoom};

@@ -2,8 +2,7 @@
 //! connections and books").
 
 ghost use Rattle.std.specs.Prelude.{◌≡◌, ◌≢◌, ◌%◌, ℕ, true, false, IsTrue};
-ghost use Rattle.fe_front.specs.ConnectionSet.{may_have};
-ghost use Rattle.fe_front.specs.Limits.{remainder_count};
+ghost use Rattle.fe_front.specs.Posting.{may_have, remainder_count};
 
 /// How many remainders there are. A set tells two connections apart only if their numbers leave different remainders when divided by
 /// this.

@@ -14,10 +14,8 @@ ghost use Rattle.fe_front.specs.Front.{IsFront, IsFirst, has_room, is_connected,
 ghost use Rattle.fe_front.specs.Event as event;
 ghost use Rattle.fe_front.specs.Step.{FrontStep};
 ghost use Rattle.fe_front.specs.Steps.{connected, attached_to, settled_to, closed_by, cancelled_by, dropped, departing, has_no_cut, next_batch, cut, taken, mailed};
-ghost use Rattle.fe_front.specs.Refusals.{attaching, settling, leaving, cancelling};
-ghost use Rattle.fe_front.specs.Call.{IsCallRefused, WantsMemory, call_refused_by};
-ghost use Rattle.fe_front.specs.Posting.{IsOut, posted};
-ghost use Rattle.fe_front.specs.Noting.{Notes};
+ghost use Rattle.fe_front.specs.Call.{attaching, settling, leaving, cancelling, IsCallRefused, WantsMemory, call_refused_by};
+ghost use Rattle.fe_front.specs.Posting.{IsOut, posted, Notes};
 
 use crate::connection_set::ConnectionSet;
 use crate::out::Out;

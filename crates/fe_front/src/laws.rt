@@ -1,10 +1,9 @@
 //! Laws of the front, which hold apart from any code (`docs/model.md`, "The front"; of the books, "Mails, connections and books").
 
 ghost use Rattle.std.specs.Prelude.{◌≡◌};
-ghost use Rattle.fe_front.specs.Boxes.{MailsStayDurable, BoxesStayShort};
-ghost use Rattle.fe_front.specs.Rising.{BooksRise};
+ghost use Rattle.fe_front.specs.Laws.{MailsStayDurable, BoxesStayShort, BooksRise};
 ghost use Rattle.fe_front.specs.Step.{StepsLead, StepsAreFew};
-ghost use Rattle.fe_front.specs.Limits.{remainder_count};
+ghost use Rattle.fe_front.specs.Posting.{remainder_count};
 ghost use Rattle.fe_front.specs.declared.connection_set.TheConstants.{REMAINDERS};
 
 /// The entries of a step are legal one after the other, and lead to the state after it.

@@ -2,8 +2,7 @@
 //! "The front"; attachments: "Waiting requests").
 
 ghost use Rattle.std.specs.Prelude.{◌≡◌, ◌+◌, ◌^◌, ◌<◌, length};
-ghost use Rattle.fe_front.specs.Posting.{ended, posted_entry, posted_all};
-ghost use Rattle.fe_front.specs.Noting.{Notes};
+ghost use Rattle.fe_front.specs.Posting.{ended, posted_entry, posted_all, Notes};
 
 use crate::connection_set::ConnectionSet;
 use crate::front::Front;

@@ -4,7 +4,7 @@
 ghost use Rattle.std.specs.Prelude.{◌≡◌, None, IsTrue, IsSome};
 ghost use Rattle.std.specs.FinMap.{get};
 ghost use Rattle.fe_front.specs.Front.{is_connected, is_spent};
-ghost use Rattle.fe_front.specs.Refusals.{own, unclosing, attaching, settling, leaving, cancelling, may_settle, unspent, waits_below};
+ghost use Rattle.fe_front.specs.Call.{own, unclosing, attaching, settling, leaving, cancelling, may_settle, unspent, waits_below};
 ghost use Rattle.fe_front.specs.Steps.{joined, cancelled_from};
 ghost use Rattle.fe_mail.specs.Connections.{session_on};
 ghost use Rattle.fe_service.specs.AttachmentsState.{holder_of, is_closing};

@@ -13,8 +13,7 @@ use Rattle.fe_state.proofs.Histories.{history-append}
 use Rattle.std.specs.Option.{option_map_or}
 use Rattle.fe_keeper.specs.Ends.{Rests, StopsLeave, Works, Breaks, Fails, ForBatch, IsStill}
 use Rattle.fe_keeper.specs.Keeper.{KeeperState, StoreState, Progress, fits, must_begin, made_room, renewed, appended, finished_by}
-use Rattle.fe_keeper.specs.Prefix.{LeavesPrefix}
-use Rattle.fe_keeper.specs.Stands.{StandsFor, StandsForEither, EachStandsFor}
+use Rattle.fe_keeper.specs.Stands.{LeavesPrefix, StandsFor, StandsForEither, EachStandsFor}
 use Rattle.fe_keeper.specs.declared.fault.Fault.{Fault}
 use Rattle.fe_keeper.specs.declared.fault.Fault.TheVariants.{Device, Failed, NoMemory, Mismatch, Damaged, Unformatted}
 use Rattle.fe_hall.proofs.Noted.{none_noted, both_noted, turn_noted}

@@ -11,7 +11,7 @@ use Rattle.fe_wire.specs.declared.version.Version.{Version}
 use Rattle.fe_wire.specs.declared.version.Version.TheVariants.{Two}
 use Rattle.fe_wire.specs.Spelling.{spelling, FitsIn}
 use Rattle.fe_wire.specs.Stream.{Decoding, HasRead, HasReadFrom, CompletesMessage, IsStream, IsUnfinished, IsBad, StandsAt, fault_of}
-use Rattle.fe_codes.specs.Bytes.{IsBytes}
+use Rattle.fe_codes.specs.Reading.{IsBytes}
 use Rattle.fe_wire.proofs.FrameLaws.{one_front, front_not_bad, front_not_unfinished}
 use Rattle.fe_wire.proofs.Existence.{each_has_reading}
 use Rattle.fe_wire.proofs.StreamLaws.{one_reading, nothing_unfinished}

@@ -20,7 +20,7 @@ use Rattle.fe_shared.specs.declared.taking.Taking.{Taking}
 use Rattle.fe_shared.specs.declared.taking.Taking.TheVariants as taking
 use Rattle.fe_shared.specs.Seats.{MailSeatState, TookNoMail, mail_taken, taking_answered}
 use Rattle.fe_history.specs.Receipts.{receipt_of}
-use Rattle.fe_hall.specs.within.Writing.{IssuesOn}
+use Rattle.fe_hall.specs.within.Sides.{IssuesOn}
 use Rattle.fe_history.specs.declared.act.Act.{Act}
 use Rattle.fe_history.proofs.Acts.{issued_both, prefix_trans}
 use Rattle.fe_hall.specs.Writes.{receipts_with, IsBatch, BreaksOff, MayLackLast, IsWritten, AreTaken, TakesOn, IsNoFault, IsEndAfter, AreSpelled, end_for}

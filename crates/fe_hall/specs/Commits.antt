@@ -9,7 +9,7 @@ use Rattle.fe_state.specs.declared.batch.Batch.{Batch}
 use Rattle.fe_state.specs.declared.entry.Entry.{Entry}
 use Rattle.fe_keeper.specs.Ends.{IsStill, Breaks}
 use Rattle.fe_keeper.specs.Keeper.{KeeperState}
-use Rattle.fe_keeper.specs.Prefix.{LeavesPrefix}
+use Rattle.fe_keeper.specs.Stands.{LeavesPrefix}
 use Rattle.fe_keeper.specs.declared.fault.Fault.{Fault}
 use Rattle.fe_keeper.specs.declared.fault.Fault.TheVariants.{Device, Failed, NoMemory, Mismatch, Damaged, Unformatted}
 use Rattle.fe_history.specs.Acts.{stores_in}

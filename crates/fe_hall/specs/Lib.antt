@@ -3,5 +3,4 @@ pub mod Commits
 pub mod Reads
 pub mod Writes
 pub mod Audits
-pub mod Counts
 pub mod within

@@ -1,10 +1,13 @@
 -- What the read side of a connection, the thread that reads, makes of the bytes of its client's stream.
 -- See `docs/model.md`, "The hall".
-use Rattle.std.specs.Prelude.{◌≡◌, ◌≢◌, ℕ, ◌+◌, ◌<◌, ◌^◌, ◌-◌, ◌⊎◌, Bool, true, false, ◌&&◌, nat_lt, if◌then◌else◌, min, List, [], ◌∷◌, ◌++◌, length, take, filter, sum_by, Option, Some, None}
+use Rattle.std.specs.Prelude.{ℕ, ◌+◌, ◌≡◌, ◌≢◌, ◌<◌, ◌^◌, ◌-◌, ◌⊎◌, Bool, true, false, ◌&&◌, nat_lt, if◌then◌else◌, min, List, [], ◌∷◌, ◌++◌, length, take, filter, sum_by, Option, Some, None}
+use Rattle.fe_hall.specs.declared.read_count.Reads.{Reads}
+use Rattle.fe_hall.specs.declared.read_count.Reads.TheOpen as shape
+use Rattle.fe_hall.specs.declared.read_count.Reads.TheFolds.{fold-Reads}
 use Rattle.std.specs.List.{flat_map}
 use Rattle.fe_wire.specs.Spelling.{spelling}
 use Rattle.fe_wire.specs.Stream.{Decoding, HasRead, IsStream, IsUnfinished, IsBad}
-use Rattle.fe_codes.specs.Bytes.{IsBytes}
+use Rattle.fe_codes.specs.Reading.{IsBytes}
 use Rattle.fe_wire.specs.declared.client_message.ClientMessage.{ClientMessage}
 use Rattle.fe_wire.specs.declared.client_message.ClientMessage.TheVariants.{Attach, Call, Cancel, Settle, Bye, Report}
 use Rattle.fe_wire.specs.declared.version.Version.TheVariants.{Two}
@@ -13,6 +16,15 @@ use Rattle.fe_hall.specs.declared.ends.ReadEnd.TheVariants.{Closed, Device, BadF
 use Rattle.fe_shared.specs.declared.last_answer.LastAnswer.{LastAnswer}
 use Rattle.fe_shared.specs.declared.last_answer.LastAnswer.TheVariants as last_answer
 use Rattle.fe_shared.specs.Seats.{CallSeatState, calls_in}
+
+abbrev more : shape.Reads-F ℕ → ℕ
+more shape.None = 0
+more (shape.After before) = before.value + 1
+
+abbrev pub count_of : Reads → ℕ
+count_of reads = fold-Reads ℕ more reads
+
+-- ---- what is read
 
 -- the message is an attach or a call
 abbrev pub is_sent : ClientMessage → Bool

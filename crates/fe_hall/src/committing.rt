@@ -7,7 +7,7 @@ ghost use Rattle.fe_keeper.specs.Stands.{EachStandsFor};
 ghost use Rattle.fe_keeper.specs.declared.fault.Fault.TheVariants.{Device};
 ghost use Rattle.fe_history.specs.Acts.{IsStored, WasCut};
 ghost use Rattle.fe_hall.specs.Commits.{AppendsAreNoted, Commits, EndsAs, end_in};
-ghost use Rattle.fe_hall.specs.within.Committing.{StoresOn, KeepsStanding};
+ghost use Rattle.fe_hall.specs.within.Sides.{StoresOn, KeepsStanding};
 
 use crate::breaking::Break;
 use crate::ended::Ended;

@@ -20,7 +20,7 @@ pub struct ReadCount {
 
 impl Model for ReadCount {
     ghost use Rattle.std.specs.Prelude.{ℕ};
-    ghost use Rattle.fe_hall.specs.Counts.{count_of};
+    ghost use Rattle.fe_hall.specs.Reads.{count_of};
 
     ghost Value = { ℕ };
 

@@ -4,7 +4,7 @@
 ghost use Rattle.std.specs.Prelude.{◌≡◌, ◌≢◌, ◌+◌, ◌≤◌, ◌++◌, [], ℕ, List, Some, IfNone, IfSome, OnSome, MatchOption};
 ghost use Rattle.fe_shared.specs.Seats.{HasDeparted, HasRested, CallSeatState, TookNoMessage, message_taken};
 ghost use Rattle.fe_hall.specs.Reads.{IsQuietEnd, listed_with, EndsEarly, HandlesStream, IsAt, IsOfMessages, IsEndAfter};
-ghost use Rattle.fe_hall.specs.within.Reading.{KeepsTurns};
+ghost use Rattle.fe_hall.specs.within.Sides.{KeepsTurns};
 
 use crate::baton::BatonGuard;
 use crate::ends::ReadEnd;

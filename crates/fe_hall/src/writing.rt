@@ -4,7 +4,7 @@
 ghost use Rattle.std.specs.Prelude.{◌≡◌, ◌≢◌, ◌⊎◌, true, ◌≤◌, ◌++◌, [], ℕ, List, length, take, OnErr, IfOk, IfErr, MatchResult};
 ghost use Rattle.fe_mail.specs.declared.mail.Mail.{Mail as TakenMail};
 ghost use Rattle.fe_hall.specs.Writes.{AreTaken, IsWritten, IsEndAfter, TakesOn, IsBatch, AreSpelled};
-ghost use Rattle.fe_hall.specs.within.Writing.{IssuesOn};
+ghost use Rattle.fe_hall.specs.within.Sides.{IssuesOn};
 ghost use Rattle.fe_history.specs.Acts.{AreIssued, IsLegal};
 ghost use Rattle.fe_shared.specs.Seats.{TookNoMail};
 

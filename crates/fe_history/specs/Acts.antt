@@ -7,7 +7,7 @@ use mathlib.Core.List.{IsPrefix}
 use Rattle.fe_state.specs.State.{ServerState, IsWithinLimits, after_all}
 use Rattle.fe_state.specs.declared.batch.Batch.{Batch}
 use Rattle.fe_state.specs.declared.entry.Entry.{Entry}
-use Rattle.fe_replica.specs.Taking.{Continues}
+use Rattle.fe_replica.specs.Replaying.{Continues}
 use Rattle.fe_mail.specs.declared.mail.Mail.{Mail}
 use Rattle.fe_messages.specs.Answers.{IsAnswerIn}
 use Rattle.fe_history.specs.declared.receipt.Receipt.{Receipt}

@@ -4,9 +4,8 @@ use Rattle.std.proofs.lemmas.Bool.{cases_lt, cases_eq}
 use Rattle.fe_disk.specs.Disk.{IsTorn, bytes_at, after_write}
 use Rattle.fe_disk.proofs.Images.{length-after_write, IsTorn-after_write}
 use Rattle.fe_journal.specs.Layout.{header_of, area_of, other_than, IsGateOpen, IsGateShut, number_at}
-use Rattle.fe_journal.specs.Groups.{IsGroup, GroupFits, end_of_groups, after_gate}
-use Rattle.fe_journal.specs.Contents.{Contents, Holds, HoldsEither, with_group}
-use Rattle.fe_journal.specs.Steps.{IsLeftInCommit, after_commit}
+use Rattle.fe_journal.specs.Contents.{IsGroup, GroupFits, end_of_groups, after_gate, Contents, Holds, HoldsEither, with_group}
+use Rattle.fe_journal.specs.Journal.{IsLeftInCommit, after_commit}
 use Rattle.fe_journal.proofs.Bytes.{SameBytes, same_part, same_byte, same_through, same_back, torn_same, written_same}
 use Rattle.fe_journal.proofs.Frames.{groups_same, stand_same, stand_more, end_of_groups-more, NoRise, same_no_rise, holds_as, holds_same}
 use Rattle.fe_journal.proofs.Spelled.{length-after_gate, spelled}

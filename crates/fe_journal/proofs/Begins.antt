@@ -7,10 +7,8 @@ use Rattle.fe_disk.proofs.Images.{length-after_write, IsTorn-after_write}
 use Rattle.fe_disk.proofs.Moments.{goes_on, weaker}
 use Rattle.fe_journal.specs.Layout.{header_of, gate_of, image_of, area_of, other_than}
 use Rattle.fe_format.specs.Layout.{IsImageLength}
-use Rattle.fe_journal.specs.Groups.{end_of_groups}
-use Rattle.fe_journal.specs.Contents.{Contents, Holds, HoldsEither}
-use Rattle.fe_journal.specs.Journal.{JournalState, Draft, IsDraft, IsLeft, KeepsContents, IsCatchUp, catch_up_groups, new_draft, with_slice, with_draft}
-use Rattle.fe_journal.specs.Steps.{header_fields, area_start, IsLeftInCommit, IsLeftInBeginning, IsHeaderTorn, IsSlotBegun, after_commit}
+use Rattle.fe_journal.specs.Contents.{end_of_groups, Contents, Holds, HoldsEither}
+use Rattle.fe_journal.specs.Journal.{JournalState, Draft, IsDraft, IsLeft, KeepsContents, IsCatchUp, catch_up_groups, new_draft, with_slice, with_draft, header_fields, area_start, IsLeftInCommit, IsLeftInBeginning, IsHeaderTorn, IsSlotBegun, after_commit}
 use Rattle.fe_journal.specs.within.Fields.{state_of}
 use Rattle.fe_journal.specs.declared.journal.Journal.TheInside.{Inside}
 use Rattle.fe_format.specs.declared.format.Format.{Format}

@@ -1,9 +1,8 @@
 -- The bytes of the buffer that go onto the device.
 use Rattle.std.proofs.Common.{◌≡◌, ℕ, Bool, false, eqb, ◌+◌, ◌-◌, ◌≤◌, List, [], ◌∷◌, ◌++◌, length, take, drop, set, append_assoc, length-append, length-drop, sym, ◌∙◌, ap, subst, refl, arith}
 use Rattle.std.proofs.lemmas.List.{length-set, length-take-le, take_all, take_at, take_more_set, take-append-le}
-use Rattle.fe_journal.specs.Groups.{after_gate, end_of_groups}
-use Rattle.fe_journal.specs.Journal.{catch_up_groups}
-use Rattle.fe_journal.specs.Steps.{area_start, BeginsWith}
+use Rattle.fe_journal.specs.Contents.{after_gate, end_of_groups}
+use Rattle.fe_journal.specs.Journal.{catch_up_groups, area_start, BeginsWith}
 use Rattle.fe_journal.proofs.Bytes.{SameBytes, same_part, same_bytes_at, part_same}
 use Rattle.fe_journal.proofs.Spelled.{length-after_gate, bytes_whole}
 

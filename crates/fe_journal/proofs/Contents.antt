@@ -2,8 +2,7 @@
 use Rattle.std.proofs.Common.{◌≡◌, ℕ, ◌+◌, List, [], ◌∷◌, length, sym, ◌∙◌, ap, subst, refl, arith}
 use Rattle.fe_disk.specs.Disk.{bytes_at}
 use Rattle.fe_journal.specs.Layout.{area_of, image_of, IsGateOpen, IsGateShut}
-use Rattle.fe_journal.specs.Groups.{HoldsGroups, end_of_groups}
-use Rattle.fe_journal.specs.Contents.{Contents, Holds, generation_at, image_length_at}
+use Rattle.fe_journal.specs.Contents.{HoldsGroups, end_of_groups, Contents, Holds, generation_at, image_length_at}
 use Rattle.fe_format.specs.declared.format.Format.{Format}
 use Rattle.fe_journal.proofs.Founds.{slot_same, format_same}
 

@@ -5,8 +5,7 @@ use Rattle.fe_disk.proofs.Images.{IsTorn-after_write, bytes_at-after_write, byte
 use Rattle.fe_journal.specs.Layout.{header_of, gate_of, image_of, area_of, IsGateOpen, IsGateShut}
 use Rattle.fe_format.specs.Layout.{IsImageLength}
 use Rattle.fe_journal.specs.Contents.{Holds, empty_image, first_contents}
-use Rattle.fe_journal.specs.Journal.{JournalState, KeepsContents, new_journal}
-use Rattle.fe_journal.specs.Steps.{header_fields, after_commit, IsCleared, IsFirstSlot}
+use Rattle.fe_journal.specs.Journal.{JournalState, KeepsContents, new_journal, header_fields, after_commit, IsCleared, IsFirstSlot}
 use Rattle.fe_format.specs.declared.format.Format.{Format}
 use Rattle.fe_format.specs.declared.format.Format.TheVariants.{One, Two}
 use Rattle.fe_journal.proofs.Bytes.{same_back, same_through, same_byte, torn_same, written_same, known_same}

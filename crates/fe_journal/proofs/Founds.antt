@@ -7,9 +7,7 @@ use Rattle.fe_disk.specs.Disk.{LeavesJust, bytes_at}
 use Rattle.fe_disk.proofs.Images.{length-bytes_at}
 use Rattle.fe_journal.specs.Layout.{header_of, image_of, area_of, device_bytes, number_at, IsGateOpen, IsGateShut}
 use Rattle.fe_format.specs.Layout.{magic_of, IsImageLength}
-use Rattle.fe_journal.specs.Groups.{IsGroup, StandFrom, HoldsGroups, GroupFits, end_of_groups}
-use Rattle.fe_journal.specs.Contents.{Contents, Holds, IsValidAs, SlotCounts, generation_at, image_length_at}
-use Rattle.fe_journal.specs.Cursor.{Cursor, Lists}
+use Rattle.fe_journal.specs.Contents.{IsGroup, StandFrom, HoldsGroups, GroupFits, end_of_groups, Contents, Holds, IsValidAs, SlotCounts, generation_at, image_length_at, Cursor, Lists}
 use Rattle.fe_journal.specs.Damage.{TellsFound, IsUnformatted, IsDamagedAt, NoGeneration, OddImage, OddGroup}
 use Rattle.fe_journal.specs.Found.{IsFound, AsksToOpen}
 use Rattle.fe_journal.specs.Journal.{JournalState, IsLeft, KeepsContents}

@@ -2,8 +2,7 @@
 use Rattle.std.proofs.Common.{◌≡◌, ◌⊎◌, ℕ, ◌+◌, ◌<◌, ◌≤◌, List, [], ◌∷◌, ◌++◌, length, sym, ◌∙◌, subst, refl, arith}
 use Rattle.fe_journal.specs.Layout.{header_of, gate_of, image_of, area_of, other_than, IsGateShut}
 use Rattle.fe_format.specs.Layout.{IsImageLength}
-use Rattle.fe_journal.specs.Groups.{IsGroup, StandFrom, HoldsGroups, end_of_groups}
-use Rattle.fe_journal.specs.Contents.{Contents, IsValidAs, SlotCounts, Holds, generation_at, image_length_at}
+use Rattle.fe_journal.specs.Contents.{IsGroup, StandFrom, HoldsGroups, end_of_groups, Contents, IsValidAs, SlotCounts, Holds, generation_at, image_length_at}
 use Rattle.fe_journal.specs.Journal.{Draft, IsDraft}
 use Rattle.fe_format.specs.declared.format.Format.{Format}
 use Rattle.fe_format.specs.declared.format.Format.TheVariants.{One, Two}

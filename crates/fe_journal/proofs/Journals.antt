@@ -4,10 +4,8 @@ use Rattle.fe_disk.specs.Disk.{LeavesJust}
 use Rattle.fe_disk.specs.Runs.{LeavesOnly}
 use Rattle.fe_disk.proofs.Moments.{started, weaker}
 use Rattle.fe_journal.specs.Layout.{header_of, gate_of, image_of, area_of, other_than}
-use Rattle.fe_journal.specs.Groups.{GroupFits, end_of_groups, after_gate}
-use Rattle.fe_journal.specs.Contents.{Contents, Holds, HoldsEither, with_group}
-use Rattle.fe_journal.specs.Journal.{JournalState, Draft, IsDraft, IsLeft, KeepsContents}
-use Rattle.fe_journal.specs.Steps.{IsLeftInCommit, after_commit}
+use Rattle.fe_journal.specs.Contents.{GroupFits, end_of_groups, after_gate, Contents, Holds, HoldsEither, with_group}
+use Rattle.fe_journal.specs.Journal.{JournalState, Draft, IsDraft, IsLeft, KeepsContents, IsLeftInCommit, after_commit}
 use Rattle.fe_journal.specs.within.Fields.{state_of}
 use Rattle.fe_journal.specs.declared.journal.Journal.TheInside.{Inside}
 use Rattle.fe_format.specs.declared.format.Format.{Format}

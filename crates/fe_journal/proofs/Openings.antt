@@ -5,8 +5,8 @@ use Rattle.byteorder.specs.Numbers.{big_from-take}
 use Rattle.fe_disk.specs.Disk.{bytes_at}
 use Rattle.fe_disk.proofs.Images.{length-bytes_at}
 use Rattle.fe_journal.specs.Layout.{number_at, IsGateOpen, IsGateShut}
-use Rattle.fe_journal.specs.Groups.{IsGroup, HoldsGroups, GroupFits, end_of_groups}
-use Rattle.fe_journal.specs.Reading.{Reaches, GroupsEndAt, IsOddAt}
+use Rattle.fe_journal.specs.Contents.{IsGroup, HoldsGroups, GroupFits, end_of_groups}
+use Rattle.fe_journal.specs.Store.{Reaches, GroupsEndAt, IsOddAt}
 use Rattle.fe_format.specs.declared.format.Format.{Format}
 use Rattle.fe_journal.proofs.Frames.{stand_more, end_of_groups-more}
 

@@ -6,12 +6,10 @@ use Rattle.fe_disk.specs.Runs.{HasElapsed}
 use Rattle.fe_disk.proofs.Moments.{started, goes_on, joined, weaker}
 use Rattle.fe_journal.specs.Layout.{header_of, area_of, area_bytes, device_bytes, number_at}
 use Rattle.fe_format.specs.Layout.{IsImageLength}
-use Rattle.fe_journal.specs.Groups.{GroupFits, end_of_groups}
-use Rattle.fe_journal.specs.Contents.{IsValidAs, generation_at}
+use Rattle.fe_journal.specs.Contents.{GroupFits, end_of_groups, IsValidAs, generation_at}
 use Rattle.fe_journal.specs.Damage.{TellsFound, HasSoundHeader, NoGeneration, OddImage, OddGroup}
-use Rattle.fe_journal.specs.Reading.{IsHeader, IsHeaderAt, IsCounting, IsOddAt, HeaderFault, GroupFault}
-use Rattle.fe_journal.specs.Steps.{OnlyReads}
-use Rattle.fe_journal.specs.Store.{CountsAs}
+use Rattle.fe_journal.specs.Store.{IsHeader, IsHeaderAt, IsCounting, IsOddAt, HeaderFault, GroupFault, CountsAs}
+use Rattle.fe_journal.specs.Journal.{OnlyReads}
 use Rattle.fe_format.specs.declared.format.Format.{Format}
 use Rattle.fe_journal.specs.declared.header.Header.{Header}
 use Rattle.fe_journal.specs.declared.fault.StoreFault.{StoreFault}

@@ -5,10 +5,8 @@ use Rattle.fe_disk.specs.Disk.{IsTorn, bytes_at, after_write}
 use Rattle.fe_disk.proofs.Images.{length-after_write, IsTorn-after_write, IsTorn-same}
 use Rattle.fe_journal.specs.Layout.{header_of, gate_of, image_of, area_of, other_than, number_at, IsGateOpen, IsGateShut}
 use Rattle.fe_format.specs.Layout.{IsPayloadLength, IsImageLength}
-use Rattle.fe_journal.specs.Groups.{GroupFits, StandFrom, HoldsGroups, end_of_groups, after_gate}
-use Rattle.fe_journal.specs.Contents.{Contents, SlotCounts, Holds, HoldsEither, generation_at}
-use Rattle.fe_journal.specs.Journal.{Draft, IsDraft, IsLeft, IsCatchUp, catch_up_groups, with_draft}
-use Rattle.fe_journal.specs.Steps.{area_start, IsLeftInCommit, IsLeftInBeginning, after_commit}
+use Rattle.fe_journal.specs.Contents.{GroupFits, StandFrom, HoldsGroups, end_of_groups, after_gate, Contents, SlotCounts, Holds, HoldsEither, generation_at}
+use Rattle.fe_journal.specs.Journal.{Draft, IsDraft, IsLeft, IsCatchUp, catch_up_groups, with_draft, area_start, IsLeftInCommit, IsLeftInBeginning, after_commit}
 use Rattle.fe_format.specs.declared.format.Format.{Format}
 use Rattle.fe_format.specs.declared.format.Format.TheVariants.{One, Two}
 use Rattle.fe_journal.proofs.Bytes.{SameBytes, same_part, same_byte, same_back, same_through, torn_same, written_same}

@@ -7,8 +7,8 @@ use Rattle.fe_disk.specs.Disk.{bytes_at}
 use Rattle.fe_disk.proofs.Images.{length-bytes_at, get_or-bytes_at}
 use Rattle.fe_journal.specs.Layout.{number_at}
 use Rattle.fe_format.specs.Layout.{magic_of}
-use Rattle.fe_journal.specs.Groups.{after_gate}
-use Rattle.fe_journal.specs.Steps.{header_fields}
+use Rattle.fe_journal.specs.Contents.{after_gate}
+use Rattle.fe_journal.specs.Journal.{header_fields}
 use Rattle.fe_format.specs.declared.format.Format.{Format}
 use Rattle.fe_format.specs.declared.format.Format.TheVariants.{One, Two}
 use Rattle.fe_journal.proofs.Bytes.{SameBytes, same_part, same_byte, same_bytes_at, same_number_at}

@@ -5,7 +5,7 @@ use Rattle.fe_disk.specs.declared.calls.Calls.{Calls}
 use Rattle.fe_disk.proofs.Outcomes.{just_joined}
 use Rattle.fe_disk.proofs.Images.{IsTorn-same, torn_left, torn_again, torn_wider, get_or-bytes_at}
 use Rattle.fe_journal.specs.Layout.{header_of, gate_of, IsGateShut}
-use Rattle.fe_journal.specs.Steps.{IsLeftInCommit, IsLeftInShutting, IsHeaderTorn, Shuts}
+use Rattle.fe_journal.specs.Journal.{IsLeftInCommit, IsLeftInShutting, IsHeaderTorn, Shuts}
 
 module _ (before : List ℕ → Type 0) (seen : List ℕ) (at : ℕ) (bytes : List ℕ) (gate : ℕ) where
   pub not_begun : (image : List ℕ) → before image → IsLeftInCommit before seen at bytes gate image

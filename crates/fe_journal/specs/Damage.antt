@@ -2,8 +2,7 @@
 use Rattle.std.specs.Prelude.{◌≡◌, ◌≢◌, ◌⊎◌, ℕ, ◌+◌, ◌<◌, ◌≤◌, List, length}
 use Rattle.fe_journal.specs.Layout.{device_bytes, header_of, area_of, number_at, IsGateOpen}
 use Rattle.fe_format.specs.Layout.{IsImageLength}
-use Rattle.fe_journal.specs.Groups.{StandFrom, end_of_groups, GroupFits}
-use Rattle.fe_journal.specs.Contents.{IsValidAs, SlotCounts, generation_at, image_length_at}
+use Rattle.fe_journal.specs.Contents.{StandFrom, end_of_groups, GroupFits, IsValidAs, SlotCounts, generation_at, image_length_at, Contents, Holds}
 use Rattle.fe_format.specs.declared.format.Format.{Format}
 use Rattle.fe_journal.specs.declared.fault.StoreFault.{StoreFault}
 use Rattle.fe_journal.specs.declared.fault.StoreFault.TheVariants.{Unformatted, Damaged, Device, NoMemory}
@@ -40,3 +39,13 @@ TellsFound Unformatted image = IsUnformatted image
 TellsFound (Damaged offset) image = (length image ≡ device_bytes) × IsDamagedAt image offset
 TellsFound Device image = Unit {0}
 TellsFound NoMemory image = HasSoundHeader image
+
+-- ---- laws, cited by public functions (`docs/model.md`, "The journal")
+
+-- An image holds one contents at most.
+abbrev pub HasOneContents : Type 0
+HasOneContents = (c d : Contents) (image : List ℕ) → Holds c image → Holds d image → c ≡ d
+
+-- An image that holds contents is not unformatted, and damaged nowhere.
+abbrev pub IsHeldOrRefused : Type 0
+IsHeldOrRefused = (c : Contents) (image : List ℕ) → Holds c image → (IsUnformatted image → ⊥) × ((offset : ℕ) → IsDamagedAt image offset → ⊥)

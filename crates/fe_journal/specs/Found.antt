@@ -3,11 +3,8 @@ use Rattle.std.specs.Prelude.{◌≡◌, ◌⊎◌, ◌↔◌, ◌+◌, ◌≤�
 use Rattle.fe_disk.specs.Disk.{Rises, MakesAtMost}
 use Rattle.fe_disk.specs.declared.calls.Calls.{Calls}
 use Rattle.fe_journal.specs.Layout.{area_of}
-use Rattle.fe_journal.specs.Contents.{Contents, Holds}
-use Rattle.fe_journal.specs.Cursor.{Lists}
-use Rattle.fe_journal.specs.Groups.{end_of_groups}
-use Rattle.fe_journal.specs.Journal.{KeepsContents}
-use Rattle.fe_journal.specs.Steps.{OnlyReads}
+use Rattle.fe_journal.specs.Contents.{Contents, Holds, Lists, end_of_groups}
+use Rattle.fe_journal.specs.Journal.{KeepsContents, OnlyReads}
 use Rattle.fe_journal.specs.Damage.{IsUnformatted, TellsFound}
 use Rattle.fe_journal.specs.declared.opening.Found.{Found}
 use Rattle.fe_journal.specs.declared.fault.StoreFault.{StoreFault}

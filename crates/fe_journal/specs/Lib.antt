@@ -1,13 +1,7 @@
 pub mod Layout
-pub mod Groups
 pub mod Contents
 pub mod Damage
-pub mod Laws
-pub mod Reading
 pub mod Journal
 pub mod Store
 pub mod Found
-pub mod Cursor
-pub mod Steps
-pub mod Formatting
 pub mod within

@@ -4,7 +4,7 @@ ghost use Rattle.std.specs.Prelude.{◌≡◌, ◌+◌, ◌≤◌, length, OnOk}
 ghost use Rattle.fe_disk.specs.Disk.{IsTorn, LeavesJust};
 ghost use Rattle.fe_disk.specs.Runs.{LeavesOnly, Asks, AsksAtMost};
 ghost use Rattle.fe_journal.specs.Layout.{IsGateShut};
-ghost use Rattle.fe_journal.specs.Steps.{after_commit, IsLeftInCommit, IsLeftInShutting, Shuts};
+ghost use Rattle.fe_journal.specs.Journal.{after_commit, IsLeftInCommit, IsLeftInShutting, Shuts};
 
 use fe_disk::{DeviceFault, Disk};
 

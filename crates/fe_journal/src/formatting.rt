@@ -4,10 +4,8 @@ ghost use Rattle.std.specs.Prelude.{◌≡◌, None, IfOk, OnOk, vec_len};
 ghost use Rattle.fe_disk.specs.Disk.{LeavesJust};
 ghost use Rattle.fe_disk.specs.Runs.{Asks, without_disk};
 ghost use Rattle.fe_journal.specs.Layout.{device_bytes, area_bytes};
-ghost use Rattle.fe_journal.specs.Journal.{KeepsContents, new_journal};
+ghost use Rattle.fe_journal.specs.Journal.{KeepsContents, new_journal, Formats, disk_left, IsCleared, IsFirstSlot};
 ghost use Rattle.fe_journal.specs.Contents.{Holds, first_contents};
-ghost use Rattle.fe_journal.specs.Formatting.{Formats, disk_left};
-ghost use Rattle.fe_journal.specs.Steps.{IsCleared, IsFirstSlot};
 ghost use Rattle.fe_format.specs.declared.format.Format.TheVariants.{Two};
 ghost use Rattle.fe_journal.specs.declared.fault.StoreFault.TheVariants.{Unformatted, Device, NoMemory};
 

@@ -1,6 +1,6 @@
 ghost use Rattle.std.specs.Prelude.{◌≡◌, ◌+◌, ◌<◌, ◌≤◌, ℕ, List, [], ◌∷◌, length, IsNone, IfSome, IsSomeAnd};
 ghost use Rattle.fe_journal.specs.Layout.{area_bytes, device_bytes};
-ghost use Rattle.fe_journal.specs.Cursor.{Lists};
+ghost use Rattle.fe_journal.specs.Contents.{Lists};
 
 use byteorder::{BigEndian, ByteOrder};
 use std::marker::Model;
@@ -14,7 +14,7 @@ pub struct Groups {
 }
 
 impl Model for Groups {
-    ghost use Rattle.fe_journal.specs.Cursor.{Cursor};
+    ghost use Rattle.fe_journal.specs.Contents.{Cursor};
 
     ghost Value = { Cursor };
 

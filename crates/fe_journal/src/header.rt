@@ -2,7 +2,7 @@
 
 ghost use Rattle.std.specs.Prelude.{◌≡◌, ◌<◌, length, Option, None, Some};
 ghost use Rattle.fe_journal.specs.Layout.{header_bytes};
-ghost use Rattle.fe_journal.specs.Reading.{IsFormatOf, IsHeader, IsCounting};
+ghost use Rattle.fe_journal.specs.Store.{IsFormatOf, IsHeader, IsCounting};
 
 use crate::Format;
 use crate::layout::HEADER_BYTES;

@@ -3,10 +3,8 @@ ghost use Rattle.fe_disk.specs.Disk.{MakesJust};
 ghost use Rattle.fe_disk.specs.Runs.{LeavesOnly};
 ghost use Rattle.fe_journal.specs.Layout.{device_bytes, area_bytes, slice_bytes, other_than, gate_of};
 ghost use Rattle.fe_format.specs.Layout.{IsPayloadLength, IsImageLength};
-ghost use Rattle.fe_journal.specs.Groups.{room_at, end_of_groups};
-ghost use Rattle.fe_journal.specs.Contents.{Contents, HoldsEither, Holds, with_group};
-ghost use Rattle.fe_journal.specs.Steps.{Shuts};
-ghost use Rattle.fe_journal.specs.Journal.{Draft, KeepsContents, CallEnds, new_draft, with_slice, IsCatchUp, catch_up_groups, with_draft};
+ghost use Rattle.fe_journal.specs.Contents.{room_at, end_of_groups, Contents, HoldsEither, Holds, with_group};
+ghost use Rattle.fe_journal.specs.Journal.{Shuts, Draft, KeepsContents, CallEnds, new_draft, with_slice, IsCatchUp, catch_up_groups, with_draft};
 
 use crate::begun::Begun;
 use crate::commit::commit;

@@ -2,7 +2,7 @@
 //! offsets are those of the definitions.
 
 ghost use Rattle.std.specs.Prelude.{◌≡◌};
-ghost use Rattle.fe_journal.specs.Laws.{HasOneContents, IsHeldOrRefused};
+ghost use Rattle.fe_journal.specs.Damage.{HasOneContents, IsHeldOrRefused};
 ghost use Rattle.fe_journal.specs.Layout.{header_bytes, area_begin, area_bytes, slot_bytes, device_bytes, empty_area_room, slice_bytes};
 ghost use Rattle.fe_journal.specs.declared.layout.TheConstants.{HEADER_BYTES, AREA_BEGIN, AREA_BYTES, SLOT_BYTES, DEVICE_BYTES, LONGEST_PAYLOAD, SLICE_BYTES};
 

@@ -2,7 +2,7 @@
 
 ghost use Rattle.std.specs.Prelude.{◌≡◌, ◌<◌, length, Option, Some, None, IfOk, IfErr};
 ghost use Rattle.fe_journal.specs.Layout.{area_bytes};
-ghost use Rattle.fe_journal.specs.Reading.{IsFitting, IsOddAt, GroupsEndAt};
+ghost use Rattle.fe_journal.specs.Store.{IsFitting, IsOddAt, GroupsEndAt};
 
 use crate::Format;
 use crate::layout::AREA_BYTES;

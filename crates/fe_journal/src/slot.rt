@@ -3,7 +3,7 @@ ghost use Rattle.std.specs.Prelude.{◌≡◌, ◌<◌, ◌^◌, ℕ, List, OnOk
 ghost use Rattle.fe_disk.specs.Disk.{LeavesJust};
 ghost use Rattle.fe_disk.specs.Runs.{LeavesOnly, AsksAtMost};
 ghost use Rattle.fe_journal.specs.Layout.{device_bytes, gate_of};
-ghost use Rattle.fe_journal.specs.Steps.{header_fields, IsHeaderTorn, IsLeftInBeginning, IsSlotBegun, Shuts};
+ghost use Rattle.fe_journal.specs.Journal.{header_fields, IsHeaderTorn, IsLeftInBeginning, IsSlotBegun, Shuts};
 
 use crate::Format;
 use crate::commit::shut;

@@ -2,8 +2,8 @@
 //! (`docs/formats.md`, "Journal area").
 
 ghost use Rattle.std.specs.Prelude.{◌≡◌, ◌+◌, ◌≤◌, ◌<◌, ◌^◌, ◌∷◌, length};
-ghost use Rattle.fe_journal.specs.Groups.{after_gate};
-ghost use Rattle.fe_journal.specs.Steps.{header_fields, area_start, BeginsWith};
+ghost use Rattle.fe_journal.specs.Contents.{after_gate};
+ghost use Rattle.fe_journal.specs.Journal.{header_fields, area_start, BeginsWith};
 
 use crate::Format;
 use byteorder::{BigEndian, ByteOrder};

@@ -6,9 +6,8 @@ ghost use Rattle.fe_journal.specs.Layout.{device_bytes, header_bytes, header_of}
 ghost use Rattle.fe_format.specs.Layout.{IsImageLength};
 ghost use Rattle.fe_journal.specs.Damage.{TellsFound};
 ghost use Rattle.fe_journal.specs.Found.{AsksToOpen, ReadsInPart};
-ghost use Rattle.fe_journal.specs.Reading.{IsHeader, HeaderFault, GroupsEndAt};
-ghost use Rattle.fe_journal.specs.Steps.{OnlyReads};
-ghost use Rattle.fe_journal.specs.Store.{CountsAs, IsSlotRead, AreParts, IsReadable, IsStore, IsWholeStore};
+ghost use Rattle.fe_journal.specs.Store.{IsHeader, HeaderFault, GroupsEndAt, CountsAs, IsSlotRead, AreParts, IsReadable, IsStore, IsWholeStore};
+ghost use Rattle.fe_journal.specs.Journal.{OnlyReads};
 ghost use Rattle.fe_journal.specs.declared.fault.StoreFault.TheVariants.{Device, NoMemory};
 
 use crate::StoreFault;

@@ -18,13 +18,11 @@ use Rattle.fe_codec.proofs.RecordLaws.{length-entry_spelling}
 use Rattle.fe_format.specs.Layout.{record_bytes, group_records, longest_payload, IsPayloadLength, IsImageLength}
 use Rattle.fe_format.specs.declared.format.Format.{Format}
 use Rattle.fe_format.specs.declared.format.Format.TheVariants.{One, Two}
-use Rattle.fe_journal.specs.Contents.{Contents, Holds, HoldsEither, with_group}
+use Rattle.fe_journal.specs.Contents.{Contents, Holds, HoldsEither, with_group, room_at}
 use Rattle.fe_journal.specs.Journal.{JournalState, Draft, KeepsContents}
-use Rattle.fe_keeper.specs.within.CatchUp.{batch_bytes, HasRoomFor, HasMoreToCatchUp, CatchesUp}
+use Rattle.fe_keeper.specs.within.Upholds.{batch_bytes, HasRoomFor, HasMoreToCatchUp, CatchesUp, IsDraftOf, IsDrafted, Upholds, IsCheckpoint, IsStore, progress_of, store_of}
 use Rattle.fe_keeper.specs.Keeper.{StoreState, is_spellable, catches_up, fits, appended}
-use Rattle.fe_journal.specs.Groups.{room_at}
 use Rattle.fe_keeper.specs.Stands.{AreGroups, Stands, StandsForEither}
-use Rattle.fe_keeper.specs.within.Upholds.{IsDraftOf, IsDrafted, Upholds, IsCheckpoint, IsStore, progress_of, store_of}
 use Rattle.std.specs.Option.{option_map}
 use Rattle.std.specs.Prelude.{vec_len, vec_capacity}
 use Rattle.fe_keeper.specs.declared.checkpoint.Checkpoint.{Checkpoint}

@@ -6,8 +6,7 @@ use Rattle.fe_state.specs.History.{IsHistory}
 use Rattle.fe_codec.specs.FirstFault.{◌followed_by◌, header_at, state_at, error_at_offset, image_at}
 use Rattle.fe_codec.proofs.ImageOnly.{one_image, spellings_read}
 use Rattle.fe_format.specs.declared.format.Format.{Format}
-use Rattle.fe_journal.specs.Contents.{Contents}
-use Rattle.fe_journal.specs.Cursor.{Cursor}
+use Rattle.fe_journal.specs.Contents.{Contents, Cursor}
 use Rattle.fe_keeper.specs.Stands.{Stands, greatest_generation}
 use Rattle.fe_keeper.specs.Opened.{IsBase, ArePartsOf}
 use Rattle.fe_keeper.specs.within.Replaying.{CanGoOn}

@@ -1,6 +1,6 @@
 -- A new store stands for the first state, and what formatting does to its disk.
 use Rattle.std.proofs.Common.{◌≡◌, ◌⊎◌, inl, inr, ℕ, List, [], ◌∷◌, length, Err, refl, sym, ◌∙◌, subst, arith}
-use Rattle.fe_journal.specs.Formatting.{Formats}
+use Rattle.fe_journal.specs.Journal.{Formats}
 use Rattle.fe_journal.specs.declared.fault.StoreFault.{StoreFault}
 use Rattle.fe_journal.specs.declared.fault.StoreFault.TheVariants as store
 use Rattle.fe_keeper.specs.within.Faults.{fault_of_store}

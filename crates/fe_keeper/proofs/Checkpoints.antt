@@ -10,8 +10,7 @@ use Rattle.fe_format.specs.declared.format.Format.TheVariants.{Two}
 use Rattle.fe_journal.specs.Contents.{Contents, Holds}
 use Rattle.fe_journal.specs.Journal.{JournalState, Draft, KeepsContents, new_draft, with_slice}
 use Rattle.fe_keeper.specs.Stands.{Stands, StandsFor}
-use Rattle.fe_keeper.specs.within.Upholds.{IsDraftOf, IsDrafted, Upholds, progress_of}
-use Rattle.fe_keeper.specs.within.Slices.{KeepsDraft}
+use Rattle.fe_keeper.specs.within.Upholds.{IsDraftOf, IsDrafted, Upholds, progress_of, KeepsDraft}
 use Rattle.fe_keeper.specs.declared.checkpoint.Checkpoint.{Checkpoint}
 use Rattle.fe_keeper.specs.declared.keeper_store.KeeperStore.{KeeperStore}
 use Rattle.fe_disk.specs.declared.disk.Disk.{Ghosts}

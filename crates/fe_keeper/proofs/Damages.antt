@@ -17,9 +17,8 @@ use Rattle.fe_journal.proofs.Founds as founds
 use Rattle.fe_keeper.specs.Stands.{Stands, StandsFor, greatest_generation}
 use Rattle.fe_keeper.specs.Opened.{IsSlotFault}
 use Rattle.fe_keeper.specs.within.Replaying.{CanGoOn}
-use Rattle.fe_keeper.specs.Damage.{IsWrongIn, IsWrongAt, IsDamagedAt, MayLackMemory, TellsStore, OddField, OddGeneration, OddRecord, InSlot, InContents, InPart, AfterFields}
+use Rattle.fe_keeper.specs.Damage.{IsWrongIn, IsWrongAt, IsDamagedAt, MayLackMemory, TellsStore, OddField, OddGeneration, OddRecord, InSlot, InContents, InPart, AfterFields, AreToldApart}
 use Rattle.fe_keeper.specs.within.Faults.{fault_of_store}
-use Rattle.fe_keeper.specs.Laws.{AreToldApart}
 use Rattle.fe_keeper.specs.declared.fault.Fault.{Fault}
 use Rattle.fe_keeper.specs.declared.fault.Fault.TheVariants.{Device, NoMemory, Damaged}
 use Rattle.fe_keeper.proofs.Bases.{fields_stand}

@@ -6,7 +6,7 @@ use Rattle.fe_disk.specs.Runs.{LeavesOnly}
 use Rattle.fe_disk.proofs.Moments.{joined}
 use Rattle.fe_state.specs.State.{ServerState}
 use Rattle.fe_state.specs.declared.entry.Entry.{Entry}
-use Rattle.fe_replica.specs.Taking.{IsMismatch, MakesSomeArray}
+use Rattle.fe_replica.specs.Replaying.{IsMismatch, MakesSomeArray}
 use Rattle.fe_replica.specs.declared.taking.Refused.{Refused}
 use Rattle.fe_replica.specs.declared.taking.Refused.TheVariants as replica
 use Rattle.fe_journal.specs.Journal.{JournalState}
@@ -18,8 +18,7 @@ use Rattle.fe_keeper.specs.Keeper.{KeeperState}
 use Rattle.fe_keeper.specs.Stands.{StandsFor}
 use Rattle.fe_keeper.specs.within.Ends.{WorksOn, BreaksOff, StoreEnds, StepEnds, CountsBatch, Carries}
 use Rattle.fe_keeper.specs.within.Faults.{fault_of_journal, fault_of_refused}
-use Rattle.fe_keeper.specs.within.Kept.{kept_of}
-use Rattle.fe_keeper.specs.within.Upholds.{store_of}
+use Rattle.fe_keeper.specs.within.Upholds.{kept_of, store_of}
 use Rattle.fe_keeper.specs.declared.fault.Fault.{Fault}
 use Rattle.fe_keeper.specs.declared.fault.Fault.TheVariants.{Device, NoMemory}
 use Rattle.fe_keeper.specs.declared.keeper.Keeper.TheInside.{Inside}

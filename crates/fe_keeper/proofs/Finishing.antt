@@ -18,9 +18,8 @@ use Rattle.fe_journal.specs.Contents.{Contents, HoldsEither}
 use Rattle.fe_journal.specs.Journal.{JournalState, Draft, KeepsContents, begun_of, catch_up_groups, with_draft}
 use Rattle.fe_journal.specs.declared.begun.Begun.{Begun}
 use Rattle.fe_keeper.specs.Stands.{Stands, StandsFor, AreGroups, greatest_generation}
-use Rattle.fe_keeper.specs.within.Upholds.{IsDraftOf, IsUnderWay, IsCheckpoint, IsStore, Upholds, progress_of}
+use Rattle.fe_keeper.specs.within.Upholds.{IsDraftOf, IsUnderWay, IsCheckpoint, IsStore, Upholds, progress_of, KeepsDraft}
 use Rattle.fe_keeper.specs.Keeper.{has_slices}
-use Rattle.fe_keeper.specs.within.Slices.{KeepsDraft}
 use Rattle.fe_keeper.specs.declared.checkpoint.Checkpoint.{Checkpoint}
 use Rattle.fe_keeper.specs.declared.keeper_store.KeeperStore.{KeeperStore}
 use Rattle.fe_keeper.proofs.Appending.{length-group}

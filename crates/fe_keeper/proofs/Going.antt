@@ -8,10 +8,8 @@ use Rattle.fe_codec.specs.Record.{IsGroupSize, group_spelling}
 use Rattle.fe_format.specs.Layout.{IsPayloadLength}
 use Rattle.fe_format.specs.declared.format.Format.{Format}
 use Rattle.fe_format.specs.declared.format.Format.TheVariants.{One, Two}
-use Rattle.fe_journal.specs.Groups.{StandFrom}
+use Rattle.fe_journal.specs.Contents.{StandFrom, Contents, Holds, Cursor, Lists}
 use Rattle.fe_journal.specs.Layout.{area_bytes}
-use Rattle.fe_journal.specs.Contents.{Contents, Holds}
-use Rattle.fe_journal.specs.Cursor.{Cursor, Lists}
 use Rattle.fe_replica.specs.Replaying.{Replays, IsFirstBad}
 use Rattle.fe_replica.proofs.Replayed.{replays_once, replayed_group, group_replays, bad_is_refused}
 use Rattle.fe_keeper.specs.Stands.{AreGroups, Stands}

@@ -5,8 +5,7 @@ use Rattle.fe_state.specs.declared.entry.Entry.{Entry}
 use Rattle.fe_codec.specs.Record.{group_spelling}
 use Rattle.fe_format.specs.declared.format.Format.{Format}
 use Rattle.fe_format.specs.declared.format.Format.TheVariants.{One, Two}
-use Rattle.fe_journal.specs.Groups.{end_of_groups}
-use Rattle.fe_journal.specs.Cursor.{Cursor, Lists}
+use Rattle.fe_journal.specs.Contents.{end_of_groups, Cursor, Lists}
 use Rattle.fe_journal.specs.Journal.{JournalState}
 use Rattle.fe_replica.specs.Replaying.{Replays}
 use Rattle.fe_replica.proofs.Following.{place_after}

@@ -13,8 +13,7 @@ use Rattle.fe_state.specs.State.{ServerState}
 use Rattle.fe_format.specs.declared.format.Format.{Format}
 use Rattle.fe_keeper.specs.Keeper.{Progress, StoreState, stepped, finished, has_slices, slices_of, slices_left}
 use Rattle.fe_keeper.specs.Stands.{StandsFor}
-use Rattle.fe_keeper.specs.within.Ends.{StoreEnds, StaysSound, Carries}
-use Rattle.fe_keeper.specs.within.Ready.{HasCheckpoint}
+use Rattle.fe_keeper.specs.within.Ends.{StoreEnds, StaysSound, Carries, HasCheckpoint}
 use Rattle.fe_keeper.specs.within.Upholds.{Upholds, store_of}
 use Rattle.fe_keeper.specs.declared.keeper_store.KeeperStore.{KeeperStore}
 use Rattle.fe_keeper.proofs.Checkpoints.{stays}

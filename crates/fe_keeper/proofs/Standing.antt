@@ -9,7 +9,7 @@ use Rattle.fe_journal.specs.Contents.{Contents}
 use Rattle.fe_journal.proofs.Contents.{one_contents}
 use Rattle.fe_format.specs.declared.format.Format.{Format}
 use Rattle.fe_keeper.specs.Stands.{AreGroups, Stands}
-use Rattle.fe_keeper.specs.Laws.{StandsForOne}
+use Rattle.fe_keeper.specs.Damage.{StandsForOne}
 
 -- payloads spell one list of groups
 pub one_groups : (format : Format) (xs ys : List (List Entry)) (payloads : List (List ℕ)) → AreGroups format xs payloads → AreGroups format ys payloads → xs ≡ ys

@@ -5,7 +5,7 @@ use Rattle.fe_state.specs.State.{ServerState, after_all}
 use Rattle.fe_state.specs.History.{IsHistory, after_groups}
 use Rattle.fe_state.specs.declared.entry.Entry.{Entry}
 use Rattle.fe_state.proofs.Histories.{history-append, history-cut}
-use Rattle.fe_keeper.specs.Laws.{StopsJoin}
+use Rattle.fe_keeper.specs.Damage.{StopsJoin}
 
 pub after_groups-append : (s : ServerState) (front rest : List (List Entry)) → after_groups s (front ++ rest) ≡ after_groups (after_groups s front) rest
 after_groups-append s [] rest = refl

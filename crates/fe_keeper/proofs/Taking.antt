@@ -17,10 +17,8 @@ use Rattle.fe_keeper.specs.Stands.{StandsFor, StandsForEither, EachStandsFor}
 use Rattle.fe_journal.specs.declared.fault.JournalFault.{JournalFault}
 use Rattle.fe_keeper.specs.Keeper.{KeeperState, StoreState, slices_of}
 use Rattle.fe_keeper.specs.Ends.{IsDurable, MakesToAppend, Rests, StopsLeave}
-use Rattle.fe_keeper.specs.within.Ends.{Carries}
-use Rattle.fe_keeper.specs.within.Fresh.{IsImageOf, whole_slices}
-use Rattle.fe_keeper.specs.within.Kept.{IsKept, kept_of}
-use Rattle.fe_keeper.specs.within.Upholds.{Upholds, store_of}
+use Rattle.fe_keeper.specs.within.Ends.{Carries, IsImageOf, whole_slices}
+use Rattle.fe_keeper.specs.within.Upholds.{IsKept, kept_of, Upholds, store_of}
 use Rattle.fe_keeper.specs.declared.checkpoint.Checkpoint.{Checkpoint}
 use Rattle.fe_keeper.specs.declared.keeper_store.KeeperStore.{KeeperStore}
 use Rattle.fe_keeper.specs.declared.keeper.Keeper.TheInside.{Inside}

@@ -7,7 +7,7 @@ use Rattle.fe_disk.specs.declared.calls.Calls.{Calls}
 use Rattle.fe_state.specs.State.{after_all}
 use Rattle.fe_state.specs.declared.batch.Batch.{Batch}
 use Rattle.fe_state.specs.declared.entry.Entry.{Entry}
-use Rattle.fe_replica.specs.Taking.{Continues, IsMismatch, MakesSomeArray}
+use Rattle.fe_replica.specs.Replaying.{Continues, IsMismatch, MakesSomeArray}
 use Rattle.fe_keeper.specs.Keeper.{KeeperState, StoreState, appended, begun, can_begin, fits, made_room, must_begin, slices_left}
 use Rattle.fe_keeper.specs.Stands.{StandsFor, EachStandsFor}
 use Rattle.fe_keeper.specs.declared.fault.Fault.{Fault}

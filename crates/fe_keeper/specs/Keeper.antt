@@ -10,7 +10,7 @@ use Rattle.fe_state.specs.declared.entry.Entry.{Entry}
 use Rattle.fe_format.specs.Layout.{record_bytes, group_records}
 use Rattle.fe_format.specs.declared.format.Format.{Format}
 use Rattle.fe_format.specs.declared.format.Format.TheVariants.{One, Two}
-use Rattle.fe_journal.specs.Groups.{room_at}
+use Rattle.fe_journal.specs.Contents.{room_at}
 use Rattle.fe_journal.specs.Layout.{slice_bytes}
 
 -- a checkpoint under way: how many bytes its image has, how many of them are written, and the place of the image's state

@@ -3,9 +3,7 @@ use Rattle.std.specs.Prelude.{◌≡◌, ◌⊎◌, ℕ, ◌≤◌, List, [], �
 use Rattle.fe_state.specs.State.{ServerState}
 use Rattle.fe_codec.specs.Image.{image_spelling, FitsImage}
 use Rattle.fe_format.specs.declared.format.Format.{Format}
-use Rattle.fe_journal.specs.Contents.{Contents, Holds}
-use Rattle.fe_journal.specs.Groups.{end_of_groups}
-use Rattle.fe_journal.specs.Cursor.{Cursor, Lists}
+use Rattle.fe_journal.specs.Contents.{Contents, Holds, end_of_groups, Cursor, Lists}
 use Rattle.fe_journal.specs.Journal.{JournalState, KeepsContents}
 use Rattle.fe_replica.specs.Replaying.{Replays}
 use Rattle.fe_keeper.specs.Stands.{Stands, StandsFor, EachStandsFor, greatest_generation}

@@ -3,9 +3,8 @@
 
 ghost use Rattle.std.specs.Prelude.{◌≡◌, IfOk};
 ghost use Rattle.fe_journal.specs.Journal.{IsIdle};
-ghost use Rattle.fe_keeper.specs.within.Upholds.{IsNumbered};
+ghost use Rattle.fe_keeper.specs.within.Upholds.{IsNumbered, AreRooms};
 ghost use Rattle.fe_keeper.specs.Opened.{keeper_over, KeepsState};
-ghost use Rattle.fe_keeper.specs.within.Rooms.{AreRooms};
 
 use crate::Format;
 use crate::keeper::Keeper;

@@ -8,11 +8,8 @@ ghost use Rattle.fe_codec.specs.Image.{image_spelling};
 ghost use Rattle.fe_format.specs.declared.format.Format.TheVariants.{Two};
 ghost use Rattle.fe_journal.specs.Contents.{Contents};
 ghost use Rattle.fe_keeper.specs.Keeper.{slice_size};
-ghost use Rattle.fe_keeper.specs.within.Ends.{StoreEnds, CarriesDraft};
-ghost use Rattle.fe_keeper.specs.within.Fresh.{IsFresh, IsImageOf};
-ghost use Rattle.fe_keeper.specs.within.Ready.{CanWrite};
-ghost use Rattle.fe_keeper.specs.within.Slices.{KeepsDraft, sliced, journal_sliced};
-ghost use Rattle.fe_keeper.specs.within.Upholds.{progress_of};
+ghost use Rattle.fe_keeper.specs.within.Ends.{StoreEnds, CarriesDraft, IsFresh, IsImageOf, CanWrite};
+ghost use Rattle.fe_keeper.specs.within.Upholds.{KeepsDraft, sliced, journal_sliced, progress_of};
 ghost use Rattle.fe_keeper.specs.declared.fault.Fault.TheVariants.{NoMemory};
 
 use crate::{Fault, Format};

@@ -5,9 +5,7 @@ ghost use Rattle.std.specs.Prelude.{◌≡◌, ◌+◌, false, vec_len, IsTrue, 
 ghost use Rattle.fe_disk.specs.Disk.{MakesAtMost};
 ghost use Rattle.fe_keeper.specs.Keeper as effect;
 ghost use Rattle.fe_keeper.specs.Keeper.{fits, has_slices, slices_of, slices_left, finished, renewed, made_room};
-ghost use Rattle.fe_keeper.specs.within.Ends.{StepEnds, Always, IsStepped, MakesRoom};
-ghost use Rattle.fe_keeper.specs.within.Fresh.{IsImageOf, IsImageIfSome, whole_slices};
-ghost use Rattle.fe_keeper.specs.within.Ready.{HasCheckpoint, CanTake, CanStoreWith};
+ghost use Rattle.fe_keeper.specs.within.Ends.{StepEnds, Always, IsStepped, MakesRoom, IsImageOf, IsImageIfSome, whole_slices, HasCheckpoint, CanTake, CanStoreWith};
 ghost use Rattle.fe_keeper.specs.within.Upholds.{store_of};
 
 use crate::Format;

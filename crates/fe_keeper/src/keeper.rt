@@ -8,12 +8,11 @@ ghost use Rattle.fe_state.specs.UndoLog.{empty_log, rewound};
 ghost use Rattle.fe_codec.specs.Image.{image_spelling};
 ghost use Rattle.fe_format.specs.declared.format.Format.TheVariants.{Two};
 ghost use Rattle.fe_journal.specs.Layout.{device_bytes};
-ghost use Rattle.fe_replica.specs.Taking.{Continues};
+ghost use Rattle.fe_replica.specs.Replaying.{Continues};
 ghost use Rattle.fe_keeper.specs.Stands.{StandsForEither};
-ghost use Rattle.fe_keeper.specs.Ends.{StopsLeave, IsDurable, Rests, Ends, ForDevice, ForDeviceAndMemory, HasBegun};
-ghost use Rattle.fe_keeper.specs.Ends.{IsAppended, AppendEnds, MakesToAppend, batch_of};
+ghost use Rattle.fe_keeper.specs.Ends.{StopsLeave, IsDurable, Rests, Ends, ForDevice, ForDeviceAndMemory, HasBegun, IsAppended, AppendEnds, MakesToAppend, batch_of};
 ghost use Rattle.fe_keeper.specs.Keeper.{can_begin, has_slices, must_begin, slices_of, slices_left, stepped, finished};
-ghost use Rattle.fe_keeper.specs.within.Taken.{HasBatch, HasTaken, IsMadeFor};
+ghost use Rattle.fe_keeper.specs.within.Ends.{HasBatch, HasTaken, IsMadeFor};
 ghost use Rattle.fe_keeper.specs.within.Upholds.{store_of};
 ghost use Rattle.fe_keeper.specs.declared.fault.Fault.TheVariants.{NoMemory};
 
@@ -61,7 +60,7 @@ impl<D: Disk> Model for Keeper<D> {
 
     ghost coded = { Prim.hlevel (codes, state_code) };
 
-    ghost use Rattle.fe_keeper.specs.within.Kept.{kept_of, IsKept};
+    ghost use Rattle.fe_keeper.specs.within.Upholds.{kept_of, IsKept};
 
     ghost view = { kept_of };
 

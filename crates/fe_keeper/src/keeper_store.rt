@@ -9,14 +9,11 @@ ghost use Rattle.fe_state.specs.Limits.{most_batch_entries};
 ghost use Rattle.fe_codec.specs.Record.{CanPut, FitsGroup, group_spelling};
 ghost use Rattle.fe_format.specs.Layout.{group_records};
 ghost use Rattle.fe_format.specs.declared.format.Format.TheVariants.{Two};
-ghost use Rattle.fe_journal.specs.Groups.{room_at};
+ghost use Rattle.fe_journal.specs.Contents.{room_at};
 ghost use Rattle.fe_keeper.specs.Ends.{MakesToAppend};
 ghost use Rattle.fe_keeper.specs.Keeper.{fits, is_spellable, caught_up_bytes, can_begin, appended, made_room, must_begin};
-ghost use Rattle.fe_keeper.specs.within.CatchUp.{batch_bytes, HasRoomFor, CatchesUp, IsSpelledBatch};
-ghost use Rattle.fe_keeper.specs.within.Ends.{Always, BatchEnds};
-ghost use Rattle.fe_keeper.specs.within.Fresh.{IsImageIfSome, whole_slices};
-ghost use Rattle.fe_keeper.specs.within.Ready.{CanStore, CanStoreWith};
-ghost use Rattle.fe_keeper.specs.within.Upholds.{IsStore, store_of};
+ghost use Rattle.fe_keeper.specs.within.Upholds.{batch_bytes, HasRoomFor, CatchesUp, IsSpelledBatch, IsStore, store_of};
+ghost use Rattle.fe_keeper.specs.within.Ends.{Always, BatchEnds, IsImageIfSome, whole_slices, CanStore, CanStoreWith};
 
 use crate::Format;
 use crate::checkpoint::Checkpoint;

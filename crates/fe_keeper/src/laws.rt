@@ -1,7 +1,7 @@
 //! Laws of what images of a device stand for (`docs/model.md`, "The keeper"), and of histories over stops (`docs/stops.md`). Each
 //! function states one, and does nothing.
 
-ghost use Rattle.fe_keeper.specs.Laws.{StandsForOne, AreToldApart, StopsJoin};
+ghost use Rattle.fe_keeper.specs.Damage.{StandsForOne, AreToldApart, StopsJoin};
 
 /// An image stands for at most one state.
 pub fn images_stand_for_one()

@@ -5,14 +5,13 @@ ghost use Rattle.fe_disk.specs.Runs.{without_disk};
 ghost use Rattle.fe_state.specs.State.{first_state};
 ghost use Rattle.fe_journal.specs.Damage.{IsUnformatted};
 ghost use Rattle.fe_journal.specs.Found.{AsksToOpen};
-ghost use Rattle.fe_journal.specs.Formatting.{Formats};
-ghost use Rattle.fe_journal.specs.Steps.{OnlyReads};
+ghost use Rattle.fe_journal.specs.Journal.{Formats, OnlyReads};
 ghost use Rattle.fe_journal.specs.Layout.{device_bytes};
 ghost use Rattle.fe_keeper.specs.Stands.{EachStandsFor};
 ghost use Rattle.fe_keeper.specs.Keeper.{first_store};
 ghost use Rattle.fe_keeper.specs.Opened.{disk_after, IsOpenFault, IsOpenedFrom, IsReady};
 ghost use Rattle.fe_keeper.specs.Damage.{IsReason};
-ghost use Rattle.fe_keeper.specs.within.Rooms.{AreRooms};
+ghost use Rattle.fe_keeper.specs.within.Upholds.{AreRooms};
 ghost use Rattle.fe_keeper.specs.declared.fault.Fault.TheVariants.{Device, NoMemory, Unformatted};
 
 use crate::Fault;

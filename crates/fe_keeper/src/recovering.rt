@@ -4,8 +4,7 @@
 ghost use Rattle.std.specs.Prelude.{◌≡◌, ◌+◌, ◌<◌, ℕ, List, Ok, IsOk, IfOk, IfErr, OnOk, IsErrOf};
 ghost use Rattle.fe_state.specs.State.{ServerState};
 ghost use Rattle.fe_codec.specs.FirstFault.{header_at};
-ghost use Rattle.fe_journal.specs.Contents.{Contents};
-ghost use Rattle.fe_journal.specs.Cursor.{Lists};
+ghost use Rattle.fe_journal.specs.Contents.{Contents, Lists};
 ghost use Rattle.fe_keeper.specs.Stands.{Stands, greatest_generation};
 ghost use Rattle.fe_keeper.specs.Opened.{IsSlotFault, IsListing, ReplaysAll, IsRecovered, ArePartsOf};
 ghost use Rattle.fe_keeper.specs.within.Replaying.{CanGoOn};

@@ -2,7 +2,7 @@
 use Rattle.std.proofs.Common.{◌≡◌, ℕ, ◌+◌, ◌<◌, ◌≤◌, List, [], ◌∷◌, length, get_or, sym, ◌∙◌, subst, refl, arith}
 use Rattle.fe_format.specs.declared.format.Format.{Format}
 use Rattle.fe_journal.specs.Layout.{number_at, IsGateOpen, IsGateShut}
-use Rattle.fe_journal.specs.Groups.{StandFrom, end_of_groups, GroupFits}
+use Rattle.fe_journal.specs.Contents.{StandFrom, end_of_groups, GroupFits}
 use Rattle.fe_journal.proofs.Bytes.{SameBytes, same_part, same_byte, same_number_at}
 use Rattle.fe_journal.proofs.Frames.{stand_same}
 use Rattle.fe_look.specs.Slot.{GatesEnd}

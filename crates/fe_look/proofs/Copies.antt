@@ -4,15 +4,13 @@ use Rattle.std.proofs.lemmas.Bool.{cases_lt}
 use Rattle.fe_format.specs.Layout.{IsImageLength}
 use Rattle.fe_format.specs.declared.format.Format.{Format}
 use Rattle.fe_journal.specs.Layout.{header_of, gate_of, image_of, area_of, other_than, IsGateOpen, IsGateShut}
-use Rattle.fe_journal.specs.Groups.{HoldsGroups, end_of_groups}
-use Rattle.fe_journal.specs.Contents.{Contents, Holds, IsValidAs, SlotCounts, generation_at, image_length_at}
+use Rattle.fe_journal.specs.Contents.{HoldsGroups, end_of_groups, Contents, Holds, IsValidAs, SlotCounts, generation_at, image_length_at}
 use Rattle.fe_journal.specs.Damage.{IsUnformatted, IsDamagedAt, NoGeneration, OddImage, OddGroup}
 use Rattle.fe_journal.proofs.Bytes.{SameBytes, same_back, same_part, same_bytes_at, same_number_at}
 use Rattle.fe_journal.proofs.Frames.{image_short}
 use Rattle.fe_journal.proofs.Founds.{counts_one}
-use Rattle.fe_look.specs.Copy.{IsCopyOf}
-use Rattle.fe_look.specs.HeaderBytes.{Counts}
-use Rattle.fe_look.specs.Slot.{GatesEnd, IsAreaCopied, IsSlotCopy}
+use Rattle.fe_look.specs.Reading.{IsCopyOf}
+use Rattle.fe_look.specs.Slot.{Counts, GatesEnd, IsAreaCopied, IsSlotCopy}
 use Rattle.fe_look.specs.declared.header.HeaderBytes.{HeaderBytes}
 use Rattle.fe_look.proofs.Areas.{SameGroups, same_to_end, same_whole, gates_same}
 use Rattle.fe_look.proofs.Slots.{equal_same}

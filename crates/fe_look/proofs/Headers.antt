@@ -5,7 +5,7 @@ use Rattle.fe_format.specs.declared.format.Format.{Format}
 use Rattle.fe_journal.specs.Layout.{header_of, number_at}
 use Rattle.fe_journal.specs.Contents.{IsValidAs, SlotCounts, generation_at}
 use Rattle.fe_journal.proofs.Bytes.{SameBytes, same_part, same_number_at, known_same}
-use Rattle.fe_look.specs.HeaderBytes.{IsValid, IsHeaderOf, IsChosen, Counts, generation_in}
+use Rattle.fe_look.specs.Slot.{IsValid, IsHeaderOf, IsChosen, Counts, generation_in}
 use Rattle.fe_look.specs.declared.header.HeaderBytes.{HeaderBytes}
 
 -- a header that was read of a slot

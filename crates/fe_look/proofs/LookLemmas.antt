@@ -7,7 +7,7 @@ use Rattle.fe_keeper.specs.Stands.{StandsFor}
 use Rattle.fe_store.specs.Opening.{IsReason, TellsImage}
 use Rattle.fe_store.specs.declared.fault.OpenFault.{OpenFault}
 use Rattle.fe_store.specs.declared.fault.OpenFault.TheVariants.{Device, Memory, Size, Unformatted, Damaged}
-use Rattle.fe_look.specs.Copy.{IsCopyOf}
+use Rattle.fe_look.specs.Reading.{IsCopyOf}
 use Rattle.fe_look.specs.Look.{Shows, ShowsFront}
 
 -- nothing is written

@@ -1,11 +1,35 @@
 -- What one reading of a store says, over a disk that nobody else writes (`docs/store.md`, "A copy while the store is written").
-use Rattle.std.specs.Prelude.{◌≡◌, ◌⊎◌, ℕ, List}
-use Rattle.fe_journal.specs.Damage.{IsUnformatted}
+use Rattle.std.specs.Prelude.{◌≡◌, ◌↔◌, ℕ, List, length, Result, IsErr, OnOk, ◌⊎◌}
+use Rattle.fe_journal.specs.Contents.{Contents, Holds}
+use Rattle.fe_journal.specs.Damage.{IsUnformatted, IsDamagedAt}
+use Rattle.fe_disk.specs.Disk.{Rises}
+use Rattle.fe_disk.specs.declared.disk.Disk.{Ghosts}
+use Rattle.fe_journal.specs.Journal.{OnlyReads}
 use Rattle.fe_store.specs.declared.fault.OpenFault.{OpenFault}
 use Rattle.fe_store.specs.declared.fault.OpenFault.TheVariants as fault
-use Rattle.fe_look.specs.Copy.{IsCopyOf}
 use Rattle.fe_look.specs.declared.reading.Reading.{Reading}
 use Rattle.fe_look.specs.declared.reading.Reading.TheVariants.{Unformatted, Overtaken, Whole}
+
+-- A store and its copy show the same: both have the same size; the same slot counts in both, with the same contents; if one has no
+-- valid slot, neither has the other; and the first damage is at the same offset. Bytes that show nothing of these may differ.
+pub record IsCopyOf (image copy : List ℕ) : Type 0 where
+  pub whole : length copy ≡ length image
+  pub holds : (c : Contents) → Holds c image ↔ Holds c copy
+  pub unformatted : IsUnformatted image ↔ IsUnformatted copy
+  pub damaged : (offset : ℕ) → IsDamagedAt image offset ↔ IsDamagedAt copy offset
+
+-- No write of the disk was counted. It has its size, and is honest exactly if it was. If so, it was only read or synced.
+pub record KeepsDisk {D : Type 0} (model : Ghosts D) (old new : D) : Type 0 where
+  pub unwritten : (model.calls new).writes ≡ (model.calls old).writes
+  pub honesty : model.honest new ↔ model.honest old
+  pub same_size : model.size new ≡ model.size old
+  pub reads : model.honest old → OnlyReads model old new
+
+-- The same of a call that fails exactly if the count of faults rose, and leaves that count as it was if it succeeds.
+pub record OnlyAsks {D T E : Type 0} (model : Ghosts D) (result : Result T E) (old new : D) : Type 0 where
+  pub fault : IsErr result ↔ Rises (model.failures old) (model.failures new)
+  pub still : OnOk result (model.failures new ≡ model.failures old)
+  pub kept : KeepsDisk model old new
 
 -- What a reading found is true of the image, and no checkpoint began meanwhile.
 abbrev pub TellsReading : List ℕ → Reading → Type 0

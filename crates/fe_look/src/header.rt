@@ -2,8 +2,8 @@
 
 ghost use Rattle.std.specs.Prelude.{◌≡◌, ◌<◌, IfOk, IfSome};
 ghost use Rattle.fe_journal.specs.Layout.{device_bytes, number_at};
-ghost use Rattle.fe_look.specs.Calls.{OnlyAsks};
-ghost use Rattle.fe_look.specs.HeaderBytes.{IsFormatIn, IsHeaderOf, Counts, IsChosen};
+ghost use Rattle.fe_look.specs.Reading.{OnlyAsks};
+ghost use Rattle.fe_look.specs.Slot.{IsFormatIn, IsHeaderOf, Counts, IsChosen};
 
 use crate::parts::read_byte;
 use byteorder::{BigEndian, ByteOrder};

@@ -4,7 +4,7 @@ ghost use Rattle.std.specs.Prelude.{◌≡◌, ◌↔◌, ◌≢◌, ℕ, take, 
 ghost use Rattle.std.specs.Io.KnownBytes.{Appends, Keeps};
 ghost use Rattle.fe_disk.specs.Disk.{Rises};
 ghost use Rattle.fe_journal.specs.Layout.{device_bytes};
-ghost use Rattle.fe_journal.specs.Steps.{OnlyReads};
+ghost use Rattle.fe_journal.specs.Journal.{OnlyReads};
 ghost use Rattle.fe_keeper.specs.Damage.{MayLackMemory};
 ghost use Rattle.fe_keeper.specs.Stands.{StandsFor};
 ghost use Rattle.fe_state.specs.State.{ServerState};
@@ -12,7 +12,7 @@ ghost use Rattle.fe_store.specs.Opening.{IsReason};
 ghost use Rattle.fe_store.specs.declared.fault.OpenFault.{OpenFault};
 ghost use Rattle.fe_store.specs.declared.fault.OpenFault.TheVariants as store;
 ghost use Rattle.fe_text.specs.declared.fault.StreamFault.{StreamFault};
-ghost use Rattle.fe_look.specs.Calls.{KeepsDisk};
+ghost use Rattle.fe_look.specs.Reading.{KeepsDisk};
 ghost use Rattle.fe_look.specs.Look.{Shows, ShowsSome, ShowsFront, state_text};
 ghost use Rattle.fe_look.specs.declared.fault.LookFault.TheVariants as fault;
 

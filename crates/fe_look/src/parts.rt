@@ -4,7 +4,7 @@
 ghost use Rattle.std.specs.Prelude.{◌≡◌, ◌+◌, ◌≤◌, length, slice_index, IfOk, OnOk};
 ghost use Rattle.fe_disk.specs.Disk.{bytes_at, after_write};
 ghost use Rattle.fe_journal.specs.Layout.{number_at};
-ghost use Rattle.fe_look.specs.Calls.{OnlyAsks};
+ghost use Rattle.fe_look.specs.Reading.{OnlyAsks};
 
 use byteorder::{BigEndian, ByteOrder};
 use fe_disk::{DeviceFault, Disk};

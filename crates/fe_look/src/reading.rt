@@ -6,9 +6,7 @@ ghost use Rattle.fe_disk.specs.Memory.{IsHonest};
 ghost use Rattle.fe_journal.specs.Layout.{device_bytes};
 ghost use Rattle.fe_store.specs.Opening.{IsReason};
 ghost use Rattle.fe_store.specs.declared.fault.OpenFault.TheVariants as fault;
-ghost use Rattle.fe_look.specs.Calls.{KeepsDisk};
-ghost use Rattle.fe_look.specs.Copy.{IsCopyOf};
-ghost use Rattle.fe_look.specs.Reading.{TellsReading, IsDeviceOrMemory};
+ghost use Rattle.fe_look.specs.Reading.{KeepsDisk, IsCopyOf, TellsReading, IsDeviceOrMemory};
 
 use crate::header::read_counting;
 use crate::slot::read_slot;

@@ -3,9 +3,8 @@
 ghost use Rattle.std.specs.Prelude.{◌≡◌, ◌+◌, ◌<◌, ◌≤◌, IsTrue, length, IfOk, IfSome, OnOk};
 ghost use Rattle.fe_disk.specs.Disk.{after_write};
 ghost use Rattle.fe_journal.specs.Layout.{area_bytes, device_bytes};
-ghost use Rattle.fe_look.specs.Calls.{OnlyAsks};
-ghost use Rattle.fe_look.specs.Slot.{EndsAt, HasParts, IsSlotCopy};
-ghost use Rattle.fe_look.specs.HeaderBytes.{IsHeaderOf};
+ghost use Rattle.fe_look.specs.Reading.{OnlyAsks};
+ghost use Rattle.fe_look.specs.Slot.{EndsAt, HasParts, IsSlotCopy, IsHeaderOf};
 
 use crate::header::{HeaderBytes, read_header};
 use crate::parts::{read_byte, read_number, read_part};

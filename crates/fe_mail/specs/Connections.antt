@@ -1,12 +1,31 @@
--- The connections, each with its session and its box of mails; and the number of mails in all boxes.
+-- The mail for an entry of the history; the connections, each with its session and its box of mails; and the number of mails in all boxes.
 -- See `docs/model.md`, "Mails, connections and books".
 use Rattle.std.specs.Prelude.{ℕ, List, [], length, Option, None, option_and_then}
+use Rattle.fe_state.specs.declared.entry.Entry.{Entry}
+use Rattle.fe_state.specs.declared.entry.Entry.TheVariants.{Attached, Closed, Settled, Finished}
+use Rattle.fe_mail.specs.declared.mail.Mail.{Mail}
+use Rattle.fe_mail.specs.declared.mail.Mail.TheVariants as mail
 use Rattle.std.specs.Option.{option_map_or}
 use Rattle.std.specs.Ordering.{nat_cmp}
 use Rattle.std.specs.FinMap.{FinMap, get, insert}
-use Rattle.fe_state.specs.Total.{total}
+use Rattle.fe_state.specs.Directory.{total}
 use Rattle.fe_mail.specs.declared.connection.Connection.{Connection}
-use Rattle.fe_mail.specs.declared.mail.Mail.{Mail}
+
+-- the session that the entry belongs to
+abbrev pub session_of : Entry → ℕ
+session_of (Attached session floor) = session
+session_of (Closed session) = session
+session_of (Settled session floor) = session
+session_of (Finished session number request answer) = session
+
+-- the mail for an entry at this place in the history
+abbrev pub mail_of : Entry → ℕ → Mail
+mail_of (Attached session floor) place = mail.Welcome session floor
+mail_of (Closed session) place = mail.Goodbye session
+mail_of (Settled session floor) place = mail.Settled floor
+mail_of (Finished session number request answer) place = mail.Answer session number answer place
+
+-- ---- connections
 
 -- a new connection: no session, and an empty box
 abbrev pub first_connection : Connection

@@ -2,7 +2,7 @@
 //! (`docs/model.md`, "Mails, connections and books").
 
 ghost use Rattle.std.specs.Prelude.{◌≡◌};
-ghost use Rattle.fe_mail.specs.Mail.{mail_of, session_of};
+ghost use Rattle.fe_mail.specs.Connections.{mail_of, session_of};
 
 use crate::refusal::Refusal;
 use crate::report_text::ReportText;

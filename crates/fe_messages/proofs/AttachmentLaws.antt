@@ -13,8 +13,7 @@ use Rattle.fe_service.specs.AttachmentsState.{holder_of, is_closing, with_holder
 use Rattle.fe_service.specs.declared.attachment.Attachment.{Attachment}
 use Rattle.fe_service.specs.Events.{left, floor_of}
 use Rattle.fe_mail.specs.Books.{mail_refused_by_box, mail_taken, call_repeated}
-use Rattle.fe_mail.specs.Connections.{first_connection, session_on, mails_on, with_session, with_mails}
-use Rattle.fe_mail.specs.Mail.{session_of, mail_of}
+use Rattle.fe_mail.specs.Connections.{first_connection, session_on, mails_on, with_session, with_mails, session_of, mail_of}
 use Rattle.fe_mail.specs.declared.connection.Connection.{Connection}
 use Rattle.fe_mail.specs.declared.mail.Mail.{Mail}
 use Rattle.fe_mail.specs.declared.mail.Mail.TheVariants as mail
@@ -26,14 +25,12 @@ use Rattle.fe_front.proofs.First.{nobody, no_session}
 use Rattle.fe_front.specs.Front.{FrontState, is_connected, IsFirst}
 use Rattle.fe_front.specs.Steps.{parted, released, freed, departed, withdrawn_from, unboxed, dropped, boxed, overflowed, mailed, connected, attached_to, settled_to, closed_by, cancelled_from, taken}
 use Rattle.fe_front.specs.Posting.{delivered, vacated, ended, posted_entry, posted_all, posted}
-use Rattle.fe_front.specs.Call.{Called, call_refused_by, kept_at, repeated}
-use Rattle.fe_front.specs.Refusals.{unclosing, and_then, in_window, addressed}
+use Rattle.fe_front.specs.Call.{Called, call_refused_by, kept_at, repeated, unclosing, and_then, in_window, addressed}
 use Rattle.fe_front.specs.declared.outcome.Outcome.{Outcome}
 use Rattle.fe_front.specs.declared.outcome.Outcome.TheVariants as outcome
 use Rattle.fe_state.specs.State.{ServerState}
 use Rattle.fe_front.proofs.Agreement.{holder-inserted, holder-beside, holder-removed, holder-left, holder-closing}
-use Rattle.fe_messages.specs.Asking.{AsksOnly, HasOnly}
-use Rattle.fe_messages.specs.Taking.{Takes}
+use Rattle.fe_messages.specs.Taking.{AsksOnly, HasOnly, Takes}
 use Rattle.fe_state.specs.declared.batch.Batch.{Batch}
 
 pub none_some : {X P : Type 0} {x : X} → None ≡ Some x → P

@@ -11,8 +11,7 @@ use Rattle.fe_state.specs.declared.entry.Entry.TheVariants.{Attached, Closed, Se
 use Rattle.fe_service.specs.AttachmentsState.{holder_of, is_closing}
 use Rattle.fe_service.specs.Events.{left}
 use Rattle.fe_mail.specs.Books.{mail_refused_by_box, mail_taken}
-use Rattle.fe_mail.specs.Connections.{first_connection, session_on, mails_on, with_session, with_mails}
-use Rattle.fe_mail.specs.Mail.{session_of, mail_of}
+use Rattle.fe_mail.specs.Connections.{first_connection, session_on, mails_on, with_session, with_mails, session_of, mail_of}
 use Rattle.fe_mail.specs.declared.connection.Connection.{Connection}
 use Rattle.fe_mail.specs.declared.mail.Mail.{Mail}
 use Rattle.fe_mail.proofs.Lookups.{mails_on-with_session, mails_on-with_mails, mails_on-with_mails-beside}

@@ -14,8 +14,7 @@ use Rattle.fe_wire.specs.declared.client_message.ClientMessage.{ClientMessage}
 use Rattle.fe_wire.specs.declared.client_message.ClientMessage.TheVariants as message
 use Rattle.fe_front.specs.Front.{FrontState}
 use Rattle.fe_front.specs.Steps.{mailed, attached_to, settled_to, closed_by, cancelled_from}
-use Rattle.fe_front.specs.Call.{Called, call_refused_by, kept_at, repeated}
-use Rattle.fe_front.specs.Refusals.{addressed}
+use Rattle.fe_front.specs.Call.{Called, call_refused_by, kept_at, repeated, addressed}
 use Rattle.fe_front.specs.declared.outcome.Outcome.{Outcome}
 use Rattle.fe_front.specs.declared.outcome.Outcome.TheVariants as outcome
 use Rattle.fe_messages.specs.Taking.{Takes}

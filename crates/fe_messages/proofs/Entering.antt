@@ -19,15 +19,13 @@ use Rattle.fe_front.specs.Front.{FrontState, IsFront}
 use Rattle.fe_front.specs.Event as event
 use Rattle.fe_front.specs.Step.{FrontStep}
 use Rattle.fe_front.specs.Steps.{released, freed, mailed, attached_to, settled_to, closed_by, cancelled_by}
-use Rattle.fe_front.specs.Refusals.{attaching, settling, leaving, cancelling}
-use Rattle.fe_front.specs.Call.{Called, IsCallRefused, WantsMemory, call_refused_by, repeated}
+use Rattle.fe_front.specs.Call.{attaching, settling, leaving, cancelling, Called, IsCallRefused, WantsMemory, call_refused_by, repeated}
 use Rattle.fe_front.specs.declared.outcome.Outcome.{Outcome}
 use Rattle.fe_front.specs.declared.outcome.Outcome.TheVariants as outcome
 use Rattle.fe_front.proofs.Keeping.{Keeps, NoneComes, both, released-keeps, freed-keeps, mailed-keeps, cancelled-keeps, repeated-keeps}
 use Rattle.fe_front.proofs.Events.{Answers, attach_step, settle_step, bye_step, cancel_step, refusal_told, call_refusal_told}
 use Rattle.fe_front.proofs.Leading.{steps_lead}
-use Rattle.fe_messages.specs.Taking.{Takes}
-use Rattle.fe_messages.specs.Enters.{Enters}
+use Rattle.fe_messages.specs.Taking.{Takes, Enters}
 use Rattle.fe_front.proofs.Coming.{same_connections, attached-comes}
 
 -- What a message leaves of a front, whether its entries are legal or not: they lead to the state now, and are pending after the others.

@@ -1,5 +1,3 @@
 pub mod Mails
-pub mod Asking
 pub mod Taking
-pub mod Enters
 pub mod Answers

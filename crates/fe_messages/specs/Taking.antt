@@ -1,5 +1,5 @@
 -- What a message of a connection does to the front: it is an event, or is refused (`docs/model.md`, "Messages and mails").
-use Rattle.std.specs.Prelude.{◌≡◌, ◌⊎◌, ℕ, List, [], Err}
+use Rattle.std.specs.Prelude.{◌≡◌, ◌⊎◌, ℕ, List, [], Err, true, ◌++◌, Some}
 use Rattle.fe_state.specs.declared.entry.Entry.{Entry}
 use Rattle.fe_state.specs.declared.request.Request.{Request}
 use Rattle.fe_mail.specs.declared.mail.Mail.TheVariants as mail
@@ -8,13 +8,16 @@ use Rattle.fe_mail.specs.declared.refusal.Refusal.TheVariants.{NoMemory}
 use Rattle.fe_wire.specs.declared.client_message.ClientMessage.{ClientMessage}
 use Rattle.fe_wire.specs.declared.client_message.ClientMessage.TheVariants.{Attach, Call, Cancel, Settle, Bye, Report}
 use Rattle.fe_report.specs.Report.{report_text, held_attachments}
-use Rattle.fe_front.specs.Front.{FrontState}
+use Rattle.fe_front.specs.Front.{FrontState, is_connected}
 use Rattle.fe_front.specs.Event as event
 use Rattle.fe_front.specs.Step.{FrontStep}
 use Rattle.fe_front.specs.Steps.{mailed}
-use Rattle.fe_front.specs.Refusals.{attaching, settling, leaving, cancelling}
-use Rattle.fe_front.specs.Call.{IsCallRefused, WantsMemory, call_refused_by}
+use Rattle.fe_front.specs.Call.{attaching, settling, leaving, cancelling, IsCallRefused, WantsMemory, call_refused_by}
 use Rattle.fe_front.specs.declared.outcome.Outcome.{Outcome}
+use Rattle.fe_state.specs.History.{AreLegal}
+use Rattle.fe_state.specs.State.{after_all}
+use Rattle.fe_service.specs.AttachmentsState.{holder_of}
+use Rattle.fe_mail.specs.Connections.{session_on}
 
 -- a message is refused: a mail that says why comes to its connection (`mailed`), and no entry is made
 pub record IsRefused (f : FrontState) (conn number : ℕ) (refusal : Refusal) (es : List Entry) (g : FrontState) : Type 0 where
@@ -41,3 +44,34 @@ Takes f conn Bye es g =
     FrontStep f (event.Bye conn) es g ⊎ ((r : Refusal) × (leaving f conn ≡ Err r) × IsRefused f conn 0 r es g)
 Takes f conn Report es g =
     FrontStep f (event.GiveMail conn (mail.Report (report_text f.service.waiting (held_attachments f)))) es g ⊎ IsRefused f conn 0 NoMemory es g
+
+-- the entries are legal, lead to the new state and are pending after the others; what is out and what is durable stay; and no connection
+-- comes
+pub record Enters (f : FrontState) (es : List Entry) (g : FrontState) : Type 0 where
+  pub legal : AreLegal f.service.state es
+  pub state : g.service.state ≡ after_all f.service.state es
+  pub pending : g.service.pending ≡ f.service.pending ++ es
+  pub out : g.out ≡ f.out
+  pub durable : g.durable ≡ f.durable
+  pub none_comes : (conn : ℕ) → is_connected g conn ≡ true → is_connected f conn ≡ true
+
+-- ---- which sessions connections ask for
+
+-- a message that was handed to a front, and its connection
+pub record Took : Type 0 where
+  pub conn : ℕ
+  pub message : ClientMessage
+
+-- if the message asks for a session, that is one of these
+abbrev pub AsksOnly : (ℕ → Type 0) → ClientMessage → Type 0
+AsksOnly asked (Attach session) = asked session
+AsksOnly asked (Call number request) = Unit {0}
+AsksOnly asked (Cancel number) = Unit {0}
+AsksOnly asked (Settle floor) = Unit {0}
+AsksOnly asked Bye = Unit {0}
+AsksOnly asked Report = Unit {0}
+
+-- a connection has a session, and a session has a connection, only if the connection asked for the session
+pub record HasOnly (asked : ℕ → ℕ → Type 0) (f : FrontState) : Type 0 where
+  pub holders : (session conn : ℕ) → holder_of f.service.attachments session ≡ Some conn → asked conn session
+  pub sessions : (conn session : ℕ) → session_on f.connections conn ≡ Some session → asked conn session

@@ -3,8 +3,7 @@
 ghost use Rattle.std.specs.Prelude.{◌≡◌, List, IsTrue};
 ghost use Rattle.fe_state.specs.declared.entry.Entry.{Entry};
 ghost use Rattle.fe_front.specs.Front.{has_room};
-ghost use Rattle.fe_messages.specs.Taking.{Takes};
-ghost use Rattle.fe_messages.specs.Enters.{Enters};
+ghost use Rattle.fe_messages.specs.Taking.{Takes, Enters};
 ghost use Rattle.fe_wire.specs.declared.client_message.ClientMessage.TheVariants as Message;
 
 use crate::took::Took;

@@ -14,7 +14,7 @@ pub struct Took {
 }
 
 impl Model for Took {
-    ghost use Rattle.fe_messages.specs.Asking.{Took};
+    ghost use Rattle.fe_messages.specs.Taking.{Took};
 
     ghost Value = { Took };
 

@@ -1,15 +1,23 @@
 -- The settings of a server, as a TOML document has them (`docs/settings.md`).
-use Rattle.std.specs.Prelude.{◌≡◌, ◌^◌, ◌||◌, ◌&&◌, ℕ, ℤ, pos, List, Bool, true, false, codes, nat_le, if◌then◌else◌, string_bytes, Option, Some, None, option_and_then}
+use Rattle.std.specs.Prelude.{ℕ, List, codes, ◌≡◌, ◌^◌, ◌||◌, ◌&&◌, ℤ, pos, Bool, true, false, nat_le, if◌then◌else◌, string_bytes, Option, Some, None, option_and_then}
+use Rattle.fe_options.specs.declared.key.Key.{Key}
+use Rattle.fe_options.specs.declared.key.Key.TheVariants as key
 use Rattle.std.specs.Option.{option_map_or}
 use Rattle.std.specs.Str.{bytes_eq}
 use Rattle.toml.specs.Data.{Data, as_str, as_integer, as_bool, get_member, Members, no_members, member}
 use Rattle.toml.specs.Parse.{parse_document}
-use Rattle.fe_options.specs.Key.{name_of}
-use Rattle.fe_options.specs.declared.key.Key.{Key}
-use Rattle.fe_options.specs.declared.key.Key.TheVariants as key
 use Rattle.fe_options.specs.declared.settings.Settings.{Settings}
 use Rattle.fe_options.specs.declared.settings_fault.SettingsFault.{SettingsFault}
 use Rattle.fe_options.specs.declared.settings_fault.SettingsFault.TheVariants as fault
+
+-- the name of a key in a document
+abbrev pub name_of : Key → List ℕ
+name_of key.Socket = codes "socket"
+name_of key.Store = codes "store"
+name_of key.Connections = codes "connections"
+name_of key.Format = codes "format"
+name_of key.Accepts = codes "accepts"
+name_of key.Turns = codes "turns"
 
 -- the value at a key
 abbrev pub value_of : Key → Members → Option Data

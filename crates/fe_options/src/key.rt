@@ -1,5 +1,5 @@
 ghost use Rattle.std.specs.Prelude.{◌≡◌};
-ghost use Rattle.fe_options.specs.Key.{name_of};
+ghost use Rattle.fe_options.specs.Settings.{name_of};
 
 use std::fmt;
 

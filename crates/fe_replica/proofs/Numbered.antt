@@ -3,8 +3,7 @@ use Rattle.std.proofs.Common.{◌≡◌, ℕ, ◌^◌, ◌<◌, Option, Some, No
 use Rattle.std.specs.Prelude.{IsSomeAnd}
 use Rattle.std.specs.List.{AllByRecursion}
 use Rattle.std.specs.FinMap.{get}
-use Rattle.fe_state.specs.Sessions.{Session, MayRise}
-use Rattle.fe_state.specs.SessionEffect.{IsUsable, MayAttach}
+use Rattle.fe_state.specs.Sessions.{Session, MayRise, IsUsable, MayAttach}
 use Rattle.fe_state.specs.State.{ServerState, IsLegal, IsWithinLimits, after}
 use Rattle.fe_state.specs.History.{AreLegal}
 use Rattle.fe_state.specs.declared.entry.Entry.{Entry}

@@ -5,7 +5,7 @@ use Rattle.fe_state.specs.State.{ServerState, IsLegal, after}
 use Rattle.fe_state.specs.History.{AreLegal}
 use Rattle.fe_state.specs.UndoLog.{UndoLog, rewound, IsLogOf}
 use Rattle.fe_state.specs.declared.entry.Entry.{Entry}
-use Rattle.fe_replica.specs.Taking.{Continues, IsMismatch, IsIllegalAt, AreTaken}
+use Rattle.fe_replica.specs.Replaying.{Continues, IsMismatch, IsIllegalAt, AreTaken}
 use Rattle.fe_replica.proofs.Following.{after_then, legal_then, legal_at, place_after}
 
 -- one entry more

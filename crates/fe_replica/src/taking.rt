@@ -4,7 +4,7 @@
 ghost use Rattle.std.specs.Prelude.{◌≡◌, ℕ, ◌≤◌, length, Err, OnOk, OnErr};
 ghost use Rattle.fe_state.specs.State.{after_all};
 ghost use Rattle.fe_state.specs.UndoLog.{empty_log, rewound, IsLogOf};
-ghost use Rattle.fe_replica.specs.Taking.{Continues, IsMismatch, MakesSomeArray};
+ghost use Rattle.fe_replica.specs.Replaying.{Continues, IsMismatch, MakesSomeArray};
 ghost use Rattle.fe_replica.specs.declared.taking.Refused.TheVariants.{Mismatch, NoMemory};
 
 use fe_state::{Entry, State, UndoLog};

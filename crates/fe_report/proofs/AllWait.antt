@@ -7,7 +7,7 @@ use Rattle.std.specs.FinMap.{get, len, nat_cmp-IsAntisymmetric}
 use Rattle.fe_state.proofs.Maps.{get_retained}
 use Rattle.fe_service.specs.AttachmentsState.{count_of}
 use Rattle.fe_service.specs.declared.attachment.Attachment.{Attachment}
-use Rattle.fe_service.specs.ServiceState.{IsService}
+use Rattle.fe_service.specs.Service.{IsService}
 use Rattle.fe_front.specs.Front.{FrontState, is_attached}
 use Rattle.fe_report.specs.Report.{idle, do_all_wait, held_attachments}
 use Rattle.fe_report.proofs.Parts.{none_there, one_there}

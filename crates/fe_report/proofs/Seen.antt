@@ -4,10 +4,10 @@ use Rattle.std.specs.Ordering.{nat_cmp}
 use Rattle.std.specs.FinMap.{FinMap, get, entries, get-empty}
 use Rattle.fe_words.specs.declared.op.Op.{Op}
 use Rattle.fe_waits.specs.Waiting.{WaitingAccess}
-use Rattle.fe_state.specs.SessionEffect.{IsUsable}
+use Rattle.fe_state.specs.Sessions.{IsUsable}
 use Rattle.fe_state.proofs.Maps.{get_beside, same_or_other}
 use Rattle.fe_table.proofs.TableCopyLemmas.{made, made-next}
-use Rattle.fe_service.specs.ServiceState.{ServiceState, IsService}
+use Rattle.fe_service.specs.Service.{ServiceState, IsService}
 use Rattle.fe_report.specs.Report.{Spot, by_word, by_session}
 use Rattle.fe_report.proofs.WaitingAccesses.{waits-by_word, counts-by_session}
 

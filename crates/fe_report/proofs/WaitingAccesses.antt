@@ -6,8 +6,7 @@ use Rattle.std.specs.Cmp.{IsTotalOrder, nat_cmp_total}
 use Rattle.std.specs.FinMap.{get, len, entries, from_entries, len-empty, len-insert, len-entries, contains_key, get-retain_keys, nat_cmp-IsAntisymmetric}
 use Rattle.std.specs.declared.cmp.Ordering.{Ordering}
 use Rattle.fe_words.specs.declared.op.Op.{Op}
-use Rattle.fe_waits.specs.Pair.{pair_cmp_total, pair_cmp-IsAntisymmetric}
-use Rattle.fe_waits.specs.Waiting.{WaitingAccess}
+use Rattle.fe_waits.specs.Waiting.{pair_cmp_total, pair_cmp-IsAntisymmetric, WaitingAccess}
 use Rattle.fe_service.specs.AttachmentsState.{of_session, count_of}
 use Rattle.fe_service.specs.Service.{WaitingAccesses}
 use Rattle.fe_report.specs.Report.{Spot, spot_of, by_word, by_session}

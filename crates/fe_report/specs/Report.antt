@@ -7,8 +7,7 @@ use Rattle.std.specs.Fmt.{decimal}
 use Rattle.std.specs.FinMap.{FinMap, len, entries, from_entries, retain_keys}
 use Rattle.fe_words.specs.Table.{name_of}
 use Rattle.fe_words.specs.declared.op.Op.{Op}
-use Rattle.fe_waits.specs.Pair.{pair_cmp}
-use Rattle.fe_waits.specs.Waiting.{WaitingAccess}
+use Rattle.fe_waits.specs.Waiting.{pair_cmp, WaitingAccess}
 use Rattle.fe_service.specs.AttachmentsState.{count_of}
 use Rattle.fe_service.specs.declared.attachment.Attachment.{Attachment}
 use Rattle.fe_service.specs.Service.{WaitingAccesses}

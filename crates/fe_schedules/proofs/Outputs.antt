@@ -4,13 +4,12 @@ use Rattle.std.specs.List.{flat_map, AllByRecursion}
 use Rattle.std.specs.Prelude.{slice_index_or}
 use Rattle.fe_wire.specs.Spelling.{reply_spelling, ReplyFits}
 use Rattle.fe_wire.specs.declared.server_message.ServerMessage.{ServerMessage}
-use Rattle.fe_desk.specs.Frames.{AreReplies}
-use Rattle.fe_desk.specs.Messages.{outputs}
+use Rattle.fe_desk.specs.Messages.{AreReplies, outputs}
 use Rattle.fe_desk.specs.DeskRunState.{DeskRunState}
-use Rattle.fe_desk.specs.Traces.{IsTraceOf}
+use Rattle.fe_desk.specs.Runs.{IsTraceOf}
 use Rattle.fe_desk.specs.declared.port.Port.{Port}
 use Rattle.fe_desk.specs.declared.trace.Trace.{Trace}
-use Rattle.fe_schedules.specs.PrintedReply.{ArePrintedReplies, AreRepliesIn, printed_to}
+use Rattle.fe_schedules.specs.Schedule.{ArePrintedReplies, AreRepliesIn, printed_to}
 use Rattle.fe_schedules.specs.declared.printed_reply.PrintedReply.{PrintedReply}
 
 -- what a port was written are replies

@@ -4,15 +4,13 @@ use Rattle.fe_disk.specs.Memory.{MemoryState, IsHonest, LeavesNow}
 use Rattle.fe_state.specs.State.{ServerState}
 use Rattle.fe_state.specs.History.{after_groups}
 use Rattle.fe_state.specs.declared.entry.Entry.{Entry}
-use Rattle.fe_keeper.specs.Laws.{StandsForOne}
-use Rattle.fe_keeper.specs.Stands.{StandsFor, EachStandsFor}
-use Rattle.fe_keeper.specs.Prefix.{LeavesPrefix}
+use Rattle.fe_keeper.specs.Damage.{StandsForOne}
+use Rattle.fe_keeper.specs.Stands.{StandsFor, EachStandsFor, LeavesPrefix}
 use Rattle.fe_keeper.specs.declared.fault.Fault.TheVariants as store
-use Rattle.fe_desk.specs.Crash.{DeskState, Advances, IsFrom, disk_of, TellsStep}
+use Rattle.fe_desk.specs.Crash.{DeskState, Advances, IsFrom, disk_of, TellsStep, desk_anew}
 use Rattle.fe_desk.specs.DeskRunState.{DeskRunState, IsFirstRunState}
-use Rattle.fe_desk.specs.Steps.{DeskStep}
+use Rattle.fe_desk.specs.Steps.{DeskStep, AreWritten}
 use Rattle.fe_desk.specs.declared.step.Step.{Step}
-use Rattle.fe_desk.specs.Anew.{desk_anew}
 use Rattle.fe_desk.proofs.Anew.{written_still}
 use Rattle.fe_desk.proofs.Openings.{first_from}
 use Rattle.fe_desk.proofs.Quiets.{none_waits}
@@ -20,14 +18,11 @@ use Rattle.fe_desk.specs.declared.fault.DeskFault.{DeskFault}
 use Rattle.fe_desk.specs.declared.fault.DeskFault.TheVariants as desk
 use Rattle.std.proofs.lemmas.Option.{none-some}
 use Rattle.fe_disk.specs.Disk.{Rises}
-use Rattle.fe_desk.specs.Taken.{Ends}
-use Rattle.fe_schedules.specs.MemoryModel.{memory_model}
-use Rattle.fe_schedules.specs.Fault.{of_desk, TellsDisk}
+use Rattle.fe_desk.specs.Runs.{Ends}
+use Rattle.fe_schedules.specs.Ready.{memory_model, IsReady}
+use Rattle.fe_schedules.specs.Schedule.{of_desk, TellsDisk, Stage, LeavesStored}
 use Rattle.fe_schedules.specs.declared.fault.MachineFault.{MachineFault}
 use Rattle.fe_schedules.specs.declared.fault.MachineFault.TheVariants as machine
-use Rattle.fe_desk.specs.Quiet.{AreWritten}
-use Rattle.fe_schedules.specs.Ready.{IsReady}
-use Rattle.fe_schedules.specs.Schedule.{Stage, LeavesStored}
 use Rattle.fe_schedules.specs.Runs.{IsMachine, IsRun, IsAt, last_of, last_disk}
 use Rattle.fe_schedules.specs.declared.machine.Machine.{Machine}
 use Rattle.fe_schedules.specs.declared.run.Run.{Run}

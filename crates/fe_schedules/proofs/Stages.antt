@@ -3,8 +3,7 @@ use Rattle.std.proofs.Common.{◌≡◌, ◌≢◌, ℕ, Bool, false, List, [], 
 use Rattle.fe_disk.specs.Memory.{MemoryState}
 use Rattle.fe_state.specs.History.{after_groups}
 use Rattle.fe_state.specs.declared.entry.Entry.{Entry}
-use Rattle.fe_desk.specs.Anew.{anew}
-use Rattle.fe_desk.specs.Crash.{DeskState, IsFrom}
+use Rattle.fe_desk.specs.Crash.{anew, DeskState, IsFrom}
 use Rattle.fe_desk.specs.DeskRunState.{DeskRunState}
 use Rattle.fe_desk.specs.Steps.{DeskRun}
 use Rattle.fe_desk.proofs.Openings.{first_from}

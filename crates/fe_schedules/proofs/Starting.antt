@@ -13,11 +13,10 @@ use Rattle.fe_front.specs.Front.{FrontState}
 use Rattle.fe_desk.specs.DeskRunState.{DeskRunState, IsFirstRunState}
 use Rattle.fe_desk.specs.declared.handed.Handed.TheVariants.{Nothing}
 use Rattle.fe_text.specs.declared.fault.StreamFault.{StreamFault}
-use Rattle.fe_schedules.specs.Fault.{of_machine, of_stream}
+use Rattle.fe_schedules.specs.Schedule.{of_machine, of_stream, Stage, IsStart, Prints, RunsAll, RunsUntil, IsOfStore}
 use Rattle.fe_schedules.specs.declared.fault.MachineFault.{MachineFault}
 use Rattle.fe_schedules.specs.declared.fault.MachineFault.TheVariants as machine
-use Rattle.fe_text.specs.Lines.{lines_of, HasNoFeed}
-use Rattle.fe_schedules.specs.Schedule.{Stage, IsStart, Prints, RunsAll, RunsUntil, IsOfStore}
+use Rattle.fe_text.specs.Line.{lines_of, HasNoFeed}
 use Rattle.fe_schedules.specs.Runs.{IsRun, IsAt, SoFar, Whole, Ended}
 use Rattle.fe_schedules.specs.declared.fault.ScheduleFault.{ScheduleFault}
 use Rattle.fe_schedules.specs.declared.run.Run.{Run}

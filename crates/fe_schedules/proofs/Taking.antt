@@ -5,14 +5,12 @@ use Rattle.std.proofs.lemmas.List.{length-append, take-append-drop}
 use Rattle.std.proofs.KnownBytes.{Appends-trans}
 use Rattle.std.specs.Io.KnownBytes.{Keeps, Appends, Consumes, IsAtEnd}
 use Rattle.fe_disk.specs.Memory.{MemoryState}
-use Rattle.fe_text.specs.Line.{parsed}
-use Rattle.fe_text.specs.Lines.{lines_of, HasNoFeed}
+use Rattle.fe_text.specs.Line.{parsed, lines_of, HasNoFeed}
 use Rattle.fe_text.specs.declared.fault.StreamFault.{StreamFault}
 use Rattle.fe_text.specs.declared.line.Line.{Line}
-use Rattle.fe_schedules.specs.Fault.{of_stream, of_machine}
+use Rattle.fe_schedules.specs.Schedule.{of_stream, of_machine, Stage, RunsBytes, RunsLines, Prints, EndsWithin, RunsAll, RunsUntil}
 use Rattle.fe_schedules.specs.declared.fault.MachineFault.{MachineFault}
 use Rattle.fe_schedules.specs.declared.fault.MachineFault.TheVariants as machine
-use Rattle.fe_schedules.specs.Schedule.{Stage, RunsBytes, RunsLines, Prints, EndsWithin, RunsAll, RunsUntil}
 use Rattle.fe_schedules.specs.Runs.{IsRun, IsAt, RanBytes, last_disk, SaysLine, IsStray, IsFaultOf, IsTooLong, SoFar, Whole, Ended}
 use Rattle.fe_schedules.specs.declared.fault.ScheduleFault.{ScheduleFault}
 use Rattle.fe_schedules.specs.declared.fault.ScheduleFault.TheVariants as fault

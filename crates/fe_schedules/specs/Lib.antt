@@ -1,6 +1,3 @@
-pub mod Fault
-pub mod PrintedReply
-pub mod MemoryModel
 pub mod Ready
 pub mod Schedule
 pub mod Runs

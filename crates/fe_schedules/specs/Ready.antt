@@ -1,16 +1,29 @@
 -- A desk (the front, its connections' streams and a store's keeper, in one thread) over a store in memory, between two steps.
 -- See `docs/model.md`, "Schedules".
+use Rattle.fe_disk.specs.Memory.{MemoryState, size_of, failures_of, calls_of, seen_of, moment_of, IsHonest, LeavesNow, LeavesSince}
+use Rattle.fe_disk.specs.declared.disk.Disk.{Ghosts}
 use Rattle.std.specs.Prelude.{◌≡◌, false, List, [], ◌∷◌, length}
-use Rattle.fe_disk.specs.Memory.{MemoryState, IsHonest}
 use Rattle.fe_journal.specs.Layout.{device_bytes}
 use Rattle.fe_state.specs.State.{ServerState}
 use Rattle.fe_keeper.specs.Stands.{EachStandsFor}
 use Rattle.fe_desk.specs.Crash.{DeskState, IsFrom, disk_of}
-use Rattle.fe_desk.specs.Checks.{Checks}
-use Rattle.fe_desk.specs.Quiet.{AreWritten}
-use Rattle.fe_desk.specs.Steps.{DeskRun}
-use Rattle.fe_schedules.specs.MemoryModel.{memory_model}
+use Rattle.fe_desk.specs.Ends.{Checks}
+use Rattle.fe_desk.specs.Steps.{AreWritten, DeskRun}
 use Rattle.fe_desk.specs.declared.step.Step.{Step}
+
+-- the members of the trait `Disk`, in which contracts speak of a disk, for a disk in memory
+
+abbrev pub memory_model : Ghosts MemoryState
+memory_model = record {
+  size = size_of;
+  failures = failures_of;
+  calls = calls_of;
+  honest = IsHonest;
+  seen = seen_of;
+  may_leave = LeavesNow;
+  moment = moment_of;
+  left_since = LeavesSince;
+}
 
 -- the disk has a store's size, does what its model says, and no call of it failed
 pub record HoldsStore (disk : MemoryState) : Type 0 where

@@ -1,29 +1,134 @@
 -- What a schedule does, line by line, and what it prints (`docs/schedules.md`).
-use Rattle.std.specs.Prelude.{◌≡◌, ◌≢◌, ◌⊎◌, ℕ, ◌+◌, ◌-◌, ◌^◌, Bool, true, false, List, [], ◌∷◌, ◌++◌, length, Option, Some, None, IfSome}
-use Rattle.std.specs.Io.KnownBytes.{Appends}
+use Rattle.std.specs.Prelude.{◌≡◌, ◌⊎◌, ◌<◌, Option, None, Some, ℕ, List, [], ◌∷◌, ◌++◌, map, ◌≢◌, ◌+◌, ◌-◌, ◌^◌, Bool, true, false, length, IfSome}
 use Rattle.fe_disk.specs.Memory.{MemoryState}
-use Rattle.fe_schedules.specs.MemoryModel.{memory_model}
+use Rattle.fe_keeper.specs.declared.fault.Fault.TheVariants as store
+use Rattle.fe_desk.specs.declared.fault.DeskFault.{DeskFault}
+use Rattle.fe_desk.specs.declared.fault.DeskFault.TheVariants as desk
+use Rattle.fe_text.specs.declared.fault.StreamFault.{StreamFault}
+use Rattle.fe_text.specs.declared.fault.StreamFault.TheVariants as stream
+use Rattle.fe_schedules.specs.declared.fault.MachineFault.{MachineFault}
+use Rattle.fe_schedules.specs.declared.fault.MachineFault.TheVariants as machine
+use Rattle.fe_schedules.specs.declared.fault.ScheduleFault.{ScheduleFault}
+use Rattle.fe_schedules.specs.declared.fault.ScheduleFault.TheVariants as fault
+use Rattle.std.specs.List.{flat_map, AllByRecursion}
+use Rattle.std.specs.List.Sorted.{IsPermutation, IsSortedByKey, IsStableByKey}
+use Rattle.std.specs.Ordering.{nat_cmp, ordering_then}
+use Rattle.std.specs.declared.cmp.Ordering.{Ordering}
+use Rattle.fe_wire.specs.Spelling.{reply_spelling, ReplyFits, spelling}
+use Rattle.fe_wire.specs.declared.server_message.ServerMessage.{ServerMessage}
+use Rattle.fe_wire.specs.declared.server_message.ServerMessage.TheVariants as server
+use Rattle.fe_text.specs.Printed.{printed}
+use Rattle.fe_schedules.specs.declared.printed_reply.PrintedReply.{PrintedReply}
+use Rattle.std.specs.Io.KnownBytes.{Appends}
+use Rattle.fe_schedules.specs.Ready.{memory_model}
 use Rattle.fe_state.specs.State.{ServerState, first_state}
 use Rattle.fe_state.specs.History.{after_groups}
-use Rattle.fe_wire.specs.Spelling.{spelling}
 use Rattle.fe_wire.specs.declared.client_message.ClientMessage.{ClientMessage}
 use Rattle.fe_keeper.specs.Stands.{EachStandsFor}
-use Rattle.fe_desk.specs.Anew.{anew}
+use Rattle.fe_desk.specs.Crash.{anew}
 use Rattle.fe_desk.specs.Messages.{outputs}
 use Rattle.fe_desk.specs.DeskRunState.{DeskRunState, IsFirstRunState}
 use Rattle.fe_desk.specs.Steps.{DeskRun}
 use Rattle.fe_desk.specs.declared.step.Step.{Step}
 use Rattle.fe_desk.specs.declared.step.Step.TheVariants as step
-use Rattle.fe_text.specs.Line.{parsed}
-use Rattle.fe_text.specs.Lines.{lines_of}
-use Rattle.fe_text.specs.declared.fault.StreamFault.{StreamFault}
-use Rattle.fe_text.specs.declared.fault.StreamFault.TheVariants as stream
-use Rattle.fe_schedules.specs.Fault.{IsOfStream}
-use Rattle.fe_schedules.specs.PrintedReply.{IsPrinted}
-use Rattle.fe_schedules.specs.declared.fault.ScheduleFault.{ScheduleFault}
-use Rattle.fe_schedules.specs.declared.fault.ScheduleFault.TheVariants as fault
+use Rattle.fe_text.specs.Line.{parsed, lines_of}
 use Rattle.fe_text.specs.declared.line.Line.{Line}
 use Rattle.fe_text.specs.declared.line.Line.TheVariants as line
+
+-- the machine's fault for a fault of its desk; None for those that a desk over a store that was formatted here does not have
+abbrev pub of_desk : DeskFault → Option MachineFault
+of_desk (desk.NoMemory fed) = Some machine.Memory
+of_desk desk.Unwritten = Some machine.Memory
+of_desk (desk.Store store.Device) = Some machine.Device
+of_desk (desk.Store store.Failed) = Some machine.Device
+of_desk (desk.Store other) = None
+
+abbrev pub of_machine : MachineFault → ScheduleFault
+of_machine machine.Memory = fault.Memory
+of_machine machine.Device = fault.Device
+
+abbrev pub of_stream : StreamFault → ScheduleFault
+of_stream stream.Input = fault.Input
+of_stream stream.Memory = fault.Memory
+
+-- the fault is the device's exactly if a call of the disk failed
+abbrev pub TellsDisk : MemoryState → MachineFault → Type 0
+TellsDisk disk machine.Memory = disk.failures ≡ 0
+TellsDisk disk machine.Device = 0 < disk.failures
+
+-- the fault of the schedule is the device's exactly if a call of the disk failed
+abbrev pub TellsOfDisk : MemoryState → ScheduleFault → Type 0
+TellsOfDisk disk (fault.Line number) = disk.failures ≡ 0
+TellsOfDisk disk fault.Input = disk.failures ≡ 0
+TellsOfDisk disk fault.Memory = disk.failures ≡ 0
+TellsOfDisk disk fault.Device = 0 < disk.failures
+
+-- a stream failed, and the fault is that of the stream
+abbrev pub IsOfStream : (StreamFault → Type 0) → ScheduleFault → Type 0
+IsOfStream fails end = (f : StreamFault) × fails f × (end ≡ of_stream f)
+
+-- the fault is the device's exactly if a call of the disk failed, or it is that of the writer, which failed
+abbrev pub TellsDiskOrWriter : MemoryState → (StreamFault → Type 0) → ScheduleFault → Type 0
+TellsDiskOrWriter disk writer end = TellsOfDisk disk end ⊎ IsOfStream writer end
+
+-- ---- replies, and the order in which they are printed
+
+-- ---- in which order
+
+-- the number of an answer, a withdrawal or a refusal, and 0 of any other reply
+abbrev pub number_of : ServerMessage → ℕ
+number_of (server.Answer number answer) = number
+number_of (server.Withdrawn number) = number
+number_of (server.Refused number code) = number
+number_of (server.Welcome session floor) = 0
+number_of (server.Settled floor) = 0
+number_of (server.Goodbye session) = 0
+number_of (server.Report text) = 0
+
+abbrev pub key_of : PrintedReply → ℕ × ℕ
+key_of t = (t.conn, number_of t.reply)
+
+-- by the first number, and then by the second
+abbrev in_turn : ℕ × ℕ → ℕ × ℕ → Ordering
+in_turn x y = ordering_then (nat_cmp x.0 y.0) (nat_cmp x.1 y.1)
+
+-- The replies in the order in which they are printed: by connection, then by number, and those of one number in the
+-- order in which they came.
+pub record IsSorting (printed_replies order : List PrintedReply) : Type 0 where
+  pub same : IsPermutation printed_replies order
+  pub ascends : IsSortedByKey key_of in_turn order
+  pub stable : IsStableByKey key_of in_turn printed_replies order
+
+-- ---- replies
+
+-- The frames of these replies were written.
+pub record AreRepliesIn (written : List ℕ) (replies : List ServerMessage) : Type 0 where
+  pub fits : AllByRecursion ReplyFits replies
+  pub spelled : written ≡ flat_map reply_spelling replies
+
+abbrev pub printed_to : ℕ → ServerMessage → PrintedReply
+printed_to conn reply = record { conn = conn; reply = reply }
+
+-- What was written to connection numbers are these replies, one number after the other.
+abbrev pub ArePrintedReplies : List (ℕ × List ℕ) → List PrintedReply → Type 0
+ArePrintedReplies [] printed_replies = printed_replies ≡ []
+ArePrintedReplies (o ∷ os) printed_replies =
+    (replies : List ServerMessage) × (others : List PrintedReply) × AreRepliesIn o.1 replies × ArePrintedReplies os others × (printed_replies ≡ map (printed_to o.0) replies ++ others)
+
+-- ---- what is printed
+
+abbrev pub printed_text : PrintedReply → List ℕ
+printed_text t = printed (Some t.conn) t.reply
+
+-- The text is what the replies in the outputs print, sorted.
+pub record IsPrinted (outputs : List (ℕ × List ℕ)) (text : List ℕ) : Type 0 where
+  pub printed_replies : List PrintedReply
+  pub order : List PrintedReply
+  pub are : ArePrintedReplies outputs printed_replies
+  pub sorts : IsSorting printed_replies order
+  pub is : text ≡ flat_map printed_text order
+
+-- ---- schedules
 
 -- The stage of a schedule between two lines: all that is stored, the desk with an empty trace, and whether it is on hold.
 pub record Stage : Type 0 where

@@ -2,7 +2,7 @@
 //! (`docs/model.md`, "The desk").
 
 ghost use Rattle.std.specs.Prelude.{◌≡◌, ◌≢◌, None, Some};
-ghost use Rattle.fe_schedules.specs.Fault.{of_desk};
+ghost use Rattle.fe_schedules.specs.Schedule.{of_desk};
 
 use fe_desk::DeskFault;
 use fe_keeper::Fault as StoreFault;
@@ -56,7 +56,7 @@ impl From<AllocError> for MachineFault {
 
 impl From<StreamFault> for ScheduleFault {
     ghost use Rattle.std.specs.Prelude.{◌≡◌};
-    ghost use Rattle.fe_schedules.specs.Fault.{of_stream};
+    ghost use Rattle.fe_schedules.specs.Schedule.{of_stream};
 
     ghost from_gives = { λ before fault. fault ≡ of_stream before };
 
@@ -70,7 +70,7 @@ impl From<StreamFault> for ScheduleFault {
 
 impl From<MachineFault> for ScheduleFault {
     ghost use Rattle.std.specs.Prelude.{◌≡◌};
-    ghost use Rattle.fe_schedules.specs.Fault.{of_machine};
+    ghost use Rattle.fe_schedules.specs.Schedule.{of_machine};
 
     ghost from_gives = { λ before fault. fault ≡ of_machine before };
 

@@ -4,9 +4,8 @@
 ghost use Rattle.std.specs.Prelude.{◌≡◌, [], ◌∷◌, string_bytes, OnOk, IfOk, IfErr};
 ghost use Rattle.fe_desk.specs.DeskRunState.{IsFirstRunState};
 ghost use Rattle.fe_state.specs.State.{first_state};
-ghost use Rattle.fe_schedules.specs.Fault.{TellsDisk};
+ghost use Rattle.fe_schedules.specs.Schedule.{TellsDisk, endings};
 ghost use Rattle.fe_schedules.specs.Ready.{HoldsStore};
-ghost use Rattle.fe_schedules.specs.Schedule.{endings};
 ghost use Rattle.fe_schedules.specs.Runs.{IsMachine, ActsOn, TakesSteps, PrintsTrace, last_disk};
 
 use crate::fault::MachineFault;

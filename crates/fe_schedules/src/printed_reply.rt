@@ -2,7 +2,7 @@
 
 ghost use Rattle.std.specs.Prelude.{◌≡◌, ◌++◌, string_bytes, OnOk};
 ghost use Rattle.std.specs.List.{flat_map};
-ghost use Rattle.fe_schedules.specs.PrintedReply.{key_of, printed_text};
+ghost use Rattle.fe_schedules.specs.Schedule.{key_of, printed_text};
 
 use fe_text::print_reply;
 use fe_wire::ServerMessage;

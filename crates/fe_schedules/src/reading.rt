@@ -6,9 +6,9 @@ ghost use Rattle.std.specs.Option.{option_map};
 ghost use Rattle.std.specs.List.{flat_map, AllByRecursion};
 ghost use Rattle.fe_wire.specs.Spelling.{reply_spelling, ReplyFits};
 ghost use Rattle.fe_wire.specs.declared.server_message.ServerMessage.{ServerMessage as Reply};
-ghost use Rattle.fe_desk.specs.Frames.{AreReplies};
+ghost use Rattle.fe_desk.specs.Messages.{AreReplies};
 ghost use Rattle.fe_schedules.specs.within.Frames.{frame_at};
-ghost use Rattle.fe_schedules.specs.PrintedReply.{ArePrintedReplies, printed_to};
+ghost use Rattle.fe_schedules.specs.Schedule.{ArePrintedReplies, printed_to};
 
 use crate::printed_reply::PrintedReply;
 use byteorder::{BigEndian, ByteOrder};

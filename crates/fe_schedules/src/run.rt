@@ -1,8 +1,8 @@
 //! A run of a schedule: its lines as they come in pieces, and what they print (`docs/schedules.md`).
 
 ghost use Rattle.std.specs.Prelude.{◌≡◌, ◌+◌, ◌++◌, ℕ, List, Option, [], ◌∷◌, string_bytes, IfOk, IfErr, OnOk, OnErr, MatchResult};
-ghost use Rattle.fe_text.specs.Lines.{HasNoFeed};
-ghost use Rattle.fe_schedules.specs.Fault.{TellsDisk, TellsOfDisk, TellsDiskOrWriter};
+ghost use Rattle.fe_text.specs.Line.{HasNoFeed};
+ghost use Rattle.fe_schedules.specs.Schedule.{TellsDisk, TellsOfDisk, TellsDiskOrWriter};
 ghost use Rattle.fe_schedules.specs.Ready.{HoldsStore};
 ghost use Rattle.fe_schedules.specs.Runs.{IsRun, RanLine, RanBytes, SaysLine, IsStray, IsFaultOf, IsTooLong, SoFar, Whole, Ended, EndedIn, last_disk};
 

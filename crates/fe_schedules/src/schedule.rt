@@ -1,8 +1,7 @@
 //! Running a schedule (`docs/schedules.md`).
 
 ghost use Rattle.std.specs.Prelude.{◌≡◌, ◌<◌, [], length, string_bytes, IfErr, OnOk};
-ghost use Rattle.fe_schedules.specs.Schedule.{RunsAll, RunsUntil, ReaderFails};
-ghost use Rattle.fe_schedules.specs.Fault.{TellsDiskOrWriter};
+ghost use Rattle.fe_schedules.specs.Schedule.{RunsAll, RunsUntil, ReaderFails, TellsDiskOrWriter};
 ghost use Rattle.fe_schedules.specs.Runs.{SoFar, last_disk};
 ghost use Rattle.fe_disk.specs.Memory.{IsHonest};
 ghost use Rattle.fe_journal.specs.Layout.{device_bytes};

@@ -2,7 +2,7 @@
 
 ghost use Rattle.std.specs.Prelude.{ℕ, ◌≡◌, ◌+◌, List, Option, [], length, string_bytes, take, IfOk, IfErr, OnOk};
 ghost use Rattle.std.specs.Io.KnownBytes.{Appends, Keeps};
-ghost use Rattle.fe_text.specs.Lines.{ReadsSome};
+ghost use Rattle.fe_text.specs.Line.{ReadsSome};
 ghost use Rattle.fe_text.specs.declared.fault.StreamFault.{StreamFault as Fault};
 
 use fe_text::StreamFault;

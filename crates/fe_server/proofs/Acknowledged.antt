@@ -11,7 +11,7 @@ use Rattle.fe_state.specs.declared.entry.Entry.{Entry}
 use Rattle.fe_state.specs.declared.entry.Entry.TheVariants.{Finished}
 use Rattle.fe_replica.proofs.Following.{place_after}
 use Rattle.fe_keeper.specs.Keeper.{KeeperState}
-use Rattle.fe_keeper.specs.Prefix.{LeavesPrefix}
+use Rattle.fe_keeper.specs.Stands.{LeavesPrefix}
 use Rattle.fe_messages.specs.Answers.{IsAnswerIn}
 use mathlib.Core.List.{IsPrefix}
 use Rattle.fe_history.proofs.Acts.{goes_at, prefix_self, prefix_trans, stores_rise, issued_asked}
@@ -22,8 +22,7 @@ use Rattle.fe_history.specs.declared.act.Act.{Act}
 use Rattle.fe_history.specs.declared.act.Act.TheVariants.{Asked, Began, Issued}
 use Rattle.fe_hall.specs.declared.commit_end.CommitEnd.{CommitEnd}
 use Rattle.fe_history.specs.declared.receipt.Receipt.{Receipt}
-use Rattle.fe_server.specs.Acknowledged.{IsHeld, IsAcknowledged}
-use Rattle.fe_server.specs.Serving.{HasCommittedAndNoted}
+use Rattle.fe_server.specs.Acknowledged.{IsHeld, IsAcknowledged, HasCommittedAndNoted}
 use Rattle.fe_disk.specs.declared.disk.Disk.{Ghosts}
 
 -- ---- what was told

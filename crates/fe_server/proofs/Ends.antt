@@ -14,7 +14,7 @@ use Rattle.fe_server.specs.declared.served.Served.{Served}
 use Rattle.fe_server.specs.declared.stop_fault.StopFault.{StopFault}
 use Rattle.fe_server.specs.declared.stop_fault.StopFault.TheVariants as fault
 use Rattle.fe_server.specs.FinishedConnections.{IsSettled, lacks}
-use Rattle.fe_server.specs.Serving.{HasCommittedAndNoted, IsAnswerAt, fault_of_end}
+use Rattle.fe_server.specs.Acknowledged.{HasCommittedAndNoted, IsAnswerAt, fault_of_end}
 use Rattle.fe_disk.specs.declared.disk.Disk.{Ghosts}
 
 module _ {D : Type 0} (model : Ghosts D) where

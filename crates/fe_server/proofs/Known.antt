@@ -3,7 +3,7 @@ use Rattle.std.proofs.Common.{◌≡◌, ℕ, ◌-◌, List, [], ◌++◌, lengt
 use Rattle.std.specs.Prelude.{IsSome}
 use Rattle.std.specs.Io.KnownBytes.{Appends}
 use Rattle.fe_streams.specs.Incoming.{bytes_read}
-use Rattle.fe_server.specs.Streams.{known_bytes}
+use Rattle.fe_server.specs.Sides.{known_bytes}
 
 -- the bytes that were read are known if those at first are
 pub read_known : (first left : Option (List ℕ)) → IsSome first → IsSome (bytes_read first left)

@@ -1,5 +1,5 @@
 -- What the two sides of a connection, its reading and its writing thread, did with its stream (`docs/model.md`, "The hall").
-use Rattle.std.specs.Prelude.{◌≡◌, ◌≢◌, ℕ, ◌+◌, ◌≤◌, Bool, true, false, List, []}
+use Rattle.std.specs.Prelude.{ℕ, List, [], Option, None, Some, ◌≡◌, ◌≢◌, ◌+◌, ◌≤◌, Bool, true, false}
 use Rattle.fe_mail.specs.declared.mail.Mail.{Mail}
 use Rattle.fe_wire.specs.declared.client_message.ClientMessage.{ClientMessage}
 use Rattle.fe_history.specs.Acts.{AreIssued, Receipts}
@@ -12,6 +12,11 @@ use Rattle.fe_hall.specs.Writes as writes
 use Rattle.fe_shared.specs.Seats.{HasDeparted, HasRested, CallSeatState, MailSeatState}
 use Rattle.fe_server.specs.declared.reads.ReadLimit.{ReadLimit}
 use Rattle.fe_server.specs.declared.reads.ReadLimit.TheVariants as most
+
+-- the bytes, or none if they are not known
+abbrev pub known_bytes : Option (List ℕ) → List ℕ
+known_bytes None = []
+known_bytes (Some bytes) = bytes
 
 -- whether a read side with this end ends the stream; at `Closed` and `Turns` it does not, and the write side goes on
 abbrev pub ends_stream : ReadEnd → Bool

@@ -11,8 +11,7 @@ ghost use Rattle.fe_mail.specs.declared.mail.Mail.{Mail as TakenMail};
 ghost use Rattle.fe_streams.specs.Incoming.{bytes_read};
 ghost use Rattle.fe_hall.specs.Reads.{HandlesStream};
 ghost use Rattle.fe_hall.specs.Writes.{AreTaken, IsWritten};
-ghost use Rattle.fe_server.specs.Sides.{HasHandled, HasWritten, ends_stream, most_reads};
-ghost use Rattle.fe_server.specs.Streams.{known_bytes};
+ghost use Rattle.fe_server.specs.Sides.{HasHandled, HasWritten, ends_stream, most_reads, known_bytes};
 
 use crate::reads::{ReadLimit, Unstarted};
 use crate::register::{Admission, Full};

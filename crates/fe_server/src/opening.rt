@@ -5,7 +5,7 @@ ghost use Rattle.fe_mail.specs.Books.{AddUp};
 ghost use Rattle.fe_history.specs.Receipts.{IsBorneOut};
 ghost use Rattle.fe_journal.specs.Layout.{device_bytes};
 ghost use Rattle.fe_store.specs.declared.fault.OpenFault.TheVariants as store;
-ghost use Rattle.fe_server.specs.Opened.{WasServed};
+ghost use Rattle.fe_server.specs.Acknowledged.{WasServed};
 ghost use Rattle.fe_server.specs.declared.serve_fault.ServeFault.TheVariants as served;
 
 use crate::binding::bind;

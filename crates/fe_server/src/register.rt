@@ -4,7 +4,7 @@
 ghost use Rattle.std.specs.Prelude.{◌≡◌, ◌↔◌, ◌⊎◌, ◌+◌, ◌-◌, ◌^◌, ◌<◌, ◌≤◌, ◌∷◌, ◌++◌, [], true, false, IfOk, IfErr, OnErr, OnOk, IsTrue};
 ghost use Rattle.fe_server.specs.FinishedConnections.{IsAdded, without};
 ghost use Rattle.fe_server.specs.Arrivals.{HasEnded, IsBoundBy, awaited_after, kept_from};
-ghost use Rattle.fe_server.specs.Serving.{fault_of_end};
+ghost use Rattle.fe_server.specs.Acknowledged.{fault_of_end};
 
 use crate::arrival::{Arrival, ArrivalEnded, Bar, Unkept, Unserved};
 use crate::connection::Accepted;

@@ -6,8 +6,8 @@ ghost use Rattle.fe_front.specs.Front.{IsFirst};
 ghost use Rattle.fe_history.specs.declared.act.Act.TheVariants as act;
 ghost use Rattle.fe_shared.specs.declared.last_answer.LastAnswer.TheVariants as LastAnswer;
 ghost use Rattle.fe_server.specs.Arrivals.{HasEnded, IsBoundBy};
-ghost use Rattle.fe_server.specs.Serving.{HasCommittedAndNoted};
-ghost use Rattle.fe_server.specs.within.Blank.{AreBlank};
+ghost use Rattle.fe_server.specs.Acknowledged.{HasCommittedAndNoted};
+ghost use Rattle.fe_server.specs.within.HasServed.{AreBlank};
 
 use crate::accepting::AllServed;
 use crate::arrival::{Arrival, Unkept, Unserved};

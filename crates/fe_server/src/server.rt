@@ -7,11 +7,9 @@ ghost use Rattle.fe_history.specs.Receipts.{IsBorneOut};
 ghost use Rattle.fe_history.specs.declared.act.Act.TheVariants as act;
 ghost use Rattle.fe_hall.specs.declared.commit_end.CommitEnd.{CommitEnd};
 ghost use Rattle.fe_hall.specs.declared.commit_end.CommitEnd.TheVariants as hall;
-ghost use Rattle.fe_server.specs.Acknowledged.{IsAcknowledged};
+ghost use Rattle.fe_server.specs.Acknowledged.{IsAcknowledged, HasCommitted, HasCommittedAndNoted, IsAnswerAt, account_in, fault_in, keeper_in};
 ghost use Rattle.fe_server.specs.FinishedConnections.{IsSettled};
-ghost use Rattle.fe_server.specs.within.Blank.{AreBlank};
-ghost use Rattle.fe_server.specs.within.HasServed.{HasServed};
-ghost use Rattle.fe_server.specs.Serving.{HasCommitted, HasCommittedAndNoted, IsAnswerAt, account_in, fault_in, keeper_in};
+ghost use Rattle.fe_server.specs.within.HasServed.{AreBlank, HasServed};
 ghost use Rattle.fe_server.specs.declared.stop_fault.StopFault.TheVariants as fault;
 
 use crate::accepting::serve_clients;
@@ -177,7 +175,7 @@ struct Committed<D: Disk + Drop> {
 }
 
 impl<D: Disk + Drop, M: Tally> Promise<(Keeper<D>, ServerEnded, StoreSeat<M>)> for Committed<D> {
-    ghost use Rattle.fe_server.specs.Serving.{HasCommittedAndNoted};
+    ghost use Rattle.fe_server.specs.Acknowledged.{HasCommittedAndNoted};
 
     ghost kept_by = { λ p r.
         HasCommittedAndNoted D.Disk p.before.value r.0 r.1.end r.2 };

@@ -15,7 +15,7 @@ pub enum StopFault {
 
 impl From<Fault> for StopFault {
     ghost use Rattle.std.specs.Prelude.{◌≡◌};
-    ghost use Rattle.fe_server.specs.Serving.{fault_of_store};
+    ghost use Rattle.fe_server.specs.Acknowledged.{fault_of_store};
 
     ghost from_gives = { λ before fault. fault ≡ fault_of_store before };
 

@@ -33,7 +33,7 @@ impl<R: Read> ReadHalf for StreamRead<R> {
     ghost use Rattle.std.specs.Prelude.{IsSome};
     ghost use Rattle.std.specs.Io.KnownBytes.{IsAtEnd};
     ghost use Rattle.fe_streams.specs.Incoming.{bytes_read};
-    ghost use Rattle.fe_server.specs.Streams.{known_bytes};
+    ghost use Rattle.fe_server.specs.Sides.{known_bytes};
 
     ghost is_known = { λ h. IsSome (R.remaining h.incoming.began.value) };
 
@@ -79,7 +79,7 @@ impl<W: Write> StreamWrite<W> {
 
 impl<W: Write> WriteHalf for StreamWrite<W> {
     ghost use Rattle.std.specs.Prelude.{IsSome};
-    ghost use Rattle.fe_server.specs.Streams.{known_bytes};
+    ghost use Rattle.fe_server.specs.Sides.{known_bytes};
 
     ghost is_known = { λ h. IsSome (W.contents h.writer) };
 

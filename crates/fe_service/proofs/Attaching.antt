@@ -10,7 +10,7 @@ use Rattle.fe_state.specs.Sessions.{Session}
 use Rattle.fe_state.specs.State.{IsLegal}
 use Rattle.fe_state.specs.declared.entry.Entry.TheVariants.{Attached}
 use Rattle.fe_service.specs.Events.{HasRoom, IsAttachable, floor_of}
-use Rattle.fe_service.specs.ServiceState.{ServiceState, IsService, is_open}
+use Rattle.fe_service.specs.Service.{ServiceState, IsService, is_open}
 use Rattle.fe_service.proofs.Sizes.{len_within}
 
 -- the holder of an attachment that was there

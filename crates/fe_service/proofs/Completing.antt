@@ -7,14 +7,13 @@ use Rattle.std.specs.FinMap.{FinMap, get, insert}
 use Rattle.fe_state.proofs.Maps.{get_inserted, get_beside, same_or_other}
 use Rattle.fe_state.specs.Sessions.{Session, keeping, put_session}
 use Rattle.fe_state.specs.State.{ServerState, after, after_all, directory_of}
-use Rattle.fe_state.specs.OtherWords.{IsOwnWord}
+use Rattle.fe_state.specs.Effect.{IsOwnWord}
 use Rattle.fe_state.specs.declared.kept.Kept.{Kept}
 use Rattle.fe_state.specs.declared.answer.Answer.{Answer}
 use Rattle.fe_state.specs.declared.request.Request.{Request}
 use Rattle.fe_state.specs.declared.entry.Entry.{Entry}
 use Rattle.fe_state.specs.declared.entry.Entry.TheVariants.{Finished}
-use Rattle.fe_service.specs.Service.{WaitingAccesses, AreUsable, IsQuiet, IsTurn, AreTurns, without_turn, without_turns}
-use Rattle.fe_service.specs.ServiceState.{ServiceState, IsService, is_open, service_of}
+use Rattle.fe_service.specs.Service.{WaitingAccesses, AreUsable, IsQuiet, IsTurn, AreTurns, without_turn, without_turns, ServiceState, IsService, is_open, service_of}
 use Rattle.fe_service.specs.Events.{IsFree, Completes}
 use Rattle.fe_service.specs.within.ServiceInner.{IsQuietAt, TakesTurns}
 use Rattle.fe_service.specs.declared.service_inner.ServiceInner.{ServiceInner}

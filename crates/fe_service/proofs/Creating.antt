@@ -17,8 +17,7 @@ use Rattle.fe_state.specs.declared.answer.Answer.TheVariants as answers
 use Rattle.fe_state.specs.declared.request.Request.TheVariants.{Create}
 use Rattle.fe_state.specs.declared.entry.Entry.TheVariants.{Finished}
 use Rattle.fe_waits.proofs.MemberLemmas.{some_same}
-use Rattle.fe_service.specs.Service.{IsQuiet}
-use Rattle.fe_service.specs.ServiceState.{AreSoundParts}
+use Rattle.fe_service.specs.Service.{IsQuiet, AreSoundParts}
 use Rattle.fe_service.specs.declared.service_inner.ServiceInner.{ServiceInner}
 use Rattle.fe_service.proofs.Quiet.{none_on_absent}
 use Rattle.fe_service.proofs.Completing.{IsEntered, entered_quiet_at}

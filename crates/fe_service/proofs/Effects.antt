@@ -9,8 +9,7 @@ use Rattle.fe_words.specs.declared.op.Op.{Op}
 use Rattle.fe_waits.proofs.MemberLemmas.{some_same}
 use Rattle.fe_state.proofs.EffectLemmas.{nothing_changes}
 use Rattle.fe_state.specs.Directory.{Directory, answer_in, word_in, words_in}
-use Rattle.fe_state.specs.Effect.{creating, effect_of, performed, removing, writing}
-use Rattle.fe_state.specs.OtherWords.{IsOwnWord}
+use Rattle.fe_state.specs.Effect.{creating, effect_of, performed, removing, writing, IsOwnWord}
 use Rattle.fe_state.specs.State.{MakesArray, directory_of, effect_in}
 use Rattle.fe_state.specs.declared.answer.Answer.{Answer}
 use Rattle.fe_state.specs.declared.answer.Answer.TheVariants as answers

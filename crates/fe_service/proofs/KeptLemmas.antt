@@ -6,8 +6,7 @@ use Rattle.std.specs.FinMap.{FinMap, empty, get, insert, remove, len, same_map, 
 use Rattle.std.proofs.lemmas.Bool.{cases_eq}
 use Rattle.std.proofs.lemmas.List.{get_or-set_same, get_or-set_other}
 use Rattle.std.proofs.Math.ListN.{length-set}
-use Rattle.fe_waits.specs.Pair.{pair_cmp, pair_cmp_total, pair_cmp-IsAntisymmetric}
-use Rattle.fe_waits.specs.Waiting.{Waiting}
+use Rattle.fe_waits.specs.Waiting.{pair_cmp, pair_cmp_total, pair_cmp-IsAntisymmetric, Waiting}
 use Rattle.fe_waits.proofs.MemberLemmas.{none_some, some_same}
 use Rattle.fe_service.specs.declared.occupant.Occupant.{Occupant}
 use Rattle.fe_service.specs.AttachmentsState.{NoneOfSession}

@@ -6,8 +6,7 @@ use Rattle.std.specs.Ordering.{nat_cmp}
 use Rattle.std.specs.declared.cmp.Ordering.TheVariants.{Equal}
 use Rattle.std.specs.FinMap.{FinMap, empty, get, insert, remove, retain_keys, len, get-empty, get-retain_keys, same_map}
 use Rattle.std.proofs.lemmas.Bool.{cases_eq, ne_eqb, eq-eqb}
-use Rattle.fe_waits.specs.Pair.{pair_cmp, pair_cmp_total, pair_cmp-IsAntisymmetric}
-use Rattle.fe_waits.specs.Waiting.{WaitingAccess}
+use Rattle.fe_waits.specs.Waiting.{pair_cmp, pair_cmp_total, pair_cmp-IsAntisymmetric, WaitingAccess}
 use Rattle.fe_waits.proofs.MemberLemmas.{key_cases, none_some, some_same, get-insert_here, get-insert_other, get-remove_here, get-remove_other}
 use Rattle.fe_service.specs.declared.occupant.Occupant.{Occupant}
 use Rattle.fe_service.specs.within.Slots.{owner_at, owner_of, slot_in, session_key, by_session}

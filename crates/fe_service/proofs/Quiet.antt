@@ -10,7 +10,7 @@ use Rattle.fe_waits.specs.Waiting.{WaitingAccess, NoneOnWord, NoneOnArray}
 use Rattle.fe_waits.proofs.MemberLemmas.{none_some, some_same}
 use Rattle.fe_state.proofs.Maps.{same_or_other}
 use Rattle.fe_state.specs.Directory.{word_in, words_in}
-use Rattle.fe_state.specs.OtherWords.{IsOwnWord}
+use Rattle.fe_state.specs.Effect.{IsOwnWord}
 use Rattle.fe_state.specs.State.{ServerState, after, directory_of}
 use Rattle.fe_state.specs.declared.array.Array.{Array}
 use Rattle.fe_state.specs.declared.answer.Answer.{Answer}

@@ -11,8 +11,7 @@ use Rattle.fe_words.specs.declared.word.Tag.TheVariants.{Full, Empty}
 use Rattle.fe_words.specs.declared.op.Op.{Op}
 use Rattle.fe_words.specs.declared.op.Op.TheVariants.{ReadFe, ReadFf, ReadXx, WriteEf, WriteFf, WriteXf, Purge, IntFetchAdd}
 use Rattle.fe_state.specs.Directory.{Directory, word_in, answer_in, answer_of, access, accessed, at_once}
-use Rattle.fe_state.specs.Effect.{performed}
-use Rattle.fe_state.specs.OtherWords.{IsOwnWord}
+use Rattle.fe_state.specs.Effect.{performed, IsOwnWord}
 use Rattle.fe_state.specs.declared.array.Array.{Array}
 use Rattle.fe_state.specs.declared.request.Request.{Request}
 use Rattle.fe_state.specs.declared.request.Request.TheVariants.{Access}

@@ -6,8 +6,7 @@ use Rattle.std.specs.Option.{option_map}
 use Rattle.std.specs.Ordering.{nat_cmp}
 use Rattle.std.specs.FinMap.{FinMap, empty, get, remove, len, len-empty}
 use Rattle.fe_waits.specs.declared.row.Row.{Row}
-use Rattle.fe_waits.specs.Pair.{pair_cmp}
-use Rattle.fe_waits.specs.Waiting.{WaitingAccess, Waiting, IsOn, NoneOnWord, NoneOnArray, row_at, row_of, of_slot, without_slot, access_fields, AreWaitingRequestsOf}
+use Rattle.fe_waits.specs.Waiting.{pair_cmp, WaitingAccess, Waiting, IsOn, NoneOnWord, NoneOnArray, row_at, row_of, of_slot, without_slot, access_fields, AreWaitingRequestsOf}
 use Rattle.fe_waits.specs.Waiting as waits
 use Rattle.fe_waits.proofs.MemberLemmas.{none_some, some_same, of_slot-none, without-none}
 use Rattle.fe_service.specs.declared.occupant.Occupant.{Occupant}

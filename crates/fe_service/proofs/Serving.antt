@@ -5,7 +5,7 @@ use Rattle.fe_words.specs.declared.word.Tag.{Tag}
 use Rattle.fe_waits.specs.Waiting.{WaitingAccess, IsOn}
 use Rattle.fe_waits.proofs.MemberLemmas.{key_cases, none_some, get-remove_here, get-remove_other, len-remove_old, len-positive}
 use Rattle.fe_state.specs.Directory.{words_in}
-use Rattle.fe_state.specs.OtherWords.{IsOwnWord}
+use Rattle.fe_state.specs.Effect.{IsOwnWord}
 use Rattle.fe_state.specs.State.{ServerState, reply, after, after_all, directory_of}
 use Rattle.fe_state.specs.declared.entry.Entry.{Entry}
 use Rattle.fe_service.specs.Service.{WaitingAccesses, AreUsable, request_of, IsTurn, AreTurns, without_turn, without_turns}

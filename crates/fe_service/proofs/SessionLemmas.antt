@@ -1,8 +1,7 @@
 -- What a crate above asks of the requests of a session.
 use Rattle.std.proofs.Common.{◌≡◌, ℕ, ◌<◌, ◌≤◌, ◌+◌, Some, None}
 use Rattle.std.specs.FinMap.{FinMap, get}
-use Rattle.fe_waits.specs.Pair.{pair_cmp}
-use Rattle.fe_waits.specs.Waiting.{WaitingAccess}
+use Rattle.fe_waits.specs.Waiting.{pair_cmp, WaitingAccess}
 use Rattle.fe_waits.proofs.RoomLemmas.{room-in-window}
 use Rattle.fe_service.specs.AttachmentsState.{count_of}
 

@@ -5,19 +5,16 @@ use Rattle.std.specs.Option.{option_map, option_map_or}
 use Rattle.std.specs.Ordering.{nat_cmp}
 use Rattle.std.specs.FinMap.{FinMap, empty, get, get-empty, insert, remove}
 use Rattle.std.proofs.lemmas.Bool.Decides.{nat_tests}
-use Rattle.fe_waits.specs.Pair.{pair_cmp}
-use Rattle.fe_waits.specs.Waiting.{WaitingAccess}
+use Rattle.fe_waits.specs.Waiting.{pair_cmp, WaitingAccess}
 use Rattle.fe_waits.proofs.MemberLemmas.{key_cases, none_some, some_same, get-insert_here, get-remove_here, get-remove_other, get-insert_other, get-without_slot}
 use Rattle.fe_service.specs.AttachmentsState.{NoneOfSession, without_session, with_holder, with_closing, is_closing, holder_of, count_of}
 use Rattle.fe_service.specs.declared.attachment.Attachment.{Attachment}
 use Rattle.fe_service.proofs.SessionLemmas.{room-of_session}
 use Rattle.fe_state.proofs.Maps.{get_inserted, get_beside, get_removed, get_left, get_retained, same_or_other}
-use Rattle.fe_state.specs.Sessions.{Session, MayRise, raised, put_session, opened, first_session}
-use Rattle.fe_state.specs.SessionEffect.{IsUsable}
+use Rattle.fe_state.specs.Sessions.{Session, MayRise, raised, put_session, opened, first_session, IsUsable}
 use Rattle.fe_state.specs.State.{reply}
-use Rattle.fe_service.specs.Service.{WaitingAccesses, request_of}
+use Rattle.fe_service.specs.Service.{WaitingAccesses, request_of, ServiceState, IsService, is_open}
 use Rattle.fe_service.specs.Events.{IsFree, MaySettle, held, left, waited, settled, closed, attached}
-use Rattle.fe_service.specs.ServiceState.{ServiceState, IsService, is_open}
 
 -- where each part is equal
 pub same_service : (s t : ServiceState) → t.state ≡ s.state → t.attachments ≡ s.attachments → t.waiting ≡ s.waiting → t.pending ≡ s.pending → IsService s → IsService t

@@ -6,8 +6,7 @@ use Rattle.std.specs.Ordering.{nat_cmp}
 use Rattle.std.specs.FinMap.{FinMap, get, remove}
 use Rattle.fe_waits.proofs.MemberLemmas.{key_cases, none_some, get-remove_here, get-remove_other}
 use Rattle.fe_state.proofs.Maps.{get_inserted, get_beside, same_or_other}
-use Rattle.fe_state.specs.Sessions.{Session, keeping, put_session}
-use Rattle.fe_state.specs.SessionEffect.{IsUsable}
+use Rattle.fe_state.specs.Sessions.{Session, keeping, put_session, IsUsable}
 use Rattle.fe_state.specs.State.{ServerState, IsLegal, after, after_all}
 use Rattle.fe_state.specs.History.{AreLegal}
 use Rattle.fe_state.specs.declared.kept.Kept.{Kept}

@@ -5,8 +5,7 @@ use Rattle.std.specs.Option.{option_map, option_map_or, option_and_then}
 use Rattle.std.specs.Ordering.{nat_cmp}
 use Rattle.std.specs.Coded.{Coded, code_by, coded×, coded_ℕ, coded_list, coded_option}
 use Rattle.std.specs.FinMap.{FinMap, code, get, insert, len, retain_keys}
-use Rattle.fe_waits.specs.Pair.{pair_cmp}
-use Rattle.fe_waits.specs.Waiting.{WaitingAccess, waiting_access_code, IsWord, IsOn}
+use Rattle.fe_waits.specs.Waiting.{pair_cmp, WaitingAccess, waiting_access_code, IsWord, IsOn}
 use Rattle.fe_service.specs.declared.attachment.Attachment.{Attachment}
 use Rattle.fe_service.specs.contracts.attachment.Attachment.{the_row as attachment_row}
 use Rattle.fe_service.specs.declared.waiting_request.WaitingRequest.{WaitingRequest}

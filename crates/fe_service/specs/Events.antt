@@ -7,8 +7,7 @@ use Rattle.std.specs.FinMap.{FinMap, get, insert, remove, len}
 use Rattle.fe_waits.specs.Waiting.{WaitingAccess}
 use Rattle.fe_service.specs.AttachmentsState.{without_session, with_holder, with_closing, is_closing, free_attachment}
 use Rattle.fe_service.specs.declared.attachment.Attachment.{Attachment}
-use Rattle.fe_state.specs.Sessions.{Session, MayRise}
-use Rattle.fe_state.specs.SessionEffect.{IsUsable}
+use Rattle.fe_state.specs.Sessions.{Session, MayRise, IsUsable}
 use Rattle.fe_state.specs.Effect.{effect_of}
 use Rattle.fe_state.specs.State.{after, directory_of, reply}
 use Rattle.fe_state.specs.declared.answer.Answer.{Answer}
@@ -16,8 +15,7 @@ use Rattle.fe_state.specs.declared.effect.Effect.{Effect}
 use Rattle.fe_state.specs.declared.request.Request.{Request}
 use Rattle.fe_state.specs.declared.entry.Entry.{Entry}
 use Rattle.fe_state.specs.declared.entry.Entry.TheVariants.{Attached, Closed, Settled}
-use Rattle.fe_service.specs.Service.{Serves}
-use Rattle.fe_service.specs.ServiceState.{ServiceState}
+use Rattle.fe_service.specs.Service.{Serves, ServiceState}
 use Rattle.fe_state.specs.Limits.{most_event_entries, greatest_place, most_waiting, most_sessions}
 
 -- a session may finish this number: it is in the window, nothing is kept for it, and no request waits under it

@@ -1,6 +1,4 @@
 pub mod AttachmentsState
 pub mod Events
-pub mod Laws
 pub mod Service
-pub mod ServiceState
 pub mod within

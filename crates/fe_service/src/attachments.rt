@@ -4,7 +4,7 @@ ghost use Rattle.std.specs.Prelude.{◌≡◌, ◌↔◌, ◌<◌, ◌≤◌, So
 ghost use Rattle.std.specs.FinMap as map;
 ghost use Rattle.fe_waits.specs.Waiting.{IsWord, NoneOnWord, ListsWaitingRequestsOf};
 ghost use Rattle.fe_service.specs.AttachmentsState.{holder_of, is_closing, waiting_request_at, count_of, IsRequestOn, IsWithinLimits};
-ghost use Rattle.fe_service.specs.within.Attaching.{AttachmentsBecome, DropsRequests};
+ghost use Rattle.fe_service.specs.within.Slots.{AttachmentsBecome, DropsRequests};
 ghost use Rattle.fe_state.specs.Limits.{most_sessions};
 
 use crate::attachment::Attachment;

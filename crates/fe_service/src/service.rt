@@ -9,7 +9,7 @@ ghost use Rattle.fe_state.specs.declared.entry.Entry.{Entry};
 ghost use Rattle.fe_state.specs.declared.entry.Entry.TheVariants.{Finished};
 ghost use Rattle.fe_state.specs.declared.request.Request.TheVariants as requests;
 ghost use Rattle.fe_service.specs.AttachmentsState.{count_of, is_closing};
-ghost use Rattle.fe_service.specs.ServiceState.{IsService};
+ghost use Rattle.fe_service.specs.Service.{IsService};
 ghost use Rattle.fe_service.specs.Events.{IsFree, MayAttach, MayClose, MayComplete, MaySettle, Completes, AreFreeAttachments, floor_of, attached, settled, closed, withdrawn, cancelled, held, left, waited};
 ghost use Rattle.fe_state.specs.Limits.{most_batch_entries};
 
@@ -40,7 +40,7 @@ impl Drop for Service {
 }
 
 impl Model for Service {
-    ghost use Rattle.fe_service.specs.ServiceState.{ServiceState, service_code, service_of, AreSoundParts};
+    ghost use Rattle.fe_service.specs.Service.{ServiceState, service_code, service_of, AreSoundParts};
 
     ghost Value = { ServiceState };
 

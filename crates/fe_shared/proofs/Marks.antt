@@ -16,25 +16,21 @@ use Rattle.fe_state.specs.declared.entry.Entry.TheVariants.{Attached, Closed, Se
 use Rattle.fe_state.specs.declared.kept.Kept.{Kept}
 use Rattle.fe_state.proofs.Histories.{after-append}
 use Rattle.fe_mail.specs.Books.{mail_taken}
-use Rattle.fe_mail.specs.Connections.{mails_on, with_mails}
-use Rattle.fe_mail.specs.Mail.{mail_of, session_of}
+use Rattle.fe_mail.specs.Connections.{mails_on, with_mails, mail_of, session_of}
 use Rattle.fe_mail.specs.declared.connection.Connection.{Connection}
 use Rattle.fe_mail.specs.declared.mail.Mail.{Mail}
 use Rattle.fe_mail.specs.declared.mail.Mail.TheVariants as mail
 use Rattle.fe_wire.specs.declared.client_message.ClientMessage.{ClientMessage}
 use Rattle.fe_wire.specs.declared.client_message.ClientMessage.TheVariants as message
-use Rattle.fe_front.specs.Call.{kept_at}
+use Rattle.fe_front.specs.Call.{kept_at, addressed}
 use Rattle.fe_front.specs.Front.{FrontState, IsFront}
 use Rattle.fe_front.specs.Posting.{IsOut, posted, posted_entry}
-use Rattle.fe_front.specs.Refusals.{addressed}
 use Rattle.fe_front.specs.Steps.{connected, cut, dropped, has_no_cut, taken}
 use Rattle.fe_front.specs.declared.out.Out.{Out}
 use Rattle.fe_front.proofs.Keeping.{dropped-keeps, posted_all-keeps}
 use Rattle.fe_messages.specs.Answers.{AreAnswered, IsAnswerIn, TellsAnswerIn}
-use Rattle.fe_messages.specs.Enters.{Enters}
-use Rattle.fe_messages.specs.Taking.{Takes}
+use Rattle.fe_messages.specs.Taking.{Enters, Takes, AsksOnly, HasOnly}
 use Rattle.fe_messages.proofs.Answers.{answer_more, answered-append, answered-split, finished_at, keeps_below, kept_stands, legal_answered}
-use Rattle.fe_messages.specs.Asking.{AsksOnly, HasOnly}
 use Rattle.fe_messages.proofs.Boxes.{AllIn, AllPosted, all_weaker, boxes-connected, boxes-dropped, boxes-posted_all, boxes-taken}
 use Rattle.fe_messages.proofs.Boxing.{message_boxes}
 use Rattle.fe_messages.proofs.AttachmentLaws.{Loses, addressed_has, connected_loses, dropped_loses, first_has, has_lost, has_more, message_has, posted_entry_loses, posted_loses, taken_loses}

@@ -15,7 +15,7 @@ use Rattle.fe_wire.specs.declared.client_message.ClientMessage.TheVariants as me
 use Rattle.fe_front.specs.Front.{FrontState, IsFront}
 use Rattle.fe_front.specs.Event as event
 use Rattle.fe_front.specs.Step.{FrontStep}
-use Rattle.fe_front.specs.Rising.{HaveRoom, Rise, calls_of, taken_of, most_mails_of, refused_to}
+use Rattle.fe_front.specs.Laws.{HaveRoom, Rise, calls_of, taken_of, most_mails_of, refused_to}
 use Rattle.fe_front.specs.Posting.{IsOut, posted}
 use Rattle.fe_front.specs.Steps.{taken}
 use Rattle.fe_mail.specs.Connections.{mails_on}

@@ -3,4 +3,3 @@ pub mod Shown
 pub mod Seats
 pub mod Holds
 pub mod Marks
-pub mod Watching

@@ -1,7 +1,8 @@
 -- How the part under a hall's lock follows the history: the front's entries are those of the batches cut, and those pending.
 -- See `docs/model.md`, "The hall".
-use Rattle.std.specs.Prelude.{◌≡◌, ℕ, Bool, List, [], ◌∷◌, ◌++◌, length, Option, None, Some, IfSome}
-use Rattle.std.specs.List.{AllByRecursion}
+use Rattle.std.specs.Prelude.{ℕ, Bool, List, ◌==◌, ◌≡◌, [], ◌∷◌, ◌++◌, length, Option, None, Some, IfSome}
+use Rattle.std.specs.List.{list_any, AllByRecursion}
+use Rattle.fe_shared.specs.declared.watchers.Watcher.{Watcher}
 use Rattle.std.specs.Option.{option_map}
 use mathlib.Core.List.{IsPrefix}
 use Rattle.fe_state.specs.State.{ServerState, after_all}
@@ -12,14 +13,17 @@ use Rattle.fe_front.specs.Front.{FrontState, IsFirst}
 use Rattle.fe_front.specs.declared.out.Out.{Out}
 use Rattle.fe_mail.specs.declared.mail.Mail.{Mail}
 use Rattle.fe_messages.specs.Answers.{AreAnswered, TellsAnswerIn}
-use Rattle.fe_messages.specs.Asking.{HasOnly}
+use Rattle.fe_messages.specs.Taking.{HasOnly}
 use Rattle.fe_history.specs.declared.act.Act.{Act}
 use Rattle.fe_history.specs.declared.act.Act.TheVariants.{Asked, Began, Issued}
-use Rattle.fe_shared.specs.declared.watchers.Watcher.{Watcher}
 use Rattle.fe_shared.specs.declared.taking.Taking.{Taking}
 use Rattle.fe_shared.specs.declared.taking.Taking.TheVariants as taking
 use Rattle.fe_history.specs.Acts.{IsLegal, MayBeAppended, StandsIn, WasIssued, batches_of, cuts_in, entries_in, place_after, stores_in}
 use Rattle.fe_history.specs.Receipts.{receipt_of}
+
+-- the read side of a connection waits
+abbrev pub waits : List Watcher → ℕ → Bool
+waits watchers conn = list_any (λ w. w.conn == conn) watchers
 
 -- a front that begins, in a hall whose history has only begun
 abbrev pub IsBegun : FrontState → List Act → Type 0

@@ -10,9 +10,8 @@ ghost use Rattle.fe_front.specs.Event as event;
 ghost use Rattle.fe_messages.specs.Taking.{Takes};
 ghost use Rattle.fe_history.specs.Acts.{GoesOnFrom, IsLegal};
 ghost use Rattle.fe_history.specs.Rules.{Hears};
-ghost use Rattle.fe_shared.specs.Marks.{IsBegun, MayBeIssued};
+ghost use Rattle.fe_shared.specs.Marks.{IsBegun, MayBeIssued, waits};
 ghost use Rattle.fe_shared.specs.Holds.{IsDrained, IsOver, IsUnconnected, Leaves, MakesStep, MakesEvent, MakesNoEvent, MakesNothing, TakesMail};
-ghost use Rattle.fe_shared.specs.Watching.{waits};
 ghost use Rattle.fe_shared.specs.Seats.{HasRested, IsOpen, TookNoMessage, message_answered, taking_answered, takes_more, most_connections, IsBlankOf};
 
 mod batches;

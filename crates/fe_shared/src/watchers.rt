@@ -1,8 +1,8 @@
 //! Which read sides (reading threads) wait for their boxes, that is until the mails there are taken (`docs/DECISIONS.md`, "Hall").
 
 ghost use Rattle.std.specs.Prelude.{◌≡◌, ℕ, IsTrue, OnOk};
-ghost use Rattle.fe_front.specs.ConnectionSet.{may_have};
-ghost use Rattle.fe_shared.specs.Watching.{waits};
+ghost use Rattle.fe_front.specs.Posting.{may_have};
+ghost use Rattle.fe_shared.specs.Marks.{waits};
 
 use crate::short::{Short, reserve_one};
 use fe_front::ConnectionSet;

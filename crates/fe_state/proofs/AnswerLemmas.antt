@@ -10,8 +10,7 @@ use Rattle.std.specs.FinMap.{FinMap, empty, get, insert, retain_keys, entries, l
 use Rattle.std.specs.FinMap.Entries.{put, by_order}
 use Rattle.std.proofs.lemmas.Bool.Decides.{nat_tests}
 use Rattle.fe_state.specs.declared.kept.Kept.{Kept}
-use Rattle.fe_state.specs.KeptAnswers.{answers_from}
-use Rattle.fe_state.specs.Sessions.{Session, IsInWindow}
+use Rattle.fe_state.specs.Sessions.{answers_from, Session, IsInWindow}
 use Rattle.fe_state.specs.Limits.{window_length}
 use Rattle.fe_state.proofs.Maps.{get_inserted, get_beside, same_or_other}
 use Rattle.fe_table.proofs.TableLemmas.{remove_absent}

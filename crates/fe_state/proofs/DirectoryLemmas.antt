@@ -22,8 +22,7 @@ use Rattle.fe_table.proofs.TableLemmas.{first, second}
 use Rattle.fe_state.proofs.Undone.{insert-insert, remove-insert}
 use Rattle.fe_state.proofs.Totals.{total_added, total_removed, total_replaced}
 use Rattle.fe_state.specs.Directory.{Directory, IsDirectory, IsArray, creation, word_count, word_in}
-use Rattle.fe_state.specs.Effect.{with_word, put_word}
-use Rattle.fe_state.specs.Change.{MayBeAdded}
+use Rattle.fe_state.specs.Effect.{with_word, put_word, MayBeAdded}
 use Rattle.fe_state.specs.declared.array.Array.{Array}
 use Rattle.fe_state.specs.declared.answer.Answer.TheVariants as answer
 

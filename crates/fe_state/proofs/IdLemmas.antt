@@ -9,8 +9,7 @@ use Rattle.fe_words.specs.declared.word.Tag.{Tag}
 use Rattle.fe_state.specs.Name.{is_plain}
 use Rattle.fe_state.specs.Directory.{Directory, named, word_count, creation}
 use Rattle.fe_state.specs.Effect.{created, performed}
-use Rattle.fe_state.specs.History.{AreLegal}
-use Rattle.fe_state.specs.Ids.{AreNew, id_made, ids_made}
+use Rattle.fe_state.specs.History.{AreLegal, AreNew, id_made, ids_made}
 use Rattle.fe_state.specs.State.{ServerState, IsLegal, after, after_all, directory_of}
 use Rattle.fe_state.specs.declared.answer.Answer.{Answer}
 use Rattle.fe_state.specs.declared.answer.Answer.TheVariants as answer

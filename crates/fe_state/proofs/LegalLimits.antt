@@ -9,9 +9,8 @@ use Rattle.std.proofs.lemmas.Bool.Decides.{nat_tests}
 use Rattle.fe_state.proofs.Maps.{get_inserted, get_beside, get_removed, get_left, get_retained, same_or_other}
 use Rattle.fe_state.proofs.Limits.{performed_kept, performed_next}
 use Rattle.fe_state.specs.Directory.{Directory, IsDirectory}
-use Rattle.fe_state.specs.Sessions.{MayRise, Session, IsInWindow, raised, keeping, put_session, opened, first_session}
+use Rattle.fe_state.specs.Sessions.{MayRise, Session, IsInWindow, raised, keeping, put_session, opened, first_session, IsUsable, MayAttach, sessions_after}
 use Rattle.fe_state.specs.State.{ServerState, IsWithinLimits, IsSession, IsLegal, after, directory_of, directory_after}
-use Rattle.fe_state.specs.SessionEffect.{IsUsable, MayAttach, sessions_after}
 use Rattle.fe_state.specs.declared.kept.Kept.{Kept}
 use Rattle.fe_state.specs.declared.entry.Entry.{Entry}
 use Rattle.fe_state.specs.declared.entry.Entry.TheVariants.{Attached, Closed, Settled, Finished}

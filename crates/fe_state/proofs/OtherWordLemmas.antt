@@ -9,12 +9,11 @@ use Rattle.fe_words.specs.declared.word.Reply.{Reply}
 use Rattle.fe_words.specs.declared.word.Tag.{Tag}
 use Rattle.fe_state.specs.Name.{is_plain}
 use Rattle.fe_state.specs.Directory.{Directory, word_in, word_count, named, creation}
-use Rattle.fe_state.specs.Effect.{with_word, put_word, operated, created, new_array, performed}
+use Rattle.fe_state.specs.Effect.{with_word, put_word, operated, created, new_array, performed, IsOwnWord}
 use Rattle.fe_state.specs.declared.answer.Answer.TheVariants as answer
 use Rattle.fe_state.specs.declared.array.Array.{Array}
 use Rattle.fe_state.specs.declared.request.Request.{Request}
 use Rattle.fe_state.specs.declared.request.Request.TheVariants.{Create, Find, Remove, Access}
-use Rattle.fe_state.specs.OtherWords.{IsOwnWord}
 
 get_inserted : {X : Type 0} (m : FinMap nat_cmp X) (k : ℕ) (v : X) → get (insert m k v) k ≡ Some v
 get_inserted m k v = grind (gets, rules)

@@ -9,9 +9,8 @@ use Rattle.std.specs.FinMap.{FinMap, empty, get, insert, remove, retain_keys, le
 use Rattle.std.specs.Cmp.{nat_cmp_total}
 use Rattle.fe_state.specs.declared.kept.Kept.{Kept}
 use Rattle.fe_state.specs.DroppedAnswers.{MayLower}
-use Rattle.fe_state.specs.Sessions.{Session, IsInWindow, MayRise, raised, keeping, forgetting}
-use Rattle.fe_state.specs.SessionEffect.{IsUsable}
-use Rattle.fe_state.specs.within.Window.{cell_of, with_cell, held, window_of}
+use Rattle.fe_state.specs.Sessions.{Session, IsInWindow, MayRise, raised, keeping, forgetting, IsUsable}
+use Rattle.fe_state.specs.within.Arrays.{cell_of, with_cell, held, window_of}
 use Rattle.fe_state.proofs.Maps.{get_inserted, get_beside, get_removed, get_left, same_or_other, get_retained}
 
 -- two maps by numbers that answer alike are one

@@ -8,9 +8,8 @@ use Rattle.std.specs.Ordering.{nat_cmp}
 use Rattle.std.specs.FinMap.{FinMap, get, insert, contains_key}
 use Rattle.fe_state.proofs.Maps.{get_inserted, get_beside, get_left, get_retained, same_or_other}
 use Rattle.std.proofs.lemmas.Bool.Decides.{nat_tests}
-use Rattle.fe_state.specs.Sessions.{MayRise, Session, raised, keeping, put_session, opened, first_session}
+use Rattle.fe_state.specs.Sessions.{MayRise, Session, raised, keeping, put_session, opened, first_session, IsUsable}
 use Rattle.fe_state.specs.State.{ServerState, IsLegal, after, after_all}
-use Rattle.fe_state.specs.SessionEffect.{IsUsable}
 use Rattle.fe_state.specs.History.{AreLegal, IsHistory}
 use Rattle.fe_state.specs.declared.kept.Kept.{Kept}
 use Rattle.fe_state.proofs.Histories.{legal-append}

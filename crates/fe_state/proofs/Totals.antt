@@ -8,7 +8,7 @@ use Rattle.std.specs.FinMap.{FinMap, entries, get, find, put, insert, remove, ge
 use Rattle.std.specs.FinMap.Entries.{by_order}
 use Rattle.std.proofs.lemmas.List.Sums.{sum_by-cons}
 use Rattle.fe_state.proofs.Maps.{get_inserted, get_beside, get_removed, get_left, same_or_other}
-use Rattle.fe_state.specs.Total.{total}
+use Rattle.fe_state.specs.Directory.{total}
 
 module _ {X : Type 0} (f : X → ℕ) where
   sum_put : (k : ℕ) (v : X) (es : List (ℕ × X)) → find nat_cmp k es ≡ None → sum_by (λ e. f e.1) (put nat_cmp k v es) ≡ sum_by (λ e. f e.1) es + f v

@@ -1,18 +1,17 @@
 -- The directory: the arrays by id, and the id that the next one gets. The answer to a request in it.
 -- See `docs/model.md`, "The state of the server".
-use Rattle.std.specs.Prelude.{◌≡◌, ℕ, Bool, ◌+◌, ◌≤◌, ◌<◌, refl, not, ◌&&◌, nat_le, nat_lt, if◌then◌else◌, List, length, find, slice_get, Option, Some, None, is_some, IsTrue}
-use Rattle.std.specs.Option.{option_map}
+use Rattle.std.specs.Prelude.{ℕ, sum_by, ◌≡◌, Bool, ◌+◌, ◌≤◌, ◌<◌, refl, not, ◌&&◌, nat_le, nat_lt, if◌then◌else◌, List, length, find, slice_get, Option, Some, None, is_some, IsTrue}
 use Rattle.std.specs.Ordering.{nat_cmp}
+use Rattle.std.specs.FinMap.{FinMap, entries, code, empty, get, len, contains_key}
+use Rattle.std.specs.Option.{option_map}
 use Rattle.std.specs.Str.{bytes_eq}
 use Rattle.std.specs.Coded.{Coded, code_by, coded×, coded_ℕ}
-use Rattle.std.specs.FinMap.{FinMap, code, empty, entries, get, len, contains_key}
 use Rattle.fe_words.specs.Table.{table}
 use Rattle.fe_words.specs.declared.word.Word.{Word}
 use Rattle.fe_words.specs.declared.word.Reply.{Reply}
 use Rattle.fe_words.specs.declared.word.Reply.TheVariants as reply
 use Rattle.fe_words.specs.declared.op.Op.{Op}
 use Rattle.fe_state.specs.Name.{is_plain}
-use Rattle.fe_state.specs.Total.{total}
 use Rattle.fe_state.specs.declared.array.Array.{Array}
 use Rattle.fe_state.specs.contracts.array.Array.{the_row}
 use Rattle.fe_state.specs.declared.answer.Answer.{Answer}
@@ -20,6 +19,10 @@ use Rattle.fe_state.specs.declared.answer.Answer.TheVariants as answer
 use Rattle.fe_state.specs.declared.request.Request.{Request}
 use Rattle.fe_state.specs.declared.request.Request.TheVariants.{Create, Find, Remove, Access}
 use Rattle.fe_state.specs.Limits.{most_arrays, most_words}
+
+-- what a measure gives for all the values together
+abbrev pub total : {X : Type 0} → (X → ℕ) → FinMap nat_cmp X → ℕ
+total measure m = sum_by (λ e. measure e.1) (entries m)
 
 -- the arrays by id, and the id that the next one gets
 pub record Directory : Type 0 where

@@ -6,8 +6,7 @@ use Rattle.std.specs.Coded.{Coded, code_by, coded×, coded_ℕ}
 use Rattle.std.specs.FinMap.{FinMap, code, empty, get, len}
 use Rattle.fe_state.specs.Directory.{Directory, IsDirectory, answer_in}
 use Rattle.fe_state.specs.Effect.{effect_of, performed}
-use Rattle.fe_state.specs.Sessions.{Session, session_code, IsInWindow}
-use Rattle.fe_state.specs.SessionEffect.{SessionsAllow, sessions_after}
+use Rattle.fe_state.specs.Sessions.{Session, session_code, IsInWindow, SessionsAllow, sessions_after}
 use Rattle.fe_state.specs.declared.array.Array.{Array}
 use Rattle.fe_state.specs.contracts.array.Array.{the_row}
 use Rattle.fe_state.specs.declared.kept.Kept.{Kept}
@@ -20,6 +19,8 @@ use Rattle.fe_state.specs.declared.request.Request.TheVariants.{Create}
 use Rattle.fe_state.specs.declared.entry.Entry.{Entry}
 use Rattle.fe_state.specs.declared.entry.Entry.TheVariants.{Attached, Closed, Settled, Finished}
 use Rattle.fe_state.specs.Limits.{most_sessions, greatest_floor, greatest_place}
+use Rattle.std.specs.Borrow.{Bor}
+use Rattle.fe_words.specs.declared.word.Word.{Word}
 
 -- the arrays by id, the sessions by number, the id that the next array gets, and the number of entries so far
 pub record ServerState : Type 0 where
@@ -114,3 +115,13 @@ MakesArray _ = ⊥
 abbrev pub OnFinished : Entry → (Request → Type 0) → Type 0
 OnFinished (Finished session number request answer) P = P request
 OnFinished _ P = ⊥
+
+-- ---- what is shown of arrays and sessions
+
+-- an array: its id, its name and its words
+abbrev pub shown_array : ℕ × Bor (List ℕ) × Bor (List Word) → ℕ × Array
+shown_array e = (e.0, record { name = e.1.now; words = e.2.now })
+
+-- a session: its number, its floor and what it keeps
+abbrev pub shown_session : ℕ × ℕ × FinMap nat_cmp Kept → ℕ × Session
+shown_session e = (e.0, record { floor = e.1; kept = e.2 })

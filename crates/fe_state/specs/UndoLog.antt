@@ -5,7 +5,7 @@ use Rattle.std.specs.Option.{option_map}
 use Rattle.std.specs.Ordering.{nat_cmp}
 use Rattle.std.specs.Coded.{Coded, code_by, coded×, coded_ℕ, coded_list}
 use Rattle.std.specs.FinMap.{FinMap, get, insert, remove}
-use Rattle.fe_state.specs.Change.{restored, CanRestore}
+use Rattle.fe_state.specs.Effect.{restored, CanRestore}
 use Rattle.fe_state.specs.DroppedAnswers.{keeping_all, kept_again, AreDropped, MayLower, MayReopen}
 use Rattle.fe_state.specs.Sessions.{Session, first_session, forgetting, put_session}
 use Rattle.fe_state.specs.State.{ServerState, IsWithinLimits, directory_of}

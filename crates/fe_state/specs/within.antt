@@ -1,3 +1,2 @@
 -- Definitions that no public clause rests on.
 pub mod Arrays
-pub mod Window

@@ -5,8 +5,7 @@ ghost use Rattle.std.specs.Prelude.{◌≡◌, ◌≤◌, ◌<◌, ◌+◌, ◌^
 ghost use Rattle.std.specs.Option.{option_map};
 ghost use Rattle.std.specs.FinMap.{get, insert};
 ghost use Rattle.fe_state.specs.Directory.{first_directory, named, creation, answer_of, answer_in, word_in};
-ghost use Rattle.fe_state.specs.Effect.{put_word, effect_of, performed};
-ghost use Rattle.fe_state.specs.Change.{restored, CanRestore, LeadsBack, MayBeAdded};
+ghost use Rattle.fe_state.specs.Effect.{put_word, effect_of, performed, restored, CanRestore, LeadsBack, MayBeAdded};
 
 use crate::answer::Answer;
 use crate::array::Array;

@@ -3,7 +3,7 @@
 ghost use Rattle.std.specs.Prelude.{◌≡◌, ◌≤◌};
 ghost use Rattle.std.specs.FinMap.{entries, len};
 ghost use Rattle.std.specs.Iterator.{YieldsFirstBy, item_count};
-ghost use Rattle.fe_state.specs.KeptAnswers.{answers_from};
+ghost use Rattle.fe_state.specs.Sessions.{answers_from};
 ghost use Rattle.fe_table.specs.Table.{shown_entry};
 ghost use Rattle.fe_state.specs.Limits.{window_length};
 
@@ -27,7 +27,7 @@ impl<'a> Model for KeptAnswers<'a> {
     ghost use Rattle.fe_state.specs.declared.kept.Kept.{Kept};
     ghost use Rattle.fe_state.specs.contracts.kept.Kept.{the_row};
     ghost use Rattle.fe_state.specs.Limits.{window_length};
-    ghost use Rattle.fe_state.specs.KeptAnswers.{answers_from};
+    ghost use Rattle.fe_state.specs.Sessions.{answers_from};
 
     ghost Value = { FinMap nat_cmp Kept };
 

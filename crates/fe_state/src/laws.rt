@@ -2,9 +2,8 @@
 //! does nothing.
 
 ghost use Rattle.std.specs.Prelude.{◌≡◌, ◌+◌, ◌-◌, ◌*◌, ◌^◌};
-ghost use Rattle.fe_state.specs.History.{KeepsLimits, FinishesOnce, JoinsAndCuts};
-ghost use Rattle.fe_state.specs.Ids.{IdsNeverReturn};
-ghost use Rattle.fe_state.specs.OtherWords.{KeepsOtherWords};
+ghost use Rattle.fe_state.specs.History.{KeepsLimits, FinishesOnce, JoinsAndCuts, IdsNeverReturn};
+ghost use Rattle.fe_state.specs.Effect.{KeepsOtherWords};
 ghost use Rattle.fe_state.specs.Examples.{ExampleAnswers, ExampleEffects, ExampleEntries};
 ghost use Rattle.fe_state.specs.Limits.{most_sessions, window_length, greatest_floor, most_arrays, most_words, longest_name, greatest_place, most_waiting, most_event_entries, most_batch_entries};
 ghost use Rattle.fe_state.specs.declared.bounds.TheConstants.{SESSIONS, WINDOW, GREATEST_FLOOR, ARRAYS, WORDS, NAME_BYTES, GREATEST_PLACE, WAITING, EVENT_ENTRIES, BATCH_ENTRIES};

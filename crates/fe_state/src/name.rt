@@ -18,7 +18,7 @@ pub struct Name {
 
 impl Model for Name {
     ghost use Rattle.std.specs.Prelude.{◌≡◌, ℕ, ◌≤◌, ◌-◌, List, length, take, drop, replicate};
-    ghost use Rattle.fe_state.specs.Padding.{padded, padded-take};
+    ghost use Rattle.fe_state.specs.Name.{padded, padded-take};
     ghost use Rattle.fe_state.specs.Limits.{longest_name};
 
     ghost Value = { List ℕ };

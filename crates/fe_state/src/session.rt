@@ -3,10 +3,8 @@
 ghost use Rattle.std.specs.Prelude.{◌≡◌, ◌↔◌, ℕ, ◌+◌, ◌-◌, ◌%◌, ◌^◌, ◌≤◌, ◌<◌, [], ◌∷◌, Some, IsTrue, IfSome, IfNone, nat_le, option_copied, vec_len, vec_capacity};
 ghost use Rattle.std.specs.FinMap as map;
 ghost use Rattle.fe_state.specs.declared.kept.Kept.{Kept};
-ghost use Rattle.fe_state.specs.Sessions.{first_session, IsInWindow, MayRise, raised, keeping, forgetting};
-ghost use Rattle.fe_state.specs.SessionEffect.{IsUsable};
+ghost use Rattle.fe_state.specs.Sessions.{first_session, IsInWindow, MayRise, raised, keeping, forgetting, IsUsable, answers_from};
 ghost use Rattle.fe_state.specs.DroppedAnswers.{WereDropped};
-ghost use Rattle.fe_state.specs.KeptAnswers.{answers_from};
 ghost use Rattle.fe_table.specs.Table.{shown_entry};
 ghost use Rattle.fe_state.specs.Limits.{greatest_floor, window_length};
 
@@ -31,7 +29,7 @@ pub struct Session {
 
 impl Model for Session {
     ghost use Rattle.fe_state.specs.Sessions.{Session, session_code};
-    ghost use Rattle.fe_state.specs.within.Window.{window_of, IsRing};
+    ghost use Rattle.fe_state.specs.within.Arrays.{window_of, IsRing};
 
     ghost Value = { Session };
 

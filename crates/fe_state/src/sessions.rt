@@ -4,8 +4,7 @@
 ghost use Rattle.std.specs.Prelude.{◌≡◌, ◌↔◌, ◌≤◌, ◌<◌, length, take, IsTrue, IsSomeAnd, None};
 ghost use Rattle.std.specs.Bool.{OnTrue, OnFalse};
 ghost use Rattle.std.specs.FinMap.{get, insert, remove, len};
-ghost use Rattle.fe_state.specs.Sessions.{MayRise, first_session, opened};
-ghost use Rattle.fe_state.specs.SessionEffect.{MayAttach, IsUsable, SessionsAllow, sessions_after};
+ghost use Rattle.fe_state.specs.Sessions.{MayRise, first_session, opened, MayAttach, IsUsable, SessionsAllow, sessions_after};
 ghost use Rattle.fe_state.specs.DroppedAnswers.{keeping_all, kept_again, AreDropped, MayReopen};
 ghost use Rattle.fe_state.specs.UndoLog.{put_back, CanPutBack, Remembers};
 ghost use Rattle.fe_state.specs.Limits.{most_sessions};

@@ -4,12 +4,10 @@
 ghost use Rattle.std.specs.Prelude.{◌≡◌, ◌+◌, ◌-◌, ◌^◌, ◌<◌, ◌≤◌, ◌↔◌, length, slice_get, None, IfOk, IfSome, OnOk, OnErr, IsOk, IsSome, IsSomeAnd, option_copied};
 ghost use Rattle.std.specs.Option.{option_map};
 ghost use Rattle.std.specs.FinMap.{get, keys, entries, len, empty, insert};
-ghost use Rattle.fe_state.specs.Change.{LeadsBack, MayBeAdded};
+ghost use Rattle.fe_state.specs.Effect.{LeadsBack, MayBeAdded, CreatesArray, creating, effect_of, new_array, put_word};
 ghost use Rattle.fe_state.specs.Directory.{word_in, words_in};
-ghost use Rattle.fe_state.specs.Effect.{CreatesArray, creating, effect_of, new_array, put_word};
 ghost use Rattle.fe_state.specs.Sessions.{kept_in, IsInWindow, keeping, put_session};
-ghost use Rattle.fe_state.specs.Shown.{shown_array, shown_session};
-ghost use Rattle.fe_state.specs.State.{first_state, reply, IsLegal, after, directory_of, directory_after, effect_in, with_arrays, with_sessions, IsWithinLimits, MakesArray, OnFinished};
+ghost use Rattle.fe_state.specs.State.{shown_array, shown_session, first_state, reply, IsLegal, after, directory_of, directory_after, effect_in, with_arrays, with_sessions, IsWithinLimits, MakesArray, OnFinished};
 ghost use Rattle.fe_words.specs.declared.word.Tag.TheVariants.{Empty};
 ghost use Rattle.fe_state.specs.UndoLog.{empty_log, shortened, undone, rewound, IsLogOf};
 ghost use Rattle.fe_state.specs.Limits.{most_sessions, greatest_floor};

@@ -5,7 +5,7 @@ ghost use Rattle.std.specs.Prelude.{◌≡◌, false, IfOk, IfErr};
 ghost use Rattle.fe_disk.specs.Runs.{without_disk};
 ghost use Rattle.fe_journal.specs.Found.{AsksToOpen};
 ghost use Rattle.fe_journal.specs.Layout.{device_bytes};
-ghost use Rattle.fe_journal.specs.Steps.{OnlyReads};
+ghost use Rattle.fe_journal.specs.Journal.{OnlyReads};
 ghost use Rattle.fe_keeper.specs.Damage.{MayLackMemory};
 ghost use Rattle.fe_keeper.specs.Opened.{IsOpenedFrom};
 ghost use Rattle.fe_store.specs.Opening.{IsToFormat, IsOpenedAs, EndsOpening, disk_after};

@@ -9,7 +9,7 @@ use Rattle.std.proofs.lemmas.List.Sums.{fails_before_first}
 use Rattle.std.proofs.lemmas.Option.{none-some}
 use Rattle.std.proofs.lemmas.List.{take-append-drop, length-drop}
 use Rattle.std.proofs.lemmas.List.Quantifiers.{position-Some}
-use Rattle.fe_text.specs.Lines.{before_first, lines_of, HasNoFeed}
+use Rattle.fe_text.specs.Line.{before_first, lines_of, HasNoFeed}
 
 -- no byte of the prefix is a line feed
 front_no_feed : (n : ℕ) (xs : List ℕ) → ((k : ℕ) → k < n → eqb (get_or xs k 0) 10 ≡ false) → HasNoFeed (take n xs)

@@ -1,5 +1,5 @@
 -- Replies as text (`docs/schedules.md`, "Printed").
-use Rattle.std.specs.Prelude.{ℕ, List, [], ◌++◌, codes, Option, None, Some, ◌==◌, if◌then◌else◌}
+use Rattle.std.specs.Prelude.{ℕ, List, [], ◌++◌, codes, Option, None, Some, ◌==◌, if◌then◌else◌, ◌≡◌}
 use Rattle.std.specs.Fmt.{decimal}
 use Rattle.std.specs.List.{flat_map}
 use Rattle.std.specs.Str.Lines.{lines}
@@ -7,6 +7,8 @@ use Rattle.fe_state.specs.declared.answer.Answer.{Answer}
 use Rattle.fe_state.specs.declared.answer.Answer.TheVariants.{Value, Done, Array, NoArray, BadIndex, NameTaken, ArrayLimit, WordLimit, BadName, BadLength, NotNow}
 use Rattle.fe_wire.specs.declared.server_message.ServerMessage.{ServerMessage}
 use Rattle.fe_wire.specs.declared.server_message.ServerMessage.TheVariants as server
+use Rattle.fe_mail.specs.Refusal.{code_of, name_of}
+use Rattle.fe_mail.specs.declared.refusal.Refusal.{Refusal}
 
 unfoldable pub answer_text : Answer → List ℕ
 answer_text (Value value) = codes "value " ++ decimal value
@@ -59,3 +61,7 @@ printed conn (server.Settled floor) =
 printed conn (server.Goodbye session) =
     name_text conn ++ (codes "goodbye " ++ (decimal session ++ codes "\n"))
 printed conn (server.Report text) = flat_map (report_line conn) (lines text)
+
+-- the name printed for a refusal's code is the refusal's name
+abbrev pub PrintsTheirNames : Type 0
+PrintsTheirNames = (refusal : Refusal) → refusal_text (code_of refusal) ≡ name_of refusal

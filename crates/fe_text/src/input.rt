@@ -2,7 +2,7 @@
 //! end with the input.
 
 ghost use Rattle.std.specs.Prelude.{◌≡◌, ◌<◌, ◌==◌, ◌++◌, ◌∷◌, length, position, IfNone, IfSome};
-ghost use Rattle.fe_text.specs.Lines.{HasNoFeed};
+ghost use Rattle.fe_text.specs.Line.{HasNoFeed};
 
 /// The index of the first line feed.
 fn feed_in(bytes: &[u8]) -> Option<usize>

@@ -1,8 +1,8 @@
 //! Laws of text that is printed or read (`docs/schedules.md`): functions that do nothing; their clauses are proved.
 
 ghost use Rattle.std.specs.Prelude.{◌≡◌};
-ghost use Rattle.fe_text.specs.Limits.{longest_line};
-ghost use Rattle.fe_text.specs.RefusalNames.{PrintsTheirNames};
+ghost use Rattle.fe_text.specs.Line.{longest_line};
+ghost use Rattle.fe_text.specs.Printed.{PrintsTheirNames};
 ghost use Rattle.fe_text.specs.declared.line.TheConstants.{LONGEST_LINE};
 
 /// The name printed for a refusal's code is the refusal's name.
@@ -10,7 +10,7 @@ pub fn refusals_print_their_names()
     ensures { PrintsTheirNames }
 {}
 
-/// `LONGEST_LINE` is the limit that contracts use (`specs/Limits.antt`).
+/// `LONGEST_LINE` is the limit that contracts use (`specs/Line.antt`).
 pub fn limits_are()
     ensures line { LONGEST_LINE ≡ longest_line }
 {}

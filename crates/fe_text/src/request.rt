@@ -2,14 +2,14 @@
 
 ghost use Rattle.std.specs.Prelude.{◌≡◌};
 ghost use Rattle.std.specs.Option.{option_map};
-ghost use Rattle.fe_text.specs.Requests.{op_named, writing_op_named, create_in, find_in, remove_in, last_in, access_in, writing_access_in, request_in};
+ghost use Rattle.fe_text.specs.Line.{op_named, writing_op_named, create_in, find_in, remove_in, last_in, access_in, writing_access_in, request_in};
 
 use crate::word::{name_in, number_of, says, small_number_of, tag_named, word_at};
 use fe_state::Request;
 use fe_words::Op;
 
 /// The operation with this name, if it has no operand.
-#[tactic(auto, unfolding(crate::specs::Requests::op_named))]
+#[tactic(auto, unfolding(crate::specs::Line::op_named))]
 fn op_named(word: &[u8]) -> Option<Op>
     ensures { result ≡ op_named word.now }
 {
@@ -27,7 +27,7 @@ fn op_named(word: &[u8]) -> Option<Op>
 }
 
 /// The operation with this name and operand, if it has an operand.
-#[tactic(auto, unfolding(crate::specs::Requests::writing_op_named))]
+#[tactic(auto, unfolding(crate::specs::Line::writing_op_named))]
 fn writing_op_named(word: &[u8], operand: u64) -> Option<Op>
     ensures { result ≡ writing_op_named word.now operand }
 {
@@ -45,7 +45,7 @@ fn writing_op_named(word: &[u8], operand: u64) -> Option<Op>
 }
 
 /// `NAME LENGTH full|empty`.
-#[tactic(auto, unfolding(crate::specs::Requests::create_in))]
+#[tactic(auto, unfolding(crate::specs::Line::create_in))]
 fn create_in(words: &[u8]) -> Option<Request>
     ensures { result ≡ create_in words.now }
 {
@@ -58,7 +58,7 @@ fn create_in(words: &[u8]) -> Option<Request>
 }
 
 /// `NAME`, which is one word.
-#[tactic(auto, unfolding(crate::specs::Requests::find_in))]
+#[tactic(auto, unfolding(crate::specs::Line::find_in))]
 fn find_in(words: &[u8]) -> Option<Request>
     ensures { result ≡ find_in words.now }
 {
@@ -72,7 +72,7 @@ fn find_in(words: &[u8]) -> Option<Request>
 }
 
 /// `ARRAY`, a number.
-#[tactic(auto, unfolding(crate::specs::Requests::remove_in))]
+#[tactic(auto, unfolding(crate::specs::Line::remove_in))]
 fn remove_in(words: &[u8]) -> Option<Request>
     ensures { result ≡ remove_in words.now }
 {
@@ -81,7 +81,7 @@ fn remove_in(words: &[u8]) -> Option<Request>
 }
 
 /// The last word, without `nowait` if that comes after it, and whether it does.
-#[tactic(auto, unfolding(crate::specs::Requests::last_in))]
+#[tactic(auto, unfolding(crate::specs::Line::last_in))]
 fn last_in(words: &[u8]) -> Option<(&[u8], bool)>
     ensures { option_map (λ p. (p.0.now, p.1)) result ≡ last_in words.entry.now }
 {
@@ -98,7 +98,7 @@ fn last_in(words: &[u8]) -> Option<(&[u8], bool)>
 }
 
 /// `ARRAY INDEX`, or `ARRAY INDEX nowait`.
-#[tactic(auto, unfolding(crate::specs::Requests::access_in))]
+#[tactic(auto, unfolding(crate::specs::Line::access_in))]
 fn access_in(op: Op, words: &[u8]) -> Option<Request>
     ensures { result ≡ access_in op words.now }
 {
@@ -115,7 +115,7 @@ fn access_in(op: Op, words: &[u8]) -> Option<Request>
 }
 
 /// `ARRAY INDEX OPERAND`, or `ARRAY INDEX OPERAND nowait`.
-#[tactic(auto, unfolding(crate::specs::Requests::writing_access_in))]
+#[tactic(auto, unfolding(crate::specs::Line::writing_access_in))]
 fn writing_access_in(name: &[u8], words: &[u8]) -> Option<Request>
     ensures { result ≡ writing_access_in name.now words.now }
 {
@@ -136,7 +136,7 @@ fn writing_access_in(name: &[u8], words: &[u8]) -> Option<Request>
 
 /// `create NAME LENGTH full|empty`, `find NAME`, `remove ARRAY`, `OP ARRAY INDEX` or `OP ARRAY INDEX OPERAND`, the last two with or without
 /// `nowait`.
-#[tactic(auto, unfolding(crate::specs::Requests::request_in, crate::specs::Requests::access_named))]
+#[tactic(auto, unfolding(crate::specs::Line::request_in, crate::specs::Line::access_named))]
 pub(crate) fn request_in(words: &[u8]) -> Option<Request>
     ensures { result ≡ request_in words.now }
 {

@@ -3,7 +3,7 @@
 ghost use Rattle.std.specs.Prelude.{◌≡◌, ◌↔◌, ℕ, [], length, string_bytes, take, vec_len, IfOk, IfErr, OnOk};
 ghost use Rattle.std.specs.IoError.{error_kind};
 ghost use Rattle.std.specs.Io.KnownBytes.{Appends, Keeps};
-ghost use Rattle.fe_text.specs.Lines.{ReadsSome};
+ghost use Rattle.fe_text.specs.Line.{ReadsSome};
 
 use crate::fault::StreamFault;
 use std::alloc::Global;

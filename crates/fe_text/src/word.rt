@@ -3,7 +3,7 @@
 ghost use Rattle.std.specs.Prelude.{◌≡◌, ◌<◌, ◌==◌, length, position, IfSome};
 ghost use Rattle.std.specs.Option.{option_map};
 ghost use Rattle.std.specs.Str.{bytes_eq};
-ghost use Rattle.fe_text.specs.Words.{words_at, number_of, small_number_of, name_in, tag_named};
+ghost use Rattle.fe_text.specs.Line.{words_at, number_of, small_number_of, name_in, tag_named};
 
 use fe_state::Name;
 use fe_words::Tag;
@@ -19,7 +19,7 @@ fn space_in(line: &[u8]) -> Option<usize>
 }
 
 /// The word before the first space and the bytes after the space, or `None` if there is no space.
-#[tactic(auto, unfolding(crate::specs::Words::words_at))]
+#[tactic(auto, unfolding(crate::specs::Line::words_at))]
 pub(crate) fn word_at(line: &[u8]) -> Option<(&[u8], &[u8])>
     ensures { option_map (λ p. (p.0.now, p.1.now)) result ≡ words_at line.entry.now }
 {
@@ -50,7 +50,7 @@ pub(crate) fn number_of(word: &[u8]) -> Option<u64>
 }
 
 /// The number below 2^32 whose decimal digits the word is, without leading zeros.
-#[tactic(auto, unfolding(crate::specs::Words::small_number_of))]
+#[tactic(auto, unfolding(crate::specs::Line::small_number_of))]
 pub(crate) fn small_number_of(word: &[u8]) -> Option<u32>
     ensures { result ≡ small_number_of word.now }
 {
@@ -62,7 +62,7 @@ pub(crate) fn small_number_of(word: &[u8]) -> Option<u32>
 }
 
 /// The word as a name: 1 to 32 bytes of any kind.
-#[tactic(auto, unfolding(crate::specs::Words::name_in))]
+#[tactic(auto, unfolding(crate::specs::Line::name_in))]
 pub(crate) fn name_in(word: &[u8]) -> Option<Name>
     ensures { result ≡ name_in word.now }
 {
@@ -73,7 +73,7 @@ pub(crate) fn name_in(word: &[u8]) -> Option<Name>
 }
 
 /// The tag that the word names: `full` or `empty`.
-#[tactic(auto, unfolding(crate::specs::Words::tag_named))]
+#[tactic(auto, unfolding(crate::specs::Line::tag_named))]
 pub(crate) fn tag_named(word: &[u8]) -> Option<Tag>
     ensures { result ≡ tag_named word.now }
 {

@@ -11,8 +11,7 @@ use Rattle.fe_pool.specs.declared.family.Family.TheVariants.{OfWord, OfSession}
 use Rattle.fe_pool.specs.Pool.{Contents, IsChain, IsFree, IsOff, IsOnOne, KeepsOtherChains, KeepsOtherFamily, list_of, lists_of}
 use Rattle.fe_waits.specs.declared.row.Row.{Row}
 use Rattle.fe_waits.specs.Waiting.{key_of, waiting_access_of, count_of}
-use Rattle.fe_waits.specs.within.WordChains.{chain_at, with_chain}
-use Rattle.fe_waits.specs.within.Inner.{members_of, row_in, AreListed, AreDifferent, IsKept, session_of, word_of, length_of}
+use Rattle.fe_waits.specs.within.Inner.{chain_at, with_chain, members_of, row_in, AreListed, AreDifferent, IsKept, session_of, word_of, length_of}
 use Rattle.fe_waits.proofs.ListedLemmas.{listed-moved, listed-pushed, row-set_here, row-set_other}
 use Rattle.fe_waits.proofs.KeptLemmas.{sum-set, sum-bound}
 use Rattle.fe_waits.proofs.MemberLemmas.{IsNew, none_some, some_same, key_cases, members-row, members-taken, free-or-full, len-insert_new, count-insert, count-insert_other}

@@ -12,10 +12,8 @@ use Rattle.fe_pool.specs.declared.family.Family.TheVariants.{OfWord, OfSession}
 use Rattle.fe_pool.specs.Pool.{Contents, IsChain, first_or, list_of}
 use Rattle.fe_pool.proofs.AmongLemmas.{among-Contains}
 use Rattle.fe_waits.specs.declared.row.Row.{Row}
-use Rattle.fe_waits.specs.Pair.{pair_cmp}
-use Rattle.fe_waits.specs.Waiting.{WaitingAccess, key_of, waiting_access_of, of_slot, count_of, IsWord, IsNodeOn, NoneOnWord, NoneOnArray, IsWithinLimits}
-use Rattle.fe_waits.specs.within.WordChains.{chain_at, lengths}
-use Rattle.fe_waits.specs.within.Inner.{members_of, row_in, AreListed, IsKept, IsNodeOfSlot, length_of, word_of, waiting_of, empty_chain}
+use Rattle.fe_waits.specs.Waiting.{pair_cmp, WaitingAccess, key_of, waiting_access_of, of_slot, count_of, IsWord, IsNodeOn, NoneOnWord, NoneOnArray, IsWithinLimits}
+use Rattle.fe_waits.specs.within.Inner.{chain_at, lengths, members_of, row_in, AreListed, IsKept, IsNodeOfSlot, length_of, word_of, waiting_of, empty_chain}
 use Rattle.fe_waits.proofs.ListedLemmas.{contains-first, listed-replaced}
 use Rattle.fe_waits.proofs.MemberLemmas.{none_some, some_same, members-node, members-row, members-empty, of_slot-none}
 use Rattle.fe_waits.proofs.WordLemmas.{slice_get-below, slice_get-some, slice_get-replicate, chain-there, chain_of, chain-word, len-lengths, len-added, len-dropped, get-insert_here, get-insert_other, get-remove_here, get-remove_other}

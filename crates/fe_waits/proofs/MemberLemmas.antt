@@ -8,8 +8,7 @@ use Rattle.std.specs.Cmp.{tied_itself}
 use Rattle.std.specs.FinMap.{FinMap, empty, get, insert, remove, len, get-empty, get-insert, get-remove, get-retain_keys, len-empty, len-insert, len-remove, empty_of_len, same_map}
 use Rattle.std.proofs.lemmas.Bool.{cases_eq, ne_eqb, eq-eqb}
 use Rattle.fe_waits.specs.declared.row.Row.{Row}
-use Rattle.fe_waits.specs.Pair.{pair_cmp, pair_cmp_total, pair_cmp-IsAntisymmetric}
-use Rattle.fe_waits.specs.Waiting.{WaitingAccess, key_of, waiting_access_of, of_slot, count_of, without_slot}
+use Rattle.fe_waits.specs.Waiting.{pair_cmp, pair_cmp_total, pair_cmp-IsAntisymmetric, WaitingAccess, key_of, waiting_access_of, of_slot, count_of, without_slot}
 use Rattle.fe_waits.specs.within.Inner.{members_of, row_in, AreDifferent}
 
 -- ---- keys that are pairs

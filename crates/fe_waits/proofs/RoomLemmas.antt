@@ -3,8 +3,7 @@ use Rattle.std.proofs.Common.{◌≡◌, ◌≢◌, ℕ, zero, suc, ◌<◌, ◌
 use Rattle.std.specs.FinMap.{FinMap, empty, get, insert, remove, len, len-empty, len-remove, same_map, get-empty}
 use Rattle.std.proofs.lemmas.Bool.{cases_eq, ne_eqb, eq-eqb}
 use Rattle.fe_words.specs.declared.op.Op.TheVariants.{ReadXx}
-use Rattle.fe_waits.specs.Pair.{pair_cmp, pair_cmp_total, pair_cmp-IsAntisymmetric}
-use Rattle.fe_waits.specs.Waiting.{WaitingAccess, of_slot, count_of}
+use Rattle.fe_waits.specs.Waiting.{pair_cmp, pair_cmp_total, pair_cmp-IsAntisymmetric, WaitingAccess, of_slot, count_of}
 use Rattle.fe_waits.proofs.MemberLemmas.{none_some, key_cases, get-of_slot, get-insert_other, get-remove_here, get-remove_other, len-insert_new}
 
 -- each key is of the slot, and its number is one of this many from the floor on

@@ -11,7 +11,7 @@ use Rattle.std.specs.FinMap.{FinMap, find, empty, get, insert, remove, entries, 
 use Rattle.std.proofs.lemmas.Bool.{cases_eq, ne_eqb, eq-eqb}
 use Rattle.fe_pool.specs.declared.chain.Chain.{Chain}
 use Rattle.fe_waits.specs.Waiting.{IsWord}
-use Rattle.fe_waits.specs.within.WordChains.{chain_at, with_chain, lengths}
+use Rattle.fe_waits.specs.within.Inner.{chain_at, with_chain, lengths}
 
 -- ---- positions of a list
 

@@ -1,4 +1,3 @@
 -- `Waiting`: the waiting requests, as contracts see them. `Pair`: the order of their keys. `within`: what no public clause cites.
-pub mod Pair
 pub mod Waiting
 pub mod within

@@ -1,15 +1,36 @@
 -- The waiting lists as contracts see them: the waiting requests, by slot and number. A slot, 0 to 63, stands for a
 -- session here; the number is the request's in its session (`docs/model.md`, "Waiting requests").
-use Rattle.std.specs.Prelude.{AllPairs, ◌≡◌, ◌≢◌, ◌↔◌, ◌==◌, ℕ, ◌<◌, ◌≤◌, Contains, List, not, Option, Some, None, refl, slice_index_or}
+use Rattle.std.specs.Prelude.{◌≡◌, ℕ, AllPairs, ◌≢◌, ◌↔◌, ◌==◌, ◌<◌, ◌≤◌, Contains, List, not, Option, Some, None, refl, slice_index_or}
+use Rattle.std.specs.Ordering.{nat_cmp, ordering_then}
+use Rattle.std.specs.declared.cmp.Ordering.{Ordering}
+use Rattle.std.specs.declared.cmp.Ordering.TheVariants.{Less, Equal, Greater}
+use Rattle.std.specs.Cmp.{IsTotalOrder, nat_cmp_total, on_total, then_total}
+use Rattle.std.specs.FinMap.{IsAntisymmetric, nat_cmp-IsAntisymmetric, FinMap, code, get, len, retain_keys}
 use Rattle.std.specs.Option.{option_map}
-use Rattle.std.specs.Ordering.{nat_cmp}
 use Rattle.std.specs.Coded.{Coded, code_by, coded×, coded_ℕ, coded_list, coded_option}
-use Rattle.std.specs.FinMap.{FinMap, code, get, len, retain_keys}
 use Rattle.fe_words.specs.declared.op.Op.{Op}
 use Rattle.fe_words.specs.contracts.op.Op.{the_row as op_row}
 use Rattle.fe_waits.specs.declared.row.Row.{Row}
 use Rattle.fe_waits.specs.contracts.row.Row.{the_row as row_row}
-use Rattle.fe_waits.specs.Pair.{pair_cmp}
+
+-- ---- the order of pairs of numbers, by the first and then by the second: pairs can so be keys of a finite map
+
+abbrev pub pair_cmp : ℕ × ℕ → ℕ × ℕ → Ordering
+pair_cmp a b = ordering_then (nat_cmp a.0 b.0) (nat_cmp a.1 b.1)
+
+pub pair_cmp_total : IsTotalOrder pair_cmp
+pair_cmp_total = then_total (on_total (λ p. p.0) nat_cmp_total) (on_total (λ p. p.1) nat_cmp_total)
+
+-- only equal pairs tie
+pub pair_cmp-IsAntisymmetric : IsAntisymmetric pair_cmp
+pair_cmp-IsAntisymmetric a b e = by_first (nat_cmp a.0 b.0) (λ t. nat_cmp-IsAntisymmetric a.0 b.0 t) e
+  where
+    by_first : (o : Ordering) → (o ≡ Equal → a.0 ≡ b.0) → ordering_then o (nat_cmp a.1 b.1) ≡ Equal → a ≡ b
+    by_first Less same e = cc
+    by_first Equal same e = let second = nat_cmp-IsAntisymmetric a.1 b.1 e in λ i. (same (λ _. Equal) i, second i)
+    by_first Greater same e = cc
+
+-- ---- what waits
 
 -- a waiting request without its slot and number: the array and the index of its word, and its operation
 pub record WaitingAccess : Type 0 where

@@ -1,3 +1,2 @@
 -- Definitions that no public clause rests on.
 pub mod Inner
-pub mod WordChains

@@ -1,7 +1,7 @@
 //! For each word of each array, the list of the requests that wait on it (`docs/model.md`, "Waiting requests").
 
 ghost use Rattle.std.specs.Prelude.{◌≡◌, Some, IsSome};
-ghost use Rattle.fe_waits.specs.within.WordChains.{chain_at, with_chain};
+ghost use Rattle.fe_waits.specs.within.Inner.{chain_at, with_chain};
 
 use crate::chains::Chains;
 use fe_pool::Chain;

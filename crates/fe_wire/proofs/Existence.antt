@@ -9,9 +9,8 @@ use Rattle.fe_wire.specs.declared.client_message.ClientMessage.{ClientMessage}
 use Rattle.fe_wire.specs.declared.version.Version.{Version}
 use Rattle.fe_wire.specs.Spelling.{spelling, FitsIn}
 use Rattle.fe_wire.specs.Reading.{message_of}
-use Rattle.fe_wire.specs.Stream.{length_of_kind, longest, length_field, kind_field, front_frame, IsWhole, IsBad, IsUnfinished}
-use Rattle.fe_codes.specs.Bytes.{IsBytes}
-use Rattle.fe_wire.specs.Laws.{HasReading, EachHasReading}
+use Rattle.fe_wire.specs.Stream.{length_of_kind, longest, length_field, kind_field, front_frame, IsWhole, IsBad, IsUnfinished, HasReading, EachHasReading}
+use Rattle.fe_codes.specs.Reading.{IsBytes}
 use Rattle.fe_codes.proofs.Splits.{IsBytes-drop}
 use Rattle.fe_wire.proofs.FrameLaws.{body_field, reads_frame, reads_none}
 

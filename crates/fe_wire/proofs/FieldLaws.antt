@@ -6,8 +6,7 @@ use Rattle.std.proofs.lemmas.Option.{cond_some}
 use Rattle.std.proofs.lemmas.List.{take_at, drop_at, take-append-drop, length-append, length-take, length-take-le, length-drop, length-replicate}
 use Rattle.std.proofs.lemmas.Nat.{be_bytes_4, be_bytes_8, from_be_bytes-to_be_bytes_4, from_be_bytes-to_be_bytes_8}
 use Rattle.fe_wire.specs.Spelling.{is_long, name_room, name_field}
-use Rattle.fe_codes.specs.Bytes.{IsBytes}
-use Rattle.fe_codes.specs.Binding.{◌>>=◌}
+use Rattle.fe_codes.specs.Reading.{IsBytes, ◌>>=◌}
 use Rattle.fe_codes.proofs.BindingLaws.{bind_some, bind_at}
 use Rattle.fe_codes.proofs.Splits.{IsBytes-drop, IsBytes-take, Splits}
 use Rattle.fe_wire.specs.Reading.{next_number, next_byte, next_bytes, are_zero, least_name, name_of, next_name, number_of, two_numbers_of, ended}

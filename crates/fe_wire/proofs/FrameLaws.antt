@@ -11,7 +11,7 @@ use Rattle.fe_wire.specs.Spelling.{frame, spelling, Fits, FitsIn}
 use Rattle.fe_wire.specs.Reading.{message_of}
 use Rattle.fe_wire.specs.Stream.{first_lengths, length_of_kind, longest, length_field, kind_field, front_frame, IsWhole, IsBad, IsUnfinished, HasBadBody}
 use Rattle.fe_codes.proofs.Splits.{IsBytes-take, IsBytes-drop}
-use Rattle.fe_codes.specs.Bytes.{IsBytes}
+use Rattle.fe_codes.specs.Reading.{IsBytes}
 use Rattle.fe_wire.proofs.FieldLaws.{wide32}
 use Rattle.fe_codes.proofs.CodeLaws.{row, some_at}
 use Rattle.fe_wire.proofs.MessageLaws.{IsRead, message_takes, message_again, has_kind}

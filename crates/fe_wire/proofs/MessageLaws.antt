@@ -13,13 +13,11 @@ use Rattle.fe_wire.specs.declared.version.Version.TheVariants.{One, Two}
 use Rattle.fe_wire.specs.declared.client_message.ClientMessage.{ClientMessage}
 use Rattle.fe_wire.specs.declared.client_message.ClientMessage.TheVariants.{Attach, Call, Cancel, Settle, Bye, Report}
 use Rattle.fe_codes.specs.Codes.{tag_code, op_code, operand_of}
-use Rattle.fe_codes.specs.Reading.{tag_of, op_of}
+use Rattle.fe_codes.specs.Reading.{tag_of, op_of, ◌>>=◌, IsBytes}
 use Rattle.fe_wire.specs.Spelling.{frame, is_long, name_room, name_field, create_kind, find_kind, access_kind, spelling, Fits, IsIn}
 use Rattle.fe_wire.specs.Stream.{first_lengths, length_of_kind, kind_field}
-use Rattle.fe_codes.specs.Binding.{◌>>=◌}
 use Rattle.fe_wire.specs.Reading.{next_number, next_byte, next_name, ended, number_of, two_numbers_of, made_of, made_of_two, create_of, find_of, access_of, plain_of, message_of}
 use Rattle.fe_codes.proofs.BindingLaws.{bind_some, bind_at}
-use Rattle.fe_codes.specs.Bytes.{IsBytes}
 use Rattle.fe_wire.proofs.FieldLaws.{ended_takes, wide32, wide64, number_takes, number_again, byte_takes, cells_of, length-cells_of, room_le, next_name_takes, next_name_again, number_of_takes, number_of_again, two_numbers, two_numbers_of_takes, two_numbers_of_again}
 use Rattle.fe_codes.proofs.CodeLaws.{tag_takes, tag_again, op_takes, op_again, row, some_at}
 

@@ -5,10 +5,9 @@ use Rattle.std.specs.List.{flat_map, AllByRecursion}
 use Rattle.std.proofs.lemmas.List.{append-nil, length-append, take-append-drop, nil_from_length}
 use Rattle.fe_wire.specs.declared.client_message.ClientMessage.{ClientMessage}
 use Rattle.fe_wire.specs.declared.decoder_state.DecoderState.{DecoderState}
-use Rattle.fe_wire.specs.DecoderState.{IsDecoderState, Consumes, decoding, held_of}
+use Rattle.fe_wire.specs.Stream.{IsDecoderState, Consumes, decoding, held_of, Decoding, HasReadFrom, IsUnfinished, IsBad, CompletesMessage}
 use Rattle.fe_wire.specs.declared.version.Version.{Version}
 use Rattle.fe_wire.specs.Spelling.{spelling, FitsIn}
-use Rattle.fe_wire.specs.Stream.{Decoding, HasReadFrom, IsUnfinished, IsBad, CompletesMessage}
 use Rattle.fe_wire.proofs.StreamLaws.{begins_within, reads_past, standing, reads_on, reads_bad, reads_message}
 
 -- two that keep the same are equal

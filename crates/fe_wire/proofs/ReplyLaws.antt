@@ -12,13 +12,11 @@ use Rattle.fe_state.specs.declared.answer.Answer.{Answer}
 use Rattle.fe_wire.specs.declared.server_message.ServerMessage.{ServerMessage}
 use Rattle.fe_wire.specs.declared.server_message.ServerMessage.TheVariants.{Welcome, Answer as Answered, Withdrawn, Settled, Goodbye, Refused, Report}
 use Rattle.fe_codes.specs.Codes.{answer_code, answer_number, answer_length}
-use Rattle.fe_codes.specs.Reading.{answer_of}
+use Rattle.fe_codes.specs.Reading.{answer_of, ◌>>=◌, IsBytes}
 use Rattle.fe_wire.specs.Spelling.{frame, reply_spelling, ReplyFits, IsReport}
-use Rattle.fe_codes.specs.Binding.{◌>>=◌}
 use Rattle.fe_wire.specs.Reading.{next_number, next_byte, ended, number_of, two_numbers_of, made_of, made_of_two}
 use Rattle.fe_wire.specs.within.Replies.{answered_of, refused_of, report_of, reply_of_kind, parts_of}
 use Rattle.fe_codes.proofs.BindingLaws.{bind_some, bind_at}
-use Rattle.fe_codes.specs.Bytes.{IsBytes}
 use Rattle.fe_wire.proofs.FieldLaws.{ended_takes, wide32, wide64, number_takes, number_again, byte_takes, number_of_takes, number_of_again, two_numbers, two_numbers_of_takes, two_numbers_of_again}
 use Rattle.fe_codes.proofs.CodeLaws.{answer_takes, answer_again, row, some_at}
 use Rattle.fe_wire.proofs.FrameLaws.{one_frame}

@@ -6,8 +6,7 @@ use Rattle.std.proofs.lemmas.List.Concat.{flat_map-cons, flat_map-append}
 use Rattle.fe_wire.specs.declared.client_message.ClientMessage.{ClientMessage}
 use Rattle.fe_wire.specs.declared.version.Version.{Version}
 use Rattle.fe_wire.specs.Spelling.{spelling, FitsIn}
-use Rattle.fe_wire.specs.Stream.{Decoding, HasReadFrom, IsStream, StandsAt, length_field, front_frame, IsWhole, IsBad, IsUnfinished}
-use Rattle.fe_wire.specs.Laws.{HasOneReading, HasOneOutcome}
+use Rattle.fe_wire.specs.Stream.{Decoding, HasReadFrom, IsStream, StandsAt, length_field, front_frame, IsWhole, IsBad, IsUnfinished, HasOneReading, HasOneOutcome}
 use Rattle.fe_wire.proofs.FrameLaws.{one_front, front_not_bad, front_not_unfinished, bad_more}
 
 -- bytes that begin with a message's frame are not a rest

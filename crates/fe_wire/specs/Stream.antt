@@ -9,7 +9,10 @@ use Rattle.fe_wire.specs.declared.head.Head.{Head}
 use Rattle.fe_wire.specs.declared.head.Head.TheVariants.{Unfinished, Bad, Whole}
 use Rattle.fe_wire.specs.declared.version.Version.{Version}
 use Rattle.fe_wire.specs.declared.version.Version.TheVariants.{One, Two}
-use Rattle.fe_wire.specs.Spelling.{spelling, FitsIn}
+use Rattle.fe_wire.specs.Spelling.{spelling, FitsIn, Fits, reply_spelling, ReplyFits}
+use Rattle.fe_wire.specs.declared.decoder_state.DecoderState.{DecoderState}
+use Rattle.fe_codes.specs.Reading.{IsBytes}
+use Rattle.fe_wire.specs.declared.server_message.ServerMessage.{ServerMessage}
 
 -- the value of the length field in each kind of frame of version 1
 abbrev pub first_lengths : ℕ → Option ℕ
@@ -120,3 +123,66 @@ abbrev pub IsHead : Version → Head → List ℕ → Type 0
 IsHead v Unfinished bytes = IsUnfinished v bytes
 IsHead v Bad bytes = IsBad v bytes
 IsHead v (Whole count m) bytes = FitsIn v m × (front_frame bytes ≡ spelling m) × IsWhole bytes × (count ≡ 4 + length_field bytes)
+
+-- ---- decoders
+
+-- the bytes of the current frame that are stored
+abbrev pub held_of : DecoderState → List ℕ
+held_of p = take p.len p.cells
+
+-- what contracts see of a decoder in this state
+abbrev pub decoding : DecoderState → Decoding
+decoding p = record { version = p.version; offset = p.offset; held = held_of p; is_bad = p.is_bad }
+
+-- the bytes of an unfinished frame are stored, and none of a bad one
+abbrev pub IsHeld : Version → Bool → List ℕ → Type 0
+IsHeld version false held = IsUnfinished version held
+IsHeld version true held = held ≡ []
+
+-- what is always true of a decoder's fields between two steps
+pub record IsDecoderState (p : DecoderState) : Type 0 where
+  pub within : p.len ≤ 50
+  pub cells : length p.cells ≡ 51
+  pub held : IsHeld p.version p.is_bad (held_of p)
+
+-- Whatever was read before, these bytes after it lead from the old state to the new one and complete these messages.
+pub record Consumes (old new : DecoderState) (bytes : List ℕ) (messages : List ClientMessage) : Type 0 where
+  pub version : new.version ≡ old.version
+  pub reads : (start : ℕ) (before : List ℕ) (earlier : List ClientMessage) → HasReadFrom start (decoding old) before earlier
+      → HasReadFrom start (decoding new) (before ++ bytes) (earlier ++ messages)
+
+-- ---- laws, cited by public functions
+
+-- A stream has at most one reading in a version.
+abbrev pub HasOneReading : Type 0
+HasOneReading = (v : Version) (stream : List ℕ) (a b : List ClientMessage) (x y : List ℕ) → IsStream v stream a x → IsStream v stream b y → (a ≡ b) × (x ≡ y)
+
+-- Two decoders of one version that have read the same stream from the same offset, in whatever pieces, have the same
+-- messages and are in the same state.
+abbrev pub HasOneOutcome : Type 0
+HasOneOutcome = (start : ℕ) (stream : List ℕ) (a b : List ClientMessage) (x y : Decoding) → x.version ≡ y.version
+    → HasReadFrom start x stream a → HasReadFrom start y stream b → (a ≡ b) × (x ≡ y)
+
+-- No message's frame is a prefix of another's, and no two messages have the same frame.
+abbrev pub HasOneSpelling : Type 0
+HasOneSpelling = (a b : ClientMessage) (x y : List ℕ) → Fits a → Fits b → spelling a ++ x ≡ spelling b ++ y → (a ≡ b) × (x ≡ y)
+
+-- a reading of the stream
+pub record HasReading (version : Version) (stream : List ℕ) : Type 0 where
+  pub messages : List ClientMessage
+  pub rest : List ℕ
+  pub is_stream : IsStream version stream messages rest
+
+-- Every list of bytes has a reading in each version.
+abbrev pub EachHasReading : Type 0
+EachHasReading = (v : Version) (stream : List ℕ) → IsBytes stream → HasReading v stream
+
+-- No reply's frame is a prefix of another's, and no two replies have the same frame.
+abbrev pub HasOneReplySpelling : Type 0
+HasOneReplySpelling = (a b : ServerMessage) (x y : List ℕ) → ReplyFits a → ReplyFits b
+    → reply_spelling a ++ x ≡ reply_spelling b ++ y → (a ≡ b) × (x ≡ y)
+
+-- Bytes are the frames of at most one list of replies.
+abbrev pub HasOneReplyReading : Type 0
+HasOneReplyReading = (a b : List ServerMessage) → AllByRecursion ReplyFits a → AllByRecursion ReplyFits b
+    → flat_map reply_spelling a ≡ flat_map reply_spelling b → a ≡ b

@@ -17,8 +17,7 @@ pub struct Decoder {
 }
 
 impl Model for Decoder {
-    ghost use Rattle.fe_wire.specs.Stream.{Decoding};
-    ghost use Rattle.fe_wire.specs.DecoderState.{decoding, IsDecoderState};
+    ghost use Rattle.fe_wire.specs.Stream.{Decoding, decoding, IsDecoderState};
 
     ghost Value = { Decoding };
 

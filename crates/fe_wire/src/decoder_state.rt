@@ -1,8 +1,7 @@
 //! The state of a decoder, which reads the frames of one client's stream as its pieces come (`docs/formats.md`, "Frames").
 
 ghost use Rattle.std.specs.Prelude.{◌≡◌, ◌+◌, ◌<◌, ◌≤◌, ◌++◌, false, length, take, option_to_list};
-ghost use Rattle.fe_wire.specs.Stream.{length_field, fault_of};
-ghost use Rattle.fe_wire.specs.DecoderState.{IsDecoderState, Consumes, held_of, decoding};
+ghost use Rattle.fe_wire.specs.Stream.{length_field, fault_of, IsDecoderState, Consumes, held_of, decoding};
 
 use crate::client_message::ClientMessage;
 use crate::fed::BadFrame;

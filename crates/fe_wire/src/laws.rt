@@ -2,12 +2,11 @@
 //! function states one, and does nothing.
 
 ghost use Rattle.std.specs.Prelude.{◌≡◌, ◌+◌};
-ghost use Rattle.fe_wire.specs.Stream.{longest};
+ghost use Rattle.fe_wire.specs.Stream.{longest, EachHasReading, HasOneReading, HasOneOutcome, HasOneSpelling, HasOneReplySpelling, HasOneReplyReading};
 ghost use Rattle.fe_wire.specs.declared.version.Version.TheVariants.{Two};
 ghost use Rattle.fe_wire.specs.declared.decoder_state.TheConstants.{FRAME_BYTES};
 ghost use Rattle.fe_wire.specs.declared.head.TheConstants.{LENGTH_BYTES};
 ghost use Rattle.fe_wire.specs.Examples.{ExampleMessages, ExampleReplies};
-ghost use Rattle.fe_wire.specs.Laws.{EachHasReading, HasOneReading, HasOneOutcome, HasOneSpelling, HasOneReplySpelling, HasOneReplyReading};
 
 /// A stream has at most one reading in a version: its messages, and the rest after them.
 pub fn one_reading()

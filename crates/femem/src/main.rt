@@ -8,9 +8,7 @@ ghost use Rattle.clap.specs.Words.{kind_of};
 ghost use Rattle.fe_disk.specs.Memory.{MemoryState};
 ghost use Rattle.fe_schedules.specs.Schedule.{RunsAll};
 ghost use Rattle.fe_server.specs.BooksText.{books_text};
-ghost use Rattle.femem.specs.within.Faults.{status_of};
-ghost use Rattle.femem.specs.within.Served.{AreSettings, RefusesFile, WritesBooks};
-ghost use Rattle.femem.specs.within.Statuses.{command_status, words_status, shown_status, IsWordsStatus};
+ghost use Rattle.femem.specs.within.Faults.{status_of, AreSettings, RefusesFile, WritesBooks, command_status, words_status, shown_status, IsWordsStatus};
 
 mod fault;
 

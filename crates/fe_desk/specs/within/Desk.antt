@@ -1,21 +1,27 @@
 -- What is always true of a desk (`docs/model.md`, "The desk").
-use Rattle.std.specs.Prelude.{◌≡◌, ℕ, ◌<◌, ◌≤◌, true, false, List, ◌++◌, length, map, drop, Option, None, is_some}
+use Rattle.std.specs.Prelude.{◌≡◌, ℕ, ◌<◌, ◌≤◌, true, false, List, ◌++◌, length, map, drop, Option, None, is_some, [], ◌≢◌, Some, slice_get, ◌⊎◌, IsTrue}
 use Rattle.fe_state.specs.State.{ServerState, after_all}
 use Rattle.fe_state.specs.History.{AreLegal}
 use Rattle.fe_state.specs.declared.entry.Entry.{Entry}
-use Rattle.fe_front.specs.Front.{is_connected}
-use Rattle.fe_front.specs.Posting.{IsOut}
+use Rattle.fe_front.specs.Front.{is_connected, FrontState}
+use Rattle.fe_front.specs.Posting.{IsOut, may_have}
 use Rattle.fe_front.specs.declared.out.Out.{Out}
-use Rattle.fe_keeper.specs.Prefix.{LeavesPrefix}
+use Rattle.fe_keeper.specs.Stands.{LeavesPrefix}
 use Rattle.fe_desk.specs.declared.handed.Handed.{Handed}
 use Rattle.fe_desk.specs.declared.handed.Handed.TheVariants.{Nothing, Cut, Stored}
 use Rattle.fe_desk.specs.declared.desk_inner.DeskInner.{DeskInner}
 use Rattle.fe_desk.specs.declared.port.Port.{Port}
 use Rattle.fe_desk.specs.Acknowledged.{cut_entries}
-use Rattle.fe_desk.specs.DeskRunState.{Client, DeskRunState}
-use Rattle.fe_desk.specs.Steps.{find}
+use Rattle.fe_desk.specs.DeskRunState.{Client, DeskRunState, written_out, all_written_out, all_emptied, emptied_box, output_of, Extends}
+use Rattle.fe_desk.specs.Steps.{find, BeginsStream, clients_with}
 use Rattle.fe_desk.specs.Crash.{DeskState, IsFrom, disk_of}
 use Rattle.fe_disk.specs.declared.disk.Disk.{Ghosts}
+use Rattle.fe_mail.specs.Connections.{mails_on}
+use Rattle.fe_desk.specs.Messages.{outputs}
+use Rattle.std.specs.Option.{option_map}
+use Rattle.fe_wire.specs.Stream.{Decoding}
+use Rattle.fe_front.specs.Steps.{connected}
+use Rattle.fe_front.specs.declared.connection_set.ConnectionSet.{ConnectionSet}
 
 -- ---- how the fields give what callers see
 
@@ -69,3 +75,71 @@ pub record IsDesk {D : Type 0} (model : Ghosts D) (d : DeskState D) : Type 0 whe
 pub record IsReady {D : Type 0} (model : Ghosts D) (d : DeskState D) : Type 0 where
   pub desk : IsDesk model d
   pub works : d.keeper.store.has_failed ≡ false
+
+-- ---- what stays while mails are taken and connections go
+
+-- the state, what is pending, what is out and what is durable stay, and no connection comes
+pub record KeepsFront (f g : FrontState) : Type 0 where
+  pub state : g.service.state ≡ f.service.state
+  pub pending : g.service.pending ≡ f.service.pending
+  pub out : g.out ≡ f.out
+  pub durable : g.durable ≡ f.durable
+  pub none_comes : (conn : ℕ) → is_connected g conn ≡ true → is_connected f conn ≡ true
+
+-- the groups, those that are stored and the keeper stay
+pub record HasStore {D : Type 0} (old new : DeskState D) : Type 0 where
+  pub keeper : new.keeper ≡ old.keeper
+  pub groups : new.run_state.groups ≡ old.run_state.groups
+  pub synced : new.synced ≡ old.synced
+
+-- what was a desk is one still: its store is not touched, and it owes mails where it did before
+pub record Stays {D : Type 0} (model : Ghosts D) (old new : DeskState D) : Type 0 where
+  pub desk : IsDesk model old → IsDesk model new
+  pub store : HasStore old new
+  pub owes : new.run_state.owes ≡ old.run_state.owes
+
+-- a desk is one still: its store is not touched, and what is written goes on from what was
+pub record OnlyWrites {D : Type 0} (model : Ghosts D) (old new : DeskState D) : Type 0 where
+  pub desk : IsDesk model new
+  pub store : HasStore old new
+  pub extends : Extends (outputs old.run_state) (outputs new.run_state)
+
+-- no empty box gets a mail
+pub record KeepsEmpty (f g : FrontState) : Type 0 where
+  pub empty : (conn : ℕ) → mails_on f.connections conn ≡ [] → mails_on g.connections conn ≡ []
+
+-- mails of a client are written, maybe not all; to write the rest later comes to the same as to write all at once
+pub record IsWrittenOutLater (f : FrontState) (c : Client) (g : FrontState) (d : Client) : Type 0 where
+  pub conn : d.conn ≡ c.conn
+  pub output : (more : List ℕ) × (d.written ≡ c.written ++ more)
+  pub front : emptied_box g d.conn ≡ emptied_box f c.conn
+  pub client : written_out g d ≡ written_out f c
+
+-- mails of these clients are written, maybe not all; to write the rest later comes to the same as to write all at once
+pub record AreWrittenOutLater (f : FrontState) (cs : List Client) (g : FrontState) (ds : List Client) : Type 0 where
+  pub front : all_emptied g ds ≡ all_emptied f cs
+  pub clients : all_written_out g ds ≡ all_written_out f cs
+  pub output : Extends (map output_of cs) (map output_of ds)
+
+-- ---- the clients by their connection numbers
+
+-- the number of the client at an index
+abbrev pub client_number_at : List Client → ℕ → Option ℕ
+client_number_at clients i = option_map (λ c. c.conn) (slice_get clients i)
+
+-- the first client of a number is at this index
+pub record IsFirstAt (clients : List Client) (conn at : ℕ) : Type 0 where
+  pub within : at < length clients
+  pub here : client_number_at clients at ≡ Some conn
+  pub first : (i : ℕ) → i < at → client_number_at clients i ≢ Some conn
+
+-- a connection came, with a stream of its own
+pub record Joins (f : FrontState) (cs : List Client) (conn : ℕ) (g : FrontState) (ds : List Client) : Type 0 where
+  pub decoder : Decoding
+  pub begins : BeginsStream decoder
+  pub front : g ≡ connected f conn
+  pub clients : ds ≡ clients_with cs conn decoder
+
+-- the set has each connection with a mail
+abbrev pub HasAllWithMail : FrontState → ConnectionSet → Type 0
+HasAllWithMail f set = (conn : ℕ) → IsTrue (may_have set conn) ⊎ (mails_on f.connections conn ≡ [])

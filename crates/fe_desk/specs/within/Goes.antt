@@ -8,17 +8,11 @@ use Rattle.fe_keeper.specs.declared.fault.Fault.TheVariants.{Device, Failed, NoM
 use Rattle.fe_desk.specs.declared.fault.DeskFault.{DeskFault}
 use Rattle.fe_desk.specs.declared.fault.DeskFault.TheVariants as desk
 use Rattle.fe_desk.specs.declared.step.Step.{Step}
-use Rattle.fe_desk.specs.DeskRunState.{DeskRunState, emptied, discharged}
-use Rattle.fe_desk.specs.Quiet.{HasNoMail}
-use Rattle.fe_desk.specs.Writing.{WritesSome}
-use Rattle.fe_desk.specs.Storing.{is_making}
+use Rattle.fe_desk.specs.DeskRunState.{DeskRunState, emptied, discharged, is_making}
+use Rattle.fe_desk.specs.Steps.{HasNoMail, TakesAll, Acts, IsAgain, TakesBytes, find, with_left}
+use Rattle.fe_desk.specs.Ends.{WritesSome, StoresMore, Checks, Lacks, Tears, TearsStep, HasCut, StopsBefore, StopsBehind, StopsShort}
 use Rattle.fe_desk.specs.Crash.{DeskState, Advances}
-use Rattle.fe_desk.specs.Checks.{StoresMore, Checks}
-use Rattle.fe_desk.specs.Ends.{Lacks, Tears, TearsStep}
-use Rattle.fe_desk.specs.Taking.{TakesAll}
-use Rattle.fe_desk.specs.Steps.{Acts, IsAgain, TakesBytes, find, with_left}
 use Rattle.fe_desk.specs.Messages.{left_of, outputs, ReadsNone, ReadsPiece, TellsFed}
-use Rattle.fe_desk.specs.Stopping.{HasCut, StopsBefore, StopsBehind, StopsShort}
 use Rattle.fe_desk.specs.within.Desk.{IsDesk}
 use Rattle.fe_keeper.specs.Ends.{Works, Breaks}
 

@@ -1,6 +1,6 @@
 -- How the fields of `Groups` give what its callers see (`docs/formats.md`, "Journal area").
 use Rattle.std.specs.Prelude.{◌≡◌, ◌<◌, ◌≤◌, length}
-use Rattle.fe_journal.specs.Cursor.{Cursor}
+use Rattle.fe_journal.specs.Contents.{Cursor}
 use Rattle.fe_journal.specs.Layout.{area_bytes, device_bytes}
 use Rattle.fe_journal.specs.declared.groups.Groups.TheInside.{Inside}
 

@@ -4,7 +4,7 @@ use Rattle.fe_state.specs.State.{ServerState}
 use Rattle.fe_state.specs.History.{IsHistory}
 use Rattle.fe_state.specs.declared.entry.Entry.{Entry}
 use Rattle.fe_format.specs.declared.format.Format.{Format}
-use Rattle.fe_journal.specs.Cursor.{Cursor, Lists}
+use Rattle.fe_journal.specs.Contents.{Cursor, Lists}
 use Rattle.fe_replica.specs.Replaying.{Replays}
 use Rattle.fe_keeper.specs.Stands.{AreGroups}
 

@@ -1,18 +1,32 @@
 -- Which slot of the waiting lists (`fe_waits`) each session has. No public clause cites this module.
 -- See `docs/model.md`, "Waiting requests".
-use Rattle.std.specs.Prelude.{◌≡◌, ◌↔◌, ℕ, ◌+◌, ◌<◌, ◌≤◌, List, [], ◌∷◌, ◌++◌, zero, suc, map, length, Option, Some, None, IsSome, slice_get, slice_index_or, unwrap_or}
-use Rattle.std.specs.Option.{option_map}
+use Rattle.std.specs.Prelude.{◌≡◌, ℕ, ◌↔◌, ◌+◌, ◌<◌, ◌≤◌, List, [], ◌∷◌, ◌++◌, zero, suc, map, length, Option, Some, None, IsSome, slice_get, slice_index_or, unwrap_or}
 use Rattle.std.specs.Ordering.{nat_cmp}
-use Rattle.std.specs.declared.cmp.Ordering.{Ordering}
 use Rattle.std.specs.FinMap.{FinMap, get, len, entries, from_entries}
-use Rattle.fe_waits.specs.declared.row.Row.{Row}
-use Rattle.fe_waits.specs.Pair.{pair_cmp}
-use Rattle.fe_waits.specs.Waiting.{WaitingAccess, Waiting}
-use Rattle.fe_service.specs.declared.occupant.Occupant.{Occupant}
+use Rattle.fe_service.specs.AttachmentsState.{AttachmentsState, count_of, without_session}
 use Rattle.fe_service.specs.declared.attachment.Attachment.{Attachment}
+use Rattle.std.specs.Option.{option_map}
+use Rattle.std.specs.declared.cmp.Ordering.{Ordering}
+use Rattle.fe_waits.specs.declared.row.Row.{Row}
+use Rattle.fe_waits.specs.Waiting.{pair_cmp, WaitingAccess, Waiting}
+use Rattle.fe_service.specs.declared.occupant.Occupant.{Occupant}
 use Rattle.fe_service.specs.declared.waiting_request.WaitingRequest.{WaitingRequest}
-use Rattle.fe_service.specs.AttachmentsState.{AttachmentsState}
 use Rattle.fe_state.specs.Limits.{most_sessions}
+
+-- the attachments become these; what waits and the arrays stay
+pub record AttachmentsBecome (old new : AttachmentsState) (these : FinMap nat_cmp Attachment) : Type 0 where
+  pub attachments : new.attachments ≡ these
+  pub waiting : new.waiting ≡ old.waiting
+  pub arrays : new.arrays ≡ old.arrays
+
+-- the requests of a session wait no longer, and this many did; the attachments and the arrays stay
+pub record DropsRequests (old new : AttachmentsState) (session number : ℕ) : Type 0 where
+  pub count : number ≡ count_of old.waiting session
+  pub removed : new.waiting ≡ without_session old.waiting session
+  pub attachments : new.attachments ≡ old.attachments
+  pub arrays : new.arrays ≡ old.arrays
+
+-- ---- slots
 
 -- the session that has a slot, if one has it
 abbrev pub owner_at : List (Option ℕ) → ℕ → Option ℕ

@@ -2,12 +2,11 @@
 //! and not posted is out. Each cut is noted in the hall's history (`docs/headline.md`, "Every acknowledged answer").
 
 ghost use Rattle.std.specs.Prelude.{◌≡◌, ◌+◌, ℕ, [], Some, false, IfErr, IfOk, IfSome, IsTrue, OnOk, OnErr, length};
-ghost use Rattle.fe_front.specs.ConnectionSet.{may_have};
+ghost use Rattle.fe_front.specs.Posting.{may_have, Notes};
 ghost use Rattle.fe_front.specs.Event as event;
-ghost use Rattle.fe_front.specs.Noting.{Notes};
 ghost use Rattle.fe_history.specs.Acts.{WasStoredLast};
 ghost use Rattle.fe_shared.specs.Holds.{Cuts, IsCutIn, IsUnposted, MakesStep, MakesNothing};
-ghost use Rattle.fe_shared.specs.Watching.{waits};
+ghost use Rattle.fe_shared.specs.Marks.{waits};
 
 use super::{MOST_COUNTED, Shared};
 use fe_disk::Disk;

@@ -1,16 +1,27 @@
 -- How the pool of nodes and the chains (the ends of its lists) hold the waiting requests. No public clause cites this module.
 -- See `docs/model.md`, "Waiting requests".
-use Rattle.std.specs.Prelude.{◌≡◌, ℕ, ◌≤◌, List, [], ◌∷◌, length, sum_by, Option, Some, None, slice_index_or, slice_get, Contains}
+use Rattle.std.specs.Prelude.{ℕ, List, [], map, length, Option, slice_get, slice_set, unwrap_or, ◌≡◌, ◌≤◌, ◌∷◌, sum_by, Some, None, slice_index_or, Contains}
+use Rattle.std.specs.Option.{option_and_then}
 use Rattle.std.specs.Ordering.{nat_cmp}
-use Rattle.std.specs.FinMap.{FinMap, insert, empty, len}
+use Rattle.std.specs.FinMap.{FinMap, get, insert, entries, from_sorted, empty, len}
 use Rattle.fe_pool.specs.declared.chain.Chain.{Chain}
 use Rattle.fe_pool.specs.declared.family.Family.{Family}
 use Rattle.fe_pool.specs.declared.family.Family.TheVariants.{OfWord, OfSession}
 use Rattle.fe_pool.specs.Pool.{Contents, IsChain, list_of}
 use Rattle.fe_waits.specs.declared.row.Row.{Row}
-use Rattle.fe_waits.specs.Pair.{pair_cmp}
-use Rattle.fe_waits.specs.Waiting.{WaitingAccess, Waiting, key_of, waiting_access_of, row_of, count_of}
-use Rattle.fe_waits.specs.within.WordChains.{chain_at, lengths}
+use Rattle.fe_waits.specs.Waiting.{pair_cmp, WaitingAccess, Waiting, key_of, waiting_access_of, row_of, count_of}
+
+-- the chain of a word, if the word exists
+abbrev pub chain_at : FinMap nat_cmp (List Chain) → ℕ × ℕ → Option Chain
+chain_at words word = option_and_then (λ chains. slice_get chains word.1) (get words word.0)
+
+-- the chains with another one for this word
+abbrev pub with_chain : FinMap nat_cmp (List Chain) → ℕ → ℕ → Chain → FinMap nat_cmp (List Chain)
+with_chain words array index chain = insert words array (slice_set (unwrap_or (get words array) []) index chain)
+
+-- the length of each array
+abbrev pub lengths : FinMap nat_cmp (List Chain) → FinMap nat_cmp ℕ
+lengths words = from_sorted (map (λ e. (e.0, length e.1)) (entries words))
 
 -- the requests of the taken nodes, as a finite map
 abbrev pub members_of : List (Option Row) → FinMap pair_cmp WaitingAccess

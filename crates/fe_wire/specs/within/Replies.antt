@@ -3,8 +3,7 @@
 use Rattle.std.specs.Prelude.{ℕ, List, length, ◌&&◌, Option, Some, None, nat_lt, nat_le, ◌==◌, if◌then◌else◌}
 use Rattle.std.specs.Str.{is_utf8}
 use Rattle.std.specs.Int.{w32, w64}
-use Rattle.fe_codes.specs.Binding.{◌>>=◌}
-use Rattle.fe_codes.specs.Reading.{answer_of}
+use Rattle.fe_codes.specs.Reading.{◌>>=◌, answer_of}
 use Rattle.fe_mail.specs.Limits.{longest_report}
 use Rattle.fe_wire.specs.declared.server_message.ServerMessage.{ServerMessage}
 use Rattle.fe_wire.specs.declared.server_message.ServerMessage.TheVariants as server

@@ -1,5 +1,5 @@
 -- The program's faults: how the faults of each command are mapped to them, and the exit status for each.
-use Rattle.std.specs.Prelude.{ℕ}
+use Rattle.std.specs.Prelude.{ℕ, ◌≡◌, ◌⊎◌, List, Option, Some, false, ◌==◌, Bool, true, if◌then◌else◌, Result, Ok, Err}
 use Rattle.fe_client.specs.declared.fault.CallFault.{CallFault}
 use Rattle.fe_client.specs.declared.fault.CallFault.TheVariants as call
 use Rattle.fe_look.specs.declared.fault.LookFault.{LookFault}
@@ -18,6 +18,15 @@ use Rattle.fe_text.specs.declared.fault.StreamFault.{StreamFault}
 use Rattle.fe_text.specs.declared.fault.StreamFault.TheVariants as stream
 use Rattle.femem.specs.declared.fault.Fault.{Fault}
 use Rattle.femem.specs.declared.fault.Fault.TheVariants as fault
+use Rattle.std.specs.Io.KnownBytes.{Appends}
+use Rattle.toml.specs.Data.{Members}
+use Rattle.toml.specs.Parse.{parse_document}
+use Rattle.fe_mail.specs.Books.{Books, AddUp}
+use Rattle.fe_options.specs.Settings.{IsSettingsOf, RefusesText}
+use Rattle.fe_options.specs.declared.settings.Settings.{Settings}
+use Rattle.fe_server.specs.BooksText.{books_text}
+use Rattle.clap.specs.declared.error.kind.ErrorKind.{ErrorKind}
+use Rattle.clap.specs.declared.error.kind.ErrorKind.TheVariants as kind
 
 -- the exit status: 2 for a fault of the input, the output or the settings, 4 for one of the socket, otherwise 3
 abbrev pub status_of : Fault → ℕ
@@ -84,3 +93,42 @@ of_call (call.Line number) = fault.Line number
 of_call call.Socket = fault.Socket
 of_call call.Input = fault.Input
 of_call call.Memory = fault.Memory
+
+-- these are the settings of some text's document
+pub record AreSettings (settings : Settings) : Type 0 where
+  pub text : List ℕ
+  pub document : Members
+  pub parsed : parse_document text ≡ Some document
+  pub are : IsSettingsOf document settings
+
+-- the file can't be read, memory for its text ran out, or some text is refused with this fault
+abbrev pub RefusesFile : Fault → Type 0
+RefusesFile end = (end ≡ fault.Unreadable) ⊎ ((end ≡ fault.Memory) ⊎ ((text : List ℕ) × (why : SettingsFault) × RefusesText text why × (end ≡ of_settings why)))
+
+-- the text of books was written; they count each call and each mail in exactly one column, and are not spent
+pub record WritesBooks (before after : Option (List ℕ)) : Type 0 where
+  pub books : Books
+  pub add_up : AddUp books
+  pub unspent : books.spent ≡ false
+  pub written : Appends before after (books_text books)
+
+-- the status for words that ask for no command: 0 for help or a version, 3 if memory ran out, 2 for any other words
+abbrev pub words_status : ErrorKind → ℕ
+words_status kind.OutOfMemory = 3
+words_status kind.DisplayHelp = 0
+words_status kind.DisplayVersion = 0
+words_status other = 2
+
+-- the status for these words; if help that was asked for could not be written, that of a fault of the output
+abbrev pub shown_status : ErrorKind → Bool → ℕ
+shown_status k true = words_status k
+shown_status k false = if words_status k == 0 then status_of fault.Input else words_status k
+
+-- the status is one for these words, whether what they print could be written or not
+abbrev pub IsWordsStatus : ErrorKind → ℕ → Type 0
+IsWordsStatus k status = (written : Bool) × (status ≡ shown_status k written)
+
+-- the status of a command: 0 without a fault, otherwise that of its fault
+abbrev pub command_status : Result (Unit {0}) Fault → ℕ
+command_status (Ok done) = 0
+command_status (Err fault) = status_of fault

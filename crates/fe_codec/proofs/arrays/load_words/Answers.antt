@@ -4,7 +4,7 @@ use Rattle.fe_words.specs.declared.word.Word.{Word}
 use Rattle.fe_state.specs.State.{ServerState}
 use Rattle.fe_codec.specs.declared.fault.Fault.{Fault}
 use Rattle.fe_codec.specs.FirstFault.{next_word, word_at, with_word_at}
-use Rattle.fe_codec.specs.Given.{GivesFault}
+use Rattle.fe_codec.specs.Loading.{GivesFault}
 use Rattle.fe_codec.proofs.Repeats.{begins, goes_on, stops, stopped, is_done}
 use Rattle.fe_codec.proofs.LoadingLemmas.{ids_same, ids_then, word_put}
 use Rattle.fe_codec.proofs.arrays.load_words.Goals as goal

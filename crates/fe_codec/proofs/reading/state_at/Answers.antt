@@ -6,7 +6,7 @@ use Rattle.fe_state.specs.declared.array.Array.{Array}
 use Rattle.std.proofs.lemmas.Result.{err_from_is_err_and}
 use Rattle.fe_codec.specs.declared.fault.Fault.{Fault}
 use Rattle.fe_codec.specs.declared.fault.Fault.TheVariants.{Left, NoMemory}
-use Rattle.fe_codec.specs.Given.{ReadsFault}
+use Rattle.fe_codec.specs.Loading.{ReadsFault}
 use Rattle.fe_codec.proofs.reading.state_at.Goals as goal
 
 -- the header takes no memory

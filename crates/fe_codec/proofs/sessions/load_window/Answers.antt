@@ -4,7 +4,7 @@ use Rattle.fe_state.specs.State.{ServerState}
 use Rattle.fe_state.specs.declared.kept.Kept.{Kept}
 use Rattle.fe_codec.specs.declared.fault.Fault.{Fault}
 use Rattle.fe_codec.specs.FirstFault.{next_kept, kept_at, with_kept}
-use Rattle.fe_codec.specs.Given.{GivesFault}
+use Rattle.fe_codec.specs.Loading.{GivesFault}
 use Rattle.fe_codec.proofs.Repeats.{begins, goes_on, stops, stopped, is_done}
 use Rattle.fe_codec.proofs.LoadingLemmas.{keys_same, keys_then, kept_put}
 use Rattle.fe_codec.proofs.sessions.load_window.Goals as goal

@@ -1,8 +1,6 @@
 use Rattle.std.proofs.Common.{◌≡◌, map, take, drop}
 use Rattle.std.specs.Prelude.{vec_len}
-use Rattle.fe_desk.specs.within.WithMail.{HasAllWithMail}
-use Rattle.fe_desk.specs.within.Desk.{client_of}
-use Rattle.fe_desk.specs.within.Keeping.{KeepsFront}
+use Rattle.fe_desk.specs.within.Desk.{HasAllWithMail, client_of, KeepsFront}
 use Rattle.fe_desk.proofs.Emptying.{IsWrittenOutSoFar}
 use Rattle.fe_desk.proofs.Writing.{AreWrittenTo}
 use Rattle.fe_desk.proofs.box_emptying.empty_boxes.Given as goal

@@ -3,9 +3,9 @@ use Rattle.fe_disk.specs.Runs.{LeavesOnly}
 use Rattle.fe_disk.proofs.Moments.{weaker}
 use Rattle.fe_state.specs.History.{IsHistory}
 use Rattle.fe_state.specs.declared.entry.Entry.{Entry}
-use Rattle.fe_keeper.specs.Prefix.{LeavesPrefix}
+use Rattle.fe_keeper.specs.Stands.{LeavesPrefix}
 use Rattle.fe_desk.specs.Crash.{IsFrom, disk_of}
-use Rattle.fe_desk.specs.Traces.{groups_of}
+use Rattle.fe_desk.specs.Runs.{groups_of}
 use Rattle.fe_desk.proofs.Openings.{device_alone, first_from, stands_at}
 use Rattle.fe_desk.proofs.Runnings.{stands_begun, run_moments, run_of}
 use Rattle.fe_desk.proofs.running.run.Goals as goal

@@ -1,6 +1,6 @@
 use Rattle.std.proofs.Common.{◌<◌, length, Ok, refl, rules}
 use Rattle.std.proofs.lemmas.Option.{slice_get_read}
-use Rattle.fe_desk.specs.Taken.{Ends, IsStep}
+use Rattle.fe_desk.specs.Runs.{Ends, IsStep}
 use Rattle.fe_desk.proofs.Advancing.{advances_both}
 use Rattle.fe_desk.proofs.Runnings.{no_step, steps_next, goes_to}
 use Rattle.fe_desk.proofs.Stepping.{ends_of}

@@ -1,7 +1,6 @@
 use Rattle.std.proofs.Common.{◌≡◌, false, take}
 use Rattle.fe_desk.specs.Crash.{Advances}
-use Rattle.fe_desk.specs.Runs.{whole}
-use Rattle.fe_desk.specs.Taken.{AreSteps}
+use Rattle.fe_desk.specs.Runs.{whole, AreSteps}
 use Rattle.fe_desk.proofs.running.take_steps.Given as goal
 
 abbrev pub invariant-loop-k : goal.invariant-loop-k

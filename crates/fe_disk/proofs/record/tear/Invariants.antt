@@ -1,7 +1,6 @@
 use Rattle.std.proofs.Common.{◌≡◌, ◌≤◌, length}
 use Rattle.fe_disk.specs.Disk.{IsImage}
-use Rattle.fe_disk.specs.Ranges.{AreWithin, image_with_tears}
-use Rattle.fe_disk.specs.Record.{newest_first}
+use Rattle.fe_disk.specs.Memory.{AreWithin, image_with_tears, newest_first}
 use Rattle.fe_disk.proofs.record.tear.Given as goal
 
 abbrev pub invariant-loop-rest : goal.invariant-loop-rest

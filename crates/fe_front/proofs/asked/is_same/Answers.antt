@@ -6,7 +6,7 @@ use Rattle.fe_words.specs.declared.word.Tag.{Tag}
 use Rattle.fe_words.specs.declared.op.Op.{Op}
 use Rattle.fe_words.specs.contracts.word.TagPartialEq.TheImpl as tags
 use Rattle.fe_words.specs.contracts.op.OpPartialEq.TheImpl as ops
-use Rattle.fe_state.specs.Padding.{padded}
+use Rattle.fe_state.specs.Name.{padded}
 use Rattle.fe_state.specs.Limits.{longest_name}
 use Rattle.fe_state.specs.declared.request.Request.{Request}
 use Rattle.fe_state.specs.declared.request.Request.TheVariants.{Create, Find, Remove, Access}

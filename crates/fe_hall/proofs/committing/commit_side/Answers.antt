@@ -1,6 +1,6 @@
 use Rattle.std.proofs.Common.{◌≡◌, sym, inl, inr, Option, Some, None, refl, subst, ◌∙◌, rules}
 use Rattle.fe_hall.specs.Commits.{AppendsAreNoted, Commits, end_in}
-use Rattle.fe_hall.specs.within.Committing.{StoresOn}
+use Rattle.fe_hall.specs.within.Sides.{StoresOn}
 use Rattle.fe_keeper.specs.Ends.{IsStill}
 use Rattle.fe_hall.specs.declared.commit_end.CommitEnd.{CommitEnd}
 use Rattle.fe_hall.proofs.Committed.{kept_noted, both_commits, turn_commits, ended_noted, rests_itself, still_itself, still_both}

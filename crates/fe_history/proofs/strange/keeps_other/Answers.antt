@@ -4,7 +4,7 @@ use Rattle.std.specs.Cmp.{nat_cmp_total}
 use Rattle.std.specs.Option.{option_map}
 use Rattle.std.specs.FinMap.{nat_cmp-IsAntisymmetric}
 use Rattle.fe_state.specs.Sessions.{kept_in}
-use Rattle.fe_state.specs.Shown.{shown_session}
+use Rattle.fe_state.specs.State.{shown_session}
 use Rattle.fe_state.proofs.Listed.{entry_there}
 use Rattle.fe_report.proofs.Listed.{get-at}
 use Rattle.fe_history.proofs.Kept.{AllAsIssued, of_none, of_one_more, kept_as_issued}

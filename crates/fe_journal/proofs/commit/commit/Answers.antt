@@ -2,7 +2,7 @@ use Rattle.std.proofs.Common.{ℕ, List, inr, ◌∙◌, subst}
 use Rattle.fe_disk.specs.Disk.{IsTorn}
 use Rattle.fe_disk.proofs.Images.{torn_left}
 use Rattle.fe_disk.proofs.Moments.{started, goes_on}
-use Rattle.fe_journal.specs.Steps.{IsLeftInCommit}
+use Rattle.fe_journal.specs.Journal.{IsLeftInCommit}
 use Rattle.fe_journal.proofs.Steps.{not_begun, bytes_torn}
 use Rattle.fe_journal.proofs.commit.commit.Goals as goal
 

@@ -2,7 +2,7 @@ use Rattle.std.proofs.Common.{ℕ, List, sym, ◌∙◌}
 use Rattle.std.proofs.lemmas.Result.{on_ok_weaker}
 use Rattle.fe_disk.proofs.Outcomes.{just_joined}
 use Rattle.fe_disk.proofs.Moments.{started, goes_on}
-use Rattle.fe_journal.specs.Steps.{IsLeftInShutting}
+use Rattle.fe_journal.specs.Journal.{IsLeftInShutting}
 use Rattle.fe_journal.proofs.Steps.{shut_still, shut_torn, byte_read}
 use Rattle.fe_journal.proofs.commit.shut.Goals as goal
 

@@ -1,5 +1,5 @@
 use Rattle.std.proofs.Common.{◌-◌, ◌<◌}
-use Rattle.fe_journal.specs.Reading.{Reaches}
+use Rattle.fe_journal.specs.Store.{Reaches}
 use Rattle.fe_journal.proofs.scan.scan.Given as goal
 
 abbrev pub invariant-loop-at : goal.invariant-loop-at

@@ -5,7 +5,7 @@ use Rattle.fe_disk.specs.Runs.{LeavesOnly}
 use Rattle.fe_disk.proofs.Images.{bytes_at-after_write}
 use Rattle.fe_disk.proofs.Moments.{goes_on, weaker}
 use Rattle.fe_journal.specs.Layout.{header_of, gate_of, IsGateShut}
-use Rattle.fe_journal.specs.Steps.{IsLeftInShutting, IsLeftInBeginning, Shuts}
+use Rattle.fe_journal.specs.Journal.{IsLeftInShutting, IsLeftInBeginning, Shuts}
 use Rattle.fe_journal.proofs.Steps.{header_torn, header_left, shuts_then}
 use Rattle.fe_journal.proofs.slot.begin_slot.Goals as goal
 

@@ -2,7 +2,7 @@ use Rattle.std.proofs.Common.{◌≡◌, ℕ, ◌+◌, length, ◌∙◌, ap}
 use Rattle.std.proofs.lemmas.Result.{err_from_is_err_and}
 use Rattle.fe_disk.specs.Disk.{bytes_at}
 use Rattle.fe_journal.specs.Layout.{area_of}
-use Rattle.fe_journal.specs.Reading.{GroupFault}
+use Rattle.fe_journal.specs.Store.{GroupFault}
 use Rattle.fe_journal.specs.declared.fault.StoreFault.TheVariants.{Damaged}
 use Rattle.fe_journal.proofs.Readings.{group_tells, sound_by, nothing_told}
 use Rattle.fe_journal.proofs.store.read_slot.Goals as goal

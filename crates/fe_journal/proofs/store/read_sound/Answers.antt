@@ -1,8 +1,7 @@
 use Rattle.std.proofs.Common.{◌≡◌, ℕ, List, length, Option, inr, ◌∙◌, subst}
 use Rattle.std.proofs.lemmas.Result.{err_from_is_err_and}
 use Rattle.fe_journal.specs.Layout.{header_of}
-use Rattle.fe_journal.specs.Reading.{IsHeader}
-use Rattle.fe_journal.specs.Store.{CountsAs}
+use Rattle.fe_journal.specs.Store.{IsHeader, CountsAs}
 use Rattle.fe_journal.specs.declared.header.Header.{Header}
 use Rattle.fe_journal.proofs.Readings.{counts_as, header_tells, reads_again}
 use Rattle.fe_journal.proofs.store.read_sound.Goals as goal

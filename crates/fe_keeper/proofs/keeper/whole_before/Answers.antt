@@ -1,6 +1,6 @@
 use Rattle.std.proofs.Common.{IsTrue, ap, subst, rules}
 use Rattle.std.specs.Prelude.{Err}
-use Rattle.fe_replica.specs.Taking.{IsMismatch}
+use Rattle.fe_replica.specs.Replaying.{IsMismatch}
 use Rattle.fe_replica.specs.declared.taking.Refused.{Refused}
 use Rattle.fe_replica.proofs.Taken.{no_mismatch}
 use Rattle.fe_state.specs.State.{ServerState}

@@ -6,7 +6,7 @@ use Rattle.fe_format.specs.Layout.{record_bytes}
 use Rattle.fe_format.specs.declared.format.Format.{Format}
 use Rattle.fe_format.specs.declared.format.Format.TheVariants.{Two}
 use Rattle.fe_state.specs.declared.entry.Entry.{Entry}
-use Rattle.fe_keeper.specs.within.CatchUp.{CatchesUp, HasRoomFor}
+use Rattle.fe_keeper.specs.within.Upholds.{CatchesUp, HasRoomFor}
 use Rattle.fe_keeper.specs.declared.checkpoint.Checkpoint.{Checkpoint}
 use Rattle.fe_keeper.proofs.Appending.{length-group}
 use Rattle.fe_keeper.proofs.keeper_store.catch_up.Goals as goal

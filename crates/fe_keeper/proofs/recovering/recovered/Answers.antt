@@ -1,7 +1,7 @@
 use Rattle.std.proofs.Common.{◌≡◌, ◌+◌, ◌<◌, ◌≤◌, Err, subst, arith}
 use Rattle.std.proofs.lemmas.Result.{err_from_is_err_and}
 use Rattle.fe_codec.specs.FirstFault.{image_at}
-use Rattle.fe_codec.specs.Given.{ImageFails}
+use Rattle.fe_codec.specs.Loading.{ImageFails}
 use Rattle.fe_codec.specs.declared.fault.ImageFault.{ImageFault}
 use Rattle.fe_keeper.specs.Stands.{greatest_generation}
 use Rattle.fe_keeper.specs.Opened.{IsBase}

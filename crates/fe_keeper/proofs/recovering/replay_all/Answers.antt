@@ -1,5 +1,5 @@
 use Rattle.std.proofs.Common.{◌≡◌, ℕ, ◌+◌, ◌-◌, ◌<◌, List, true, Err, ap, arith}
-use Rattle.fe_journal.specs.Cursor.{Lists}
+use Rattle.fe_journal.specs.Contents.{Lists}
 use Rattle.fe_journal.specs.Layout.{area_bytes}
 use Rattle.fe_replica.specs.declared.replaying.ReplayFault.{ReplayFault}
 use Rattle.fe_keeper.specs.within.Replaying.{IsNext}

@@ -1,5 +1,5 @@
 use Rattle.std.proofs.Common.{ℕ, ◌+◌, ◌-◌, List}
-use Rattle.fe_journal.specs.Cursor.{Lists}
+use Rattle.fe_journal.specs.Contents.{Lists}
 use Rattle.fe_journal.specs.Layout.{area_bytes}
 use Rattle.fe_keeper.specs.Opened.{IsListing}
 use Rattle.fe_keeper.proofs.Going.{IsGoingOn}

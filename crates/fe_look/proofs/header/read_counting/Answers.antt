@@ -1,5 +1,5 @@
 use Rattle.std.proofs.Common.{◌≡◌, ℕ, List, length, ◌∙◌, subst}
-use Rattle.fe_look.specs.HeaderBytes.{IsHeaderOf}
+use Rattle.fe_look.specs.Slot.{IsHeaderOf}
 use Rattle.fe_look.proofs.Headers.{chosen_counts}
 use Rattle.fe_look.proofs.header.read_counting.Goals as goal
 

@@ -1,6 +1,6 @@
 use Rattle.std.proofs.Common.{◌<◌, ◌≡◌, true}
 use Rattle.fe_journal.specs.Damage.{IsUnformatted}
-use Rattle.fe_look.specs.Calls.{KeepsDisk}
+use Rattle.fe_look.specs.Reading.{KeepsDisk}
 use Rattle.fe_look.proofs.reading.read_bytes.Given as goal
 
 abbrev pub invariant-loop-k : goal.invariant-loop-k

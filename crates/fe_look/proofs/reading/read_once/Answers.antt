@@ -1,8 +1,7 @@
 use Rattle.std.proofs.Common.{◌≡◌, ℕ, List, ◌++◌, length, take, drop, slice_index, Option, ◌∙◌, sym, subst}
-use Rattle.fe_look.specs.HeaderBytes.{Counts}
-use Rattle.fe_look.specs.Slot.{IsSlotCopy}
+use Rattle.fe_look.specs.Slot.{Counts, IsSlotCopy}
 use Rattle.fe_look.specs.declared.header.HeaderBytes.{HeaderBytes}
-use Rattle.fe_look.specs.Copy.{IsCopyOf}
+use Rattle.fe_look.specs.Reading.{IsCopyOf}
 use Rattle.fe_look.proofs.Copies.{copy_is}
 use Rattle.fe_look.proofs.Slots.{lent_whole}
 use Rattle.fe_look.proofs.reading.read_once.Goals as goal

@@ -1,6 +1,6 @@
 use Rattle.std.proofs.Common.{◌-◌, ◌<◌, ◌≡◌, ℕ, List}
 use Rattle.fe_disk.specs.Disk.{Rises}
-use Rattle.fe_look.specs.Calls.{KeepsDisk}
+use Rattle.fe_look.specs.Reading.{KeepsDisk}
 use Rattle.fe_look.specs.Slot.{EndsAt, GatesEnd}
 use Rattle.fe_look.proofs.slot.end_of_groups.Given as goal
 

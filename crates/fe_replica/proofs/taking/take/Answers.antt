@@ -6,7 +6,7 @@ use Rattle.fe_state.specs.State.{after_all}
 use Rattle.fe_state.specs.History.{AreLegal}
 use Rattle.fe_state.specs.UndoLog.{empty_log}
 use Rattle.fe_state.specs.declared.entry.Entry.{Entry}
-use Rattle.fe_replica.specs.Taking.{AreTaken, IsMismatch}
+use Rattle.fe_replica.specs.Replaying.{AreTaken, IsMismatch}
 use Rattle.fe_replica.proofs.Taken.{one_taken, illegal_at}
 use Rattle.fe_replica.proofs.taking.take.Goals as goal
 

@@ -1,5 +1,5 @@
 use Rattle.std.proofs.Common.{◌≡◌, take}
-use Rattle.fe_replica.specs.Taking.{AreTaken}
+use Rattle.fe_replica.specs.Replaying.{AreTaken}
 use Rattle.fe_replica.proofs.taking.take.Given as goal
 
 abbrev pub invariant-loop-entry : goal.invariant-loop-entry

@@ -1,6 +1,6 @@
 use Rattle.std.proofs.Common.{◌≡◌, ◌++◌, string_bytes, take}
 use Rattle.std.specs.List.{flat_map}
-use Rattle.fe_schedules.specs.PrintedReply.{printed_text}
+use Rattle.fe_schedules.specs.Schedule.{printed_text}
 use Rattle.fe_schedules.proofs.printed_reply.print_replies.Given as goal
 
 -- the replies so far are printed

@@ -1,6 +1,6 @@
 use Rattle.std.proofs.Common.{ℕ, List, [], ◌++◌, map, drop, sym, ap, ◌∙◌, subst, append_assoc, append-nil}
 use Rattle.std.proofs.Math.Numerals.{add-one}
-use Rattle.fe_schedules.specs.PrintedReply.{ArePrintedReplies, printed_to}
+use Rattle.fe_schedules.specs.Schedule.{ArePrintedReplies, printed_to}
 use Rattle.fe_schedules.specs.declared.printed_reply.PrintedReply.{PrintedReply}
 use Rattle.fe_schedules.proofs.Outputs.{outs, port_replies, one_port_more, none_more}
 use Rattle.fe_schedules.proofs.reading.read_all.Goals as goal

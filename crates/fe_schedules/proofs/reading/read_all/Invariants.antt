@@ -1,5 +1,5 @@
 use Rattle.std.proofs.Common.{List, ◌++◌, drop}
-use Rattle.fe_schedules.specs.PrintedReply.{ArePrintedReplies}
+use Rattle.fe_schedules.specs.Schedule.{ArePrintedReplies}
 use Rattle.fe_schedules.specs.declared.printed_reply.PrintedReply.{PrintedReply}
 use Rattle.fe_schedules.proofs.Outputs.{outs}
 use Rattle.fe_schedules.proofs.reading.read_all.Given as goal

@@ -1,7 +1,7 @@
 use Rattle.std.proofs.Common.{◌≡◌, ◌++◌, List, [], ◌∷◌, length, map, rules, sym, ap, ◌∙◌, append_assoc, append-nil}
 use Rattle.std.proofs.lemmas.Option.{none-some}
 use Rattle.fe_wire.specs.declared.server_message.ServerMessage.{ServerMessage as Reply}
-use Rattle.fe_schedules.specs.PrintedReply.{printed_to}
+use Rattle.fe_schedules.specs.Schedule.{printed_to}
 use Rattle.fe_schedules.specs.declared.printed_reply.PrintedReply.{PrintedReply}
 use Rattle.fe_schedules.proofs.FrameLemmas.{first, not_empty, is_nothing, none_left, pair_of}
 use Rattle.fe_schedules.proofs.reading.read_replies.Goals as goal

@@ -2,7 +2,7 @@ use Rattle.std.proofs.Common.{◌≡◌, List, ◌++◌, length, map}
 use Rattle.std.specs.List.{flat_map, AllByRecursion}
 use Rattle.fe_wire.specs.Spelling.{reply_spelling, ReplyFits}
 use Rattle.fe_wire.specs.declared.server_message.ServerMessage.{ServerMessage}
-use Rattle.fe_schedules.specs.PrintedReply.{printed_to}
+use Rattle.fe_schedules.specs.Schedule.{printed_to}
 use Rattle.fe_schedules.proofs.reading.read_replies.Given as goal
 
 -- what is read so far, and the replies that are left, are all of them

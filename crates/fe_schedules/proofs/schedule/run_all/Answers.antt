@@ -1,10 +1,9 @@
 use Rattle.std.proofs.Common.{◌≡◌, ℕ, ◌<◌, List, [], ◌++◌, Option, Some, None, take, ◌+◌, ◌^◌, inl, inr, string_bytes, arith, refl, sym, subst, append-nil, rules}
 use Rattle.std.specs.Io.KnownBytes.{Consumes}
-use Rattle.fe_text.specs.Lines.{ReadsSome}
-use Rattle.fe_schedules.specs.Schedule.{ReaderFails, IsReadMore}
+use Rattle.fe_text.specs.Line.{ReadsSome}
+use Rattle.fe_schedules.specs.Schedule.{ReaderFails, IsReadMore, of_stream}
 use Rattle.fe_schedules.specs.Runs.{SoFar, Whole, Ended, last_disk}
 use Rattle.fe_text.specs.declared.fault.StreamFault.TheVariants as stream
-use Rattle.fe_schedules.specs.Fault.{of_stream}
 use Rattle.fe_schedules.specs.declared.run.Run.{Run}
 use Rattle.fe_text.proofs.Results.{ok_of, err_of, err_then, failed}
 use Rattle.fe_schedules.proofs.Starting.{broke, halted, ended, finished}

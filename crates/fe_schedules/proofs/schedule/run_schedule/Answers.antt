@@ -1,6 +1,5 @@
 use Rattle.std.proofs.Common.{◌≡◌, refl, ap, inl}
-use Rattle.fe_schedules.specs.Fault.{of_machine, of_stream}
-use Rattle.fe_schedules.specs.Schedule.{ReaderFails}
+use Rattle.fe_schedules.specs.Schedule.{of_machine, of_stream, ReaderFails}
 use Rattle.fe_schedules.proofs.Starting.{nothing_read, of_store}
 use Rattle.fe_schedules.proofs.schedule.run_schedule.Goals as goal
 

@@ -1,6 +1,6 @@
 use Rattle.std.proofs.Common.{sym, ap, subst, ◌∙◌}
 use Rattle.fe_keeper.specs.Keeper.{KeeperState}
-use Rattle.fe_server.specs.Serving.{HasCommittedAndNoted}
+use Rattle.fe_server.specs.Acknowledged.{HasCommittedAndNoted}
 use Rattle.fe_server.proofs.server.run_in.Goals as goal
 
 pub spawn_with-committing-requires-clause-keeps : goal.spawn_with-committing-requires-clause-keeps

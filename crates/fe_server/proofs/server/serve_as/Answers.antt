@@ -2,9 +2,8 @@ use Rattle.std.proofs.Common.{Bool, inl, sym, subst, ◌∙◌}
 use Rattle.std.specs.Prelude.{IfOk}
 use Rattle.fe_keeper.specs.Keeper.{KeeperState}
 use Rattle.fe_hall.specs.declared.commit_end.CommitEnd.TheVariants.{Stopped}
-use Rattle.fe_server.specs.Acknowledged.{IsAcknowledged}
+use Rattle.fe_server.specs.Acknowledged.{IsAcknowledged, HasCommitted, account_in}
 use Rattle.fe_server.specs.FinishedConnections.{IsSettled}
-use Rattle.fe_server.specs.Serving.{HasCommitted, account_in}
 use Rattle.fe_server.specs.declared.served.Served.{Served}
 use Rattle.fe_server.proofs.Acknowledged.{ended_acknowledged, unbegun_acknowledged}
 use Rattle.fe_server.proofs.server.serve_as.Goals as goal

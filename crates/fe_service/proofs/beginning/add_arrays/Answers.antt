@@ -2,7 +2,7 @@ use Rattle.std.proofs.Common.{◌≤◌, ◌<◌, ◌+◌, ℕ, length, refl, sy
 use Rattle.std.specs.Option.{option_map}
 use Rattle.std.specs.FinMap.{get, len}
 use Rattle.fe_state.specs.Directory.{words_in}
-use Rattle.fe_state.specs.Shown.{shown_array}
+use Rattle.fe_state.specs.State.{shown_array}
 use Rattle.fe_state.proofs.Listed.{entry_there}
 use Rattle.fe_state.specs.declared.array.Array.{Array}
 use Rattle.fe_table.proofs.TableCopyLemmas.{made_all}

@@ -1,8 +1,7 @@
 use Rattle.std.proofs.Common.{◌∙◌, length, refl}
 use Rattle.std.proofs.Math.Seq.{drop-append_seam}
 use Rattle.fe_state.specs.declared.undo.SessionChange.TheVariants as change
-use Rattle.fe_state.specs.SessionEffect.{IsUsable}
-use Rattle.fe_state.specs.Sessions.{first_session}
+use Rattle.fe_state.specs.Sessions.{IsUsable, first_session}
 use Rattle.fe_state.proofs.DroppedLemmas.{put_back-closed, put_back-settled, remove-changed}
 use Rattle.fe_state.proofs.Maps.{get_inserted, get_removed}
 use Rattle.fe_state.proofs.Undone.{at_some, len_removed, put_back-keeping, remove-insert}

@@ -2,10 +2,9 @@ use Rattle.std.proofs.Common.{◌≡◌, ℕ, List, Option, Some, None, sym, ap,
 use Rattle.std.specs.Prelude.{Result, Ok, Err, IfOk, OnErr, IfSome}
 use Rattle.fe_wire.specs.declared.server_message.ServerMessage.{ServerMessage}
 use Rattle.fe_wire.specs.Spelling.{reply_spelling, ReplyFits}
-use Rattle.fe_codes.specs.Binding.{◌>>=◌}
+use Rattle.fe_codes.specs.Reading.{◌>>=◌, IsBytes}
 use Rattle.fe_wire.specs.within.Replies.{report_of, parts_of}
 use Rattle.fe_codes.proofs.BindingLaws.{bind_at}
-use Rattle.fe_codes.specs.Bytes.{IsBytes}
 use Rattle.fe_wire.proofs.ReplyLaws.{any_kind, reply_at, reply_at_takes, reply_at_again, report_at, report_kind, other_kind}
 use Rattle.fe_wire.proofs.replies.read_reply.Goals as goal
 

@@ -1,8 +1,8 @@
 use Rattle.std.proofs.Common.{ℕ, List, subst}
 use Rattle.fe_state.specs.State.{ServerState}
-use Rattle.fe_keeper.specs.Prefix.{LeavesPrefix}
+use Rattle.fe_keeper.specs.Stands.{LeavesPrefix}
 use Rattle.fe_desk.specs.Crash.{DeskState, IsFrom, disk_of}
-use Rattle.fe_desk.specs.Traces.{IsTraceOf}
+use Rattle.fe_desk.specs.Runs.{IsTraceOf}
 use Rattle.fe_desk.proofs.Openings.{is_trace}
 use Rattle.fe_desk.proofs.desk.Desk.into_parts.Goals as goal
 

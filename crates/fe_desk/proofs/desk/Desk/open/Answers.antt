@@ -1,6 +1,6 @@
 use Rattle.std.proofs.Common.{◌≡◌, ◌⊎◌, false, inl, inr, ⊎_elim, ap, subst, sym, ◌∙◌}
 use Rattle.std.proofs.lemmas.Result.{IfOk-weaker, IfErr-weaker}
-use Rattle.fe_journal.specs.Steps.{OnlyReads}
+use Rattle.fe_journal.specs.Journal.{OnlyReads}
 use Rattle.fe_keeper.specs.Keeper.{KeeperState}
 use Rattle.fe_keeper.specs.Stands.{StandsFor, EachStandsFor}
 use Rattle.fe_desk.specs.Crash.{disk_of}
@@ -8,7 +8,7 @@ use Rattle.fe_desk.specs.Messages.{desk_fault_of}
 use Rattle.fe_keeper.specs.declared.fault.Fault.TheVariants as keeper
 use Rattle.fe_desk.specs.declared.fault.DeskFault.{DeskFault}
 use Rattle.fe_desk.specs.declared.fault.DeskFault.TheVariants.{Store, NoMemory}
-use Rattle.fe_desk.specs.Opened.{TellsOpening}
+use Rattle.fe_desk.specs.Runs.{TellsOpening}
 use Rattle.fe_desk.proofs.Openings.{disk_is, asks_over, asks_refused, tells_opening, short_opening}
 use Rattle.fe_desk.proofs.desk.Desk.open.Goals as goal
 

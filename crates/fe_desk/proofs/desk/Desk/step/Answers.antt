@@ -1,6 +1,6 @@
 use Rattle.std.proofs.Common.{subst}
 use Rattle.fe_desk.specs.Crash.{DeskState}
-use Rattle.fe_desk.specs.Taken.{IsStep}
+use Rattle.fe_desk.specs.Runs.{IsStep}
 use Rattle.fe_desk.specs.within.Desk.{desk_of}
 use Rattle.fe_messages.proofs.Answers.{keeps_below}
 use Rattle.fe_desk.proofs.Answering.{step_acknowledged}

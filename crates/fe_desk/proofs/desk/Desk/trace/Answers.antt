@@ -1,6 +1,6 @@
 use Rattle.std.proofs.Common.{subst}
 use Rattle.fe_desk.specs.Crash.{DeskState}
-use Rattle.fe_desk.specs.Traces.{IsTraceOf}
+use Rattle.fe_desk.specs.Runs.{IsTraceOf}
 use Rattle.fe_desk.proofs.Openings.{is_trace}
 use Rattle.fe_desk.proofs.desk.Desk.trace.Goals as goal
 

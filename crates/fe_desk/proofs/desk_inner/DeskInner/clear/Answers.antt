@@ -1,6 +1,5 @@
 use Rattle.std.proofs.Common.{ap, ◌∙◌}
-use Rattle.fe_desk.specs.DeskRunState.{DeskRunState}
-use Rattle.fe_desk.specs.Storing.{posted}
+use Rattle.fe_desk.specs.DeskRunState.{DeskRunState, posted}
 use Rattle.fe_desk.proofs.Goes.{passed, after, unstored_short}
 use Rattle.fe_desk.proofs.desk_inner.DeskInner.clear.Goals as goal
 

@@ -5,8 +5,7 @@ use Rattle.fe_desk.specs.Crash.{DeskState}
 use Rattle.fe_desk.specs.DeskRunState.{DeskRunState}
 use Rattle.fe_desk.specs.Steps.{Connects}
 use Rattle.fe_desk.specs.declared.desk_inner.DeskInner.{DeskInner}
-use Rattle.fe_desk.specs.within.Desk.{desk_of, run_state_of}
-use Rattle.fe_desk.specs.within.Keeping.{Stays}
+use Rattle.fe_desk.specs.within.Desk.{desk_of, run_state_of, Stays}
 use Rattle.fe_desk.proofs.Connecting.{connects, connects_stays, refused_same}
 use Rattle.fe_desk.proofs.Goes.{stays_itself, stays_same}
 use Rattle.fe_desk.proofs.desk_inner.DeskInner.connect.Goals as goal

@@ -1,8 +1,7 @@
 use Rattle.std.proofs.Common.{sym, ap, subst, ◌∙◌}
 use Rattle.fe_desk.specs.Crash.{DeskState}
 use Rattle.fe_desk.specs.declared.desk_inner.DeskInner.{DeskInner}
-use Rattle.fe_desk.specs.within.Desk.{desk_of, run_state_of}
-use Rattle.fe_desk.specs.within.Keeping.{Stays}
+use Rattle.fe_desk.specs.within.Desk.{desk_of, run_state_of, Stays}
 use Rattle.fe_desk.proofs.Connecting.{goes, gone_stays}
 use Rattle.fe_desk.proofs.desk_inner.DeskInner.leave.Goals as goal
 

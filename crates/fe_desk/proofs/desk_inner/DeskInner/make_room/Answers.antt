@@ -1,10 +1,9 @@
 use Rattle.std.proofs.Common.{◌≡◌, inl, inr, ℕ, Some, None, true, false, sym, ap, ◌∙◌}
 use Rattle.std.specs.Prelude.{Result, Ok}
 use Rattle.fe_front.specs.Front.{has_room}
-use Rattle.fe_desk.specs.DeskRunState.{DeskRunState}
-use Rattle.fe_desk.specs.Storing as way
-use Rattle.fe_desk.specs.Storing.{made, committed, cleared, begun_room, roomy, with_room}
-use Rattle.fe_desk.specs.Stopping.{MayBegin, StopsMaking, room_begun}
+use Rattle.fe_desk.specs.DeskRunState.{DeskRunState, made, committed, cleared, begun_room, roomy, with_room}
+use Rattle.fe_desk.specs.DeskRunState as way
+use Rattle.fe_desk.specs.Ends.{MayBegin, StopsMaking, room_begun}
 use Rattle.fe_desk.specs.Crash.{DeskState}
 use Rattle.fe_desk.specs.within.Desk.{run_state_of}
 use Rattle.fe_desk.specs.within.Goes.{GoesTo, WasBegun}

@@ -2,7 +2,7 @@ use Rattle.std.proofs.Common.{◌≡◌, sym, ap, ◌∙◌}
 use Rattle.fe_mail.specs.Connections.{mails_on}
 use Rattle.fe_desk.specs.within.Desk.{run_state_of, desk_of}
 use Rattle.fe_desk.specs.Messages.{outputs}
-use Rattle.fe_desk.specs.Quiet.{HasNoMail}
+use Rattle.fe_desk.specs.Steps.{HasNoMail}
 use Rattle.fe_desk.proofs.Outputs.{extends_itself, extends_both, extends_as, acts_extends}
 use Rattle.fe_desk.proofs.Advancing.{store_itself, advances_as, advances_itself, advances_after, advances_then}
 use Rattle.fe_desk.proofs.Quiets.{quiet_emptied, still_quiet_after}

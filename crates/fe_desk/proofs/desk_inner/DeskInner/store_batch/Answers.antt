@@ -6,7 +6,7 @@ use Rattle.fe_state.specs.declared.batch.Batch.{Batch}
 use Rattle.fe_keeper.specs.declared.fault.Fault.{Fault}
 use Rattle.fe_keeper.specs.declared.fault.Fault.TheVariants.{Device}
 use Rattle.fe_desk.specs.declared.handed.Handed.TheVariants.{Cut, Stored}
-use Rattle.fe_desk.specs.Storing.{handing}
+use Rattle.fe_desk.specs.DeskRunState.{handing}
 use Rattle.fe_desk.specs.Crash.{with_handed}
 use Rattle.fe_desk.specs.within.Goes.{Faults, Is, IsUnstored}
 use Rattle.fe_desk.proofs.Goes.{unstored}

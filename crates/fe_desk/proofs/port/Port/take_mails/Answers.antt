@@ -1,7 +1,6 @@
 use Rattle.std.proofs.Common.{sym, ◌∙◌, ap, subst}
 use Rattle.fe_desk.specs.DeskRunState.{Client}
-use Rattle.fe_desk.specs.within.Desk.{client_of}
-use Rattle.fe_desk.specs.within.Keeping.{IsWrittenOutLater}
+use Rattle.fe_desk.specs.within.Desk.{client_of, IsWrittenOutLater}
 use Rattle.fe_desk.proofs.Emptying.{itself, empty_itself, later_itself, waiting_written, next_written, next_waits, next_keeps, next_empty, fewer_after, on_any_err}
 use Rattle.fe_desk.proofs.Writing.{none_yet, one_more, stops_here, stops_waiting}
 use Rattle.fe_desk.proofs.port.Port.take_mails.Goals as goal

@@ -1,7 +1,6 @@
 use Rattle.std.proofs.Common.{◌≡◌, None, length}
 use Rattle.fe_mail.specs.Connections.{mails_on}
-use Rattle.fe_desk.specs.within.Desk.{client_of}
-use Rattle.fe_desk.specs.within.Keeping.{KeepsFront, KeepsEmpty, IsWrittenOutLater}
+use Rattle.fe_desk.specs.within.Desk.{client_of, KeepsFront, KeepsEmpty, IsWrittenOutLater}
 use Rattle.fe_desk.proofs.Writing.{IsWrittenSoFar}
 use Rattle.fe_desk.proofs.port.Port.take_mails.Given as goal
 

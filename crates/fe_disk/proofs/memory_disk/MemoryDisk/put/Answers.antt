@@ -1,8 +1,7 @@
 use Rattle.std.proofs.Common.{rules, ap, ◌∙◌, ◌∷◌, length, List, ℕ, ◌+◌, ◌≤◌, ◌≡◌, arith}
 use Rattle.std.proofs.lemmas.List.{with_items_is}
 use Rattle.fe_disk.specs.Disk.{after_write, bytes_at}
-use Rattle.fe_disk.specs.Memory.{MemoryState, Write}
-use Rattle.fe_disk.specs.Record.{newest_first}
+use Rattle.fe_disk.specs.Memory.{MemoryState, Write, newest_first}
 use Rattle.fe_disk.proofs.Images.{length-after_write}
 use Rattle.fe_disk.proofs.Outcomes.{at_ok}
 use Rattle.fe_disk.proofs.Stops.{put_keeps}

@@ -1,9 +1,7 @@
 use Rattle.std.proofs.Common.{ap, subst, sym, ◌∙◌, List, ℕ, length}
 use Rattle.fe_disk.specs.declared.record.Call.{Call}
 use Rattle.fe_disk.specs.Disk.{IsImage, LeavesJust}
-use Rattle.fe_disk.specs.Memory.{DiskEvent, MemoryState, MayLeave, IsLeftBy}
-use Rattle.fe_disk.specs.Ranges.{AreWithin, image_with_tears}
-use Rattle.fe_disk.specs.Record.{newest_first}
+use Rattle.fe_disk.specs.Memory.{DiskEvent, MemoryState, MayLeave, IsLeftBy, AreWithin, image_with_tears, newest_first}
 use Rattle.fe_disk.proofs.Tears.{left_by_tear, allowed_tear, just_left}
 use Rattle.fe_disk.proofs.memory_disk.MemoryDisk.stopped.Goals as goal
 

@@ -1,6 +1,5 @@
 use Rattle.std.proofs.Common.{◌≡◌, ◌+◌, drop}
-use Rattle.fe_front.specs.Posting.{posted_all}
-use Rattle.fe_front.specs.Noting.{Notes}
+use Rattle.fe_front.specs.Posting.{posted_all, Notes}
 use Rattle.fe_front.proofs.front.Front.post_all.Given as goal
 
 -- the entries that are left, posted from here on, leave what all leave

@@ -2,8 +2,7 @@ use Rattle.std.proofs.Common.{rules, ◌≡◌, ℕ, refl, sym, ap, ◌∙◌}
 use Rattle.fe_state.specs.declared.entry.Entry.{Entry}
 use Rattle.fe_state.specs.declared.entry.Entry.TheVariants.{Attached, Closed, Settled, Finished}
 use Rattle.fe_front.specs.Front.{FrontState}
-use Rattle.fe_front.specs.Noting.{Notes}
-use Rattle.fe_front.specs.Posting.{delivered, posted_entry}
+use Rattle.fe_front.specs.Posting.{Notes, delivered, posted_entry}
 use Rattle.fe_front.proofs.Agreement.{connection_there}
 use Rattle.fe_front.proofs.Noting.{notes_not, notes_then, notes_mailed, notes_ended}
 use Rattle.fe_service.specs.AttachmentsState.{holder_of}

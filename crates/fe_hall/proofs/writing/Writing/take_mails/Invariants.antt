@@ -2,7 +2,7 @@ use Rattle.std.proofs.Common.{◌≡◌, ◌⊎◌, [], List}
 use Rattle.fe_mail.specs.declared.mail.Mail.{Mail}
 use Rattle.fe_messages.specs.Mails.{spelled}
 use Rattle.fe_hall.specs.Writes.{TakesOn, IsBatch}
-use Rattle.fe_hall.specs.within.Writing.{IssuesOn}
+use Rattle.fe_hall.specs.within.Sides.{IssuesOn}
 use Rattle.fe_hall.proofs.writing.Writing.take_mails.Given as goal
 
 -- mails were taken, and all of them are spelled; it waits only where there are none, or where more mails are in the box

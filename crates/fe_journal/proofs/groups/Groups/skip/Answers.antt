@@ -1,6 +1,5 @@
 use Rattle.std.proofs.Common.{ℕ, ◌+◌, List, length, sym, ◌∙◌, ap, subst}
-use Rattle.fe_journal.specs.Groups.{HoldsGroups}
-use Rattle.fe_journal.specs.Cursor.{Cursor}
+use Rattle.fe_journal.specs.Contents.{HoldsGroups, Cursor}
 use Rattle.fe_format.specs.declared.format.Format.{Format}
 use Rattle.fe_journal.proofs.Openings.{rest_holds}
 use Rattle.fe_journal.proofs.groups.Groups.skip.Goals as goal

@@ -1,5 +1,5 @@
 use Rattle.std.proofs.Common.{◌≡◌, ℕ, ◌+◌, ◌≤◌, ◌∷◌, length, take, sym, ◌∙◌, subst, arith}
-use Rattle.fe_journal.specs.Groups.{GroupFits, after_gate}
+use Rattle.fe_journal.specs.Contents.{GroupFits, after_gate}
 use Rattle.fe_journal.proofs.Buffers.{group_read}
 use Rattle.fe_disk.proofs.Outcomes.{at_ok}
 use Rattle.fe_journal.proofs.Journals.{append_run, append_kept}

@@ -1,8 +1,7 @@
 use Rattle.std.proofs.Common.{◌≡◌, ℕ, List, length, Result, Ok, Err, sym, ◌∙◌, ap, subst, refl}
-use Rattle.fe_journal.specs.Cursor.{Cursor, Lists}
+use Rattle.fe_journal.specs.Contents.{Cursor, Lists}
 use Rattle.fe_journal.specs.Found.{IsFound, AsksToOpen}
-use Rattle.fe_journal.specs.Journal.{JournalState}
-use Rattle.fe_journal.specs.Steps.{OnlyReads}
+use Rattle.fe_journal.specs.Journal.{JournalState, OnlyReads}
 use Rattle.fe_journal.specs.Store.{IsStore}
 use Rattle.fe_journal.specs.declared.fault.StoreFault.{StoreFault}
 use Rattle.fe_journal.specs.declared.fault.StoreFault.TheVariants.{Device}

@@ -1,6 +1,5 @@
 use Rattle.std.proofs.Common.{◌-◌, sym, ◌∙◌, subst, refl, arith}
-use Rattle.fe_journal.specs.Journal.{JournalState}
-use Rattle.fe_journal.specs.Steps.{Shuts}
+use Rattle.fe_journal.specs.Journal.{JournalState, Shuts}
 use Rattle.fe_journal.specs.Layout.{gate_of}
 use Rattle.fe_disk.proofs.Outcomes.{at_ok}
 use Rattle.fe_journal.proofs.Begins.{begin_run, begin_kept}

@@ -1,7 +1,6 @@
 use Rattle.std.proofs.Common.{◌≡◌, ℕ, ◌-◌, List, take, Option, None, IfSome, sym, ◌∙◌, ap, subst, arith}
-use Rattle.fe_journal.specs.Groups.{end_of_groups}
-use Rattle.fe_journal.specs.Journal.{JournalState, catch_up_groups}
-use Rattle.fe_journal.specs.Steps.{area_start}
+use Rattle.fe_journal.specs.Contents.{end_of_groups}
+use Rattle.fe_journal.specs.Journal.{JournalState, catch_up_groups, area_start}
 use Rattle.fe_journal.specs.declared.begun.Begun.{Begun}
 use Rattle.fe_journal.proofs.Buffers.{buffer_whole, start_end}
 use Rattle.fe_disk.proofs.Outcomes.{at_ok}

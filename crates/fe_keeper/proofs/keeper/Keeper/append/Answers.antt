@@ -6,9 +6,8 @@ use Rattle.fe_replica.proofs.Numbered.{legal_can_be_put}
 use Rattle.fe_keeper.specs.Ends.{Breaks, Refuses, ForBatch}
 use Rattle.fe_keeper.specs.Stands.{EachStandsFor}
 use Rattle.fe_keeper.specs.within.Faults.{fault_of_refused, fault_of_journal}
-use Rattle.fe_keeper.specs.within.Fresh.{IsImageOf}
-use Rattle.fe_keeper.specs.within.Kept.{kept_of}
-use Rattle.fe_keeper.specs.within.Upholds.{Upholds}
+use Rattle.fe_keeper.specs.within.Ends.{IsImageOf}
+use Rattle.fe_keeper.specs.within.Upholds.{kept_of, Upholds}
 use Rattle.fe_keeper.specs.declared.keeper.Keeper.TheInside.{Inside}
 use Rattle.fe_keeper.proofs.Ends.{append_fails, take_fails, device_fails, memory_fails}
 use Rattle.fe_keeper.proofs.Taking.{each_stands, same_kept, none_put, calls_there}

@@ -2,7 +2,7 @@ use Rattle.std.proofs.Common.{◌≡◌, ◌∙◌, IsTrue, sym, ap, subst}
 use Rattle.std.specs.Prelude.{false, true}
 use Rattle.fe_keeper.specs.Ends.{ForDevice}
 use Rattle.fe_keeper.specs.Keeper.{KeeperState, has_slices}
-use Rattle.fe_keeper.specs.within.Kept.{kept_of}
+use Rattle.fe_keeper.specs.within.Upholds.{kept_of}
 use Rattle.fe_keeper.specs.declared.keeper_store.KeeperStore.{KeeperStore}
 use Rattle.fe_keeper.proofs.Ends.{device_told, must_be}
 use Rattle.fe_keeper.proofs.Taking.{carries_durable, carries_rest}

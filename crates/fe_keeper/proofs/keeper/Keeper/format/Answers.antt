@@ -2,7 +2,7 @@ use Rattle.std.proofs.Common.{Err, sym, subst}
 use Rattle.fe_state.specs.State.{ServerState, first_state}
 use Rattle.fe_format.specs.declared.format.Format.TheVariants.{Two}
 use Rattle.fe_journal.specs.Contents.{first_contents}
-use Rattle.fe_journal.specs.Formatting.{Formats}
+use Rattle.fe_journal.specs.Journal.{Formats}
 use Rattle.fe_keeper.specs.Keeper.{KeeperState}
 use Rattle.fe_keeper.specs.Stands.{Stands, EachStandsFor}
 use Rattle.fe_keeper.specs.Opened.{KeepsState}

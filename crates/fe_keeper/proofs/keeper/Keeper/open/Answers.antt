@@ -4,7 +4,7 @@ use Rattle.fe_codec.specs.FirstFault.{header_at}
 use Rattle.fe_keeper.specs.Keeper.{KeeperState}
 use Rattle.fe_keeper.specs.Opened.{IsOpenedFrom, IsReady}
 use Rattle.fe_journal.specs.Found.{AsksToOpen}
-use Rattle.fe_journal.specs.Steps.{OnlyReads}
+use Rattle.fe_journal.specs.Journal.{OnlyReads}
 use Rattle.fe_journal.specs.declared.fault.StoreFault.{StoreFault}
 use Rattle.fe_journal.specs.declared.fault.StoreFault.TheVariants as store
 use Rattle.fe_journal.proofs.Founds.{formatted, opens_as}

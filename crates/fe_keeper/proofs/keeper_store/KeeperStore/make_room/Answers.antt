@@ -1,6 +1,5 @@
 use Rattle.std.proofs.Common.{Option, subst, rules}
-use Rattle.fe_keeper.specs.within.Ends.{Always}
-use Rattle.fe_keeper.specs.within.Fresh.{IsImageOf, IsImageIfSome}
+use Rattle.fe_keeper.specs.within.Ends.{Always, IsImageOf, IsImageIfSome}
 use Rattle.fe_keeper.specs.declared.checkpoint.Checkpoint.{Checkpoint}
 use Rattle.fe_keeper.proofs.Ends.{passed_step, step_by, then_step}
 use Rattle.fe_keeper.proofs.Taking.{none_left}

@@ -1,5 +1,4 @@
-use Rattle.fe_keeper.specs.within.Ends.{Always}
-use Rattle.fe_keeper.specs.within.Fresh.{IsImageOf}
+use Rattle.fe_keeper.specs.within.Ends.{Always, IsImageOf}
 use Rattle.fe_keeper.proofs.Ends.{passed_step, then_step}
 use Rattle.fe_keeper.proofs.keeper_store.KeeperStore.renew.Goals as goal
 

@@ -1,5 +1,5 @@
 use Rattle.std.proofs.Common.{Some, rules}
-use Rattle.fe_keeper.specs.within.Slices.{KeepsDraft}
+use Rattle.fe_keeper.specs.within.Upholds.{KeepsDraft}
 use Rattle.fe_keeper.proofs.Checkpoints.{step_moments, draft_kept}
 use Rattle.fe_keeper.proofs.Ends.{passed_ends}
 use Rattle.fe_keeper.proofs.keeper_store.KeeperStore.step.Goals as goal

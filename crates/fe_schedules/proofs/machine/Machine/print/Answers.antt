@@ -2,7 +2,7 @@ use Rattle.std.proofs.Common.{List, ◌++◌, string_bytes, refl, sym, ap, ◌�
 use Rattle.std.proofs.lemmas.List.Sorted.{answers_always}
 use Rattle.std.specs.List.{flat_map}
 use Rattle.fe_schedules.specs.Ready.{IsReady}
-use Rattle.fe_schedules.specs.PrintedReply.{key_of, printed_text, IsSorting}
+use Rattle.fe_schedules.specs.Schedule.{key_of, printed_text, IsSorting}
 use Rattle.fe_schedules.specs.declared.printed_reply.PrintedReply.{PrintedReply}
 use Rattle.fe_schedules.proofs.Outputs.{trace_replies}
 use Rattle.fe_schedules.proofs.Readiness.{ready_anew}

@@ -1,10 +1,10 @@
 use Rattle.std.proofs.Common.{Ok, Err, Option, refl, sym, subst}
 use Rattle.fe_disk.specs.Memory.{MemoryState}
 use Rattle.fe_desk.specs.Crash.{disk_of}
-use Rattle.fe_desk.specs.Taken.{Ends}
+use Rattle.fe_desk.specs.Runs.{Ends}
 use Rattle.fe_desk.proofs.Stepping.{ends_of}
-use Rattle.fe_schedules.specs.Fault.{TellsDisk}
-use Rattle.fe_schedules.specs.MemoryModel.{memory_model}
+use Rattle.fe_schedules.specs.Schedule.{TellsDisk}
+use Rattle.fe_schedules.specs.Ready.{memory_model}
 use Rattle.fe_schedules.specs.Runs.{last_of}
 use Rattle.fe_schedules.proofs.Readiness.{ready_after, step_tells, tells_of}
 use Rattle.fe_schedules.proofs.machine.Machine.step.Goals as goal

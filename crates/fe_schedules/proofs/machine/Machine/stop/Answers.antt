@@ -4,7 +4,7 @@ use Rattle.fe_state.specs.State.{ServerState}
 use Rattle.fe_desk.specs.Crash.{DeskState, IsFrom, disk_of}
 use Rattle.fe_desk.specs.DeskRunState.{IsFirstRunState}
 use Rattle.fe_desk.proofs.Openings.{device_alone, first_from}
-use Rattle.fe_schedules.specs.Fault.{TellsDisk}
+use Rattle.fe_schedules.specs.Schedule.{TellsDisk}
 use Rattle.fe_schedules.specs.Ready.{IsReady}
 use Rattle.fe_schedules.specs.Runs.{last_disk}
 use Rattle.fe_schedules.specs.declared.fault.MachineFault.{MachineFault}

@@ -2,7 +2,7 @@ use Rattle.std.proofs.Common.{◌≡◌, ◌+◌, ◌++◌, Option, ap, subst, r
 use Rattle.fe_schedules.specs.Runs.{IsRun, SaysLine}
 use Rattle.fe_text.specs.declared.line.Line.{Line}
 use Rattle.fe_schedules.specs.declared.run.Run.{Run}
-use Rattle.fe_schedules.specs.Fault.{of_machine}
+use Rattle.fe_schedules.specs.Schedule.{of_machine}
 use Rattle.fe_text.proofs.Results.{failed}
 use Rattle.fe_schedules.proofs.Stages.{some_ran, none_ran}
 use Rattle.fe_schedules.proofs.Taking.{stray_fault, said_fault}

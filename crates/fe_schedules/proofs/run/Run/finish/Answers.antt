@@ -1,6 +1,6 @@
 use Rattle.std.proofs.Common.{List, ℕ, [], string_bytes}
 use Rattle.fe_text.specs.declared.fault.StreamFault.{StreamFault}
-use Rattle.fe_schedules.specs.Fault.{of_stream}
+use Rattle.fe_schedules.specs.Schedule.{of_stream}
 use Rattle.fe_schedules.specs.Runs.{last_disk}
 use Rattle.fe_text.proofs.Results.{either_of, failed}
 use Rattle.fe_schedules.proofs.Taking.{wrote_whole, write_whole_fails, wrote_end, write_end_fails, keeps_none}

@@ -1,5 +1,5 @@
 use Rattle.std.proofs.Common.{List, ℕ, [], ◌∷◌, ◌++◌, refl, sym, subst, string_bytes}
-use Rattle.fe_schedules.specs.Fault.{of_stream}
+use Rattle.fe_schedules.specs.Schedule.{of_stream}
 use Rattle.fe_schedules.specs.Runs.{Ended}
 use Rattle.fe_text.proofs.Results.{failed}
 use Rattle.fe_schedules.proofs.Taking.{took_line, line_fails, wrote, write_fails}

@@ -1,5 +1,5 @@
 use Rattle.std.proofs.Common.{List, ℕ, ◌++◌, refl, string_bytes}
-use Rattle.fe_schedules.specs.Fault.{of_stream}
+use Rattle.fe_schedules.specs.Schedule.{of_stream}
 use Rattle.fe_text.proofs.Results.{match_then, either_of, failed}
 use Rattle.fe_schedules.proofs.Taking.{wrote, write_fails, wrote_end, write_end_fails}
 use Rattle.fe_schedules.proofs.run.Run.take_piece.Goals as goal

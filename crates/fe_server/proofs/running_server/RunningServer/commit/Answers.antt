@@ -2,7 +2,7 @@ use Rattle.std.proofs.Common.{Some, List, subst, sym, ◌∙◌}
 use Rattle.fe_hall.specs.Commits.{AppendsAreNoted}
 use Rattle.fe_history.specs.declared.act.Act.{Act}
 use Rattle.fe_hall.specs.declared.commit_end.CommitEnd.{CommitEnd}
-use Rattle.fe_server.specs.Serving.{HasCommittedAndNoted}
+use Rattle.fe_server.specs.Acknowledged.{HasCommittedAndNoted}
 use Rattle.fe_server.proofs.running_server.RunningServer.commit.Goals as goal
 
 pub returns : goal.returns

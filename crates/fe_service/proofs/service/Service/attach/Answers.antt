@@ -5,8 +5,7 @@ use Rattle.std.specs.FinMap.{get}
 use Rattle.fe_state.specs.Directory.{words_in}
 use Rattle.fe_state.specs.State.{IsLegal, after}
 use Rattle.fe_state.specs.declared.entry.Entry.TheVariants.{Attached}
-use Rattle.fe_service.specs.Service.{AreUsable, IsQuiet}
-use Rattle.fe_service.specs.ServiceState.{ServiceState, is_open, service_of}
+use Rattle.fe_service.specs.Service.{AreUsable, IsQuiet, ServiceState, is_open, service_of}
 use Rattle.fe_service.proofs.Attaching.{attach_legal}
 use Rattle.fe_service.proofs.Staying.{attached_service}
 use Rattle.fe_service.proofs.service.Service.attach.Goals as goal

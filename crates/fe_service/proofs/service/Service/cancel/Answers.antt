@@ -1,7 +1,7 @@
 use Rattle.std.proofs.Common.{◌≡◌, ℕ, is_some, refl, sym, ap, ◌∙◌}
 use Rattle.std.specs.FinMap.{get, remove}
 use Rattle.fe_waits.proofs.MemberLemmas.{remove_absent}
-use Rattle.fe_service.specs.ServiceState.{service_of}
+use Rattle.fe_service.specs.Service.{service_of}
 use Rattle.fe_service.specs.within.Slots.{by_session}
 use Rattle.fe_service.proofs.KeptLemmas.{slot-below, kept-waits}
 use Rattle.fe_service.proofs.OwnerLemmas.{get-in_slot, get-without_attachment, owned-remove, by_session-remove}

@@ -2,7 +2,7 @@ use Rattle.std.proofs.Common.{◌≡◌, is_some, refl, sym, ap, ◌∙◌, arit
 use Rattle.std.specs.FinMap.{get}
 use Rattle.fe_state.specs.Directory.{words_in}
 use Rattle.fe_service.specs.AttachmentsState.{with_closing, without_session}
-use Rattle.fe_service.specs.ServiceState.{service_of}
+use Rattle.fe_service.specs.Service.{service_of}
 use Rattle.fe_service.proofs.AttachmentLemmas.{is_occupant, attachments-closing}
 use Rattle.fe_service.proofs.Attaching.{open_there}
 use Rattle.fe_service.proofs.KeptLemmas.{kept-with_others}

@@ -3,7 +3,7 @@ use Rattle.std.specs.FinMap.{get}
 use Rattle.fe_state.specs.Effect.{effect_of}
 use Rattle.fe_state.specs.State.{directory_of, reply}
 use Rattle.fe_state.specs.declared.effect.Effect.TheVariants.{Nothing}
-use Rattle.fe_service.specs.ServiceState.{ServiceState}
+use Rattle.fe_service.specs.Service.{ServiceState}
 use Rattle.fe_service.proofs.Completing.{IsEntered, free_in, completes_in, entered_by, entered_service, entered_completes}
 use Rattle.fe_service.proofs.Serving.{none_taken}
 use Rattle.fe_service.proofs.Effects.{makes_none, unchanged_quiet, unchanged_lengths}

@@ -5,7 +5,7 @@ use Rattle.fe_state.proofs.Undone.{remove-insert}
 use Rattle.fe_state.specs.Directory.{words_in}
 use Rattle.fe_state.specs.declared.answer.Answer.TheVariants as answers
 use Rattle.fe_state.specs.declared.request.Request.TheVariants.{Create}
-use Rattle.fe_service.specs.ServiceState.{ServiceState}
+use Rattle.fe_service.specs.Service.{ServiceState}
 use Rattle.fe_service.specs.declared.service_inner.ServiceInner.{ServiceInner}
 use Rattle.fe_service.specs.within.Slots.{by_session, attachments_state_of}
 use Rattle.fe_service.proofs.RequestLemmas.{none-on_array_back}

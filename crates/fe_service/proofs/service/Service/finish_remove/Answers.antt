@@ -7,8 +7,7 @@ use Rattle.fe_state.specs.Effect.{effect_of}
 use Rattle.fe_state.specs.State.{directory_of}
 use Rattle.fe_state.specs.declared.request.Request.TheVariants.{Remove}
 use Rattle.fe_state.specs.declared.entry.Entry.TheVariants.{Finished}
-use Rattle.fe_service.specs.Service.{IsQuiet}
-use Rattle.fe_service.specs.ServiceState.{ServiceState}
+use Rattle.fe_service.specs.Service.{IsQuiet, ServiceState}
 use Rattle.fe_service.specs.Events.{HasRoom, Completes}
 use Rattle.fe_service.specs.within.Slots.{by_session}
 use Rattle.fe_service.proofs.RequestLemmas.{none-on_array_back}

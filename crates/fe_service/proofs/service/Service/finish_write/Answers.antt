@@ -3,9 +3,8 @@ use Rattle.std.specs.FinMap.{get, len}
 use Rattle.fe_state.specs.Directory.{words_in}
 use Rattle.fe_state.specs.Effect.{effect_of}
 use Rattle.fe_state.specs.State.{directory_of}
-use Rattle.fe_service.specs.Service.{IsQuiet}
+use Rattle.fe_service.specs.Service.{IsQuiet, ServiceState}
 use Rattle.fe_service.specs.Events.{HasRoom}
-use Rattle.fe_service.specs.ServiceState.{ServiceState}
 use Rattle.fe_service.specs.within.ServiceInner.{WaitAtTag}
 use Rattle.fe_service.proofs.Effects.{Writes, writes, writes_one, written_lengths}
 use Rattle.fe_service.proofs.Quiet.{quiet_tag, word_below, quiet_there_and}

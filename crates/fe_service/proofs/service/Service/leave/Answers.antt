@@ -1,7 +1,7 @@
 use Rattle.std.proofs.Common.{◌≡◌, None, set, is_some, refl, ap, sym, ◌∙◌, arith}
 use Rattle.std.specs.FinMap.{get, remove}
 use Rattle.fe_service.specs.AttachmentsState.{NoneOfSession}
-use Rattle.fe_service.specs.ServiceState.{service_of}
+use Rattle.fe_service.specs.Service.{service_of}
 use Rattle.fe_service.specs.within.Slots.{attachments_of, by_session}
 use Rattle.fe_service.proofs.KeptLemmas.{leave-below, leave-room, kept-leave, waiting-leave}
 use Rattle.fe_service.proofs.AttachmentLemmas.{is_occupant, attachments-remove}

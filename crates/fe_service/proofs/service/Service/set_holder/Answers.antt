@@ -1,7 +1,7 @@
 use Rattle.std.proofs.Common.{refl, ap, ◌∙◌, arith}
 use Rattle.std.specs.FinMap.{get}
 use Rattle.fe_service.specs.AttachmentsState.{with_holder}
-use Rattle.fe_service.specs.ServiceState.{service_of}
+use Rattle.fe_service.specs.Service.{service_of}
 use Rattle.fe_service.proofs.AttachmentLemmas.{is_occupant, attachments-holder}
 use Rattle.fe_service.proofs.KeptLemmas.{kept-with_others}
 use Rattle.fe_service.proofs.Staying.{same_service, held_service}

@@ -2,7 +2,7 @@ use Rattle.fe_service.specs.Events.{MaySettle}
 use Rattle.std.proofs.Common.{subst, sym, ap, ◌∙◌}
 use Rattle.std.specs.FinMap.{get}
 use Rattle.fe_state.specs.Directory.{words_in}
-use Rattle.fe_service.specs.ServiceState.{ServiceState, service_of}
+use Rattle.fe_service.specs.Service.{ServiceState, service_of}
 use Rattle.fe_service.proofs.Staying.{same_service, settled_service}
 use Rattle.fe_service.proofs.service.Service.settle.Goals as goal
 

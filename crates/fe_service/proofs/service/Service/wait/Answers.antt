@@ -4,7 +4,7 @@ use Rattle.std.proofs.Common.{◌≡◌, is_some, refl, sym, ap, ◌∙◌, arit
 use Rattle.std.specs.FinMap.{get, insert}
 use Rattle.fe_waits.specs.Waiting.{WaitingAccess}
 use Rattle.fe_service.specs.AttachmentsState.{count_of}
-use Rattle.fe_service.specs.ServiceState.{service_of}
+use Rattle.fe_service.specs.Service.{service_of}
 use Rattle.fe_service.specs.within.Slots.{by_session}
 use Rattle.fe_service.proofs.AttachmentLemmas.{is_occupant, has_slot}
 use Rattle.fe_service.proofs.Attaching.{usable_there}

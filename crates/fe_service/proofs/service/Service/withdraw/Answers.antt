@@ -1,7 +1,7 @@
 use Rattle.std.proofs.Common.{refl, ap, ◌∙◌}
 use Rattle.std.specs.FinMap.{get}
 use Rattle.fe_service.specs.AttachmentsState.{without_session}
-use Rattle.fe_service.specs.ServiceState.{service_of}
+use Rattle.fe_service.specs.Service.{service_of}
 use Rattle.fe_service.proofs.Staying.{same_service, fewer_service, within_without}
 use Rattle.fe_service.proofs.service.Service.withdraw.Goals as goal
 

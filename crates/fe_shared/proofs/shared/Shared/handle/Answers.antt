@@ -1,6 +1,6 @@
 use Rattle.std.proofs.Common.{subst, arith, rules}
 use Rattle.std.specs.Prelude.{IsTrue}
-use Rattle.fe_messages.specs.Asking.{Took}
+use Rattle.fe_messages.specs.Taking.{Took}
 use Rattle.fe_history.specs.Rules.{Hears}
 use Rattle.fe_shared.specs.Seats.{takes_more}
 use Rattle.fe_shared.proofs.Marks.{heard_marked}

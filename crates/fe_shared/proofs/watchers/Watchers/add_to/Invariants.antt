@@ -1,7 +1,7 @@
 use Rattle.std.proofs.Common.{◌≡◌, ℕ, true, take}
 use Rattle.std.specs.Prelude.{◌==◌, IsTrue}
 use Rattle.std.specs.List.{list_any}
-use Rattle.fe_front.specs.ConnectionSet.{may_have}
+use Rattle.fe_front.specs.Posting.{may_have}
 use Rattle.fe_shared.proofs.watchers.Watchers.add_to.Given as goal
 
 -- those before this one are added

@@ -1,5 +1,5 @@
 use Rattle.std.proofs.Common.{sym, subst, arith}
-use Rattle.fe_state.specs.Change.{MayBeAdded}
+use Rattle.fe_state.specs.Effect.{MayBeAdded}
 use Rattle.fe_state.proofs.DirectoryLemmas.{come_kept, come_words}
 use Rattle.fe_state.proofs.directory.Directory.insert.Goals as goal
 

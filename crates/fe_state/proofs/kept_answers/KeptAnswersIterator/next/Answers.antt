@@ -1,6 +1,6 @@
 use Rattle.std.proofs.Common.{◌+◌, length, ap, arith}
 use Rattle.std.specs.FinMap.{len-entries}
-use Rattle.fe_state.specs.KeptAnswers.{answers_from}
+use Rattle.fe_state.specs.Sessions.{answers_from}
 use Rattle.fe_state.proofs.kept_answers.KeptAnswersIterator.next.Goals as goal
 
 pub invariant_of-self : goal.invariant_of-self

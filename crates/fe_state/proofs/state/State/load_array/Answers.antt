@@ -1,7 +1,6 @@
 use Rattle.std.proofs.Common.{refl}
 use Rattle.fe_words.specs.declared.word.Tag.TheVariants.{Empty}
-use Rattle.fe_state.specs.Change.{MayBeAdded}
-use Rattle.fe_state.specs.Effect.{new_array}
+use Rattle.fe_state.specs.Effect.{MayBeAdded, new_array}
 use Rattle.fe_state.specs.State.{ServerState, directory_of}
 use Rattle.fe_state.proofs.DirectoryLemmas.{come_kept}
 use Rattle.fe_state.proofs.Loads.{directory_within}

@@ -2,8 +2,7 @@ use Rattle.std.proofs.Common.{is_some, ap, ◌∙◌, arith, ◌≤◌}
 use Rattle.std.specs.FinMap.{len}
 use Rattle.fe_pool.specs.declared.family.Family.TheVariants.{OfWord, OfSession}
 use Rattle.fe_waits.specs.declared.row.Row.{Row}
-use Rattle.fe_waits.specs.within.Inner.{members_of}
-use Rattle.fe_waits.specs.within.WordChains.{lengths, with_chain}
+use Rattle.fe_waits.specs.within.Inner.{members_of, lengths, with_chain}
 use Rattle.fe_waits.proofs.AddLemmas.{total-room, takes, members-added, word-chain_taken, off-taken, taken-is, session-chain_linked, linked-is, off-linked, items_added, kept-added}
 use Rattle.fe_waits.proofs.WordLemmas.{word-chain, lengths-with, len-with}
 use Rattle.fe_waits.proofs.waits.Waits.add.Goals as goal

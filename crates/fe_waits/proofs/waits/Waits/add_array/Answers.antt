@@ -1,8 +1,7 @@
 use Rattle.std.proofs.Common.{refl, ap, ◌∙◌, subst, ◌<◌, length, rules}
 use Rattle.std.proofs.lemmas.List.{length-replicate}
 use Rattle.std.specs.FinMap.{insert}
-use Rattle.fe_waits.specs.within.WordChains.{lengths}
-use Rattle.fe_waits.specs.within.Inner.{empty_chain}
+use Rattle.fe_waits.specs.within.Inner.{lengths, empty_chain}
 use Rattle.fe_waits.proofs.KeptLemmas.{kept-array_added}
 use Rattle.fe_waits.proofs.WordLemmas.{get-lengths_none, len-lengths, lengths-insert}
 use Rattle.fe_waits.proofs.waits.Waits.add_array.Goals as goal

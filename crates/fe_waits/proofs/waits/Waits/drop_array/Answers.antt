@@ -1,5 +1,5 @@
 use Rattle.std.proofs.Common.{refl, ap, ◌∙◌}
-use Rattle.fe_waits.specs.within.WordChains.{lengths}
+use Rattle.fe_waits.specs.within.Inner.{lengths}
 use Rattle.fe_waits.proofs.KeptLemmas.{kept-array_dropped}
 use Rattle.fe_waits.proofs.WordLemmas.{lengths-remove}
 use Rattle.fe_waits.proofs.waits.Waits.drop_array.Goals as goal

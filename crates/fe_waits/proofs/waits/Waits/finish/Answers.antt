@@ -2,8 +2,7 @@ use Rattle.std.proofs.Common.{◌≡◌, Some, is_some, ap, sym, ◌∙◌, ◌�
 use Rattle.std.specs.FinMap.{len, remove}
 use Rattle.fe_waits.specs.declared.row.Row.{Row}
 use Rattle.fe_waits.specs.Waiting.{key_of}
-use Rattle.fe_waits.specs.within.WordChains.{lengths, with_chain}
-use Rattle.fe_waits.specs.within.Inner.{members_of}
+use Rattle.fe_waits.specs.within.Inner.{lengths, with_chain, members_of}
 use Rattle.fe_waits.proofs.FinishLemmas.{word-there, session-there, word-chain_kept, word-on, session-chain_linked, session-on, some-waits, row-left, off-left, members-finished, kept-finished}
 use Rattle.fe_waits.proofs.MemberLemmas.{members-row, some_same}
 use Rattle.fe_waits.proofs.WordLemmas.{lengths-with, len-with}

@@ -1,6 +1,5 @@
 use Rattle.std.proofs.Common.{ap, ◌∙◌}
-use Rattle.fe_waits.specs.within.WordChains.{lengths}
-use Rattle.fe_waits.specs.within.Inner.{members_of}
+use Rattle.fe_waits.specs.within.Inner.{lengths, members_of}
 use Rattle.fe_waits.proofs.KeptLemmas.{kept-new}
 use Rattle.fe_waits.proofs.MemberLemmas.{members-empty}
 use Rattle.fe_waits.proofs.WordLemmas.{lengths-empty}

@@ -1,8 +1,7 @@
 use Rattle.std.proofs.Common.{◌≡◌, [], ◌∷◌, length, true, sym, ap, ◌∙◌}
 use Rattle.std.proofs.lemmas.List.{append-nil, take_rest}
 use Rattle.std.proofs.lemmas.Bool.{eqb-true}
-use Rattle.fe_wire.specs.DecoderState.{Consumes}
-use Rattle.fe_wire.specs.Stream.{Decoding}
+use Rattle.fe_wire.specs.Stream.{Consumes, Decoding}
 use Rattle.fe_wire.proofs.Pieces.{begins, goes_on, completes, on_err, ends, ends_bad}
 use Rattle.fe_wire.proofs.StreamLaws.{reads_past}
 use Rattle.fe_wire.proofs.decoder.Decoder.feed.Goals as goal

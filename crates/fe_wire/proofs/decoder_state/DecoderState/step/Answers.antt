@@ -1,8 +1,7 @@
 use Rattle.std.proofs.Common.{◌≡◌, ℕ, ◌+◌, ◌^◌, ◌-◌, ◌≤◌, min, List, [], ◌++◌, take, length, refl, sym, ap, subst, ◌∙◌, arith, length-take-le}
 use Rattle.std.proofs.lemmas.List.{take_all, take_at}
 use Rattle.fe_wire.specs.Spelling.{FitsIn}
-use Rattle.fe_wire.specs.Stream.{IsUnfinished, IsBad}
-use Rattle.fe_wire.specs.DecoderState.{held_of}
+use Rattle.fe_wire.specs.Stream.{IsUnfinished, IsBad, held_of}
 use Rattle.fe_wire.specs.declared.decoder_state.DecoderState.{DecoderState}
 use Rattle.fe_wire.specs.declared.version.Version.{Version}
 use Rattle.fe_wire.proofs.StreamLaws.{whole_is_held}

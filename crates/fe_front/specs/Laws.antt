@@ -1,17 +1,53 @@
--- How the books of a front, its counts of calls and mails, rise with each event, so that counts kept beside them can follow.
+-- Laws of the front: what is always true of its boxes, where mails to connections wait, and how its books, the counts of calls and mails,
+-- rise with each event. An entry is durable once its batch was stored and posted, or if it was there from the beginning.
 -- See `docs/model.md`, "The front".
-use Rattle.std.specs.Prelude.{◌≡◌, ℕ, ◌+◌, ◌≤◌, false, List, length, Some}
+use Rattle.std.specs.Prelude.{ℕ, ◌≤◌, ◌<◌, List, length, All, ◌≡◌, ◌+◌, false, Some}
+use Rattle.fe_state.specs.State.{ServerState}
 use Rattle.fe_state.specs.declared.entry.Entry.{Entry}
-use Rattle.fe_mail.specs.Books.{Books}
-use Rattle.fe_mail.specs.Limits.{most_booked}
-use Rattle.fe_mail.specs.declared.refusal.Refusal.{Refusal}
-use Rattle.fe_mail.specs.declared.mail.Mail.TheVariants as mail
+use Rattle.fe_mail.specs.Connections.{mails_on}
+use Rattle.fe_mail.specs.declared.mail.Mail.{Mail}
+use Rattle.fe_mail.specs.declared.mail.Mail.TheVariants.{Answer}
+use Rattle.fe_mail.specs.Limits.{most_mails_in_box, most_booked}
 use Rattle.fe_front.specs.Event.{Event, Call, Cancel, Post, TakeMail, GiveMail}
-use Rattle.fe_front.specs.Front.{FrontState, IsFront}
+use Rattle.fe_front.specs.Front.{FrontState, IsFront, IsFirst}
 use Rattle.fe_front.specs.Call.{call_refused_by}
 use Rattle.fe_front.specs.Step.{FrontStep}
+use Rattle.fe_mail.specs.Books.{Books}
+use Rattle.fe_mail.specs.declared.refusal.Refusal.{Refusal}
+use Rattle.fe_mail.specs.declared.mail.Mail.TheVariants as mail
 use Rattle.fe_front.specs.Steps.{mailed}
 use Rattle.fe_state.specs.Limits.{most_batch_entries}
+
+-- ---- boxes
+
+-- if the mail is an answer, the place of its entry is below the mark, the number of durable entries
+abbrev pub IsBelow : ℕ → Mail → Type 0
+IsBelow mark (Answer session number answer place) = place < mark
+IsBelow mark _ = Unit {0}
+
+-- each answer in a box has the place of an entry that is durable
+abbrev pub HoldsDurable : FrontState → Type 0
+HoldsDurable f = (conn : ℕ) → All (IsBelow f.durable) (mails_on f.connections conn)
+
+-- each box has at most `most_mails_in_box` mails
+abbrev pub HasShortBoxes : FrontState → Type 0
+HasShortBoxes f = (conn : ℕ) → length (mails_on f.connections conn) ≤ most_mails_in_box
+
+-- P is true of each front that begins, and stays true through each event and each refused call
+pub record IsAlwaysTrue (P : FrontState → Type 0) : Type 0 where
+  pub first : (begun : ServerState) (f : FrontState) → IsFirst begun f → P f
+  pub step : (f f' : FrontState) (event : Event) (es : List Entry) → IsFront f → FrontStep f event es f' → P f → P f'
+  pub refused : (f : FrontState) → P f → P (call_refused_by f)
+
+-- an answer comes into a box only once its entry is durable
+abbrev pub MailsStayDurable : Type 0
+MailsStayDurable = IsAlwaysTrue HoldsDurable
+
+-- no box ever has more than `most_mails_in_box` mails
+abbrev pub BoxesStayShort : Type 0
+BoxesStayShort = IsAlwaysTrue HasShortBoxes
+
+-- ---- books
 
 -- books that are not spent, with room for this many more calls and mails
 pub record HaveRoom (b : Books) (calls mails : ℕ) : Type 0 where
