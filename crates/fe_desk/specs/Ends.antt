@@ -159,8 +159,6 @@ abbrev pub StopsShort : Bool → DeskRunState → ℕ → List ℕ → DeskRunSt
 StopsShort true s conn piece t = StopsBehind s conn piece t
 StopsShort false s conn piece t = StopsBefore s conn t ⊎ StopsUnfed s conn piece t
 
--- ---- how steps end
-
 -- ---- no memory
 
 -- memory was short for mails that were owed: they are written from the first on, up to one for which it was short (maybe the

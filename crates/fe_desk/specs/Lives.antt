@@ -43,8 +43,6 @@ pub record AreOne (begun : ServerState) (lives : List Life) (s : ServerState) (n
 abbrev pub LivesJoin : Type 0
 LivesJoin = (begun s : ServerState) (lives : List Life) (next : List (List Entry)) → AreLives begun lives s → IsHistory s next → AreOne begun lives s next
 
--- ---- the lives of a desk
-
 -- ---- stops
 
 -- A life that a stop ended: the desk after the steps that answered, whatever they answered; the sessions that each connection's

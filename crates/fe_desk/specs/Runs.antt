@@ -56,8 +56,6 @@ pub record IsTraceOf (t : Trace) (s : DeskRunState) (synced : ℕ) : Type 0 wher
   pub written : written_of t ≡ outputs s
   pub synced_is : t.synced ≡ synced
 
--- ---- steps, and their answers
-
 -- ---- a step, by its answer
 
 -- the disk works, no call of it failed, and all groups are stored

@@ -25,8 +25,6 @@ abbrev pub TakesAll : DeskRunState → ℕ → List ClientMessage → DeskRunSta
 TakesAll s conn [] t = t ≡ s
 TakesAll s conn (m ∷ ms) t = (u : DeskRunState) × TakesOne s conn m u × TakesAll u conn ms t
 
--- ---- steps
-
 -- ---- the client of a connection number
 
 -- the first client of this number, if it ever came

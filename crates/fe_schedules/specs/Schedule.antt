@@ -71,8 +71,6 @@ IsOfStream fails end = (f : StreamFault) × fails f × (end ≡ of_stream f)
 abbrev pub TellsDiskOrWriter : MemoryState → (StreamFault → Type 0) → ScheduleFault → Type 0
 TellsDiskOrWriter disk writer end = TellsOfDisk disk end ⊎ IsOfStream writer end
 
--- ---- replies, and the order in which they are printed
-
 -- ---- in which order
 
 -- the number of an answer, a withdrawal or a refusal, and 0 of any other reply

@@ -110,8 +110,6 @@ pub record IsMadeFor {D : Type 0} (store : KeeperStore D) (before : ServerState)
   pub made : IsWholeFor store entries whole
   pub image : IfSome whole (λ made. IsImageOf made before)
 
--- ---- how calls end, and what they keep
-
 -- ---- how a call ends, if the device worked before it
 
 -- no call of the device failed

@@ -56,8 +56,6 @@ CatchesUp entries None (Some c) = ⊥
 CatchesUp entries (Some c) None = ⊥
 CatchesUp entries (Some old) (Some new) = HasMoreToCatchUp entries old new
 
--- ---- stores
-
 -- ---- over any disk
 
 -- An image of the state now may have the next generation, unless the slot that counts is of format 2 and nothing came since its image.
