@@ -46,17 +46,19 @@ def gate_adds_up(_place):
     found = {name: [value(it) for it in row] for name, row in cells(page.split("\n")).items()}
     same(list(found), figures.crates(), "crates")
     said = [int(it) for it in re.search(r"took (\d+) processor minutes: (\d+) for crates, (\d+) for tests, (\d+) for", page).groups()]
-    spent = [sum(column) for column in zip(*found.values())]
-    near = lambda a, b: abs(a - b) <= 0.8  # (the minutes are rounded, and so is each term)
-    holds(all(near(a, b) for a, b in zip(said, [sum(spent), *spent])), f"{said} minutes, not {spent}")
+    # (a sum is rounded, by half a step at most, and so is each of its terms, which has one decimal)
+    near = lambda total, step, terms: abs(total - sum(terms)) <= step / 2 + 0.05 * len(terms)
+    spent = [[it for it in column if it] for column in zip(*found.values())]
+    holds(all(near(a, 1, b) for a, b in zip(said, [sum(spent, []), *spent])), f"{said} minutes, not {[round(sum(it), 1) for it in spent]}")
     dearest = figures.chain({(name, "proofs"): row[0] for name, row in found.items() if row[0]})
     told_of = re.search(r"chain of crates took ([\d.]+) processor minutes: (.*)$", page, re.M)
     same(told_of is not None, dearest is not None, "whether all crates were proved, and the dearest chain is there")
     if dearest:
         names = re.findall(r"\w+", told_of[2])
         holds(all(a in below(b) for a, b in zip(names, names[1:])), "each crate of the chain stands on the one before")
-        sums = [sum(found[it][0] for it in names), dearest[0]]
-        holds(all(near(value(told_of[1]), it) for it in sums), f"the chain takes {told_of[1]}, not {sums}")
+        terms = [found[it][0] for it in names]
+        holds(near(value(told_of[1]), 0.1, terms), f"the chain takes {told_of[1]}, not {sum(terms):.1f}")
+        holds(abs(dearest[0] - sum(terms)) <= 0.1 * len(terms), f"a chain takes {dearest[0]}, and this one {sum(terms):.1f}")
     *parts, whole = [int(it) for it in re.findall(r"(\d+) passed, 0 failed$", page, re.M)]
     same(sum(parts), whole, "checks that passed")
     edits = int(re.search(r"must-fail edits: (\d+) refused", page)[1])
