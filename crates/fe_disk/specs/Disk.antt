@@ -72,3 +72,10 @@ pub record EndsCall {D T E : Type 0} (size failures : D → ℕ) (calls : D → 
   pub most : MakesAtMost reads writes syncs (calls old) (calls new)
   pub honesty : honest new ↔ honest old
   pub same_size : size new ≡ size old
+
+-- No call was made: the counts, size and honesty stay.
+pub record MakesNoCall {D : Type 0} (size failures : D → ℕ) (calls : D → Calls) (honest : D → Type 0) (old new : D) : Type 0 where
+  pub still : failures new ≡ failures old
+  pub none : calls new ≡ calls old
+  pub honesty : honest new ↔ honest old
+  pub same_size : size new ≡ size old

@@ -4,4 +4,5 @@ pub mod Memory
 pub mod Guarded
 pub mod Liar
 pub mod FileDisk
+pub mod SystemFile
 pub mod within

@@ -1,6 +1,6 @@
 // A disk as its users see it. An image is the list of all its bytes. `docs/model.md` has the model in plain words.
 ghost use Rattle.std.specs.Prelude.{◌≡◌, ◌+◌, ◌≤◌, ℕ, List, length, OnOk};
-ghost use Rattle.fe_disk.specs.Disk.{IsImage, bytes_at, after_write, IsTorn, Follows, AddsNone, LeavesJust, Elapses, EndsCall};
+ghost use Rattle.fe_disk.specs.Disk.{IsImage, bytes_at, after_write, IsTorn, Follows, AddsNone, LeavesJust, Elapses, EndsCall, MakesNoCall};
 ghost use Rattle.fe_disk.specs.declared.calls.Calls.{Calls};
 
 /// A device call failed. It carries no reason.
@@ -76,6 +76,16 @@ pub trait Disk {
         ensures stop { honest self.old → AddsNone (may_leave self.old) (may_leave self.new) }
         ensures time { honest self.old → Elapses moment left_since may_leave self.old self.new }
         ensures device { EndsCall size failures calls honest 0 0 1 result self.old self.new };
+
+    /// Tells the disk that its user found these bytes from `at` on, and relies on them. It is no device call. A disk that other programs
+    /// may write compares them before it writes more (`docs/store.md`, "The file").
+    fn rely_on(&mut self, at: usize, bytes: &[u8])
+        requires within { at + length bytes.now ≤ size self.old }
+        requires right { honest self.old → bytes.now ≡ bytes_at (seen self.old) at (length bytes.now) }
+        ensures same { honest self.old → seen self.new ≡ seen self.old }
+        ensures stop { honest self.old → AddsNone (may_leave self.old) (may_leave self.new) }
+        ensures time { honest self.old → Elapses moment left_since may_leave self.old self.new }
+        ensures device { MakesNoCall size failures calls honest self.old self.new };
 
     /// A read of the whole disk gives as many bytes as the disk has, each below 2^8.
     ghost seen_is_image: { (disk : Self) → honest disk → IsImage (size disk) (seen disk) };

@@ -1,322 +1,129 @@
-//! A disk that is a file of the operating system (`docs/store.md`, "The file"). A disk is honest if it does what its model says
-//! (`docs/model.md`, "The disk").
+//! The disk of a store that is a file (`docs/store.md`, "The file").
 
-ghost use Rattle.std.specs.Prelude.{◌≡◌, ◌≢◌, ◌-◌, ◌^◌, ◌<◌, ◌≤◌, ℕ, [], length, IsTrue, IfOk, IfErr, IsErrOf, OnOk};
+ghost use Rattle.std.specs.Prelude.{◌≡◌, ◌≢◌, ◌+◌, ◌≤◌, ℕ, length, IfOk, IfErr, IsErrOf, OnOk, IsTrue};
+ghost use Rattle.fe_disk.specs.Disk.{after_write, IsTorn, Follows, EndsCall};
+ghost use Rattle.fe_disk.specs.Runs.{HasElapsed};
+ghost use Rattle.fe_disk.specs.FileDisk.{file_of, samples_of, fault_count, inner, inner_holds};
+ghost use Rattle.fe_disk.specs.within.Samples.{Holds, StaysRight};
 ghost use Rattle.fe_disk.specs.declared.file_fault.FileFault.TheVariants.{WrongSize, Device};
 
 use crate::faults::{count, fault};
-use crate::names::sync_folder;
+use crate::sample::LONG;
 use crate::samples::Samples;
-use crate::watch::Watch;
-use crate::{Calls, DeviceFault, Disk, FileFault};
-use std::fs::{File, OpenOptions};
-use std::io::{ErrorKind, Write};
-use std::os::fd::AsRawFd;
-use std::os::unix::fs::{FileExt, MetadataExt, OpenOptionsExt};
+use crate::{DeviceFault, Disk, FileFault, StoreFile};
+use std::fs::File;
 use std::rt::Files;
-use std::{fs, io};
 
-/// How many zeros are written at a time.
-const ZEROS: usize = 4096;
-
-/// The descriptors below this are the standard streams.
-const STREAMS: i32 = 3;
-
-/// The mode of a new file: only its owner may read and write it.
-const MODE: u32 = 0o600;
-
-/// A disk over a file of a fixed size. Each read and write goes straight to the file at its offset, without a
-/// buffer, and a sync puts the file's bytes on its device.
+/// A disk over a file that other programs may write too.
 ///
-/// The first sync that succeeds also makes the system forget what it holds of the file in memory, so that later reads
-/// come from the device. After a sync that failed, in this process or an earlier one, Linux treats pages as written
-/// that are not on the device, and would give their bytes to every reader until it needs the memory.
+/// A long write (one of 16 bytes or more, such as that of a group) is made only while the file still has what was written or read there
+/// before, as far as `Samples` knows it: this finds a program that wrote another file over it, but no change elsewhere. A sync behind a
+/// short write (such as a gate, the byte that makes a group count) succeeds only if the file afterwards still has its size and its path:
+/// what is written into a file that was cut, renamed, replaced or removed is lost.
 ///
-/// A disk that writes holds an advisory lock on its file for as long as it lives, so no other disk writes the file
-/// meanwhile. A sync behind a short write (one of fewer than 16 bytes, such as a gate, the byte that makes a group of the
-/// store count) succeeds only if the file afterwards still has its size and the path at which it was opened (without `/proc`, any
-/// name): what is written into a file that was cut, renamed, replaced or removed is lost. The file must also still have what was
-/// synced before, as far as `Samples` knows it: this finds a program that wrote another file over it, but no change elsewhere.
-///
-/// Nothing is claimed about what a file gives or keeps, so it is not honest.
+/// It is honest if its file is, and behaves as any disk then: it never fails because of itself.
 #[derive(Drop)]
-pub struct FileDisk {
-    file: File,
-    size: usize,
-    calls: Calls,
+pub struct FileDisk<D> {
+    file: D,
     failures: u64,
-    // Whether a sync succeeded. Only the first one makes the system forget what it holds of the file in memory.
-    is_settled: bool,
-    // The path that the file of a disk that writes has to keep.
-    watch: Option<Watch>,
     // The bytes that the file has to have.
     samples: Samples,
 }
 
-impl FileDisk {
-    ghost use Rattle.fe_disk.specs.FileDisk.{file_size, fault_count, calls_of};
-    ghost use Rattle.fe_disk.specs.Disk.{EndsCall};
-    ghost use Rattle.fe_disk.specs.within.Samples.{StaysRight, IsOf};
-
-    /// Makes a file of this many zero bytes, which only its owner may read and write, locks it, and syncs it and its folder. If
-    /// a file has the path already, it stays as it is and the call fails. If a later step fails, the new file stays,
-    /// maybe with another size. The only fault is `Device`.
+impl<D: StoreFile> FileDisk<D> {
+    /// The disk over a new file of zeros, as `StoreFile::create` makes it.
     pub fn create<R: Files<File = File>>(
         rt: &R,
         path: &str,
         size: usize,
-    ) -> Result<FileDisk, FileFault>
-        ensures size { IfOk result (λ disk. file_size disk ≡ size) }
-        ensures failures { IfOk result (λ disk. fault_count disk ≡ 0) }
+    ) -> Result<FileDisk<D>, FileFault>
+        ensures size { IfOk result (λ disk. D.size (file_of disk) ≡ size) }
         ensures refused { IfErr result (λ fault. fault ≡ Device) }
     {
-        match FileDisk::over(rt, path, made(rt, path, size as u64), size, true) {
-            Ok(disk) => Ok(disk),
-            Err(_) => Err(FileFault::Device),
-        }
+        Ok(FileDisk::over(D::create(rt, path, size)?))
     }
 
-    /// The disk over the file at this path, which must have this many bytes. It locks the file.
-    pub fn at<R: Files<File = File>>(rt: &R, path: &str, size: usize) -> Result<FileDisk, FileFault>
-        ensures size { IfOk result (λ disk. file_size disk ≡ size) }
-        ensures failures { IfOk result (λ disk. fault_count disk ≡ 0) }
+    /// The disk over the file at this path, as `StoreFile::at` opens it.
+    pub fn at<R: Files<File = File>>(
+        rt: &R,
+        path: &str,
+        size: usize,
+    ) -> Result<FileDisk<D>, FileFault>
+        ensures found { IfOk result (λ disk. D.is_at path.now (file_of disk)) }
+        ensures size { IfOk result (λ disk. D.size (file_of disk) ≡ size) }
         ensures wrong { (found : ℕ) → IsErrOf result (WrongSize found) → found ≢ size }
     {
-        match OpenOptions::new().read(true).write(true).open(rt, path) {
-            Ok(file) => FileDisk::over(rt, path, locked(file), size, true),
-            Err(error) => Err(unopened(&error)),
-        }
+        Ok(FileDisk::over(D::at(rt, path, size)?))
     }
 
-    /// The disk over the file at this path, which must have this many bytes, for reading only. The file need not be writable, and every
-    /// write of a byte or more fails. It takes no lock: others may read and write the file meanwhile.
+    /// The disk over the file at this path, for reading only, as `StoreFile::read_only` opens it.
     pub fn read_only<R: Files<File = File>>(
         rt: &R,
         path: &str,
         size: usize,
-    ) -> Result<FileDisk, FileFault>
-        ensures size { IfOk result (λ disk. file_size disk ≡ size) }
-        ensures failures { IfOk result (λ disk. fault_count disk ≡ 0) }
+    ) -> Result<FileDisk<D>, FileFault>
+        ensures found { IfOk result (λ disk. D.is_at path.now (file_of disk)) }
+        ensures size { IfOk result (λ disk. D.size (file_of disk) ≡ size) }
         ensures wrong { (found : ℕ) → IsErrOf result (WrongSize found) → found ≢ size }
     {
-        // Opening a pipe for reading alone would wait for a writer.
-        match fs::metadata(rt, path) {
-            Ok(metadata) if metadata.is_file() => {}
-            Ok(_) => return Err(FileFault::Device),
-            Err(error) => return Err(unopened(&error)),
-        }
-        match File::open(rt, path) {
-            Ok(file) => FileDisk::over(rt, path, above_streams(file), size, false),
-            Err(error) => Err(unopened(&error)),
-        }
+        Ok(FileDisk::over(D::read_only(rt, path, size)?))
     }
 
-    // The disk over a file that was opened by a path.
-    fn over<R: Files<File = File>>(
-        rt: &R,
-        path: &str,
-        file: io::Result<File>,
-        size: usize,
-        is_watched: bool,
-    ) -> Result<FileDisk, FileFault>
-        ensures size { IfOk result (λ disk. file_size disk ≡ size) }
-        ensures failures { IfOk result (λ disk. fault_count disk ≡ 0) }
-        ensures wrong { (found : ℕ) → IsErrOf result (WrongSize found) → found ≢ size }
+    fn over(file: D) -> FileDisk<D>
+        ensures { file_of result ≡ file }
     {
-        let Ok(file) = file else {
-            return Err(FileFault::Device);
-        };
-        let Ok(metadata) = file.metadata() else {
-            return Err(FileFault::Device);
-        };
-        if !metadata.is_file() {
-            return Err(FileFault::Device);
-        }
-        let found = metadata.len();
-        if found != size as u64 {
-            return Err(FileFault::WrongSize { found });
-        }
-        let watch = is_watched.then(|| Watch::of(&file));
-        // A file that was replaced or removed meanwhile never changes the path that the system has for it, so `Watch` would not notice.
-        if is_watched && !is_at(rt, path, &file) {
-            return Err(FileFault::Device);
-        }
-        Ok(FileDisk {
+        let failures = file.failures();
+        FileDisk {
             file,
-            size,
-            calls: Calls::NONE,
-            failures: 0,
-            is_settled: false,
-            watch,
+            failures,
             samples: Samples::NONE,
-        })
+        }
     }
 
-    // Writes into the file, and notes the write in the samples. A write that fails leaves none.
-    fn put(&mut self, at: usize, bytes: &[u8]) -> Result<(), DeviceFault>
-        requires count { self.old.failures < 2 ^ 64 - 1 }
-        requires calls { self.old.calls.writes < 2 ^ 64 - 1 }
-        ensures device { EndsCall file_size fault_count calls_of (λ disk. ⊥) 0 1 0 result self.old self.new }
-        ensures noted { OnOk result (StaysRight at bytes.now self.old.samples.written self.new.samples.written) }
-        ensures kept { OnOk result (StaysRight at bytes.now self.old.samples.synced self.new.samples.synced) }
-        ensures long { OnOk result (16 ≤ length bytes.now → IsOf at bytes.now self.new.samples.written) }
+    // Whether this many bytes may be written: before a long write the file must still have the samples, so that what another program put
+    // there is not overwritten.
+    fn may_write(&mut self, count: usize) -> bool
+        ensures kept { D.gives self.old.file → IsTrue result → 16 ≤ count
+            → Holds (D.contents self.old.file) self.old.samples.kept }
+        ensures opened { D.gives self.old.file → IsTrue result → 16 ≤ count
+            → Holds (D.contents self.old.file) self.old.samples.opened }
+        ensures same { (self.new.file ≡ self.old.file) × (self.new.failures ≡ self.old.failures) }
+        ensures samples { (self.new.samples.kept ≡ self.old.samples.kept)
+            × (self.new.samples.written ≡ self.old.samples.written) }
     {
-        self.calls.writes += 1;
-        let outcome = self.file.write_all_at(bytes, at as u64);
-        if outcome.is_ok() {
-            self.samples.note(at, bytes);
-        } else {
-            self.samples = Samples::NONE;
-        }
-        count(&mut self.failures, outcome)
-    }
-
-    // Syncs the file. Behind a short write, such as a gate, asks whether it is still the one that was opened, with what was
-    // synced before: what a long write brought counts only once its gate, which is written after it, is synced.
-    fn settle(&mut self) -> Result<(), DeviceFault>
-        requires count { self.old.failures < 2 ^ 64 - 1 }
-        requires calls { self.old.calls.syncs < 2 ^ 64 - 1 }
-        ensures device { EndsCall file_size fault_count calls_of (λ disk. ⊥) 0 0 1 result self.old self.new }
-        // Only `Samples::confirm` makes it so, once it has found in the file what was synced before.
-        ensures compared { OnOk result
-            (IsTrue self.old.samples.is_short → self.new.samples.synced ≡ self.old.samples.written) }
-    {
-        self.calls.syncs += 1;
-        let outcome = settled(&self.file, self.is_settled);
-        let is_lost = self.samples.is_short && !self.is_there();
-        if outcome.is_err() || is_lost || !self.samples.confirm(&self.file) {
-            return Err(fault(&mut self.failures));
-        }
-        self.is_settled = true;
-        Ok(())
-    }
-
-    // Whether the file has its size, a name and its path, which is asked only of a file that is watched: that of a disk that writes.
-    fn is_there(&self) -> bool {
-        let Some(watch) = &self.watch else {
-            return true;
-        };
-        self.has_size() && watch.is_kept() && (watch.has_path() || self.has_name())
-    }
-
-    // Asks by `lseek`, since a file whose times were asked for gets new ones at its next write, and a sync may have
-    // to write those too.
-    fn has_size(&self) -> bool {
-        match u64::try_from(libc::lseek(self.file.as_raw_fd(), 0, libc::SEEK_END)) {
-            Ok(found) => found == self.size as u64,
-            Err(_) => false,
-        }
-    }
-
-    fn has_name(&self) -> bool {
-        match self.file.metadata() {
-            Ok(found) => found.nlink() > 0,
-            Err(_) => false,
-        }
+        count < LONG || self.samples.confirm(&self.file)
     }
 }
 
-// Whether the path leads to the file, which still has a name.
-fn is_at<R: Files<File = File>>(rt: &R, path: &str, file: &File) -> bool {
-    match (fs::metadata(rt, path), file.metadata()) {
-        (Ok(found), Ok(own)) => {
-            found.dev() == own.dev() && found.ino() == own.ino() && own.nlink() > 0
-        }
-        _ => false,
-    }
-}
-
-// Why a file was not opened.
-fn unopened(error: &io::Error) -> FileFault
-    ensures { (found : ℕ) → result ≢ WrongSize found }
-{
-    match error.kind() {
-        ErrorKind::NotFound => FileFault::Missing,
-        _ => FileFault::Device,
-    }
-}
-
-fn made<R: Files<File = File>>(rt: &R, path: &str, size: u64) -> io::Result<File> {
-    let mut options = OpenOptions::new();
-    options.read(true).write(true).create_new(true).mode(MODE);
-    let file = locked(options.open(rt, path)?)?;
-    fill(&file, size)?;
-    file.sync_all()?;
-    sync_folder(rt, path)?;
-    Ok(file)
-}
-
-// Writes this many zeros. A file that only has the length would have holes, and a sync of what is written into one
-// later has to find room for it.
-fn fill(mut file: &File, size: u64) -> io::Result<()> {
-    let zeros = [0; ZEROS];
-    for _k in 0..size / ZEROS as u64 {
-        file.write_all(&zeros)?;
-    }
-    file.write_all(&zeros[..(size % ZEROS as u64) as usize])
-}
-
-// Locks the file, so that no other disk writes it meanwhile.
-fn locked(file: File) -> io::Result<File> {
-    let file = above_streams(file)?;
-    file.try_lock()?;
-    Ok(file)
-}
-
-// The file with a descriptor above those of the standard streams. If one of those is closed, what is meant for it must
-// not be written into the file.
-fn above_streams(file: File) -> io::Result<File> {
-    if file.as_raw_fd() < STREAMS {
-        file.try_clone()
-    } else {
-        Ok(file)
-    }
-}
-
-// Syncs the file. The first sync also makes the system forget what it holds of the file in memory, which is all on the
-// device then.
-fn settled(file: &File, is_settled: bool) -> io::Result<()> {
-    file.sync_data()?;
-    if is_settled {
-        return Ok(());
-    }
-    match libc::posix_fadvise(file.as_raw_fd(), 0, 0, libc::POSIX_FADV_DONTNEED) {
-        0 => Ok(()),
-        error => Err(io::Error::from_raw_os_error(error)),
-    }
-}
-
-impl Disk for FileDisk {
-    ghost use Rattle.fe_disk.specs.FileDisk.{file_size, fault_count, calls_of};
-
-    ghost size = { file_size };
+impl<D: StoreFile> Disk for FileDisk<D> {
+    ghost size = { inner D.size };
 
     ghost failures = { fault_count };
 
-    ghost calls = { calls_of };
+    ghost calls = { inner D.calls };
 
-    ghost honest = { λ disk. ⊥ };
+    ghost honest = { inner_holds D.honest };
 
-    ghost seen = { λ disk. [] };
+    ghost seen = { λ disk. D.seen (file_of disk) };
 
-    ghost may_leave = { λ disk image. ⊥ };
+    ghost may_leave = { λ disk. D.may_leave (file_of disk) };
 
-    ghost moment = { λ disk. 0 };
+    ghost moment = { λ disk. D.moment (file_of disk) };
 
-    ghost left_since = { λ disk t image. ⊥ };
+    ghost left_since = { λ disk. D.left_since (file_of disk) };
 
-    ghost seen_is_image = { λ disk honest. absurd honest };
+    ghost seen_is_image = { λ disk. D.seen_is_image (file_of disk) };
 
-    ghost left_is_image = { λ disk t image honest left. absurd honest };
+    ghost left_is_image = { λ disk. D.left_is_image (file_of disk) };
 
-    ghost seen_may_stay = { λ disk honest. absurd honest };
+    ghost seen_may_stay = { λ disk. D.seen_may_stay (file_of disk) };
 
-    ghost counts_now = { λ disk t image honest now may. absurd honest };
+    ghost counts_now = { λ disk. D.counts_now (file_of disk) };
 
-    ghost only_now = { λ disk image honest left. absurd honest };
+    ghost only_now = { λ disk. D.only_now (file_of disk) };
 
     fn size(&self) -> usize {
-        self.size
+        self.file.size()
     }
 
     fn failures(&self) -> u64 {
@@ -324,25 +131,56 @@ impl Disk for FileDisk {
     }
 
     fn read_at(&mut self, at: usize, buffer: &mut [u8]) -> Result<(), DeviceFault> {
-        if self.failures == u64::MAX || self.calls.reads == u64::MAX {
+        if self.failures == u64::MAX {
             return Err(fault(&mut self.failures));
         }
-        self.calls.reads += 1;
-        let outcome = self.file.read_exact_at(buffer, at as u64);
+        let outcome = self.file.read_at(at, buffer);
         count(&mut self.failures, outcome)
     }
 
-    fn write_at(&mut self, at: usize, bytes: &[u8]) -> Result<(), DeviceFault> {
-        if self.failures == u64::MAX || self.calls.writes == u64::MAX {
+    fn write_at(&mut self, at: usize, bytes: &[u8]) -> Result<(), DeviceFault>
+        requires { at + length bytes.now ≤ D.size (file_of self.old) }
+        ensures written { D.honest (file_of self.old)
+            → OnOk result (D.seen (file_of self.new) ≡ after_write (D.seen (file_of self.old)) at bytes.now) }
+        ensures torn { D.honest (file_of self.old)
+            → IsTorn at (length bytes.now) (D.seen (file_of self.old)) (D.seen (file_of self.new)) }
+        ensures stop { D.honest (file_of self.old)
+            → Follows (IsTorn at (length bytes.now)) (D.may_leave (file_of self.old)) (D.may_leave (file_of self.new)) }
+        ensures time { D.honest (file_of self.old) → HasElapsed D.Disk (file_of self.old) (file_of self.new) }
+        ensures device { EndsCall (inner D.size) fault_count (inner D.calls) (inner_holds D.honest)
+            0 1 0 result self.old self.new }
+        // A long write succeeds only if the file still had the samples before it, and a write keeps them right.
+        ensures kept { D.gives (file_of self.old) → OnOk result (16 ≤ length bytes.now
+            → Holds (D.contents (file_of self.old)) (samples_of self.old).kept) }
+        ensures opened { D.gives (file_of self.old) → OnOk result (16 ≤ length bytes.now
+            → Holds (D.contents (file_of self.old)) (samples_of self.old).opened) }
+        ensures noted { OnOk result (StaysRight at bytes.now (samples_of self.old).kept (samples_of self.new).kept) }
+    {
+        let _size = self.file.size();
+        if self.failures == u64::MAX || !self.may_write(bytes.len()) {
             return Err(fault(&mut self.failures));
         }
-        self.put(at, bytes)
+        let outcome = self.file.write_at(at, bytes);
+        self.samples.after_write(at, bytes, outcome.is_ok());
+        count(&mut self.failures, outcome)
     }
 
     fn sync(&mut self) -> Result<(), DeviceFault> {
-        if self.failures == u64::MAX || self.calls.syncs == u64::MAX {
+        if self.failures == u64::MAX {
             return Err(fault(&mut self.failures));
         }
-        self.settle()
+        let outcome = self.file.sync();
+        let is_lost = self.samples.is_short && !self.file.is_there();
+        if outcome.is_err() || is_lost {
+            return Err(fault(&mut self.failures));
+        }
+        self.samples.keep();
+        Ok(())
+    }
+
+    fn rely_on(&mut self, at: usize, bytes: &[u8]) {
+        let _size = self.file.size();
+        self.file.rely_on(at, bytes);
+        self.samples.rely_on(at, bytes);
     }
 }

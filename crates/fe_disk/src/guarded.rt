@@ -157,4 +157,8 @@ impl<D: Disk, P: Policy> Disk for Guarded<D, P> {
         let outcome = self.inner.sync();
         count(&mut self.failures, outcome)
     }
+
+    fn rely_on(&mut self, at: usize, bytes: &[u8]) {
+        self.inner.rely_on(at, bytes);
+    }
 }

@@ -111,4 +111,6 @@ impl Disk for Liar {
         self.calls.syncs += 1;
         Ok(())
     }
+
+    fn rely_on(&mut self, _at: usize, _bytes: &[u8]) {}
 }

@@ -214,4 +214,6 @@ impl Disk for MemoryDisk {
         self.calls.syncs += 1;
         Ok(())
     }
+
+    fn rely_on(&mut self, _at: usize, _bytes: &[u8]) {}
 }

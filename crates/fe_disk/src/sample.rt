@@ -1,15 +1,11 @@
-//! Samples: some bytes that were written into a file, to see whether another process overwrote them. A group is what
-//! one append writes to the store; its gate is the byte in front that makes it count (`docs/store.md`).
-ghost use Rattle.std.specs.Prelude.{◌≡◌, ◌↔◌, ◌+◌, ◌<◌, ◌≤◌, ℕ, [], ◌∷◌, length, IsTrue, IfOk};
+//! Samples: some bytes that a file has to have, to see whether another process overwrote them (`docs/store.md`, "The file").
+ghost use Rattle.std.specs.Prelude.{◌≡◌, ◌↔◌, ◌+◌, ◌-◌, ◌^◌, ◌<◌, ◌≤◌, length, IsTrue, IfOk};
 
-use crate::read_back::ReadBack;
+use crate::StoreFile;
 use std::io;
 
 /// The most bytes of a sample.
-const ROOM: usize = 32;
-
-/// How many bytes of a write are taken: there is room for one in front, the gate of a group.
-const FIRST: usize = ROOM - 1;
+const ROOM: usize = 96;
 
 /// The fewest bytes of a long write. A shorter one is no group.
 pub(crate) const LONG: usize = 16;
@@ -20,11 +16,11 @@ pub(crate) struct Sample {
     at: usize,
     bytes: [u8; ROOM],
     length: usize,
-    ghost fits: { length ≤ 32 },
+    ghost fits: { length ≤ 96 },
 }
 
 impl Sample {
-    ghost use Rattle.fe_disk.specs.within.Samples.{Holds, StaysRight, IsOf, Precedes, IsApart};
+    ghost use Rattle.fe_disk.specs.within.Samples.{Holds, StaysRight, IsOf, IsApart};
 
     /// No bytes, which every file has.
     pub(crate) const NONE: Sample = Sample {
@@ -33,45 +29,32 @@ impl Sample {
         length: 0,
     };
 
-    /// The sample after a write: the write's first bytes if it is long, or one byte more if the write is that byte in
-    /// front of the sample. A sample that another write overwrote becomes empty.
+    /// The last of the bytes from `at` on.
+    pub(crate) fn of(at: usize, bytes: &[u8]) -> Sample
+        requires { at + length bytes.now < 2 ^ 64 }
+        ensures { IsOf at bytes.now result }
+    {
+        let length = bytes.len().min(ROOM);
+        let first = bytes.len() - length;
+        let mut kept = [0; ROOM];
+        kept[..length].copy_from_slice(&bytes[first..first + length]);
+        Sample {
+            at: at + first,
+            bytes: kept,
+            length,
+        }
+    }
+
+    /// The sample after a write: the last bytes of a long one, and else what is beside it.
     pub(crate) fn after(&self, at: usize, written: &[u8]) -> Sample
+        requires { at + length written.now < 2 ^ 64 }
         ensures right { StaysRight at written.now self.now result }
         ensures long { 16 ≤ length written.now → IsOf at written.now result }
-        ensures gate { (byte : ℕ) → written.now ≡ byte ∷ [] → at + 1 ≡ self.now.at → self.now.length < 32
-            → Precedes byte self.now result }
     {
-        let is_in_front = self.length < ROOM && self.at > 0 && self.at - 1 == at;
-        match written {
-            [gate] if is_in_front => self.with_front(*gate),
-            _ if written.len() < LONG => self.beside(at, written),
-            _ => Sample::of(at, written),
+        if written.len() < LONG {
+            return self.beside(at, written);
         }
-    }
-
-    /// The first bytes of a write.
-    fn of(at: usize, written: &[u8]) -> Sample
-        ensures { IsOf at written.now result }
-    {
-        let length = written.len().min(FIRST);
-        let mut bytes = [0; ROOM];
-        bytes[..length].copy_from_slice(&written[..length]);
-        Sample { at, bytes, length }
-    }
-
-    /// The sample with the byte in front of it.
-    fn with_front(&self, byte: u8) -> Sample
-        requires above { 0 < self.now.at }
-        requires room { self.now.length < 32 }
-        ensures { Precedes byte self.now result }
-    {
-        let mut bytes = [byte; ROOM];
-        bytes[1..].copy_from_slice(&self.bytes[..FIRST]);
-        Sample {
-            at: self.at - 1,
-            bytes,
-            length: self.length + 1,
-        }
+        Sample::of(at, written)
     }
 
     /// The sample, or none if one of its bytes was written.
@@ -92,8 +75,8 @@ impl Sample {
     }
 
     /// Whether the file still has these bytes. It is one read, or none if there are no bytes.
-    pub(crate) fn is_in<F: ReadBack>(&self, file: &F) -> io::Result<bool>
-        ensures found { F.honest file.now → IfOk result (λ same. IsTrue same ↔ Holds (F.contents file.now) self.now) }
+    pub(crate) fn is_in<F: StoreFile>(&self, file: &F) -> io::Result<bool>
+        ensures found { F.gives file.now → IfOk result (λ same. IsTrue same ↔ Holds (F.contents file.now) self.now) }
     {
         if self.length == 0 {
             return Ok(true);

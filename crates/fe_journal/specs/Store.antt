@@ -8,7 +8,8 @@ use Rattle.fe_format.specs.declared.format.Format.{Format}
 use Rattle.fe_journal.specs.declared.header.Header.{Header}
 use Rattle.fe_journal.specs.declared.fault.StoreFault.{StoreFault}
 use Rattle.fe_journal.specs.declared.fault.StoreFault.TheVariants.{Unformatted, Damaged, Device, NoMemory}
-use Rattle.fe_disk.specs.Disk.{bytes_at}
+use Rattle.fe_disk.specs.Disk.{bytes_at, MakesNoCall}
+use Rattle.fe_disk.specs.declared.disk.Disk.{Ghosts}
 use Rattle.fe_journal.specs.declared.store.Store.{Store}
 use Rattle.fe_journal.specs.declared.store.SlotParts.{SlotParts}
 
@@ -77,6 +78,10 @@ GroupFault slot format area Device = ⊥
 GroupFault slot format area NoMemory = ⊥
 
 -- ---- what opening has read
+
+-- No call of the disk was made.
+abbrev pub AsksNothing : {D : Type 0} → Ghosts D → D → D → Type 0
+AsksNothing model old new = MakesNoCall model.size model.failures model.calls model.honest old new
 
 -- the slot that counts, with its header's fields; or no slot is valid
 abbrev pub CountsAs : List ℕ → Option (ℕ × Header) → Type 0

@@ -6,7 +6,7 @@ ghost use Rattle.fe_journal.specs.Layout.{device_bytes, header_bytes, header_of}
 ghost use Rattle.fe_format.specs.Layout.{IsImageLength};
 ghost use Rattle.fe_journal.specs.Damage.{TellsFound};
 ghost use Rattle.fe_journal.specs.Found.{AsksToOpen, ReadsInPart};
-ghost use Rattle.fe_journal.specs.Store.{IsHeader, HeaderFault, GroupsEndAt, CountsAs, IsSlotRead, AreParts, IsReadable, IsStore, IsWholeStore};
+ghost use Rattle.fe_journal.specs.Store.{AsksNothing, IsHeader, HeaderFault, GroupsEndAt, CountsAs, IsSlotRead, AreParts, IsReadable, IsStore, IsWholeStore};
 ghost use Rattle.fe_journal.specs.Journal.{OnlyReads};
 ghost use Rattle.fe_journal.specs.declared.fault.StoreFault.TheVariants.{Device, NoMemory};
 
@@ -16,6 +16,9 @@ use crate::layout::{AREA_BYTES, DEVICE_BYTES, HEADER_BYTES, area_of, header_of, 
 use crate::scan::scan;
 use fe_disk::{DeviceFault, Disk};
 use std::alloc::Global;
+
+/// How many bytes of an image have its place, its next array id and how much it has (`docs/formats.md`, "Image").
+const IMAGE_HEAD: usize = 24;
 
 /// The bytes of a slot: its journal area with the offset of the closed gate after its groups, and its image.
 #[derive(Drop)]
@@ -34,8 +37,44 @@ pub struct Store {
     pub parts: SlotParts,
 }
 
-/// Reads a store, after a sync.
+/// Reads a store, after a sync. It tells the disk by which bytes this store differs from another: the first of its image, and those at the
+/// end of its groups.
 pub fn read_store<D: Disk>(alloc: Global, disk: &mut D) -> Result<Store, StoreFault>
+    ensures store { D.honest disk.old → IfOk result (IsStore (D.seen disk.old)) }
+    ensures faults { D.honest disk.old → IfErr result (λ fault. TellsFound fault (D.seen disk.old)) }
+    ensures memory { IsErrOf result NoMemory → ReadsInPart (D.calls disk.old) (D.calls disk.new) }
+    ensures settled { D.honest disk.old → OnOk result (LeavesJust (D.seen disk.new) (D.may_leave disk.new)) }
+    ensures reads { D.honest disk.old → OnlyReads D.Disk disk.old disk.new }
+
+    ensures whole { IfOk result IsWholeStore }
+    ensures sized { OnOk result (D.size disk.new ≡ device_bytes) }
+    ensures device { AsksToOpen D.Disk Device result disk.old disk.new }
+{
+    match read_parts(alloc, disk) {
+        Err(fault) => Err(fault),
+        Ok(store) => {
+            rely_on(disk, &store);
+            Ok(store)
+        }
+    }
+}
+
+// Tells the disk the first bytes of the image, where the place is, and the end of the groups with the closed gate after them.
+fn rely_on<D: Disk>(disk: &mut D, store: &Store)
+    requires store { D.honest disk.old → IsStore (D.seen disk.old) store.now }
+    requires whole { IsWholeStore store.now }
+    requires device { D.size disk.old ≡ device_bytes }
+    ensures reads { D.honest disk.old → OnlyReads D.Disk disk.old disk.new }
+    ensures device { AsksNothing D.Disk disk.old disk.new }
+{
+    let parts = &store.parts;
+    let head = parts.image.len().min(IMAGE_HEAD);
+    disk.rely_on(image_of(store.slot), &parts.image[..head]);
+    disk.rely_on(area_of(store.slot), &parts.area[..parts.used + 1]);
+}
+
+// Reads the parts of a store, after a sync.
+fn read_parts<D: Disk>(alloc: Global, disk: &mut D) -> Result<Store, StoreFault>
     ensures store { D.honest disk.old → IfOk result (IsStore (D.seen disk.old)) }
     ensures faults { D.honest disk.old → IfErr result (λ fault. TellsFound fault (D.seen disk.old)) }
     ensures memory { IsErrOf result NoMemory → ReadsInPart (D.calls disk.old) (D.calls disk.new) }

@@ -98,4 +98,8 @@ impl<D: Disk> Disk for Tally<D> {
         self.counts.syncs = self.counts.syncs.saturating_add(1);
         self.inner.sync()
     }
+
+    fn rely_on(&mut self, at: usize, bytes: &[u8]) {
+        self.inner.rely_on(at, bytes);
+    }
 }

@@ -1,6 +1,6 @@
 -- What a `Sample` says of the bytes of a file: it has some bytes that were written there, and their offset.
 -- See `docs/store.md`, "The file".
-use Rattle.std.specs.Prelude.{◌≡◌, ◌⊎◌, ℕ, ◌+◌, ◌≤◌, List, ◌∷◌, length, take, min}
+use Rattle.std.specs.Prelude.{◌≡◌, ◌⊎◌, ℕ, ◌+◌, ◌-◌, ◌≤◌, List, length, take, min}
 use Rattle.fe_disk.specs.Disk.{bytes_at, after_write}
 use Rattle.fe_disk.specs.declared.sample.Sample.{Sample}
 
@@ -17,17 +17,11 @@ abbrev pub StaysRight : ℕ → List ℕ → Sample → Sample → Type 0
 StaysRight at bytes old new =
     (image : List ℕ) → at + length bytes ≤ length image → Holds image old → Holds (after_write image at bytes) new
 
--- The sample has the first bytes of a write, 31 or fewer.
+-- The sample has the last of the bytes from an offset on, 96 or fewer.
 pub record IsOf (at : ℕ) (bytes : List ℕ) (sample : Sample) : Type 0 where
-  pub start : sample.at ≡ at
-  pub count : sample.length ≡ min (length bytes) 31
-  pub same : taken sample ≡ take sample.length bytes
-
--- A byte came in front of the sample.
-pub record Precedes (byte : ℕ) (old new : Sample) : Type 0 where
-  pub start : new.at + 1 ≡ old.at
-  pub count : new.length ≡ old.length + 1
-  pub same : taken new ≡ byte ∷ taken old
+  pub end : sample.at + sample.length ≡ at + length bytes
+  pub count : sample.length ≡ min (length bytes) 96
+  pub same : taken sample ≡ bytes_at bytes (length bytes - sample.length) sample.length
 
 -- The range ends at or before the beginning of the sample, or begins at or after its end.
 abbrev pub IsApart : Sample → ℕ → ℕ → Type 0

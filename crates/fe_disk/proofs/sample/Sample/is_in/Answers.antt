@@ -14,9 +14,9 @@ returns g c = record {
       let new = c.read_back.new.buffer in
       let n = c.args.self.now.length in
       let read = c.in_ok-read_back.ensures.read honest in
-      let fits : n ≤ 32 = c.args.self.now.fits in
-      let long : length new ≡ n = c.read_back.auto.buffer ∙ length-take n (replicate 32 0) ∙ omega (arith, fits) in
-      let front : take n (new ++ drop n (replicate 32 0)) ≡ bytes_at (g.F.ReadBack.contents c.args.file.now) c.args.self.now.at n =
-      take_at new _ n long ∙ read ∙ ap (λ (k : ℕ). bytes_at (g.F.ReadBack.contents c.args.file.now) c.args.self.now.at k) (sym c.read_back.auto.buffer ∙ long) in
+      let fits : n ≤ 96 = c.args.self.now.fits in
+      let long : length new ≡ n = c.read_back.auto.buffer ∙ length-take n (replicate 96 0) ∙ omega (arith, fits) in
+      let front : take n (new ++ drop n (replicate 96 0)) ≡ bytes_at (g.F.StoreFile.contents c.args.file.now) c.args.self.now.at n =
+      take_at new _ n long ∙ read ∙ ap (λ (k : ℕ). bytes_at (g.F.StoreFile.contents c.args.file.now) c.args.self.now.at k) (sym c.read_back.auto.buffer ∙ long) in
       subst (λ (l : List ℕ). IsTrue c.eq.result ↔ (l ≡ take n c.args.self.now.bytes)) front (decided c.eq.result _ _ c.eq.ensures);
 }

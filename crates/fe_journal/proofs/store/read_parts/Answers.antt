@@ -10,7 +10,7 @@ use Rattle.fe_journal.specs.Store.{CountsAs, IsSlotRead}
 use Rattle.fe_journal.specs.declared.fault.StoreFault.{StoreFault}
 use Rattle.fe_journal.specs.declared.fault.StoreFault.TheVariants.{Device, NoMemory}
 use Rattle.fe_journal.proofs.Readings.{call_reads, counted, fault_back, reads_again, same_fault, sound_by}
-use Rattle.fe_journal.proofs.store.read_store.Goals as goal
+use Rattle.fe_journal.proofs.store.read_parts.Goals as goal
 
 -- the sync, and then the reads
 after_sync : {D T U F : Type 0} (model : Ghosts D) (x : T) (second : Result U StoreFault) (old mid new : D)
