@@ -9,7 +9,7 @@ use Rattle.fe_keeper.specs.Opened.{IsReady}
 use Rattle.fe_keeper.specs.Stands.{StandsFor, EachStandsFor}
 use Rattle.fe_store.specs.declared.fault.OpenFault.{OpenFault}
 use Rattle.fe_store.specs.declared.fault.OpenFault.TheVariants as fault
-use Rattle.fe_disk.specs.FileDisk.{file_size}
+use Rattle.fe_disk.specs.FileDisk.{file_of}
 use Rattle.fe_disk.specs.declared.disk.Disk.{Ghosts}
 use Rattle.fe_disk.specs.declared.file_disk.FileDisk.{FileDisk}
 
@@ -54,7 +54,35 @@ pub record EndsOpening {D : Type 0} (model : Ghosts D) (disk : D) (result : Resu
   pub honesty : model.honest (disk_after result) ↔ model.honest disk
   pub size : model.size (disk_after result) ≡ model.size disk
 
--- A disk over the file of a store has the size of a store. The fault `Size` is reported only with a size that is not a store's.
-pub record OpensStoreFile (result : Result FileDisk OpenFault) : Type 0 where
-  pub size : IfOk result (λ disk. file_size disk ≡ device_bytes)
+-- ---- a store in a file; `is_at` says of a file that it was found at the path, and is as it was found
+
+-- A file was found at the path. If it is honest, this holds of the bytes that it had then.
+pub record FoundThere {F : Type 0} (model : Ghosts (FileDisk F)) (is_at : F → Type 0) (P : List ℕ → Type 0) : Type 0 where
+  pub disk : FileDisk F
+  pub found : is_at (file_of disk)
+  pub holds : model.honest disk → P (model.seen disk)
+
+-- The keeper was opened in a file that was found at the path, from the bytes that it had then: it has the state that they stand for, or
+-- that of a new store if they were unformatted and one was asked for.
+abbrev pub OpensFile : {F : Type 0} → Ghosts (FileDisk F) → (F → Type 0) → Bool → KeeperState (FileDisk F) → Type 0
+OpensFile model is_at format keeper = FoundThere model is_at (λ image. IsOpenedAs model image format keeper)
+
+-- A store is reported as unformatted or damaged only if a file was found at the path, and was so. The other faults say nothing of its bytes.
+abbrev pub TellsFile : {F : Type 0} → Ghosts (FileDisk F) → (F → Type 0) → OpenFault → Type 0
+TellsFile model is_at fault.Unformatted = FoundThere model is_at IsUnformatted
+TellsFile model is_at (fault.Damaged offset) = FoundThere model is_at (λ image. IsDamagedAt image offset)
+TellsFile model is_at other = Unit {0}
+
+-- The fault says nothing of the bytes of a store.
+abbrev pub IsNoStore : OpenFault → Type 0
+IsNoStore fault.Unformatted = ⊥
+IsNoStore (fault.Damaged offset) = ⊥
+IsNoStore other = Unit {0}
+
+-- A disk over the file of a store was found at the path, and has the size of a store. The fault `Size` is reported only with a size that is
+-- not a store's.
+pub record FindsStoreFile {F : Type 0} (size : FileDisk F → ℕ) (is_at : F → Type 0) (result : Result (FileDisk F) OpenFault) : Type 0 where
+  pub found : IfOk result (λ disk. is_at (file_of disk))
+  pub size_is : IfOk result (λ disk. size disk ≡ device_bytes)
   pub wrong : (found : ℕ) → IsErrOf result (fault.Size found) → found ≢ device_bytes
+  pub no_store : IfErr result IsNoStore

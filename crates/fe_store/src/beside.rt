@@ -4,14 +4,14 @@
 //! A server names `PATH.new`, or removes one that is no second name of another file, only while it has the lock of that file and has seen
 //! that the name leads to it. So two servers that start at once never remove or name each other's file.
 
-ghost use Rattle.std.specs.Prelude.{◌≡◌, length};
-ghost use Rattle.fe_disk.specs.FileDisk.{file_size};
+ghost use Rattle.std.specs.Prelude.{◌≡◌, ◌↔◌, length};
+ghost use Rattle.fe_disk.specs.FileDisk.{file_of};
 ghost use Rattle.fe_journal.specs.Layout.{device_bytes};
 
 use crate::fault::{BesideFault, OpenFault};
 use crate::fresh::is_spare;
 use crate::opening::open_on;
-use fe_disk::{Disk, FileDisk, add_name, remove_name};
+use fe_disk::{Disk, FileDisk, StoreFile, add_name, remove_name};
 use fe_journal::DEVICE_BYTES;
 use std::alloc::{AllocError, Global};
 use std::fs::{File, Metadata};
@@ -26,14 +26,14 @@ const KEPT: &str = ".before-format";
 
 /// Makes a new store. It is formatted under a temporary name in the same folder and then gets the path, so it appears there whole or not at
 /// all. If a file has the path by then, that file stays as it is.
-pub(crate) fn make<R: Files<File = File>>(
+pub(crate) fn make<F: StoreFile + Drop, R: Files<File = File>>(
     rt: &R,
     alloc: Global,
     path: &str,
 ) -> Result<(), BesideFault> {
     let new = beside(alloc, path, NEW)?;
-    clear(rt, alloc, path, new.as_str(), &[])?;
-    let disk = FileDisk::create(rt, new.as_str(), DEVICE_BYTES)?;
+    clear::<F, R>(rt, alloc, path, new.as_str(), &[])?;
+    let disk = FileDisk::<F>::create(rt, new.as_str(), DEVICE_BYTES)?;
     match open_on(alloc, disk, true) {
         Ok(keeper) => {
             let named = renamed(rt, new.as_str(), path);
@@ -48,14 +48,16 @@ pub(crate) fn make<R: Files<File = File>>(
 
 /// Keeps the bytes of an unformatted store in a file next to it, so that formatting loses nothing. Bytes that are zero, that
 /// formatting writes, or that are kept there already need no file. If a file with other bytes is there, it stays and the call fails.
-pub(crate) fn keep<R: Files<File = File>>(
+pub(crate) fn keep<F: StoreFile + Drop, R: Files<File = File>>(
     rt: &R,
     alloc: Global,
     path: &str,
-    disk: &mut FileDisk,
+    disk: &mut FileDisk<F>,
 ) -> Result<(), BesideFault>
-    requires size { file_size disk.old ≡ device_bytes }
-    ensures size { file_size disk.new ≡ device_bytes }
+    requires size { F.size (file_of disk.old) ≡ device_bytes }
+    ensures size { F.size (file_of disk.new) ≡ device_bytes }
+    ensures same { F.honest (file_of disk.old) → F.seen (file_of disk.new) ≡ F.seen (file_of disk.old) }
+    ensures honesty { F.honest (file_of disk.new) ↔ F.honest (file_of disk.old) }
 {
     let mut bytes = vec![in alloc; 0; DEVICE_BYTES]?;
     disk.read_at(0, &mut bytes)?;
@@ -64,9 +66,9 @@ pub(crate) fn keep<R: Files<File = File>>(
     }
     let kept = beside(alloc, path, KEPT)?;
     match fs::symlink_metadata(rt, kept.as_str()) {
-        Ok(_) => compare(rt, alloc, kept.as_str(), &bytes),
+        Ok(_) => compare::<F, R>(rt, alloc, kept.as_str(), &bytes),
         Err(error) if error.kind() == ErrorKind::NotFound => {
-            copy(rt, alloc, path, kept.as_str(), &bytes)
+            copy::<F, R>(rt, alloc, path, kept.as_str(), &bytes)
         }
         Err(_) => Err(BesideFault::Device),
     }
@@ -74,14 +76,14 @@ pub(crate) fn keep<R: Files<File = File>>(
 
 /// Removes the `PATH.new` that a start left when it was cut off: a second name of the store or of the kept bytes, or a file of its
 /// own that is not locked and holds only bytes that may be overwritten. Any other file stays.
-pub(crate) fn tidy<R: Files<File = File>>(rt: &R, alloc: Global, path: &str) {
+pub(crate) fn tidy<F: StoreFile + Drop, R: Files<File = File>>(rt: &R, alloc: Global, path: &str) {
     if let Ok(new) = beside(alloc, path, NEW) {
-        let _ = clear(rt, alloc, path, new.as_str(), &[]);
+        let _ = clear::<F, R>(rt, alloc, path, new.as_str(), &[]);
     }
 }
 
 /// Removes `PATH.new` as `tidy` does, but fails if a file stays. A byte that `others` has at the same place may be overwritten too.
-fn clear<R: Files<File = File>>(
+fn clear<F: StoreFile + Drop, R: Files<File = File>>(
     rt: &R,
     alloc: Global,
     path: &str,
@@ -98,7 +100,7 @@ fn clear<R: Files<File = File>>(
         remove_name(rt, new)?;
         return Ok(());
     }
-    let mut disk = FileDisk::at(rt, new, found.len() as usize)?;
+    let mut disk = FileDisk::<F>::at(rt, new, found.len() as usize)?;
     disk.sync()?;
     let mut bytes = vec![in alloc; 0; disk.size()]?;
     disk.read_at(0, &mut bytes)?;
@@ -120,7 +122,7 @@ fn is_at<R: Files<File = File>>(rt: &R, path: &str, file: &Metadata) -> bool {
 }
 
 /// Keeps these bytes in a new file, which appears whole or not at all. Fails if a file has its name by then.
-fn copy<R: Files<File = File>>(
+fn copy<F: StoreFile + Drop, R: Files<File = File>>(
     rt: &R,
     alloc: Global,
     path: &str,
@@ -130,8 +132,8 @@ fn copy<R: Files<File = File>>(
     requires { length bytes.now ≡ device_bytes }
 {
     let new = beside(alloc, path, NEW)?;
-    clear(rt, alloc, path, new.as_str(), bytes)?;
-    let mut disk = FileDisk::create(rt, new.as_str(), DEVICE_BYTES)?;
+    clear::<F, R>(rt, alloc, path, new.as_str(), bytes)?;
+    let mut disk = FileDisk::<F>::create(rt, new.as_str(), DEVICE_BYTES)?;
     disk.write_at(0, bytes)?;
     disk.sync()?;
     let named = renamed(rt, new.as_str(), kept);
@@ -143,13 +145,13 @@ fn copy<R: Files<File = File>>(
 }
 
 /// Fails unless the file keeps these bytes, apart from bytes that may be overwritten.
-fn compare<R: Files<File = File>>(
+fn compare<F: StoreFile + Drop, R: Files<File = File>>(
     rt: &R,
     alloc: Global,
     kept: &str,
     bytes: &[u8],
 ) -> Result<(), BesideFault> {
-    let mut disk = FileDisk::read_only(rt, kept, DEVICE_BYTES)?;
+    let mut disk = FileDisk::<F>::read_only(rt, kept, DEVICE_BYTES)?;
     let mut others = vec![in alloc; 0; DEVICE_BYTES]?;
     disk.read_at(0, &mut others)?;
     if is_spare(bytes, &others) {
