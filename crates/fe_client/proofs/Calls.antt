@@ -3,12 +3,11 @@ use Rattle.std.proofs.Common.{◌≡◌, ℕ, ◌+◌, ◌≤◌, List, [], ◌�
 use Rattle.std.proofs.lemmas.List.{length-append}
 use Rattle.std.proofs.lemmas.List.Concat.{flat_map-append}
 use Rattle.fe_wire.specs.declared.client_message.ClientMessage.{ClientMessage}
-use Rattle.fe_text.specs.declared.fault.StreamFault.TheVariants as stream
 use Rattle.fe_client.specs.declared.fault.CallFault.{CallFault}
 use Rattle.fe_client.specs.declared.fault.CallFault.TheVariants as fault
 use Rattle.fe_client.specs.Events.{Event, received_byte, received_in}
 use Rattle.fe_client.specs.Conversation.{Conversation, TalksAll, DoesLine, DoesPart}
-use Rattle.fe_client.specs.Ends.{Unread, Unreceived, Unanswered, ExchangeEnds, LineEnds, BreaksOff, TalksUntil}
+use Rattle.fe_client.specs.Ends.{Cause, Unread, Unreceived, Unanswered, ExchangeEnds, LineEnds, BreaksOff, TalksUntil}
 use Rattle.fe_client.specs.Input.{TakesFed, TakesLast, NotTaken}
 use Rattle.fe_client.proofs.Leads.{Joins}
 
@@ -86,8 +85,8 @@ talked_all leads joins s t u v kept line n reads now so takes d = record {
 -- ---- ends
 
 -- the next line is not taken
-pub not_read : {S : Type 0} (leads : S → List Event → S → Type 0) → Joins leads → (end : CallFault) (over : Type 0) (s t u : S) (kept : List ℕ) (n m reads : ℕ) → SoFar leads s t kept n reads → m ≡ n + 1 → NotTaken leads end m t u kept → TalksUntil leads end over s u
-not_read leads joins end over s t u kept n m reads so next broke =
+pub not_read : {S : Type 0} (leads : S → List Event → S → Type 0) → Joins leads → (end : CallFault) (because : Cause → Type 0) (s t u : S) (kept : List ℕ) (n m reads : ℕ) → SoFar leads s t kept n reads → m ≡ n + 1 → NotTaken leads end because m t u kept → TalksUntil leads end because s u
+not_read leads joins end because s t u kept n m reads so next broke =
     let counts = so.counts in
     let number : m ≡ so.lines + 1 = omega (arith, next, counts) in
     record {
@@ -96,32 +95,32 @@ not_read leads joins end over s t u kept n m reads so next broke =
       left = broke.left;
       talk = same_lines so.talk broke.talk;
       part = [];
-      breaks = BreaksOff.Reading (subst (λ (k : ℕ). Unread end k broke.left) number broke.why) refl;
+      breaks = BreaksOff.Reading (subst (λ (k : ℕ). Unread end because k broke.left) number broke.why) refl;
       happened = subst (λ (es : List Event). leads s es u) (sym (append-nil (so.so ++ broke.so))) (joins s t u so.so broke.so so.happened broke.happened);
     }
 
-later_incomplete : (end : CallFault) (over : Type 0) (earlier now : ℕ) (bytes : List ℕ) → earlier ≤ now → Unreceived end over earlier bytes → Unreceived end over now bytes
-later_incomplete end over earlier now bytes le (inl broke) = inl broke
-later_incomplete end over earlier now bytes le (inr many) = let most = many.1 in inr (many.0, omega (arith, le, most))
+later_incomplete : (end : CallFault) (because : Cause → Type 0) (earlier now : ℕ) (bytes : List ℕ) → earlier ≤ now → Unreceived end because earlier bytes → Unreceived end because now bytes
+later_incomplete end because earlier now bytes le (inl broke) = inl broke
+later_incomplete end because earlier now bytes le (inr many) = let most = many.1 in inr (many.0, omega (arith, le, most))
 
-later_unanswered : (end : CallFault) (over : Type 0) (earlier now : ℕ) (bytes : List ℕ) → earlier ≤ now → Unanswered end over earlier bytes → Unanswered end over now bytes
-later_unanswered end over earlier now bytes le (Unanswered.Incomplete why) = Unanswered.Incomplete (later_incomplete end over earlier now bytes le why)
-later_unanswered end over earlier now bytes le (Unanswered.BadFrame is bad) = Unanswered.BadFrame is bad
-later_unanswered end over earlier now bytes le (Unanswered.NoMemory is) = Unanswered.NoMemory is
+later_unanswered : (end : CallFault) (because : Cause → Type 0) (earlier now : ℕ) (bytes : List ℕ) → earlier ≤ now → Unanswered end because earlier bytes → Unanswered end because now bytes
+later_unanswered end because earlier now bytes le (Unanswered.Incomplete why) = Unanswered.Incomplete (later_incomplete end because earlier now bytes le why)
+later_unanswered end because earlier now bytes le (Unanswered.BadFrame is bad) = Unanswered.BadFrame is bad
+later_unanswered end because earlier now bytes le (Unanswered.NoMemory is) = Unanswered.NoMemory is
 
-later_exchange : (end : CallFault) (over : Type 0) (earlier now : ℕ) (m : ClientMessage) (part : List Event) → earlier ≤ now → ExchangeEnds end over earlier m part → ExchangeEnds end over now m part
-later_exchange end over earlier now m part le (ExchangeEnds.Sending e) = ExchangeEnds.Sending e
-later_exchange end over earlier now m part le (ExchangeEnds.Receiving e) = ExchangeEnds.Receiving (record { bytes = e.bytes; why = later_unanswered end over earlier now e.bytes le e.why; part_is = e.part_is })
-later_exchange end over earlier now m part le (ExchangeEnds.Printing e) = ExchangeEnds.Printing e
+later_exchange : (end : CallFault) (because : Cause → Type 0) (earlier now : ℕ) (m : ClientMessage) (part : List Event) → earlier ≤ now → ExchangeEnds end because earlier m part → ExchangeEnds end because now m part
+later_exchange end because earlier now m part le (ExchangeEnds.Sending e) = ExchangeEnds.Sending e
+later_exchange end because earlier now m part le (ExchangeEnds.Receiving e) = ExchangeEnds.Receiving (record { bytes = e.bytes; why = later_unanswered end because earlier now e.bytes le e.why; part_is = e.part_is })
+later_exchange end because earlier now m part le (ExchangeEnds.Printing e) = ExchangeEnds.Printing e
 
 -- a line broke off that has this number, with this much received before it
-later_line : (end : CallFault) (over : Type 0) (m number earlier now : ℕ) (line : List ℕ) (part : List Event) → m ≡ number → earlier ≤ now → LineEnds end over m earlier line part → LineEnds end over number now line part
-later_line end over m number earlier now line part same le (LineEnds.Stray is some none nothing) = LineEnds.Stray (is ∙ ap (λ (k : ℕ). fault.Line k) same) some none nothing
-later_line end over m number earlier now line part same le (LineEnds.Within message says e) = LineEnds.Within message says (later_exchange end over earlier now message part le e)
+later_line : (end : CallFault) (because : Cause → Type 0) (m number earlier now : ℕ) (line : List ℕ) (part : List Event) → m ≡ number → earlier ≤ now → LineEnds end because m earlier line part → LineEnds end because number now line part
+later_line end because m number earlier now line part same le (LineEnds.Stray is some none nothing) = LineEnds.Stray (is ∙ ap (λ (k : ℕ). fault.Line k) same) some none nothing
+later_line end because m number earlier now line part same le (LineEnds.Within message says e) = LineEnds.Within message says (later_exchange end because earlier now message part le e)
 
-pub line_broke : {S : Type 0} (leads : S → List Event → S → Type 0) → Joins leads → (end : CallFault) (over : Type 0) (s t u v : S) (kept left line : List ℕ) (n m reads : ℕ) → SoFar leads s t kept n reads → TakesFed leads t u kept left line → m ≡ n + 1
-    → DoesPart leads u v (LineEnds end over m reads line) → TalksUntil leads end over s v
-line_broke leads joins end over s t u v kept left line n m reads so takes next d =
+pub line_broke : {S : Type 0} (leads : S → List Event → S → Type 0) → Joins leads → (end : CallFault) (because : Cause → Type 0) (s t u v : S) (kept left line : List ℕ) (n m reads : ℕ) → SoFar leads s t kept n reads → TakesFed leads t u kept left line → m ≡ n + 1
+    → DoesPart leads u v (LineEnds end because m reads line) → TalksUntil leads end because s v
+line_broke leads joins end because s t u v kept left line n m reads so takes next d =
     let counts = so.counts in
     let few = so.few in
     let number : m ≡ so.lines + 1 = omega (arith, next, counts) in
@@ -132,13 +131,13 @@ line_broke leads joins end over s t u v kept left line n m reads so takes next d
       left = line ++ 10 ∷ left;
       talk = same_lines so.talk takes.talk;
       part = d.part;
-      breaks = BreaksOff.Fed line left refl takes.no_feed (later_line end over m (so.lines + 1) reads (length (received_in before)) line d.part number (omega (arith, few, received_both so.so takes.so)) d.ends);
+      breaks = BreaksOff.Fed line left refl takes.no_feed (later_line end because m (so.lines + 1) reads (length (received_in before)) line d.part number (omega (arith, few, received_both so.so takes.so)) d.ends);
       happened = joins s u v before d.part (joins s t u so.so takes.so so.happened takes.happened) d.happened;
     }
 
-pub last_broke : {S : Type 0} (leads : S → List Event → S → Type 0) → Joins leads → (end : CallFault) (over : Type 0) (s t u v : S) (kept line : List ℕ) (n m reads : ℕ) → SoFar leads s t kept n reads → TakesLast leads t u kept line → m ≡ n + 1
-    → DoesPart leads u v (LineEnds end over m reads line) → TalksUntil leads end over s v
-last_broke leads joins end over s t u v kept line n m reads so takes next d =
+pub last_broke : {S : Type 0} (leads : S → List Event → S → Type 0) → Joins leads → (end : CallFault) (because : Cause → Type 0) (s t u v : S) (kept line : List ℕ) (n m reads : ℕ) → SoFar leads s t kept n reads → TakesLast leads t u kept line → m ≡ n + 1
+    → DoesPart leads u v (LineEnds end because m reads line) → TalksUntil leads end because s v
+last_broke leads joins end because s t u v kept line n m reads so takes next d =
     let counts = so.counts in
     let few = so.few in
     let number : m ≡ so.lines + 1 = omega (arith, next, counts) in
@@ -149,19 +148,19 @@ last_broke leads joins end over s t u v kept line n m reads so takes next d =
       left = line;
       talk = same_lines so.talk takes.talk;
       part = Event.Read [] ∷ d.part;
-      breaks = BreaksOff.Last d.part takes.no_feed refl (later_line end over m (so.lines + 1) reads (length (received_in before)) line d.part number (omega (arith, few, received_both so.so takes.so)) d.ends);
+      breaks = BreaksOff.Last d.part takes.no_feed refl (later_line end because m (so.lines + 1) reads (length (received_in before)) line d.part number (omega (arith, few, received_both so.so takes.so)) d.ends);
       happened = subst (λ (es : List Event). leads s es v) (last_events so.so takes.so d.part (Event.Read []))
           (joins s u v (so.so ++ (takes.so ++ Event.Read [] ∷ [])) d.part (joins s t u so.so (takes.so ++ Event.Read [] ∷ []) so.happened takes.happened) d.happened);
     }
 
 -- before anything was read
-pub no_memory : {S : Type 0} (leads : S → List Event → S → Type 0) (end : CallFault) (over : Type 0) (s : S) → leads s [] s → end ≡ fault.Memory → TalksUntil leads end over s s
-no_memory leads end over s stays short = record {
+pub no_memory : {S : Type 0} (leads : S → List Event → S → Type 0) (end : CallFault) (because : Cause → Type 0) (s : S) → leads s [] s → end ≡ fault.Memory → TalksUntil leads end because s s
+no_memory leads end because s stays short = record {
   lines = 0;
   so = [];
   left = [];
   talk = Conversation.Begins;
   part = [];
-  breaks = BreaksOff.Reading (Unread.Failed (stream.Memory, short)) refl;
+  breaks = BreaksOff.Reading (Unread.NoMemory short) refl;
   happened = stays;
 }

@@ -11,7 +11,7 @@ use Rattle.fe_wire.specs.Stream.{length_field}
 use Rattle.fe_wire.specs.declared.server_message.ServerMessage.{ServerMessage}
 use Rattle.fe_wire.specs.declared.server_message.ServerMessage.TheVariants as server
 use Rattle.fe_client.specs.declared.fault.CallFault.{CallFault}
-use Rattle.fe_client.specs.Ends.{BeginsNoReply, Unreceived}
+use Rattle.fe_client.specs.Ends.{Cause, BeginsNoReply, Unreceived}
 
 -- the length that a frame begins with is that of what follows, which is a reply's
 pub record HasSize (bytes : List ℕ) : Type 0 where
@@ -82,8 +82,8 @@ no_reply head body count four all field none =
     bad_whole (head ++ body) (omega (arith, four, long)) (omega (arith, four, all, field, long, same)) none
 
 -- the same fault, where more came before
-pub incomplete : (end : CallFault) (over : Type 0) (earlier now : ℕ) (head bytes : List ℕ) → now ≤ earlier + length head → Unreceived end over now bytes → Unreceived end over earlier (head ++ bytes)
-incomplete end over earlier now head bytes few (inl broke) = inl broke
-incomplete end over earlier now head bytes few (inr many) =
+pub incomplete : (end : CallFault) (because : Cause → Type 0) (earlier now : ℕ) (head bytes : List ℕ) → now ≤ earlier + length head → Unreceived end because now bytes → Unreceived end because earlier (head ++ bytes)
+incomplete end because earlier now head bytes few (inl broke) = inl broke
+incomplete end because earlier now head bytes few (inr many) =
     let most = many.1 in
     inr (many.0, omega (arith, few, most, length-append head bytes))

@@ -1,17 +1,54 @@
 -- What calls of three objects do to what is known of them.
-use Rattle.std.proofs.Common.{◌≡◌, ℕ, ◌<◌, ◌≤◌, List, [], ◌∷◌, Option, Some, None, Result, Ok, Err, IfOk, length, take, refl, sym, ap, ◌∙◌, subst, append-nil, arith}
-use Rattle.std.specs.Prelude.{IfSome, OnErr}
+use Rattle.std.proofs.Common.{◌≡◌, ℕ, zero, suc, ◌+◌, ◌<◌, ◌≤◌, List, [], ◌∷◌, ◌++◌, Option, Some, None, Result, Ok, Err, IfOk, length, take, refl, sym, ap, ◌∙◌, subst, append-nil, arith}
+use Rattle.std.specs.Prelude.{IfSome, IfErr, OnErr}
 use Rattle.std.proofs.lemmas.List.{length-take}
 use Rattle.std.proofs.KnownBytes.{Appends-nil, Consumes-nil}
 use Rattle.std.specs.Io.KnownBytes.{Appends, Consumes, IsAtEnd, Keeps, WriteAppends}
 use Rattle.fe_text.specs.Line.{ReadsSome}
 use Rattle.fe_client.specs.Events.{Event, sent, received, written, read_of, read_bytes, sent_byte, received_byte, written_byte}
-use Rattle.fe_client.specs.Streams.{known, Flows, HasEnded}
+use Rattle.fe_text.specs.declared.fault.StreamFault.{StreamFault}
+use Rattle.fe_client.specs.declared.fault.CallFault.{CallFault}
+use Rattle.fe_client.specs.Ends.{causes, TalksUntil}
+use Rattle.fe_client.specs.Streams.{Known, known, Flows, HandsOn, HasEnded, ReadLeast, KeepsReads}
 use Rattle.fe_client.proofs.Leads.{none_of, same_of}
 
-pub and_names : {A E : Type 0} (r : Result A E) (P : A → Type 0) {X Y Z : Type 0} → X → Y → Z → IfOk r P → IfOk r (λ a. P a × X × Y × Z)
-and_names (Ok a) P x y z p = (p, x, y, z)
-and_names (Err e) P x y z p = tt
+pub and_names : {A E : Type 0} (r : Result A E) (P Q : A → Type 0) {X Y Z R : Type 0} → ((a : A) → Q a) → X → Y → Z → R → IfOk r P → IfOk r (λ a. P a × Q a × X × Y × Z × R)
+and_names (Ok a) P Q q x y z reads p = (p, q a, x, y, z, reads)
+and_names (Err e) P Q q x y z reads p = tt
+
+-- one read more
+pub one_more : (before after : ℕ → Type 0) → ((count : ℕ) → before count → after (count + 1)) → (count : ℕ) → ReadLeast before count → ReadLeast after (count + 1)
+one_more before after counts count reads = let least = reads.1 in (reads.0 + 1, omega (arith, least), counts reads.0 reads.2)
+
+pub one_kept : (before after : ℕ → Type 0) → ((count : ℕ) → before count → after (count + 1)) → KeepsReads before after
+one_kept before after counts = λ count reads. let least = reads.1 in (reads.0 + 1, omega (arith, least), counts reads.0 reads.2)
+
+-- ---- what is flushed
+
+pub none_sent : (P : Type 0) (xs : List ℕ) → HandsOn P (sent xs) P
+none_sent P [] = λ was. was
+none_sent P (x ∷ xs) = none_sent P xs
+
+pub none_received : (P : Type 0) (xs : List ℕ) → HandsOn P (received xs) P
+none_received P [] = λ was. was
+none_received P (x ∷ xs) = none_received P xs
+
+pub none_read : (P : Type 0) (given : Option ℕ) (piece : List ℕ) → HandsOn P (read_of given piece) P
+none_read P None piece = λ was. was
+none_read P (Some count) piece = λ was. was
+
+never_handed : (Q : Type 0) (xs : List ℕ) → HandsOn ⊥ (written xs) Q
+never_handed Q [] = λ never. absurd never
+never_handed Q (x ∷ xs) = never_handed Q xs
+
+pub hands_text : (P Q : Type 0) (text : List ℕ) → (length text ≡ 0 → P → Q) → HandsOn P (written text) Q
+hands_text P Q [] idle = idle refl
+hands_text P Q (x ∷ xs) idle = never_handed Q xs
+
+pub hands_front : (P Q : Type 0) (count : ℕ) (text : List ℕ) → (count ≡ 0 → P → Q) → (length text ≡ 0 → P → Q) → HandsOn P (written (take count text)) Q
+hands_front P Q zero text none idle = none refl
+hands_front P Q (suc count) [] none idle = idle refl
+hands_front P Q (suc count) (x ∷ xs) none idle = never_handed Q (take count xs)
 
 -- what stays grows by nothing, and loses nothing
 nothing_more : (a b : Option (List ℕ)) → Keeps a b → Appends a b []
@@ -108,3 +145,24 @@ receive_flows (Err e) l s t v u w bytes p kept = tt
 pub on_err : {A E : Type 0} (r : Result A E) {P : Type 0} → P → OnErr r P
 on_err (Ok x) p = tt
 on_err (Err e) p = p
+
+-- ---- a conversation that breaks off
+
+-- What streams say of a conversation that broke off is said of the reader, the connection and the writer that they have then, and these are
+-- the ones that are given back.
+pub until_known : {R C W S : Type 0} (remaining : R → Option (List ℕ)) (sent received : C → Option (List ℕ)) (contents : W → Option (List ℕ))
+    (over : C → Type 0) (input : R → StreamFault → Type 0) (output : W → StreamFault → Type 0) (was_read : R → ℕ → Type 0)
+    (r : R) (k : C) (w : W) (leads : S → List Event → S → Type 0) (s t : S) (before : Known) (reader : R) (connection : C) (writer : W)
+    (result : Result Unit CallFault)
+    → IfErr result (λ end. TalksUntil leads end (causes (over k) (input r) (output w) (was_read r)) s t)
+    → ((events : List Event) → leads s events t → Flows before events (known (remaining r) (sent k) (received k) (contents w)) × (reader ≡ r) × (connection ≡ k) × (writer ≡ w))
+    → IfErr result (λ end. TalksUntil Flows end (causes (over connection) (input reader) (output writer) (was_read reader)) before
+    (known (remaining reader) (sent connection) (received connection) (contents writer)))
+until_known remaining sent received contents over input output was_read r k w leads s t before reader connection writer (Ok done) h f = tt
+until_known {R} {C} {W} {S} remaining sent received contents over input output was_read r k w leads s t before reader connection writer (Err end) h f =
+    let e = f (h.so ++ h.part) h.happened in
+    let seen : TalksUntil Flows end (causes (over k) (input r) (output w) (was_read r)) before (known (remaining r) (sent k) (received k) (contents w)) =
+    record { lines = h.lines; so = h.so; left = h.left; talk = h.talk; part = h.part; breaks = h.breaks; happened = e.0 } in
+    subst (λ (x : R). TalksUntil Flows end (causes (over connection) (input x) (output writer) (was_read x)) before (known (remaining x) (sent connection) (received connection) (contents writer))) (sym e.1)
+    (subst (λ (y : C). TalksUntil Flows end (causes (over y) (input r) (output writer) (was_read r)) before (known (remaining r) (sent y) (received y) (contents writer))) (sym e.2)
+    (subst (λ (z : W). TalksUntil Flows end (causes (over k) (input r) (output z) (was_read r)) before (known (remaining r) (sent k) (received k) (contents z))) (sym e.3) seen))

@@ -4,11 +4,10 @@ use Rattle.std.specs.Prelude.{MatchBool}
 use Rattle.std.proofs.lemmas.List.{length-append, length-take, drop-drop, drop-take, drop_at}
 use Rattle.fe_text.proofs.LineLemmas.{both_no_feed}
 use Rattle.fe_text.specs.Line.{HasNoFeed}
-use Rattle.fe_text.specs.declared.fault.StreamFault.TheVariants as stream
 use Rattle.fe_client.specs.declared.fault.CallFault.{CallFault}
 use Rattle.fe_client.specs.Events.{Event}
 use Rattle.fe_client.specs.Conversation.{Conversation}
-use Rattle.fe_client.specs.Ends.{IsTooLong, Unread}
+use Rattle.fe_client.specs.Ends.{Cause, IsTooLong, Unread}
 use Rattle.fe_client.specs.Input.{Fills, TakesFed, TakesLast, NotTaken}
 use Rattle.fe_client.proofs.Leads.{Joins, then_nothing}
 
@@ -112,18 +111,18 @@ reads_on leads joins s t u kept line rest piece same events k none (inr some) so
 
 -- ---- faults
 
-pub not_taken : {S : Type 0} (leads : S → List Event → S → Type 0) (end : CallFault) (number : ℕ) (s t : S) (kept line rest : List ℕ) → Taking leads s t kept line rest → Unread end number (line ++ rest) → NotTaken leads end number s t kept
-not_taken leads end number s t kept line rest k why = record { so = k.so; left = line ++ rest; talk = k.talk; why = why; happened = k.happened }
+pub not_taken : {S : Type 0} (leads : S → List Event → S → Type 0) (end : CallFault) (because : Cause → Type 0) (number : ℕ) (s t : S) (kept line rest : List ℕ) → Taking leads s t kept line rest → Unread end because number (line ++ rest) → NotTaken leads end because number s t kept
+not_taken leads end because number s t kept line rest k why = record { so = k.so; left = line ++ rest; talk = k.talk; why = why; happened = k.happened }
 
 -- and nothing more happens
-pub later_not_taken : {S : Type 0} (leads : S → List Event → S → Type 0) → Joins leads → (end : CallFault) (number : ℕ) (s t u : S) (kept : List ℕ) → NotTaken leads end number s t kept → leads t [] u → NotTaken leads end number s u kept
-later_not_taken leads joins end number s t u kept n nothing = record { so = n.so; left = n.left; talk = n.talk; why = n.why; happened = then_nothing leads joins s t u n.so n.happened nothing }
+pub later_not_taken : {S : Type 0} (leads : S → List Event → S → Type 0) → Joins leads → (end : CallFault) (because : Cause → Type 0) (number : ℕ) (s t u : S) (kept : List ℕ) → NotTaken leads end because number s t kept → leads t [] u → NotTaken leads end because number s u kept
+later_not_taken leads joins end because number s t u kept n nothing = record { so = n.so; left = n.left; talk = n.talk; why = n.why; happened = then_nothing leads joins s t u n.so n.happened nothing }
 
 -- a line that begins with more bytes than any of the syntax has
-pub too_long : (end : CallFault) (number : ℕ) (line rest front behind : List ℕ) → HasNoFeed line → HasNoFeed front → rest ≡ front ++ behind → IsTooLong end number (line ++ front) → Unread end number (line ++ rest)
-too_long end number line rest front behind none more_none is (inl long) =
+pub too_long : (end : CallFault) (because : Cause → Type 0) (number : ℕ) (line rest front behind : List ℕ) → HasNoFeed line → HasNoFeed front → rest ≡ front ++ behind → IsTooLong end number (line ++ front) → Unread end because number (line ++ rest)
+too_long end because number line rest front behind none more_none is (inl long) =
     Unread.Long long.0 (line ++ front, behind, both_no_feed line front none more_none, ap (λ (xs : List ℕ). line ++ xs) is ∙ sym (append_assoc line front behind), long.1)
-too_long end number line rest front behind none more_none is (inr short) = Unread.Failed (stream.Memory, short)
+too_long end because number line rest front behind none more_none is (inr short) = Unread.NoMemory short
 
 -- ---- the line that was taken, where a line feed ends it and where none does
 

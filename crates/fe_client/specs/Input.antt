@@ -4,7 +4,7 @@ use Rattle.fe_text.specs.Line.{HasNoFeed}
 use Rattle.fe_client.specs.declared.fault.CallFault.{CallFault}
 use Rattle.fe_client.specs.Events.{Event}
 use Rattle.fe_client.specs.Conversation.{Conversation}
-use Rattle.fe_client.specs.Ends.{Unread}
+use Rattle.fe_client.specs.Ends.{Cause, Unread}
 use Rattle.fe_client.specs.declared.input.Input.{Input}
 
 -- the bytes that were read and are not taken
@@ -32,9 +32,9 @@ pub record TakesLast {S : Type 0} (leads : S → List Event → S → Type 0) (b
   pub happened : leads before (so ++ (Event.Read [] ∷ [])) after
 
 -- The first line, which has that number, is not taken.
-pub record NotTaken {S : Type 0} (leads : S → List Event → S → Type 0) (end : CallFault) (number : ℕ) (before after : S) (kept : List ℕ) : Type 0 where
+pub record NotTaken {S : Type 0} (leads : S → List Event → S → Type 0) (end : CallFault) (because : Cause → Type 0) (number : ℕ) (before after : S) (kept : List ℕ) : Type 0 where
   pub so : List Event
   pub left : List ℕ
   pub talk : Conversation kept 0 so left
-  pub why : Unread end number left
+  pub why : Unread end because number left
   pub happened : leads before so after

@@ -1,6 +1,6 @@
 -- What the events of a conversation, one run of the client, do to its input, its connection and its output. The bytes of a stream
 -- are known if a contract can name them; those of a terminal or a socket are not (`None`).
-use Rattle.std.specs.Prelude.{◌≡◌, ◌⊎◌, ℕ, List, [], Option, None, Some, IsSome, ⊤, ◌∷◌, ◌++◌, IfSome}
+use Rattle.std.specs.Prelude.{◌≡◌, ◌⊎◌, ◌≤◌, ℕ, List, [], Option, None, Some, IsSome, ⊤, ◌∷◌, ◌++◌, IfSome}
 use Rattle.fe_streams.specs.declared.StreamFailed.{StreamFailed}
 use Rattle.std.proofs.Common.{sym, subst, inl, inr, ◌∙◌}
 use Rattle.std.specs.Io.KnownBytes.{Appends, Consumes, IsAtEnd}
@@ -41,6 +41,31 @@ pub record Flows (before : Known) (events : List Event) (after : Known) : Type 0
   pub sent : Appends before.sent after.sent (sent_in events)
   pub received : Appends before.received after.received (received_in events)
   pub written : Appends before.written after.written (written_in events)
+
+-- whether all that was written is flushed after these events, where `before` says whether it was before them
+abbrev pub handed_after : Type 0 → List Event → Type 0
+handed_after before [] = before
+handed_after before (Event.Flushed ∷ events) = handed_after ⊤ events
+handed_after before (Event.Written byte ∷ events) = handed_after ⊥ events
+handed_after before (Event.Read bytes ∷ events) = handed_after before events
+handed_after before (Event.Sent byte ∷ events) = handed_after before events
+handed_after before (Event.Received byte ∷ events) = handed_after before events
+
+-- the events lead from an output that was flushed or not to one that is flushed, if the last of them that writes or flushes is a flush
+abbrev pub HandsOn : Type 0 → List Event → Type 0 → Type 0
+HandsOn before events after = handed_after before events → after
+
+-- there were this many reads at least, or more
+abbrev pub ReadLeast : (ℕ → Type 0) → ℕ → Type 0
+ReadLeast was_read count = (n : ℕ) × (count ≤ n) × was_read n
+
+-- each of these reads is among the later ones
+abbrev pub KeepsReads : (ℕ → Type 0) → (ℕ → Type 0) → Type 0
+KeepsReads before after = (count : ℕ) → ReadLeast before count → ReadLeast after count
+
+-- what is known of the streams, and whether the output is flushed
+abbrev pub FlowsTo : Type 0 → Type 0 → Known → List Event → Known → Type 0
+FlowsTo was_flushed is_flushed before events after = Flows before events after × HandsOn was_flushed events is_flushed
 
 -- ---- laws
 
@@ -94,3 +119,22 @@ flows_both s t u a b p q = record {
     either : HasEnded a ⊎ HasEnded b → IfSome s.left (λ _. IsAtEnd u.left)
     either (inl h) = stays_ended s.left t.left u.left (read_in a) (read_in b) p.read q.read (p.ended h)
     either (inr h) = ends_then s.left t.left u.left (read_in a) p.read (q.ended h)
+
+handed_weaker : (before other : Type 0) (events : List Event) → (before → other) → handed_after before events → handed_after other events
+handed_weaker before other [] weaker h = weaker h
+handed_weaker before other (Event.Flushed ∷ events) weaker h = h
+handed_weaker before other (Event.Written byte ∷ events) weaker h = h
+handed_weaker before other (Event.Read bytes ∷ events) weaker h = handed_weaker before other events weaker h
+handed_weaker before other (Event.Sent byte ∷ events) weaker h = handed_weaker before other events weaker h
+handed_weaker before other (Event.Received byte ∷ events) weaker h = handed_weaker before other events weaker h
+
+handed_split : (before : Type 0) (a b : List Event) → handed_after before (a ++ b) → handed_after (handed_after before a) b
+handed_split before [] b h = h
+handed_split before (Event.Flushed ∷ a) b h = handed_split ⊤ a b h
+handed_split before (Event.Written byte ∷ a) b h = handed_split ⊥ a b h
+handed_split before (Event.Read bytes ∷ a) b h = handed_split before a b h
+handed_split before (Event.Sent byte ∷ a) b h = handed_split before a b h
+handed_split before (Event.Received byte ∷ a) b h = handed_split before a b h
+
+pub hands_both : (s t u : Type 0) (a b : List Event) → HandsOn s a t → HandsOn t b u → HandsOn s (a ++ b) u
+hands_both s t u a b p q = λ h. q (handed_weaker (handed_after s a) t b p (handed_split s a b h))

@@ -1,9 +1,9 @@
 //! Calling a server: a conversation over its socket (`docs/commands.md`, "Commands").
 
-ghost use Rattle.std.specs.Prelude.{IfErr, OnOk};
-ghost use Rattle.fe_client.specs.Streams.{known, Flows};
+ghost use Rattle.std.specs.Prelude.{⊤, IfErr, OnOk};
+ghost use Rattle.fe_client.specs.Streams.{known, Flows, FlowsTo};
 ghost use Rattle.fe_client.specs.Conversation.{TalksAll};
-ghost use Rattle.fe_client.specs.Ends.{over_socket, CallsUntil, TalksUntil};
+ghost use Rattle.fe_client.specs.Ends.{causes, over_socket, CallsUntil, TalksUntil};
 
 use crate::connection::Connection;
 use crate::fault::CallFault;
@@ -12,8 +12,8 @@ use crate::separate::Separate;
 use crate::stream_connection::StreamConnection;
 use crate::streams::Streams;
 use crate::talk::Talk;
+use fe_text::{Sink, Source};
 use std::alloc::Global;
-use std::io::{Read, Write};
 use std::net::Net;
 use std::os::unix::net::UnixStream;
 
@@ -23,7 +23,7 @@ use std::os::unix::net::UnixStream;
 /// `Line` at the first line, counted from 1, that has not the form of a schedule's line without `cN ` (`docs/schedules.md`,
 /// "Lines"). `Socket` if there is no server, the connection fails or ends before a reply, or a frame is bad. `Input` if the reader or
 /// the writer fails, or after 2^40 reads of a stream, 2^40 writes of one text, or 2^64 - 1 lines. `Memory` if memory runs out.
-pub fn call<N: Net, R: Read, W: Write>(
+pub fn call<N: Net, R: Source, W: Sink>(
     rt: &N,
     alloc: Global,
     path: &str,
@@ -31,12 +31,14 @@ pub fn call<N: Net, R: Read, W: Write>(
     writer: &mut W,
 ) -> Result<(), CallFault>
     // A whole conversation was held. What the reader gave is its input, to the end, and the replies that it printed were
-    // appended to what the writer had, each if known.
-    ensures ok { OnOk result (TalksAll Flows
+    // appended to what the writer had, each if known; and each was flushed.
+    ensures ok { OnOk result (TalksAll (FlowsTo (W.is_handed_on writer.old) (W.is_handed_on writer.new))
         (over_socket (R.remaining reader.old) (W.contents writer.old))
         (over_socket (R.remaining reader.new) (W.contents writer.new))) }
-    // At a fault, there was no server, or the lines before the one at fault have had their exchanges.
+    // At a fault, there was no server, or the lines before the one at fault have had their exchanges. A socket may be over at any time. The
+    // reader and the writer failed only if a call of them did.
     ensures fault { IfErr result (λ end. CallsUntil end
+        (causes ⊤ (R.has_failed reader.new) (W.has_failed writer.new) (R.was_read reader.new))
         (over_socket (R.remaining reader.old) (W.contents writer.old))
         (over_socket (R.remaining reader.new) (W.contents writer.new))) }
 {
@@ -51,16 +53,17 @@ pub fn call<N: Net, R: Read, W: Write>(
 
 /// As `call`, over a connection. The reader, the connection and the writer are three objects, and no clause can say in which order
 /// they were called, so the clauses say only what the conversation's events did to each. Their order is that of `converse`.
-pub fn call_over<C: Connection, R: Read, W: Write>(
+pub fn call_over<C: Connection, R: Source, W: Sink>(
     alloc: Global,
     connection: &mut C,
     reader: &mut R,
     writer: &mut W,
 ) -> Result<(), CallFault>
-    ensures ok { OnOk result (TalksAll Flows
+    ensures ok { OnOk result (TalksAll (FlowsTo (W.is_handed_on writer.old) (W.is_handed_on writer.new))
         (known (R.remaining reader.old) (C.sent connection.old) (C.received connection.old) (W.contents writer.old))
         (known (R.remaining reader.new) (C.sent connection.new) (C.received connection.new) (W.contents writer.new))) }
-    ensures fault { IfErr result (λ end. TalksUntil Flows end (C.is_over connection.new)
+    ensures fault { IfErr result (λ end. TalksUntil Flows end
+        (causes (C.is_over connection.new) (R.has_failed reader.new) (W.has_failed writer.new) (R.was_read reader.new))
         (known (R.remaining reader.old) (C.sent connection.old) (C.received connection.old) (W.contents writer.old))
         (known (R.remaining reader.new) (C.sent connection.new) (C.received connection.new) (W.contents writer.new))) }
 {
@@ -77,7 +80,7 @@ pub fn converse<E: Streams>(alloc: Global, streams: &mut E) -> Result<(), CallFa
     // The input is read again only after each line that was read has had its exchange, and its reply was written and flushed.
     ensures ok { OnOk result (TalksAll E.leads streams.old streams.new) }
     // At a fault, this holds for the lines before the one at fault, and the clause says how far that one came, and why no further.
-    ensures fault { IfErr result (λ end. TalksUntil E.leads end (E.is_over streams.new) streams.old streams.new) }
+    ensures fault { IfErr result (λ end. TalksUntil E.leads end (E.because streams.new) streams.old streams.new) }
 {
     let mut input = Input::new(alloc)?;
     let mut talk = Talk::new(alloc)?;

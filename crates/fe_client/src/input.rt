@@ -33,12 +33,13 @@ impl Input {
     ghost use Rattle.fe_text.specs.Line.{HasNoFeed};
     ghost use Rattle.fe_client.specs.Events.{Event};
     ghost use Rattle.fe_client.specs.Input.{kept_of, Fills, TakesFed, TakesLast, NotTaken};
-    ghost use Rattle.fe_client.specs.Ends.{IsTooLong};
+    ghost use Rattle.fe_client.specs.Ends.{Cause, IsTooLong};
 
     /// The lines of an input, before the first read.
     pub fn new(alloc: Global) -> Result<Input, CallFault>
         ensures kept { IfOk result (λ input. kept_of input ≡ []) }
         ensures number { IfOk result (λ input. input.number ≡ 0) }
+        ensures reads { IfOk result (λ input. input.reads ≡ 0) }
         ensures err { IfErr result (λ fault. fault ≡ CallFault.Memory) }
     {
         let piece = buffer(alloc, PIECE)?;
@@ -71,12 +72,15 @@ impl Input {
     /// before. The error is `Line` as soon as the line is longer than any of the syntax, 94 bytes; `Input` if a read fails,
     /// after 2^40 reads, or after 2^64 - 1 lines; `Memory` if memory runs out.
     pub fn next_line<E: Streams>(&mut self, streams: &mut E) -> Result<bool, CallFault>
+        requires { E.because streams.old (Cause.ReadTimes self.old.reads) }
         ensures taken { IfOk result (λ fed. MatchBool fed
             (TakesFed E.leads streams.old streams.new (kept_of self.old) (kept_of self.new) self.new.line.items)
             (TakesLast E.leads streams.old streams.new (kept_of self.old) self.new.line.items)) }
         ensures number { OnOk result (self.new.number ≡ self.old.number + 1) }
         ensures err { IfErr result (λ end.
-            NotTaken E.leads end (self.old.number + 1) streams.old streams.new (kept_of self.old)) }
+            NotTaken E.leads end (E.because streams.new) (self.old.number + 1) streams.old streams.new
+            (kept_of self.old)) }
+        ensures counts { OnOk result (E.because streams.new (Cause.ReadTimes self.new.reads)) }
     {
         if self.number == u64::MAX {
             return Err(CallFault::Input);
@@ -130,6 +134,9 @@ impl Input {
         ensures read { IfOk result (λ more. (events : List Event) × Fills more (kept_of self.new) events
             × E.leads streams.old events streams.new) }
         ensures err { OnErr result (E.leads streams.old [] streams.new) }
+        ensures fails { IfErr result (λ why. E.because streams.new (Cause.Unreadable why)) }
+        ensures counts { (count : ℕ) → E.because streams.old (Cause.ReadTimes count)
+            → E.because streams.new (Cause.ReadTimes (count + 1)) }
         ensures line { self.new.line ≡ self.old.line }
         ensures number { self.new.number ≡ self.old.number }
         ensures reads { self.new.reads ≡ self.old.reads }

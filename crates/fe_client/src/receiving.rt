@@ -23,7 +23,7 @@ pub(crate) const REPLY_BYTES: usize = LENGTH_BYTES + GREATEST_LENGTH;
 pub(crate) fn send_all<E: Streams>(streams: &mut E, bytes: &[u8]) -> Result<(), CallFault>
     ensures ok { OnOk result (E.leads streams.old (sent bytes.now) streams.new) }
     ensures front { (front : List ℕ) × IsFrontOf front bytes.now × E.leads streams.old (sent front) streams.new }
-    ensures err { IfErr result (λ end. Unsent end (E.is_over streams.new)) }
+    ensures err { IfErr result (λ end. Unsent end (E.because streams.new)) }
 {
     let mut done = 0;
     while done < bytes.len() {
@@ -46,7 +46,7 @@ fn receive_all<E: Streams>(
     // Each read brings a byte at least.
     ensures reads { OnOk result (reads.new ≤ reads.old + length buffer.new) }
     ensures err { IfErr result (λ end. (bytes : List ℕ) × E.leads streams.old (received bytes) streams.new
-        × Unreceived end (E.is_over streams.new) reads.old bytes) }
+        × Unreceived end (E.because streams.new) reads.old bytes) }
 {
     let mut done = 0;
     while done < buffer.len() {
@@ -75,7 +75,7 @@ fn receive_length<E: Streams>(
     ensures few { IfOk result (λ count. count ≤ 262145) }
     ensures reads { OnOk result (reads.new ≤ reads.old + 4) }
     ensures err { IfErr result (λ end. (bytes : List ℕ) × E.leads streams.old (received bytes) streams.new
-        × Unanswered end (E.is_over streams.new) reads.old bytes) }
+        × Unanswered end (E.because streams.new) reads.old bytes) }
 {
     receive_all(streams, head, reads)?;
     let count = BigEndian::read_u32(head) as usize;
@@ -99,7 +99,7 @@ pub(crate) fn receive_reply<E: Streams>(
     ensures room { length room.new ≡ 262149 }
     ensures reads { IfOk result (λ reply. reads.new ≤ reads.old + length (reply_spelling reply)) }
     ensures err { IfErr result (λ end. (bytes : List ℕ) × E.leads streams.old (received bytes) streams.new
-        × Unanswered end (E.is_over streams.new) reads.old bytes) }
+        × Unanswered end (E.because streams.new) reads.old bytes) }
 {
     let count = receive_length(streams, &mut room[..LENGTH_BYTES], reads)?;
     let end = LENGTH_BYTES + count;

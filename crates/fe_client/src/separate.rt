@@ -2,8 +2,7 @@
 
 use crate::connection::{Broken, Connection};
 use crate::streams::Streams;
-use fe_text::{StreamFault, read_once, stream_fault, write_text};
-use std::io::{Read, Write};
+use fe_text::{Sink, Source, StreamFault};
 
 /// A reader, a connection and a writer as the streams of a conversation. Contracts see the bytes of each, if they are known.
 #[derive(Drop)]
@@ -13,28 +12,35 @@ pub(crate) struct Separate<'r, 'c, 'w, R, C, W> {
     pub writer: &'w mut W,
 }
 
-impl<R: Read, C: Connection, W: Write> Streams for Separate<'_, '_, '_, R, C, W> {
+impl<R: Source, C: Connection, W: Sink> Streams for Separate<'_, '_, '_, R, C, W> {
     ghost use Rattle.std.specs.Prelude.{◌≡◌};
     ghost use Rattle.std.proofs.Common.{refl, ◌∙◌};
-    ghost use Rattle.fe_client.specs.Streams.{known, Flows, flows_none, flows_both};
+    ghost use Rattle.std.proofs.Math.Nat.{le_refl};
+    ghost use Rattle.fe_client.specs.Streams.{known, Flows, HandsOn, KeepsReads, flows_none, flows_both, hands_both};
+    ghost use Rattle.fe_client.specs.Ends.{causes};
 
     ghost leads = { λ s events t.
         Flows
         (known (R.remaining s.reader.now) (C.sent s.connection.now) (C.received s.connection.now) (W.contents s.writer.now))
         events
         (known (R.remaining t.reader.now) (C.sent t.connection.now) (C.received t.connection.now) (W.contents t.writer.now))
+        × HandsOn (W.is_handed_on s.writer.now) events (W.is_handed_on t.writer.now)
         × (t.reader.ghost_name ≡ s.reader.ghost_name)
         × (t.connection.ghost_name ≡ s.connection.ghost_name)
-        × (t.writer.ghost_name ≡ s.writer.ghost_name) };
+        × (t.writer.ghost_name ≡ s.writer.ghost_name)
+        × KeepsReads (R.was_read s.reader.now) (R.was_read t.reader.now) };
 
-    ghost is_over = { λ s. C.is_over s.connection.now };
+    ghost because = { λ s. causes (C.is_over s.connection.now)
+        (R.has_failed s.reader.now) (W.has_failed s.writer.now) (R.was_read s.reader.now) };
 
     ghost stays = { λ s. (
       flows_none
           (known (R.remaining s.reader.now) (C.sent s.connection.now) (C.received s.connection.now) (W.contents s.writer.now)),
+      λ was. was,
       refl,
       refl,
       refl,
+      λ count reads. reads,
     ) };
 
     ghost joins = { λ s t u a b p q. (
@@ -43,13 +49,20 @@ impl<R: Read, C: Connection, W: Write> Streams for Separate<'_, '_, '_, R, C, W>
           (known (R.remaining t.reader.now) (C.sent t.connection.now) (C.received t.connection.now) (W.contents t.writer.now))
           (known (R.remaining u.reader.now) (C.sent u.connection.now) (C.received u.connection.now) (W.contents u.writer.now))
           a b p.0 q.0,
-      q.1 ∙ p.1,
+      hands_both
+          (W.is_handed_on s.writer.now) (W.is_handed_on t.writer.now) (W.is_handed_on u.writer.now) a b p.1 q.1,
       q.2 ∙ p.2,
       q.3 ∙ p.3,
+      q.4 ∙ p.4,
+      λ count reads. q.5 count (p.5 count reads),
     ) };
 
+    ghost begins = { λ s. (0, le_refl 0, R.begins s.reader.now) };
+
+    ghost keeps_reads = { λ s t events count happened reads. happened.5 count reads };
+
     fn read(&mut self, buffer: &mut [u8]) -> Result<Option<usize>, StreamFault> {
-        read_once(self.reader, buffer)
+        self.reader.read_piece(buffer)
     }
 
     fn send(&mut self, bytes: &[u8]) -> Result<usize, Broken> {
@@ -61,13 +74,10 @@ impl<R: Read, C: Connection, W: Write> Streams for Separate<'_, '_, '_, R, C, W>
     }
 
     fn write(&mut self, text: &[u8]) -> Result<(), StreamFault> {
-        write_text(self.writer, text)
+        self.writer.write_text(text)
     }
 
     fn flush(&mut self) -> Result<(), StreamFault> {
-        match self.writer.flush() {
-            Ok(()) => Ok(()),
-            Err(error) => Err(stream_fault(error)),
-        }
+        self.writer.hand_on()
     }
 }

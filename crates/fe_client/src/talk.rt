@@ -1,10 +1,10 @@
 //! A conversation of `femem call` with a server: one exchange, a message and the reply to it, after another (`docs/commands.md`,
 //! "Commands"). A frame is the bytes of a message or of a reply (`docs/formats.md`, "Frames").
 
-ghost use Rattle.std.specs.Prelude.{◌≡◌, ◌+◌, ◌≤◌, ◌∷◌, ◌++◌, [], ℕ, List, length, IfOk, IfErr, OnOk, OnErr};
+ghost use Rattle.std.specs.Prelude.{◌≡◌, ◌⊎◌, ◌+◌, ◌≤◌, ◌∷◌, ◌++◌, [], ℕ, List, length, IfOk, IfErr, OnOk, OnErr};
 ghost use Rattle.fe_wire.specs.Spelling.{spelling, reply_spelling, ReplyFits};
 ghost use Rattle.fe_client.specs.Events.{Event, sent, received, written, reply_text};
-ghost use Rattle.fe_client.specs.Ends.{ExchangeEnds, IsFrontOf, LineEnds, Unanswered, Unsent};
+ghost use Rattle.fe_client.specs.Ends.{Cause, ExchangeEnds, IsFrontOf, LineEnds, Unanswered, Unsent};
 ghost use Rattle.fe_client.specs.Conversation.{DoesLine, DoesPart, Exchanged};
 
 use crate::asking::asked;
@@ -55,7 +55,7 @@ impl Talk {
     ) -> Result<(), CallFault>
         ensures ok { OnOk result (DoesLine E.leads line.now self.old.reads self.new.reads streams.old streams.new) }
         ensures err { IfErr result (λ end. DoesPart E.leads streams.old streams.new
-            (LineEnds end (E.is_over streams.new) number self.old.reads line.now)) }
+            (LineEnds end (E.because streams.new) number self.old.reads line.now)) }
     {
         if line.is_empty() {
             return Ok(());
@@ -74,7 +74,7 @@ impl Talk {
     ) -> Result<(), CallFault>
         ensures ok { OnOk result (Exchanged E.leads message.now self.old.reads self.new.reads streams.old streams.new) }
         ensures err { IfErr result (λ end. DoesPart E.leads streams.old streams.new
-            (ExchangeEnds end (E.is_over streams.new) self.old.reads message.now)) }
+            (ExchangeEnds end (E.because streams.new) self.old.reads message.now)) }
     {
         self.send(message, streams)?;
         let reply = self.receive(streams)?;
@@ -91,7 +91,7 @@ impl Talk {
         ensures front { (front : List ℕ) × IsFrontOf front (spelling message.now)
             × E.leads streams.old (sent front) streams.new }
         ensures reads { self.new.reads ≡ self.old.reads }
-        ensures err { IfErr result (λ end. Unsent end (E.is_over streams.new)) }
+        ensures err { IfErr result (λ end. Unsent end (E.because streams.new)) }
     {
         self.message.clear();
         if put_message(&mut self.message, message).is_err() {
@@ -105,7 +105,7 @@ impl Talk {
             × E.leads streams.old (received (reply_spelling reply)) streams.new) }
         ensures reads { IfOk result (λ reply. self.new.reads ≤ self.old.reads + length (reply_spelling reply)) }
         ensures err { IfErr result (λ end. (bytes : List ℕ) × E.leads streams.old (received bytes) streams.new
-            × Unanswered end (E.is_over streams.new) self.old.reads bytes) }
+            × Unanswered end (E.because streams.new) self.old.reads bytes) }
     {
         receive_reply(
             self.alloc,
@@ -125,6 +125,8 @@ impl Talk {
             (E.leads streams.old (written (reply_text reply.now) ++ Event.Flushed ∷ []) streams.new) }
         ensures err { OnErr result ((front : List ℕ) × IsFrontOf front (reply_text reply.now)
             × E.leads streams.old (written front) streams.new) }
+        ensures fails { IfErr result
+            (λ why. (why ≡ StreamFault.Memory) ⊎ E.because streams.new (Cause.Unwritable why)) }
         ensures reads { self.new.reads ≡ self.old.reads }
     {
         self.text.clear();

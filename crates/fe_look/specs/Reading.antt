@@ -1,5 +1,7 @@
 -- What one reading of a store says, over a disk that nobody else writes (`docs/store.md`, "A copy while the store is written").
-use Rattle.std.specs.Prelude.{◌≡◌, ◌↔◌, ℕ, List, length, Result, IsErr, OnOk, ◌⊎◌}
+use Rattle.std.specs.Prelude.{◌≡◌, ◌≢◌, ◌↔◌, ◌+◌, ◌≤◌, ℕ, List, length, Result, IsErr, IsErrOf, OnOk, ◌⊎◌}
+use Rattle.fe_disk.specs.declared.calls.Calls.{Calls}
+use Rattle.fe_journal.specs.Layout.{device_bytes}
 use Rattle.fe_journal.specs.Contents.{Contents, Holds}
 use Rattle.fe_journal.specs.Damage.{IsUnformatted, IsDamagedAt}
 use Rattle.fe_disk.specs.Disk.{Rises}
@@ -18,9 +20,14 @@ pub record IsCopyOf (image copy : List ℕ) : Type 0 where
   pub unformatted : IsUnformatted image ↔ IsUnformatted copy
   pub damaged : (offset : ℕ) → IsDamagedAt image offset ↔ IsDamagedAt copy offset
 
+-- at least this many more reads of a disk were counted
+abbrev pub HasRead : ℕ → Calls → Calls → Type 0
+HasRead count before now = before.reads + count ≤ now.reads
+
 -- No write of the disk was counted. It has its size, and is honest exactly if it was. If so, it was only read or synced.
 pub record KeepsDisk {D : Type 0} (model : Ghosts D) (old new : D) : Type 0 where
   pub unwritten : (model.calls new).writes ≡ (model.calls old).writes
+  pub counts : HasRead 0 (model.calls old) (model.calls new)
   pub honesty : model.honest new ↔ model.honest old
   pub same_size : model.size new ≡ model.size old
   pub reads : model.honest old → OnlyReads model old new
@@ -30,6 +37,12 @@ pub record OnlyAsks {D T E : Type 0} (model : Ghosts D) (result : Result T E) (o
   pub fault : IsErr result ↔ Rises (model.failures old) (model.failures new)
   pub still : OnOk result (model.failures new ≡ model.failures old)
   pub kept : KeepsDisk model old new
+
+-- A store is given up, without a fault of its disk and with the size of a store, only after a hundred readings, each of which makes four
+-- reads at least, of both headers and their gates.
+pub record GivesUpLate {D T : Type 0} (model : Ghosts D) (result : Result T OpenFault) (old new : D) : Type 0 where
+  pub device : IsErrOf result fault.Device → Rises (model.failures old) (model.failures new) ⊎ HasRead 400 (model.calls old) (model.calls new)
+  pub unformatted : IsErrOf result fault.Unformatted → (model.size old ≢ device_bytes) ⊎ HasRead 400 (model.calls old) (model.calls new)
 
 -- What a reading found is true of the image, and no checkpoint began meanwhile.
 abbrev pub TellsReading : List ℕ → Reading → Type 0

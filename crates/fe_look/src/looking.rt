@@ -19,33 +19,33 @@ ghost use Rattle.fe_look.specs.declared.fault.LookFault.TheVariants as fault;
 use crate::fault::LookFault;
 use crate::reading::copy_of;
 use crate::state_text::state_text;
-use fe_disk::Disk;
+use fe_disk::{Disk, SystemFile};
 use fe_state::State;
 use fe_store::{OpenFault, disk_to_read, open_existing};
-use fe_text::{StreamFault, write_text};
+use fe_text::{Sink, StreamFault};
 use std::alloc::Global;
 use std::fs::File;
-use std::io::Write;
 use std::rt::Files;
 
 /// Writes the text of a state.
-fn show<W: Write>(alloc: Global, state: &State, writer: &mut W) -> Result<(), LookFault>
+fn show<W: Sink>(alloc: Global, state: &State, writer: &mut W) -> Result<(), LookFault>
     ensures ok { OnOk result (Appends (W.contents writer.old) (W.contents writer.new) (state_text state.now)) }
     ensures front { (count : ℕ)
         × Appends (W.contents writer.old) (W.contents writer.new) (take count (state_text state.now)) }
     ensures opened { (why : OpenFault) → IsErrOf result (fault.Store why) → ⊥ }
+    ensures input { IsErrOf result (fault.Stream StreamFault.Input) → W.has_failed writer.new StreamFault.Input }
 {
     let Ok(text) = state_text(alloc, state) else {
         return Err(LookFault::Stream(StreamFault::Memory));
     };
-    match write_text(writer, text.as_bytes()) {
+    match writer.write_text(text.as_bytes()) {
         Ok(()) => Ok(()),
         Err(fault) => Err(LookFault::Stream(fault)),
     }
 }
 
 /// Opens the store on a disk, and writes its text. The disk is only synced and read, and is returned.
-pub fn look_at<D: Disk, W: Write>(
+pub fn look_at<D: Disk, W: Sink>(
     alloc: Global,
     disk: D,
     writer: &mut W,
@@ -71,6 +71,8 @@ pub fn look_at<D: Disk, W: Write>(
     ensures silent { (why : OpenFault) → IsErrOf result.0 (fault.Store why)
         → Keeps (W.contents writer.old) (W.contents writer.new) }
     ensures sized { (found : ℕ) → IsErrOf result.0 (fault.Store (store.Size found)) → ⊥ }
+    // `Input` only if the writer failed.
+    ensures input { IsErrOf result.0 (fault.Stream StreamFault.Input) → W.has_failed writer.new StreamFault.Input }
     ensures device { IsErrOf result.0 (fault.Store store.Device) ↔ Rises (D.failures disk) (D.failures result.1) }
     ensures honesty { D.honest result.1 ↔ D.honest disk }
     ensures size { D.size result.1 ≡ D.size disk }
@@ -90,7 +92,7 @@ pub fn look_at<D: Disk, W: Write>(
 /// `Device` if the disk fails, or if none of 100 readings was whole and a checkpoint began during one at least. `Memory` if memory runs
 /// out for the copy or the state. `Unformatted` or `Damaged` if the disk holds no state. `Stream` if the writer fails or memory is short
 /// for the text.
-pub fn look_copy<D: Disk, W: Write>(
+pub fn look_copy<D: Disk, W: Sink>(
     alloc: Global,
     disk: &mut D,
     writer: &mut W,
@@ -115,6 +117,8 @@ pub fn look_copy<D: Disk, W: Write>(
     ensures silent { (why : OpenFault) → IsErrOf result (fault.Store why)
         → Keeps (W.contents writer.old) (W.contents writer.new) }
     ensures sized { (found : ℕ) → IsErrOf result (fault.Store (store.Size found)) → ⊥ }
+    // `Input` only if the writer failed.
+    ensures input { IsErrOf result (fault.Stream StreamFault.Input) → W.has_failed writer.new StreamFault.Input }
 {
     let copy = copy_of(alloc, disk)?;
     look_at(alloc, copy, writer).0
@@ -126,7 +130,7 @@ pub fn look_copy<D: Disk, W: Write>(
 /// `Device` if there is no such file, it can't be read, or none of 100 readings was whole and a checkpoint began during one at least.
 /// `Size` if the file doesn't have the size of a store. `Unformatted` or `Damaged` if it holds no state. `Memory` and `Stream` as
 /// `look_copy` says.
-pub fn look<R: Files<File = File>, W: Write>(
+pub fn look<R: Files<File = File>, W: Sink>(
     rt: &R,
     alloc: Global,
     path: &str,
@@ -138,7 +142,9 @@ pub fn look<R: Files<File = File>, W: Write>(
     ensures silent { (why : OpenFault) → IsErrOf result (fault.Store why)
         → Keeps (W.contents writer.old) (W.contents writer.new) }
     ensures wrong_size { (found : ℕ) → IsErrOf result (fault.Store (store.Size found)) → found ≢ device_bytes }
+    // `Input` only if the writer failed.
+    ensures input { IsErrOf result (fault.Stream StreamFault.Input) → W.has_failed writer.new StreamFault.Input }
 {
-    let mut disk = disk_to_read(rt, path)?;
+    let mut disk = disk_to_read::<SystemFile, R>(rt, path)?;
     look_copy(alloc, &mut disk, writer)
 }

@@ -4,7 +4,7 @@
 ghost use Rattle.std.specs.Prelude.{◌≡◌, ◌+◌, ◌≤◌, length, slice_index, IfOk, OnOk};
 ghost use Rattle.fe_disk.specs.Disk.{bytes_at, after_write};
 ghost use Rattle.fe_journal.specs.Layout.{number_at};
-ghost use Rattle.fe_look.specs.Reading.{OnlyAsks};
+ghost use Rattle.fe_look.specs.Reading.{HasRead, OnlyAsks};
 
 use byteorder::{BigEndian, ByteOrder};
 use fe_disk::{DeviceFault, Disk};
@@ -13,6 +13,7 @@ use fe_disk::{DeviceFault, Disk};
 pub(crate) fn read_byte<D: Disk>(disk: &mut D, at: usize) -> Result<u8, DeviceFault>
     requires within { at + 1 ≤ D.size disk.old }
     ensures byte { D.honest disk.old → IfOk result (λ byte. byte ≡ slice_index (D.seen disk.old) at) }
+    ensures counts { OnOk result (HasRead 1 (D.calls disk.old) (D.calls disk.new)) }
     ensures device { OnlyAsks D.Disk result disk.old disk.new }
 {
     let mut byte = [0];

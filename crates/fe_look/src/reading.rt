@@ -1,12 +1,12 @@
 //! Copying a store that a server may be writing (`docs/store.md`, "A copy while the store is written").
 
-ghost use Rattle.std.specs.Prelude.{◌≡◌, ℕ, length, slice_index, IfOk, IfErr, IsErrOf};
+ghost use Rattle.std.specs.Prelude.{◌≡◌, ℕ, length, slice_index, IfOk, IfErr, IsErrOf, OnOk};
 ghost use Rattle.fe_disk.specs.Disk.{Rises};
 ghost use Rattle.fe_disk.specs.Memory.{IsHonest};
 ghost use Rattle.fe_journal.specs.Layout.{device_bytes};
 ghost use Rattle.fe_store.specs.Opening.{IsReason};
 ghost use Rattle.fe_store.specs.declared.fault.OpenFault.TheVariants as fault;
-ghost use Rattle.fe_look.specs.Reading.{KeepsDisk, IsCopyOf, TellsReading, IsDeviceOrMemory};
+ghost use Rattle.fe_look.specs.Reading.{GivesUpLate, HasRead, KeepsDisk, IsCopyOf, TellsReading, IsDeviceOrMemory};
 
 use crate::header::read_counting;
 use crate::slot::read_slot;
@@ -42,6 +42,8 @@ pub(crate) fn copy_of<D: Disk>(alloc: Global, disk: &mut D) -> Result<MemoryDisk
     ensures device { D.honest disk.old
         → IsErrOf result fault.Device → Rises (D.failures disk.old) (D.failures disk.new) }
     ensures failed { Rises (D.failures disk.old) (D.failures disk.new) → IsErrOf result fault.Device }
+    // On any disk: it gives up only after the hundredth reading.
+    ensures tried { GivesUpLate D.Disk result disk.old disk.new }
     // It writes nothing. A crash leaves nothing that it couldn't leave before, and reads give the same bytes.
     ensures kept { KeepsDisk D.Disk disk.old disk.new }
     ensures sized { (found : ℕ) → IsErrOf result (fault.Size found) → ⊥ }
@@ -63,6 +65,7 @@ fn read_bytes<D: Disk>(alloc: Global, disk: &mut D) -> Result<Vec<u8>, OpenFault
     ensures fault { D.honest disk.old
         → IsErrOf result fault.Device → Rises (D.failures disk.old) (D.failures disk.new) }
     ensures still { (IsErrOf result fault.Device → ⊥) → D.failures disk.new ≡ D.failures disk.old }
+    ensures tried { GivesUpLate D.Disk result disk.old disk.new }
     ensures sized { (found : ℕ) → IsErrOf result (fault.Size found) → ⊥ }
     ensures kept { KeepsDisk D.Disk disk.old disk.new }
 {
@@ -86,6 +89,7 @@ fn read_once<D: Disk>(alloc: Global, disk: &mut D) -> Result<Reading, OpenFault>
     requires device { D.size disk.old ≡ device_bytes }
     ensures tells { D.honest disk.old → IfOk result (TellsReading (D.seen disk.old)) }
     ensures faults { IfErr result IsDeviceOrMemory }
+    ensures reads { OnOk result (HasRead 4 (D.calls disk.old) (D.calls disk.new)) }
     ensures fault { IsErrOf result fault.Device → Rises (D.failures disk.old) (D.failures disk.new) }
     ensures still { (IsErrOf result fault.Device → ⊥) → D.failures disk.new ≡ D.failures disk.old }
     ensures kept { KeepsDisk D.Disk disk.old disk.new }

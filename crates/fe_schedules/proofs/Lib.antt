@@ -1,5 +1,6 @@
 pub mod FrameLemmas
 pub mod Outputs
+pub mod Between
 pub mod Moving
 pub mod Readiness
 pub mod Stages

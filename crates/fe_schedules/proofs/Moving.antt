@@ -22,10 +22,10 @@ checks_both [] ys d m e p q = subst (λ (w : DeskState MemoryState). ChecksEach 
 checks_both (x ∷ xs) ys d m e p q = (p.0, p.1, checks_both xs ys p.0 m e p.2 q)
 
 pub moves_none : (d : DeskState MemoryState) → Moves d [] d
-moves_none d = record { runs = refl; from = λ begun from. from; checks = refl }
+moves_none d = record { runs = refl; from = λ begun from. from; acknowledged = λ begun limits is. is; checks = refl }
 
 pub moves_both : (d m e : DeskState MemoryState) (xs ys : List Step) → Moves d xs m → Moves m ys e → Moves d (xs ++ ys) e
-moves_both d m e xs ys p q = record { runs = runs_both xs ys d.run_state m.run_state e.run_state p.runs q.runs; from = λ begun from. q.from begun (p.from begun from); checks = checks_both xs ys d m e p.checks q.checks }
+moves_both d m e xs ys p q = record { runs = runs_both xs ys d.run_state m.run_state e.run_state p.runs q.runs; from = λ begun from. q.from begun (p.from begun from); acknowledged = λ begun limits is. q.acknowledged begun limits (p.acknowledged begun limits is); checks = checks_both xs ys d m e p.checks q.checks }
 
 -- the same of a machine
 pub takes_both : (m u n : Machine) (xs ys : List Step) → TakesSteps m xs u → TakesSteps u ys n → TakesSteps m (xs ++ ys) n

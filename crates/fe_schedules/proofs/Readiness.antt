@@ -1,5 +1,5 @@
 -- A desk stays ready for the next step.
-use Rattle.std.proofs.Common.{◌≡◌, ◌≢◌, None, Err, ℕ, ◌≤◌, false, List, take, take_all, length, refl, zero, sym, ap, ◌∙◌, ◌⊎◌, inl, inr, subst, arith, Some, Option, suc, ◌<◌, ◌↔◌}
+use Rattle.std.proofs.Common.{◌≡◌, ◌≢◌, None, Err, ℕ, ◌≤◌, false, List, [], take, take_all, length, refl, zero, sym, ap, ◌∙◌, ◌⊎◌, inl, inr, subst, arith, Some, Option, suc, ◌<◌, ◌↔◌}
 use Rattle.fe_disk.specs.Memory.{MemoryState, IsHonest, LeavesNow}
 use Rattle.fe_state.specs.State.{ServerState}
 use Rattle.fe_state.specs.History.{after_groups}
@@ -7,12 +7,13 @@ use Rattle.fe_state.specs.declared.entry.Entry.{Entry}
 use Rattle.fe_keeper.specs.Damage.{StandsForOne}
 use Rattle.fe_keeper.specs.Stands.{StandsFor, EachStandsFor, LeavesPrefix}
 use Rattle.fe_keeper.specs.declared.fault.Fault.TheVariants as store
+use Rattle.fe_mail.specs.Connections.{mails_on}
 use Rattle.fe_desk.specs.Crash.{DeskState, Advances, IsFrom, disk_of, TellsStep, desk_anew}
 use Rattle.fe_desk.specs.DeskRunState.{DeskRunState, IsFirstRunState}
 use Rattle.fe_desk.specs.Steps.{DeskStep, AreWritten}
 use Rattle.fe_desk.specs.declared.step.Step.{Step}
 use Rattle.fe_desk.proofs.Anew.{written_still}
-use Rattle.fe_desk.proofs.Openings.{first_from}
+use Rattle.fe_desk.proofs.Openings.{first_from, first_quiet}
 use Rattle.fe_desk.proofs.Quiets.{none_waits}
 use Rattle.fe_desk.specs.declared.fault.DeskFault.{DeskFault}
 use Rattle.fe_desk.specs.declared.fault.DeskFault.TheVariants as desk
@@ -46,9 +47,9 @@ each_stands d begun from synced image left =
     subst (λ (s : ServerState). StandsFor image s) same left.stands
 
 pub ready_after : (old new : DeskState MemoryState) (x : Step) → IsReady old → DeskStep old.run_state x new.run_state
-    → Advances memory_model old new → Stands new
+    → ((conn : ℕ) → mails_on new.run_state.front.connections conn ≡ []) → Advances memory_model old new → Stands new
     → (new.keeper.store.has_failed ≡ false → new.synced ≡ length new.run_state.groups) → Works memory_model old.keeper new.keeper → IsReady new
-ready_after old new x ready step more stands synced fine =
+ready_after old new x ready step boxes more stands synced fine =
     let honest : IsHonest (disk_of new) = more.honesty.1 ready.honest in
     let from : IsFrom ready.begun new = more.from ready.begun ready.from in
     record {
@@ -59,8 +60,11 @@ ready_after old new x ready step more stands synced fine =
       from = from;
       stands = λ image may. each_stands new ready.begun from (synced fine.after) image (stands honest ready.begun from image may);
       synced = synced fine.after;
-      owes = ap (λ (s : DeskRunState). s.owes) step.after;
-      written = subst (λ (s : DeskRunState). AreWritten s.clients) (sym step.after) (none_waits step.last.front step.last.clients);
+      quiet = record {
+        boxes = boxes;
+        replies = subst (λ (s : DeskRunState). AreWritten s.clients) (sym step.after) (none_waits step.last.front step.last.clients);
+        owes = ap (λ (s : DeskRunState). s.owes) step.after;
+      };
     }
 
 pub ready_first : (d : DeskState MemoryState) (s : ServerState) → IsHonest (disk_of d) → d.keeper.store.has_failed ≡ false → (disk_of d).failures ≡ 0 → IsFirstRunState s d.run_state → d.keeper.state ≡ s → d.synced ≡ 0 → EachStandsFor memory_model (disk_of d) s → IsReady d
@@ -72,8 +76,7 @@ ready_first d s honest works calm first is synced stands = record {
   from = first_from s d is first.groups synced;
   stands = λ image may. subst (λ (t : ServerState). StandsFor image t) (sym is) (stands image may);
   synced = synced ∙ sym (ap length first.groups);
-  owes = first.owes;
-  written = subst AreWritten (sym first.clients) tt;
+  quiet = first_quiet s d.run_state first;
 }
 
 -- so is one whose trace begins anew
@@ -86,8 +89,7 @@ ready_anew d ready = record {
   from = first_from d.keeper.state (desk_anew d) refl refl refl;
   stands = ready.stands;
   synced = refl;
-  owes = ready.owes;
-  written = written_still d.run_state.clients ready.written;
+  quiet = record { boxes = ready.quiet.boxes; replies = written_still d.run_state.clients ready.quiet.replies; owes = ready.quiet.owes };
 }
 
 -- all that was stored of a desk whose groups begin with a state

@@ -1,7 +1,9 @@
 -- What a line does to a run, as lines of a schedule say it.
 use Rattle.std.proofs.Common.{◌≡◌, ◌≢◌, ℕ, Bool, false, List, [], ◌∷◌, ◌++◌, Some, length, refl, sym, ap, subst, ◌∙◌, ◌+◌, append-nil, string_bytes}
 use Rattle.fe_disk.specs.Memory.{MemoryState}
+use Rattle.fe_state.specs.State.{ServerState}
 use Rattle.fe_state.specs.History.{after_groups}
+use Rattle.fe_desk.specs.Acknowledged.{AnswersStand, may_ask_any}
 use Rattle.fe_state.specs.declared.entry.Entry.{Entry}
 use Rattle.fe_desk.specs.Crash.{anew, DeskState, IsFrom}
 use Rattle.fe_desk.specs.DeskRunState.{DeskRunState}
@@ -19,15 +21,17 @@ use Rattle.fe_schedules.proofs.Readiness.{all_stored}
 record Beginning (l : Line) (at : Stage) (d : DeskState MemoryState) : Type 0 where
   mid : Stage
   begins : Begins l at mid
+  stored : mid.stored ≡ at.stored
   run_state : mid.run_state ≡ d.run_state
   from : IsFrom mid.stored d
 
 again : (r : Run) (at : Stage) (d : DeskState MemoryState) → IsAt r at → BeginsAt line.Stop r.machine.desk d → Beginning line.Stop at d
 again r at d is b = record {
   mid = record { stored = r.machine.desk.keeper.state; run_state = d.run_state; is_holding = false };
-  begins = (sym is.stored, b.0);
+  begins = (sym is.stored, b.first);
+  stored = sym is.stored;
   run_state = refl;
-  from = b.1;
+  from = first_from r.machine.desk.keeper.state d b.keeper b.first.groups b.synced;
 }
 
 -- each line but a stop begins where the run is
@@ -39,16 +43,16 @@ same r at d run is e =
 
 beginning : (l : Line) (r : Run) (at : Stage) (d : DeskState MemoryState) → IsRun r → IsAt r at → BeginsAt l r.machine.desk d → Beginning l at d
 beginning (line.Message conn message) r at d run is b = let s = same r at d run is b in
-    record { mid = at; begins = (refl, refl); run_state = s.0; from = s.1 }
+    record { mid = at; begins = (refl, refl); stored = refl; run_state = s.0; from = s.1 }
 beginning (line.Gone conn) r at d run is b = let s = same r at d run is b in
-    record { mid = at; begins = (refl, refl); run_state = s.0; from = s.1 }
+    record { mid = at; begins = (refl, refl); stored = refl; run_state = s.0; from = s.1 }
 beginning line.Hold r at d run is b = let s = same r at d run is b in
-    record { mid = at; begins = (refl, refl); run_state = s.0; from = s.1 }
+    record { mid = at; begins = (refl, refl); stored = refl; run_state = s.0; from = s.1 }
 beginning line.Flush r at d run is b = let s = same r at d run is b in
-    record { mid = at; begins = (refl, refl); run_state = s.0; from = s.1 }
+    record { mid = at; begins = (refl, refl); stored = refl; run_state = s.0; from = s.1 }
 beginning line.Stop r at d run is b = again r at d is b
 beginning line.Check r at d run is b = let s = same r at d run is b in
-    record { mid = at; begins = (refl, refl); run_state = s.0; from = s.1 }
+    record { mid = at; begins = (refl, refl); stored = refl; run_state = s.0; from = s.1 }
 
 -- The run is at a stage after the line.
 pub record Ran (at : Stage) (l : Line) (s : Run) (more : List ℕ) : Type 0 where
@@ -78,6 +82,7 @@ line_ran l r s run p at is =
         runs = subst (λ (u : DeskRunState). DeskRun u (p.steps ++ endings s.is_holding) e) (sym b.run_state) p.moves.runs;
         holding = p.holding ∙ ap (λ (was : Bool). holds_after l was) (sym is.holding);
         prints = p.prints.prints;
+        answers = subst (λ (x : ServerState). AnswersStand x e.groups may_ask_any e) (sym (b.stored ∙ is.stored)) p.answers;
         stored = refl;
         run_state = refl;
       };

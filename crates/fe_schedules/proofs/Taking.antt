@@ -172,7 +172,7 @@ took_front read before now r s bytes so none same run begun =
 -- all that was kept is written
 pub wrote : (read : List ℕ) (before now after : Option (List ℕ)) (r s : Run) → SoFar read before now r → Appends now after (string_bytes r.text) → s ≡ record r { text = s.text } → string_bytes s.text ≡ [] → SoFar read before after s
 wrote read before now after r s so appends same empty = record {
-  run = subst IsRun (sym same) (record { machine = so.run.machine; none = so.run.none; few = so.run.few; room = so.run.room; count = so.run.count });
+  run = subst IsRun (sym same) (record { machine = so.run.machine; none = so.run.none; between = so.run.between; few = so.run.few; room = so.run.room; count = so.run.count });
   lines = so.lines;
   splits = λ others. so.splits others ∙ ap (λ (x : Run). so.lines ++ lines_of (x.begun.items ++ others)) (sym same);
   no_feed = subst (λ (x : Run). HasNoFeed x.begun.items) (sym same) so.no_feed;

@@ -1,5 +1,4 @@
 pub mod Ready
 pub mod Schedule
 pub mod Runs
-pub mod Counted
 pub mod within

@@ -1,12 +1,14 @@
 -- What is always true of a run, and what its parts do (`docs/model.md`, "Schedules").
 use Rattle.std.specs.Prelude.{◌≡◌, ◌≢◌, ℕ, ◌+◌, ◌-◌, ◌^◌, ◌<◌, ◌≤◌, List, [], ◌++◌, length, Option, None, Some, string_bytes, vec_capacity}
 use Rattle.std.specs.Io.KnownBytes.{Appends}
-use Rattle.fe_disk.specs.Memory.{MemoryState}
+use Rattle.fe_disk.specs.Memory.{MemoryState, synced_image}
+use Rattle.fe_state.specs.State.{ServerState}
+use Rattle.fe_desk.specs.Acknowledged.{AnswersStand, IsAcknowledged, may_ask_any}
 use Rattle.fe_desk.specs.Crash.{DeskState, IsFrom, disk_of, desk_anew}
 use Rattle.fe_desk.specs.Messages.{outputs}
 use Rattle.fe_desk.specs.DeskRunState.{DeskRunState, IsFirstRunState}
 use Rattle.fe_desk.specs.declared.step.Step.{Step}
-use Rattle.fe_schedules.specs.Ready.{IsReady, Moves}
+use Rattle.fe_schedules.specs.Ready.{IsReady, IsBetweenLines, Moves}
 use Rattle.fe_text.specs.Line.{parsed, lines_of, HasNoFeed, longest_line}
 use Rattle.fe_schedules.specs.Schedule.{Stage, AreStepsOf, holds_after, endings, RunsBytes, Prints, RunsLines, IsStart, EndsWithin, LeavesStored, IsPrinted}
 use Rattle.fe_text.specs.declared.fault.StreamFault.{StreamFault}
@@ -49,11 +51,19 @@ pub record TakesSteps (m : Machine) (steps : List Step) (n : Machine) : Type 0 w
 pub record PrintsTrace (m n : Machine) (before after : List ℕ) : Type 0 where
   pub machine : IsMachine n
   pub desk : n.desk ≡ desk_anew m.desk
+  pub acknowledged : (begun : ServerState) → IsFrom begun m.desk → IsAcknowledged begun may_ask_any m.desk → IsAcknowledged m.desk.keeper.state may_ask_any n.desk
   pub text : PrintsMore m.desk.run_state before after
+
+-- A stop, after which the image of the last sync is opened: a fresh desk over what was stored.
+pub record Reopens (d e : DeskState MemoryState) : Type 0 where
+  pub first : IsFirstRunState d.keeper.state e.run_state
+  pub keeper : e.keeper.state ≡ d.keeper.state
+  pub synced : e.synced ≡ 0
+  pub image : (disk_of e).image ≡ synced_image (disk_of d).image (disk_of d).events
 
 -- The steps of a line begin at the desk `e`: at `d`, or after `Stop` at a fresh desk over what was stored.
 abbrev pub BeginsAt : Line → DeskState MemoryState → DeskState MemoryState → Type 0
-BeginsAt line.Stop d e = IsFirstRunState d.keeper.state e.run_state × IsFrom d.keeper.state e
+BeginsAt line.Stop d e = Reopens d e
 BeginsAt other d e = e ≡ d
 
 -- the machine took the steps of a line, and is ready for the next
@@ -67,17 +77,18 @@ pub record ActsOn (m : Machine) (l : Line) (n : Machine) : Type 0 where
 
 -- ---- a run
 
--- The machine is between two steps, and its trace has no groups. The unfinished line is no longer than the longest one, for which its
+-- The machine is between two lines, and its trace has no groups. The unfinished line is no longer than the longest one, for which its
 -- buffer has room. At most 2^64 - 2 lines were taken.
 pub record IsRun (r : Run) : Type 0 where
   pub machine : IsMachine r.machine
   pub none : r.machine.desk.run_state.groups ≡ []
+  pub between : IsBetweenLines r.machine.desk
   pub few : length r.begun.items ≤ longest_line
   pub room : longest_line ≤ vec_capacity r.begun
   pub count : r.lines < 2 ^ 64 - 1
 
--- The steps of the line were taken, and then, unless on hold, what is pending was stored and posted. The replies are printed, and the
--- trace begins anew.
+-- The steps of the line were taken, and then, unless on hold, what is pending was stored and posted. The replies are printed, all
+-- that was written stands on the groups that are stored, and the trace begins anew.
 pub record RanLine (r : Run) (l : Line) (s : Run) : Type 0 where
   pub run : IsRun s
   pub lines : s.lines ≡ r.lines
@@ -89,6 +100,7 @@ pub record RanLine (r : Run) (l : Line) (s : Run) : Type 0 where
   pub last : DeskState MemoryState
   pub moves : Moves mid (steps ++ endings s.is_holding) last
   pub ready : IsReady last
+  pub answers : AnswersStand r.machine.desk.keeper.state last.run_state.groups may_ask_any last.run_state
   pub anew : s.machine.desk ≡ desk_anew last
   pub holding : s.is_holding ≡ holds_after l r.is_holding
   pub prints : PrintsMore last.run_state (string_bytes r.text) (string_bytes s.text)

@@ -25,6 +25,7 @@ use Rattle.fe_state.specs.State.{ServerState, first_state}
 use Rattle.fe_state.specs.History.{after_groups}
 use Rattle.fe_wire.specs.declared.client_message.ClientMessage.{ClientMessage}
 use Rattle.fe_keeper.specs.Stands.{EachStandsFor}
+use Rattle.fe_desk.specs.Acknowledged.{AnswersStand, may_ask_any}
 use Rattle.fe_desk.specs.Crash.{anew}
 use Rattle.fe_desk.specs.Messages.{outputs}
 use Rattle.fe_desk.specs.DeskRunState.{DeskRunState, IsFirstRunState}
@@ -147,7 +148,7 @@ pub record IsStart (s : Stage) : Type 0 where
 -- ---- what a line does
 
 -- the step brings the frame of this message from this connection
-abbrev IsFrame : ℕ → ClientMessage → Step → Type 0
+abbrev pub IsFrame : ℕ → ClientMessage → Step → Type 0
 IsFrame conn message (step.Bytes c piece) = (c ≡ conn) × (piece.items ≡ spelling message)
 IsFrame conn message other = ⊥
 
@@ -179,7 +180,7 @@ endings true = []
 endings false = step.Cut ∷ step.Append ∷ step.Post ∷ []
 
 -- The steps of the line run, and then, unless on hold, what is pending is cut, stored and posted. The text is what the replies print. All
--- groups are stored, and the trace begins anew.
+-- groups are stored, all that was written stands on them, and the trace begins anew.
 pub record RunsLine (s : Stage) (l : Line) (t : Stage) (text : List ℕ) : Type 0 where
   pub mid : Stage
   pub begins : Begins l s mid
@@ -189,6 +190,7 @@ pub record RunsLine (s : Stage) (l : Line) (t : Stage) (text : List ℕ) : Type 
   pub runs : DeskRun mid.run_state (steps ++ endings t.is_holding) last
   pub holding : t.is_holding ≡ holds_after l s.is_holding
   pub prints : IsPrinted (outputs last) text
+  pub answers : AnswersStand mid.stored last.groups may_ask_any last
   pub stored : t.stored ≡ after_groups mid.stored last.groups
   pub run_state : t.run_state ≡ anew last
 

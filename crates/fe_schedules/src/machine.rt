@@ -2,10 +2,11 @@
 //! It keeps the record of a line, the groups that were stored and the replies, only until the replies are printed.
 
 ghost use Rattle.std.specs.Prelude.{◌≡◌, [], ◌∷◌, string_bytes, OnOk, IfOk, IfErr};
+ghost use Rattle.fe_desk.specs.Acknowledged.{HasNoneToPost};
 ghost use Rattle.fe_desk.specs.DeskRunState.{IsFirstRunState};
 ghost use Rattle.fe_state.specs.State.{first_state};
 ghost use Rattle.fe_schedules.specs.Schedule.{TellsDisk, endings};
-ghost use Rattle.fe_schedules.specs.Ready.{HoldsStore};
+ghost use Rattle.fe_schedules.specs.Ready.{HoldsStore, IsBetweenLines};
 ghost use Rattle.fe_schedules.specs.Runs.{IsMachine, ActsOn, TakesSteps, PrintsTrace, last_disk};
 
 use crate::fault::MachineFault;
@@ -38,6 +39,7 @@ impl Machine {
         ensures machine { IfOk result IsMachine }
         ensures first { IfOk result (λ machine. IsFirstRunState first_state machine.desk.run_state) }
         ensures state { IfOk result (λ machine. machine.desk.keeper.state ≡ first_state) }
+        ensures between { IfOk result (λ machine. IsBetweenLines machine.desk) }
         ensures fault { IfErr result (λ e. TellsDisk e.1 e.0) }
     {
         match Desk::format(alloc, disk) {
@@ -119,7 +121,7 @@ impl Machine {
     /// Stops, and opens the store again as it was at its last sync. No connection is there then, and nothing waits.
     fn stop(&mut self) -> Result<(), MachineFault>
         requires { IsMachine self.old }
-        // All that was stored is there, and nothing else.
+        // The image of the last sync is opened: all that was stored is there, and nothing else.
         ensures acts { OnOk result (ActsOn self.old Line.Stop self.new) }
         ensures fault { IfErr result (TellsDisk (last_disk self.new)) }
     {
@@ -159,16 +161,13 @@ impl Machine {
         text: &mut String,
         printed_replies: &mut Vec<PrintedReply>,
     ) -> Result<(), AllocError>
-        requires { IsMachine self.old }
+        requires machine { IsMachine self.old }
+        requires posted { HasNoneToPost self.old.desk.run_state.handed }
         ensures printed { OnOk result
             (PrintsTrace self.old self.new (string_bytes text.old) (string_bytes text.new)) }
         ensures disk { last_disk self.new ≡ last_disk self.old }
     {
-        read_all(
-            self.alloc,
-            self.desk.trace().ports.as_slice(),
-            printed_replies,
-        )?;
+        read_all(self.alloc, self.desk.written_ports(), printed_replies)?;
         // Replies under one number keep their order.
         printed_replies.sort_by_key(|one| one.key())?;
         print_replies(text, printed_replies.as_slice())?;

@@ -10,10 +10,9 @@ use crate::fault::{MachineFault, ScheduleFault};
 use crate::line::{holds_after, line_in};
 use crate::machine::Machine;
 use crate::printed_reply::PrintedReply;
-use crate::streams::Sink;
 use fe_disk::MemoryDisk;
 use fe_state::{Request, named};
-use fe_text::{LONGEST_LINE, Line, first_line};
+use fe_text::{LONGEST_LINE, Line, Sink, first_line};
 use fe_wire::ClientMessage;
 use std::alloc::Global;
 

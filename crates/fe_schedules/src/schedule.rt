@@ -8,9 +8,8 @@ ghost use Rattle.fe_journal.specs.Layout.{device_bytes};
 
 use crate::fault::ScheduleFault;
 use crate::run::Run;
-use crate::streams::{Sink, Source};
 use fe_disk::MemoryDisk;
-use fe_text::{PIECE, READS, buffer};
+use fe_text::{PIECE, READS, Sink, Source, buffer};
 use std::alloc::Global;
 
 /// Makes a new store on the disk, runs the lines of the reader, and prints their replies to the writer. What the lines

@@ -2,6 +2,8 @@
 //! (`docs/schedules.md`). It also reads streams in pieces, and writes text to them.
 #![tactic(auto)]
 
+mod counted_reader;
+mod counted_writer;
 mod fault;
 mod input;
 mod laws;
@@ -9,11 +11,17 @@ mod line;
 mod printing;
 mod request;
 mod stream;
+mod stream_calls;
+mod streams;
 mod word;
 
+pub use counted_reader::CountedReader;
+pub use counted_writer::CountedWriter;
 pub use fault::StreamFault;
 pub use input::first_line;
 pub use laws::{limits_are, refusals_print_their_names};
 pub use line::{LONGEST_LINE, Line, message_in, parse};
 pub use printing::print_reply;
-pub use stream::{PIECE, READS, WRITES, buffer, read_once, stream_fault, write_out, write_text};
+pub use stream::{PIECE, READS, WRITES, buffer};
+pub use stream_calls::StreamCalls;
+pub use streams::{Sink, Source};

@@ -17,7 +17,7 @@ returns-in_err-receive_all-clause-err g c =
     rw (failed c.from_residual-in_err-receive_all.result end c.from_residual-in_err-receive_all.ensures.1) (
       head ++ e.0,
       then_bytes g.E.Streams.leads g.met.E.Streams.joins Event.Received c.args.streams.now c.receive_length.new.streams c.receive_all.new.streams head e.0 c.in_ok-count.ensures.ok e.1,
-      Unanswered.Incomplete (incomplete end (g.E.Streams.is_over c.receive_all.new.streams) c.args.reads.now c.receive_length.new.reads head e.0 (omega (arith, few, four)) e.2),
+      Unanswered.Incomplete (incomplete end (g.E.Streams.because c.receive_all.new.streams) c.args.reads.now c.receive_length.new.reads head e.0 (omega (arith, few, four)) e.2),
     )
 
 pub returns-in-Ok-Some-clause-reply : goal.returns-in-Ok-Some-clause-reply

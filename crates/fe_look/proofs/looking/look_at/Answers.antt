@@ -15,7 +15,7 @@ returns-in-Ok-clause-shows g c honest =
     (λ w. record {
       state = c.in-Ok.keeper.state;
       stands = (c.in-Ok.ensures.opened honest).state;
-      written = subst (λ (s : ServerState). Appends (g.W.Write.contents c.args.writer.now) (g.W.Write.contents c.show-shown.new.writer) (state_text s)) c.state.ensures.state w;
+      written = subst (λ (s : ServerState). Appends (g.W.Sink.contents c.args.writer.now) (g.W.Sink.contents c.show-shown.new.writer) (state_text s)) c.state.ensures.state w;
     })
     c.show-shown.ensures.ok
 
@@ -46,4 +46,4 @@ pub returns-in-Err-clause-memory : goal.returns-in-Err-clause-memory
 returns-in-Err-clause-memory g c honest is = c.in-Err.ensures.memory honest (cc is)
 
 pub returns-in-Err-clause-front : goal.returns-in-Err-clause-front
-returns-in-Err-clause-front g c = shows_nothing (g.W.Write.contents c.args.writer.now)
+returns-in-Err-clause-front g c = shows_nothing (g.W.Sink.contents c.args.writer.now)

@@ -4,7 +4,7 @@ use Rattle.fe_look.proofs.looking.look_copy.Goals as goal
 
 pub returns-clause-shows : goal.returns-clause-shows
 returns-clause-shows g c = λ honest.
-    on_ok_weaker c.look_at.result.0 (shows_store (g.D.Disk.seen c.args.disk.now) c.in_ok-copy.copy.image (c.in_ok-copy.ensures.copy honest) (g.W.Write.contents c.args.writer.now) (g.W.Write.contents c.look_at.new.writer))
+    on_ok_weaker c.look_at.result.0 (shows_store (g.D.Disk.seen c.args.disk.now) c.in_ok-copy.copy.image (c.in_ok-copy.ensures.copy honest) (g.W.Sink.contents c.args.writer.now) (g.W.Sink.contents c.look_at.new.writer))
     (c.look_at.ensures.shows c.in_ok-copy.ensures.honest)
 
 pub returns-clause-refused : goal.returns-clause-refused
@@ -17,4 +17,4 @@ returns-clause-opened g c = λ honest why is.
     (found.0, stands_in_store (g.D.Disk.seen c.args.disk.now) c.in_ok-copy.copy.image (c.in_ok-copy.ensures.copy honest) found.0 found.1)
 
 pub returns-in_err-copy-clause-front : goal.returns-in_err-copy-clause-front
-returns-in_err-copy-clause-front g c = shows_nothing (g.W.Write.contents c.args.writer.now)
+returns-in_err-copy-clause-front g c = shows_nothing (g.W.Sink.contents c.args.writer.now)

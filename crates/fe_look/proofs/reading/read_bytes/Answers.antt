@@ -19,6 +19,7 @@ loop-k-preserved g c =
         | in-Unformatted w ↦ subst (λ (r : Reading). TellsReading seen r) w.in-Unformatted.is (told honest)
       ];
       still = search rules;
+      read = omega (arith, c.loop-k.invariant.read, c.in_ok-bytes.ensures.reads);
       kept = search rules;
     }
 

@@ -10,5 +10,5 @@ returns-in-Some-clause-ok g c =
 pub returns-in-Some-clause-err : goal.returns-in-Some-clause-err
 returns-in-Some-clause-err g c =
     err_then c.exchange.result
-    (λ end d. line_ends g.E.Streams.leads end (g.E.Streams.is_over c.exchange.new.streams) c.args.number c.args.self.now.reads c.args.line.now c.in-Some.message c.args.streams.now c.exchange.new.streams (sym c.in-Some.ensures.message) d)
+    (λ end d. line_ends g.E.Streams.leads end (g.E.Streams.because c.exchange.new.streams) c.args.number c.args.self.now.reads c.args.line.now c.in-Some.message c.args.streams.now c.exchange.new.streams (sym c.in-Some.ensures.message) d)
     c.exchange.ensures.err

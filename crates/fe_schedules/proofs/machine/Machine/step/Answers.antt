@@ -2,6 +2,8 @@ use Rattle.std.proofs.Common.{Ok, Err, Option, refl, sym, subst}
 use Rattle.fe_disk.specs.Memory.{MemoryState}
 use Rattle.fe_desk.specs.Crash.{disk_of}
 use Rattle.fe_desk.specs.Runs.{Ends}
+use Rattle.fe_desk.specs.Acknowledged.{may_ask_any}
+use Rattle.fe_desk.proofs.Answering.{any_session}
 use Rattle.fe_desk.proofs.Stepping.{ends_of}
 use Rattle.fe_schedules.specs.Schedule.{TellsDisk}
 use Rattle.fe_schedules.specs.Ready.{memory_model}
@@ -17,8 +19,13 @@ returns-in-Ok-clause-moved c =
     let ready = c.requires.ready in
     let whole : Ends memory_model old c.args.step.now (Ok tt) new = ends_of memory_model old c.args.step.now new (Ok tt) ready.works d.is_step in
     record {
-      machine = record { ready = ready_after old new c.args.step.now ready whole.took d.advances d.stands d.synced whole.sound.fine; lost = c.requires.lost };
-      moves = record { runs = (new.run_state, whole.took, refl); from = d.advances.from; checks = (new, whole.checked, refl) };
+      machine = record { ready = ready_after old new c.args.step.now ready whole.took whole.boxes d.advances d.stands d.synced whole.sound.fine; lost = c.requires.lost };
+      moves = record {
+        runs = (new.run_state, whole.took, refl);
+        from = d.advances.from;
+        acknowledged = λ begun limits is. d.acknowledged begun may_ask_any limits (any_session old c.args.step.now) is;
+        checks = (new, whole.checked, refl);
+      };
     }
 
 pub returns-in-Err-clause-fault : goal.returns-in-Err-clause-fault

@@ -1,12 +1,12 @@
 use Rattle.std.proofs.Common.{◌≡◌, [], refl, sym, ◌∙◌, ap, subst}
-use Rattle.fe_disk.specs.Memory.{MemoryState, LeavesNow}
+use Rattle.fe_disk.specs.Memory.{MemoryState, LeavesNow, synced_image}
 use Rattle.fe_state.specs.State.{ServerState}
-use Rattle.fe_desk.specs.Crash.{DeskState, IsFrom, disk_of}
+use Rattle.fe_desk.specs.Crash.{DeskState, disk_of}
 use Rattle.fe_desk.specs.DeskRunState.{IsFirstRunState}
-use Rattle.fe_desk.proofs.Openings.{device_alone, first_from}
+use Rattle.fe_desk.proofs.Openings.{device_alone}
 use Rattle.fe_schedules.specs.Schedule.{TellsDisk}
 use Rattle.fe_schedules.specs.Ready.{IsReady}
-use Rattle.fe_schedules.specs.Runs.{last_disk}
+use Rattle.fe_schedules.specs.Runs.{last_disk, Reopens}
 use Rattle.fe_schedules.specs.declared.fault.MachineFault.{MachineFault}
 use Rattle.fe_schedules.specs.declared.fault.MachineFault.TheVariants as machine
 use Rattle.fe_schedules.specs.declared.machine.Machine.{Machine}
@@ -32,12 +32,13 @@ returns-in-Ok-open-clause-acts c =
     let kept = kept_over d again image c.requires.ready c.images_stand_for_one.ensures may (opened.opened honest) in
     let ready = ready_first again again.keeper.state (opened.device.honesty.1 honest) opened.works (opened.device.still (λ is. cc) ∙ c.in-Ok-stopped.ensures.fresh.failures) opened.first.0 refl opened.first.1 (opened.stands honest) in
     let first = subst (λ (s : ServerState). IsFirstRunState s again.run_state) kept opened.first.0 in
-    let from = subst (λ (s : ServerState). IsFrom s again) kept (first_from again.keeper.state again refl opened.first.0.groups opened.first.1) in
+    let left : image ≡ synced_image (disk_of d).image (disk_of d).events =
+    c.in-Ok-stopped.ensures.left ∙ ap (λ (s : MemoryState). synced_image s.image s.events) disk in
     let is = sym c.replace-in-Ok-open.ensures.after in
     record {
       machine = record { ready = subst IsReady is ready; lost = ap (λ (x : Machine). x.lost) c.replace.ensures.after ∙ c.in-Ok.ensures.machine.lost };
       mid = e;
-      begins = (subst (λ (x : DeskState MemoryState). IsFirstRunState d.keeper.state x.run_state) is first, subst (IsFrom d.keeper.state) is from);
+      begins = subst (λ (x : DeskState MemoryState). Reopens d x) is (record { first = first; keeper = kept; synced = opened.first.1; image = (opened.reads honest).same ∙ left });
       steps = [];
       are = refl;
       moves = moves_none e;

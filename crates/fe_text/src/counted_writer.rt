@@ -1,27 +1,24 @@
-//! A writer as the output of a schedule (`docs/schedules.md`, "Lines").
+//! A writer that notes what came of its writes and flushes (`docs/schedules.md`, "Lines").
 
-ghost use Rattle.std.specs.Prelude.{◌≡◌, ◌≤◌, ◌+◌, ◌-◌, ◌^◌, ℕ, min, true, false, length, take, IfOk, IfErr, OnOk};
+ghost use Rattle.std.specs.Prelude.{◌≡◌, ◌≤◌, ◌+◌, ◌-◌, ◌^◌, ℕ, min, true, length, take, IfOk, IfErr, OnOk};
 ghost use Rattle.std.specs.Io.KnownBytes.{Appends, Keeps};
-ghost use Rattle.fe_schedules.specs.Counted.{HasBroken};
+ghost use Rattle.fe_text.specs.Counted.{HasBroken, no_calls};
 ghost use Rattle.fe_text.specs.declared.fault.StreamFault.{StreamFault as Fault};
 
-use crate::faults::Faults;
+use crate::fault::StreamFault;
+use crate::stream::WRITES;
+use crate::stream_calls::StreamCalls;
 use crate::streams::Sink;
-use fe_text::{StreamFault, WRITES};
-use std::io::{ErrorKind, Write};
+use std::io::Write;
 
-/// A writer of `std`. For clauses it counts its writes, notes the faults with which its calls failed, and whether all
-/// that was written is flushed.
+/// A writer of `std` as a sink. For clauses it counts its writes, and notes the faults with which its calls failed, and whether all that
+/// was written is flushed.
 #[derive(Drop)]
 pub struct CountedWriter<W> {
     stream: W,
     /// How many writes were made. The count stays at `u64::MAX`.
     writes: u64,
-    /// Whether a write of at least one byte took none.
-    took_none: bool,
-    /// Whether a flush succeeded after the last write.
-    is_flushed: bool,
-    faults: Faults,
+    calls: StreamCalls,
 }
 
 impl<W> CountedWriter<W> {
@@ -29,16 +26,12 @@ impl<W> CountedWriter<W> {
     pub fn new(stream: W) -> CountedWriter<W>
         ensures stream { result.stream ≡ stream }
         ensures writes { result.writes ≡ 0 }
-        ensures took_none { result.took_none ≡ false }
-        ensures flushed { result.is_flushed ≡ false }
-        ensures faults { result.faults ≡ record { input = false; memory = false } }
+        ensures calls { result.calls ≡ no_calls }
     {
         CountedWriter {
             stream,
             writes: 0,
-            took_none: false,
-            is_flushed: false,
-            faults: Faults::none(),
+            calls: StreamCalls::none(),
         }
     }
 }
@@ -51,32 +44,23 @@ impl<W: Write> CountedWriter<W> {
             (λ count. Appends (W.contents self.old.stream) (W.contents self.new.stream) (take count bytes.now)) }
         ensures keeps { IfErr result (λ _. Keeps (W.contents self.old.stream) (W.contents self.new.stream)) }
         ensures counts { self.new.writes ≡ min (self.old.writes + 1) (2 ^ 64 - 1) }
-        ensures unflushed { self.new.is_flushed ≡ false }
+        ensures idle { IfOk result (λ count. count ≡ 0 → self.new.calls.is_flushed ≡ self.old.calls.is_flushed) }
+        ensures flushed { IfErr result (λ _. self.new.calls.is_flushed ≡ self.old.calls.is_flushed) }
         ensures fails { IfErr result (HasBroken self.new) }
         ensures stays { (fault : Fault) → HasBroken self.old fault → HasBroken self.new fault }
     {
         self.writes = self.writes.saturating_add(1);
-        self.is_flushed = false;
-        match self.stream.write(bytes) {
-            Ok(0) if !bytes.is_empty() => {
-                self.took_none = true;
-                Err(StreamFault::Input)
-            }
-            Ok(count) => Ok(count),
-            Err(error) => {
-                if error.kind() == ErrorKind::Interrupted {
-                    return Ok(0);
-                }
-                Err(self.faults.fail(error))
-            }
-        }
+        self.calls.write(&mut self.stream, bytes)
     }
 
-    /// Writes the whole text. If the writer fails, a prefix of the text is written.
-    fn write_text(&mut self, text: &[u8]) -> Result<(), StreamFault>
+    /// Writes the whole text. If the writer fails, a prefix of the text is written. A write that takes no bytes, or 2^40 writes for the
+    /// text, are faults of the writer.
+    fn write_all(&mut self, text: &[u8]) -> Result<(), StreamFault>
         ensures ok { OnOk result (Appends (W.contents self.old.stream) (W.contents self.new.stream) text.now) }
         ensures front { (count : ℕ)
-            × Appends (W.contents self.old.stream) (W.contents self.new.stream) (take count text.now) }
+            × Appends (W.contents self.old.stream) (W.contents self.new.stream) (take count text.now)
+            × (count ≡ 0 → self.new.calls.is_flushed ≡ self.old.calls.is_flushed) }
+        ensures idle { length text.now ≡ 0 → self.new.calls.is_flushed ≡ self.old.calls.is_flushed }
         ensures fails { IfErr result (HasBroken self.new) }
         ensures stays { (fault : Fault) → HasBroken self.old fault → HasBroken self.new fault }
     {
@@ -93,27 +77,25 @@ impl<W: Write> CountedWriter<W> {
 
 impl<W: Write> Sink for CountedWriter<W> {
     ghost use Rattle.std.specs.Prelude.{◌≡◌, true};
-    ghost use Rattle.fe_schedules.specs.Counted.{HasBroken};
+    ghost use Rattle.fe_text.specs.Counted.{HasBroken};
 
     ghost contents = { λ writer. W.contents writer.stream };
 
     ghost has_failed = { HasBroken };
 
-    ghost is_handed_on = { λ writer. writer.is_flushed ≡ true };
+    ghost is_handed_on = { λ writer. writer.calls.is_flushed ≡ true };
+
+    fn write_text(&mut self, text: &[u8]) -> Result<(), StreamFault> {
+        self.write_all(text)
+    }
 
     fn write_whole(&mut self, text: &mut String) -> Result<(), StreamFault> {
-        let written = self.write_text(text.as_bytes());
+        let written = self.write_all(text.as_bytes());
         text.clear();
         written
     }
 
     fn hand_on(&mut self) -> Result<(), StreamFault> {
-        match self.stream.flush() {
-            Ok(()) => {
-                self.is_flushed = true;
-                Ok(())
-            }
-            Err(error) => Err(self.faults.fail(error)),
-        }
+        self.calls.flush(&mut self.stream)
     }
 }

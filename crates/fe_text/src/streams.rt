@@ -1,33 +1,41 @@
-//! The streams of a schedule: its input and its output (`docs/schedules.md`, "Lines").
+//! What text is read from and written to (`docs/schedules.md`, "Lines").
 
-ghost use Rattle.std.specs.Prelude.{ℕ, ◌≡◌, ◌+◌, List, Option, [], length, string_bytes, take, IfOk, IfErr, OnOk};
+ghost use Rattle.std.specs.Prelude.{ℕ, ◌≡◌, ◌+◌, List, Option, None, [], length, string_bytes, take, IfOk, IfErr, OnOk, OnErr};
 ghost use Rattle.std.specs.Io.KnownBytes.{Appends, Keeps};
 ghost use Rattle.fe_text.specs.Line.{ReadsSome};
 ghost use Rattle.fe_text.specs.declared.fault.StreamFault.{StreamFault as Fault};
 
-use fe_text::StreamFault;
+use crate::fault::StreamFault;
 
-/// What a schedule is read from.
+/// What text is read from.
 pub trait Source {
     /// The bytes that reads will give from here on, if they are known.
     ghost remaining: { Self → Option (List ℕ) };
 
-    /// Whether it was read this many times.
+    /// Whether it was read at least this many times.
     ghost was_read: { Self → ℕ → Type 0 };
+
+    /// Whether a signal interrupted a read.
+    ghost was_interrupted: { Self → Type 0 };
 
     /// Whether a read failed with this fault.
     ghost has_failed: { Self → Fault → Type 0 };
 
-    /// Reads once, and says how many bytes that gave: 0 at the end, or if `piece` has none. `None` if the read was interrupted.
+    /// Reads once, and says how many bytes that gave: 0 at the end, or if `piece` has none. `None` if a signal interrupted the read. If
+    /// the read fails, nothing was taken.
     fn read_piece(&mut self, piece: &mut [u8]) -> Result<Option<usize>, StreamFault>
         ensures reads { IfOk result (ReadsSome (remaining self.old) (remaining self.new) piece.new) }
         ensures len { length piece.new ≡ length piece.old }
         ensures stays { IfErr result (λ _. Keeps (remaining self.old) (remaining self.new)) }
         ensures counts { (count : ℕ) → was_read self.old count → was_read self.new (count + 1) }
+        ensures interrupted { IfOk result (λ given. given ≡ None → was_interrupted self.new) }
         ensures fails { IfErr result (has_failed self.new) };
+
+    /// It was read no times at least.
+    ghost begins: { (s : Self) → was_read s 0 };
 }
 
-/// What the output of a schedule is written to.
+/// What text is written to.
 pub trait Sink {
     /// The bytes that it holds, if they are known.
     ghost contents: { Self → Option (List ℕ) };
@@ -37,6 +45,14 @@ pub trait Sink {
 
     /// Whether all that was written is handed on (flushed).
     ghost is_handed_on: { Self → Type 0 };
+
+    /// Writes the text. If the writer fails, a prefix of it is written.
+    fn write_text(&mut self, text: &[u8]) -> Result<(), StreamFault>
+        ensures ok { OnOk result (Appends (contents self.old) (contents self.new) text.now) }
+        ensures front { (count : ℕ) × Appends (contents self.old) (contents self.new) (take count text.now)
+            × (count ≡ 0 → is_handed_on self.old → is_handed_on self.new) }
+        ensures idle { length text.now ≡ 0 → is_handed_on self.old → is_handed_on self.new }
+        ensures fails { IfErr result (has_failed self.new) };
 
     /// Writes the text, and empties it in any case. If the writer fails, a prefix of it is written.
     fn write_whole(&mut self, text: &mut String) -> Result<(), StreamFault>
@@ -51,5 +67,6 @@ pub trait Sink {
     fn hand_on(&mut self) -> Result<(), StreamFault>
         ensures keeps { Keeps (contents self.old) (contents self.new) }
         ensures handed { OnOk result (is_handed_on self.new) }
+        ensures idle { OnErr result (is_handed_on self.old → is_handed_on self.new) }
         ensures fails { IfErr result (has_failed self.new) };
 }

@@ -1,6 +1,6 @@
 use Rattle.std.proofs.Common.{refl, arith, rules}
-use Rattle.fe_text.proofs.Written.{written_more}
-use Rattle.fe_schedules.proofs.counted_writer.CountedWriter.write_text.Goals as goal
+use Rattle.fe_text.proofs.Written.{written_more, still_flushed}
+use Rattle.fe_text.proofs.counted_writer.CountedWriter.write_all.Goals as goal
 
 pub loop-turn-preserved : goal.loop-turn-preserved
 loop-turn-preserved g c =
@@ -11,5 +11,6 @@ loop-turn-preserved g c =
       within = search rules;
       written = written_more before here after c.args.text.now _ c.loop-turn.done c.in_ok-done.field-0 refl (search rules) c.loop-turn.invariant.written c.in_ok-done.ensures.ok;
       counts = omega (arith, c.write_some.ensures.counts);
+      flushed = still_flushed c.loop-turn.done c.in_ok-done.field-0 _ _ _ c.loop-turn.invariant.flushed c.in_ok-done.ensures.idle;
       stays = λ fault broken. c.write_some.ensures.stays fault (c.loop-turn.invariant.stays fault broken);
     }

@@ -1,0 +1,57 @@
+//! A reader that notes what came of its reads (`docs/schedules.md`, "Lines").
+
+ghost use Rattle.std.specs.Prelude.{◌≡◌};
+ghost use Rattle.fe_text.specs.Counted.{no_calls};
+
+use crate::fault::StreamFault;
+use crate::stream_calls::StreamCalls;
+use crate::streams::Source;
+use std::io::Read;
+
+/// A reader (`std::io::Read`) as a source. It counts its reads, interrupted ones too, and notes with which faults they failed, so that
+/// clauses can name them.
+#[derive(Drop)]
+pub struct CountedReader<R> {
+    stream: R,
+    /// How many reads were made. The count stays at `u64::MAX`.
+    reads: u64,
+    calls: StreamCalls,
+}
+
+impl<R> CountedReader<R> {
+    /// The reader before its first read.
+    pub fn new(stream: R) -> CountedReader<R>
+        ensures stream { result.stream ≡ stream }
+        ensures reads { result.reads ≡ 0 }
+        ensures calls { result.calls ≡ no_calls }
+    {
+        CountedReader {
+            stream,
+            reads: 0,
+            calls: StreamCalls::none(),
+        }
+    }
+}
+
+impl<R: Read> Source for CountedReader<R> {
+    ghost use Rattle.std.specs.Prelude.{◌≡◌, true};
+    ghost use Rattle.std.specs.Prelude.{◌-◌, ◌^◌};
+    ghost use Rattle.std.proofs.Common.{ap, ◌∙◌};
+    ghost use Rattle.std.proofs.Math.Nat.{le_of_sub-eq-zero, zero-min, zero-sub};
+    ghost use Rattle.fe_text.specs.Counted.{HasFailed, WasRead};
+
+    ghost remaining = { λ reader. R.remaining reader.stream };
+
+    ghost was_read = { WasRead };
+
+    ghost was_interrupted = { λ reader. reader.calls.interrupted ≡ true };
+
+    ghost has_failed = { λ reader fault. HasFailed reader.calls fault };
+
+    ghost begins = { λ s. le_of_sub-eq-zero (ap (λ n. n - s.reads) (zero-min (2 ^ 64 - 1)) ∙ zero-sub s.reads) };
+
+    fn read_piece(&mut self, piece: &mut [u8]) -> Result<Option<usize>, StreamFault> {
+        self.reads = self.reads.saturating_add(1);
+        self.calls.read(&mut self.stream, piece)
+    }
+}
