@@ -31,7 +31,7 @@ one_cleared old ports at p q lt same none so = record {
       ∙ ap (λ (c : Client). map bare (take at ports) ++ c ∷ []) none ∙ sym (map-append bare (take at ports) (q ∷ [])) ∙ ap (λ (ps : List Port). map bare ps) (sym (take_more_set ports at q lt));
 }
 
-bare_each : (ports : List Port) → map bare ports ≡ map unwritten_to (map client_of ports)
+pub bare_each : (ports : List Port) → map bare ports ≡ map unwritten_to (map client_of ports)
 bare_each [] = refl
 bare_each (p ∷ ports) = ap (λ (cs : List Client). bare p ∷ cs) (bare_each ports)
 

@@ -1,5 +1,5 @@
 -- A desk's answers are on the groups that are stored, whatever its steps answer.
-use Rattle.std.proofs.Common.{◌≡◌, inl, inr, ℕ, Bool, true, false, true≢false, List, [], ◌∷◌, ◌++◌, length, take, take_all, Result, Ok, Err, refl, sym, ap, subst, ◌∙◌, arith}
+use Rattle.std.proofs.Common.{◌≡◌, inl, inr, ℕ, Bool, true, false, true≢false, List, [], ◌∷◌, ◌++◌, length, take, take_all, Option, Some, None, Result, Ok, Err, refl, sym, ap, subst, ◌∙◌, arith}
 use Rattle.std.specs.Prelude.{if◌then◌else◌, MatchBool}
 use Rattle.std.specs.List.{AllByRecursion}
 use Rattle.std.proofs.Math.Seq.{take-append_seam}
@@ -13,10 +13,11 @@ use Rattle.fe_desk.specs.declared.fault.DeskFault.TheVariants.{Store, NoMemory, 
 use Rattle.fe_desk.specs.declared.step.Step.{Step}
 use Rattle.fe_desk.specs.declared.step.Step.TheVariants as step
 use Rattle.fe_desk.specs.Acknowledged.{IsWritten, AsksFor, StepAsksFor, IsAcknowledged, AnySessionMayBeAsked, AreStepsFor, AcknowledgedStand, stored_groups}
-use Rattle.fe_desk.specs.Crash.{DeskState}
+use Rattle.fe_desk.specs.Crash.{DeskState, desk_anew}
 use Rattle.fe_desk.specs.Ends.{Tears, BreaksOff, Lacks, TearsStep, discharged_desk}
 use Rattle.fe_desk.specs.DeskRunState.{Client, DeskRunState, IsFirstRunState, emptied, discharged}
 use Rattle.fe_desk.specs.Runs.{Ends, IsStep}
+use Rattle.fe_desk.proofs.Clearing.{below_after, cleared_acknowledged}
 use Rattle.fe_desk.proofs.Holding.{AllTell, Tells, Holds, HoldsAt, some_holds, emptied_holds, discharged_holds}
 use Rattle.fe_messages.proofs.Answers.{KeepsBelow, keeps_below}
 use Rattle.fe_desk.proofs.Acknowledging.{StepAsks, acts_hold, before_holds, unread_holds, behind_holds, first_holds}
@@ -184,13 +185,20 @@ module _ {D : Type 0} (begun : ServerState) (asked : ℕ → ℕ → Bool) where
         by true failed refused = subst (λ (d : DeskState D). IsAcknowledged begun asked d) (sym refused.1) h
         by false works ends = ends_acknowledged old x r new asks ends (h.all works) (holds_of old (h.all works) h)
 
-    steps_acknowledged : (old new : DeskState D) (steps : List (Step × Result (Unit {0}) DeskFault)) → AreStepsFor model asked old steps new → IsAcknowledged begun asked old → IsAcknowledged begun asked new
-    steps_acknowledged old new [] is h = subst (λ (d : DeskState D). IsAcknowledged begun asked d) (sym is) h
-    steps_acknowledged old new (x ∷ xs) is h = steps_acknowledged is.0 new xs is.3 (step_acknowledged old x.0 x.1 is.0 is.1 is.2 h)
+-- steps and clearings
+steps_acknowledged : {D : Type 0} (model : Ghosts D) (begun now : ServerState) (asked : ℕ → ℕ → Bool) (old new : DeskState D) (steps : List (Option (Step × Result (Unit {0}) DeskFault))) → KeepsBelow begun
+    → AreStepsFor model asked begun old steps now new → IsAcknowledged begun asked old → IsAcknowledged now asked new
+steps_acknowledged {D} model begun now asked old new [] below is h =
+    subst (λ (s : ServerState). IsAcknowledged s asked new) (sym is.0) (subst (λ (d : DeskState D). IsAcknowledged begun asked d) (sym is.1) h)
+steps_acknowledged model begun now asked old new (Some x ∷ xs) below is h =
+    steps_acknowledged model begun now asked is.0 new xs below is.3 (step_acknowledged begun asked below model old x.0 x.1 is.0 is.1 is.2 h)
+steps_acknowledged model begun now asked old new (None ∷ xs) below is h =
+    let kept : KeepsBelow old.keeper.state = subst KeepsBelow (sym is.1.replica) (below_after begun (stored_groups old) below) in
+    steps_acknowledged model old.keeper.state now asked (desk_anew old) new xs kept is.2 (cleared_acknowledged begun asked old is.0 is.1 h)
 
 pub acknowledged_stand : {D : Type 0} (model : Ghosts D) → AcknowledgedStand model
-acknowledged_stand model begun asked first last steps limits begins none taken =
-    steps_acknowledged begun asked (keeps_below begun limits) model first last steps taken (first_acknowledged begun asked first begins none)
+acknowledged_stand model begun now asked first last steps limits begins none taken =
+    steps_acknowledged model begun now asked first last steps (keeps_below begun limits) taken (first_acknowledged begun asked first begins none)
 
 -- ---- nothing is asked of a step
 

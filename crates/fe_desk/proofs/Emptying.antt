@@ -19,7 +19,7 @@ use Rattle.fe_mail.proofs.Lookups.{mails_on-with_mails, mails_on-with_mails-besi
 use Rattle.fe_front.specs.Front.{FrontState, is_connected}
 use Rattle.fe_front.specs.Steps.{taken}
 use Rattle.fe_desk.specs.declared.port.Port.{Port}
-use Rattle.fe_desk.specs.within.Desk.{client_of, KeepsFront, KeepsEmpty, IsWrittenOutLater, AreWrittenOutLater}
+use Rattle.fe_desk.specs.within.Desk.{AreQuiet, IsQuiet, client_of, KeepsFront, KeepsEmpty, IsWrittenOutLater, AreWrittenOutLater}
 use Rattle.fe_messages.specs.Mails.{reply_of, spelled}
 use Rattle.fe_desk.specs.DeskRunState.{taken_times, emptied_box, output_of, Extends, Client, unwritten, written_out, all_written_out, all_emptied}
 use Rattle.fe_desk.specs.Steps.{find}
@@ -172,11 +172,6 @@ boxes_empty f (c ∷ cs) conn is = by (nat_eq c.conn conn) refl is (boxes_empty 
 
 -- ---- a client is written its mails, at once or some of them later
 
--- nothing is to be written to a client
-pub record IsQuiet (f : FrontState) (c : Client) : Type 0 where
-  pub reply : c.reply ≡ None
-  pub box : mails_on f.connections c.conn ≡ []
-
 pub quiet_written_out : (f : FrontState) (c : Client) → IsQuiet f c → written_out f c ≡ c
 quiet_written_out f c quiet =
     let nothing : unwritten f c ≡ [] =
@@ -299,12 +294,7 @@ on_any_err (Err e) p = p
 
 -- ---- client by client
 
--- nothing is to be written to any of these
-abbrev pub AreQuiet : FrontState → List Client → Type 0
-AreQuiet f [] = Unit {0}
-AreQuiet f (c ∷ cs) = IsQuiet f c × AreQuiet f cs
-
-still_quiet : (f g : FrontState) (cs : List Client) → KeepsEmpty f g → AreQuiet f cs → AreQuiet g cs
+pub still_quiet : (f g : FrontState) (cs : List Client) → KeepsEmpty f g → AreQuiet f cs → AreQuiet g cs
 still_quiet f g [] keeps quiet = tt
 still_quiet f g (c ∷ cs) keeps quiet = (record { reply = quiet.0.reply; box = keeps.empty c.conn quiet.0.box }, still_quiet f g cs keeps quiet.1)
 

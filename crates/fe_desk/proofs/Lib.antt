@@ -27,7 +27,11 @@ pub mod Answered
 pub mod Messaging
 pub mod Holding
 pub mod Acknowledging
+pub mod Clearing
 pub mod Answering
 pub mod Given
 pub mod ManyStops
 pub mod WithMail
+pub mod Spans
+pub mod Spanned
+pub mod Silence

@@ -1,5 +1,5 @@
 -- What stands after any number of stops: one history, on which all answers that were written stand.
-use Rattle.std.proofs.Common.{◌≡◌, ◌⊎◌, inl, inr, ℕ, zero, suc, ◌+◌, ◌≤◌, List, [], ◌∷◌, ◌++◌, append_assoc, length, take, drop, refl, sym, ap, subst, ◌∙◌, arith}
+use Rattle.std.proofs.Common.{◌≡◌, ◌⊎◌, inl, inr, ℕ, zero, suc, ◌+◌, ◌≤◌, List, [], ◌∷◌, ◌++◌, append-nil, append_assoc, length, take, drop, refl, sym, ap, subst, ◌∙◌, arith}
 use Rattle.std.proofs.lemmas.List.Elements.{Contains-append_right}
 use Rattle.std.specs.Prelude.{Contains, map, Option, None, Some, IfSome, Bool}
 use Rattle.std.specs.List.{AllByRecursion}
@@ -12,7 +12,6 @@ use Rattle.fe_state.specs.declared.entry.Entry.TheVariants.{Attached, Closed, Se
 use Rattle.fe_state.specs.declared.kept.Kept.{Kept}
 use Rattle.fe_state.proofs.Histories.{after-append, history-cut}
 use Rattle.fe_state.proofs.Spent.{legal-flat, finishes_once}
-use Rattle.fe_service.proofs.Turns.{turns_place}
 use Rattle.fe_mail.specs.declared.mail.Mail.{Mail}
 use Rattle.fe_mail.specs.declared.mail.Mail.TheVariants as mail
 use Rattle.fe_messages.specs.Answers.{IsFinishedAt, IsKeptSince, AreAnswered}
@@ -24,19 +23,13 @@ use Rattle.fe_wire.specs.declared.server_message.ServerMessage.{ServerMessage}
 use Rattle.fe_keeper.specs.Damage.{StandsForOne}
 use Rattle.fe_desk.specs.Acknowledged.{AnswersStand, StandsOn, IsWritten, IsAcknowledged, entries_of, stored_groups}
 use Rattle.fe_desk.specs.Crash.{DeskState}
-use Rattle.fe_desk.specs.Lives.{Life, AreLives, kept_groups, Stop, all_groups, handed_by, stored_by, IsStopOf, AreStops, FinishOnceIn, AreOneStore, StopsAreLives}
+use Rattle.fe_desk.specs.Lives.{Life, AreLives, kept_groups, Stop, all_groups, handed_by, stored_by, IsStopOf, LeadsTo, AreStops, FinishOnceIn, AreOneStore, StopsAreLives}
 use Rattle.fe_desk.specs.DeskRunState.{DeskRunState}
 use Rattle.fe_desk.proofs.Acknowledging.{entries-append, stands_behind}
+use Rattle.fe_desk.proofs.Clearing.{after_entries, place_after, below_after}
 use Rattle.fe_desk.proofs.Lives.{lives_join}
 
 -- ---- groups and their entries
-
-after_entries : (s : ServerState) (groups : List (List Entry)) → after_groups s groups ≡ after_all s (entries_of groups)
-after_entries s [] = refl
-after_entries s (group ∷ groups) = after_entries (after_all s group) groups ∙ sym (after-append s group (entries_of groups))
-
-place_after : (s : ServerState) (groups : List (List Entry)) → (after_groups s groups).place ≡ s.place + length (entries_of groups)
-place_after s groups = ap (λ (x : ServerState). x.place) (after_entries s groups) ∙ turns_place s (entries_of groups)
 
 history_answered : (s : ServerState) (groups : List (List Entry)) → IsHistory s groups → AreAnswered s (entries_of groups)
 history_answered s groups history = legal_answered s (entries_of groups) (legal-flat s groups history)
@@ -54,15 +47,6 @@ take_within m xs ys k few le =
     (r.0, ap (λ (zs : List (List Entry)). take k zs) (ap (λ (zs : List (List Entry)). zs ++ ys) (sym (take-append-drop m xs)) ∙ append_assoc (take m xs) (drop m xs) ys) ∙ r.1)
 
 -- ---- what stands, after more groups
-
--- what is kept after groups is kept at a place before
-below_after : (begun : ServerState) (groups : List (List Entry)) → KeepsBelow begun → KeepsBelow (after_groups begun groups)
-below_after begun groups below session number k kept =
-    let place = place_after begun groups in
-    elim (kept_after begun (entries_of groups) session number k (sym (ap (λ (s : ServerState). kept_of s session number) (after_entries begun groups)) ∙ kept)) [
-      | inl was ↦ let before = below session number k was in omega (arith, place, before)
-      | inr r ↦ let many = ap (λ (es : List Entry). length es) r.entries ∙ length-append r.before _ in let at = r.at in omega (arith, place, at, many)
-    ]
 
 module _ (begun : ServerState) (below : KeepsBelow begun) (front : List (List Entry)) (all : AreAnswered begun (entries_of front)) where
   -- an entry after the front is one after it
@@ -173,18 +157,43 @@ module _ {D : Type 0} where
       (written_weaker (after_groups begun front) begun (kept_groups rest.lives ++ stored_groups d) (front ++ (kept_groups rest.lives ++ stored_groups d)) asked (stands_after begun below front all (kept_groups rest.lives ++ stored_groups d)) d.run_state
       (rest.later asked d now)))
 
+  -- where a life ended: how many groups are kept, and they lead to the next state
+  record End (begun : ServerState) (x : Stop D) (next : ServerState) : Type 0 where
+    kept : ℕ
+    least : x.synced ≤ kept
+    most : kept ≤ length (all_groups x)
+    leads : next ≡ after_groups begun (take kept (all_groups x))
+
+  -- no group was under way
+  idle_groups : (x : Stop D) → x.under_way ≡ [] → all_groups x ≡ x.last.run_state.groups
+  idle_groups x idle = ap (λ (gs : List (List Entry)). x.last.run_state.groups ++ gs) idle ∙ append-nil x.last.run_state.groups
+
   module _ (for_one : StandsForOne) where
+    end_of : (begun : ServerState) (x : Stop D) (next : ServerState) → IsStopOf begun x → (o : Option (List ℕ)) → LeadsTo begun x o next → End begun x next
+    end_of begun x next stop (Some image) is =
+        let prefix = is.leaves.prefix in
+        record { kept = prefix.kept; least = prefix.least; most = prefix.most; leads = for_one image next is.leaves.state is.stands is.leaves.stands ∙ prefix.state_is }
+    end_of begun x next stop None is =
+        let all = idle_groups x is.idle in
+        let few = stop.few in
+        let synced = is.synced in
+        let many = ap (λ (gs : List (List Entry)). length gs) all in
+        record {
+          kept = x.last.synced;
+          least = omega (arith, synced);
+          most = omega (arith, few, many);
+          leads = sym is.keeper ∙ is.from.replica ∙ ap (λ (gs : List (List Entry)). after_groups begun (take x.last.synced gs)) (sym all);
+        }
+
     stops_lived : (begun s : ServerState) (stops : List (Stop D)) → KeepsBelow begun → AreStops begun stops s → AreOneStore begun stops s
     stops_lived begun s [] below is =
         lived begun s [] [] refl is tt (λ asked d now. (subst (λ (z : ServerState). IsAcknowledged z asked d) is now).answers)
     stops_lived begun s (x ∷ xs) below is =
         let stop : IsStopOf begun x = is.0 in
-        let opened : ServerState = is.1.0 in
-        let prefix = stop.leaves.prefix in
-        let leads : opened ≡ after_groups begun (take prefix.kept (all_groups x)) = for_one x.image opened stop.leaves.state is.1.1 stop.leaves.stands ∙ prefix.state_is in
-        let next : ServerState = after_groups begun (take prefix.kept (all_groups x)) in
-        stopped begun s x xs prefix.kept below stop prefix.least prefix.most
-        (stops_lived next s xs (below_after begun (take prefix.kept (all_groups x)) below) (subst (λ (z : ServerState). AreStops z xs s) leads is.1.2))
+        let ends : End begun x is.1.0 = end_of begun x is.1.0 stop x.image is.1.1 in
+        let next : ServerState = after_groups begun (take ends.kept (all_groups x)) in
+        stopped begun s x xs ends.kept below stop ends.least ends.most
+        (stops_lived next s xs (below_after begun (take ends.kept (all_groups x)) below) (subst (λ (z : ServerState). AreStops z xs s) ends.leads is.1.2))
 
     pub stops_are_lives : StopsAreLives D
     stops_are_lives begun s stops limits are = stops_lived begun s stops (keeps_below begun limits) are

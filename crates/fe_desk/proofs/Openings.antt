@@ -3,6 +3,8 @@ use Rattle.std.proofs.Common.{◌≡◌, ℕ, ◌≤◌, true, false, true≢fal
 use Rattle.std.specs.Prelude.{◌≢◌, ◌↔◌, Option, Result, Ok, Err, IfOk, IfErr, is_some, map}
 use Rattle.std.specs.Ordering.{nat_cmp}
 use Rattle.std.specs.FinMap.{FinMap, get, get-empty}
+use Rattle.std.specs.Option.{option_map_or}
+use Rattle.fe_mail.specs.Connections.{mails_on}
 use Rattle.fe_mail.specs.declared.connection.Connection.{Connection}
 use Rattle.fe_state.specs.State.{ServerState, after_all}
 use Rattle.fe_state.specs.History.{IsHistory, AreLegal, after_groups}
@@ -26,6 +28,7 @@ use Rattle.fe_desk.specs.declared.handed.Handed.{Handed}
 use Rattle.fe_desk.specs.declared.desk_inner.DeskInner.{DeskInner}
 use Rattle.fe_desk.specs.declared.port.Port.{Port}
 use Rattle.fe_desk.specs.DeskRunState.{Client, DeskRunState, IsFirstRunState}
+use Rattle.fe_desk.specs.Steps.{AreWritten, HasNoMail}
 use Rattle.fe_desk.specs.Crash.{DeskState, IsFrom, disk_of}
 use Rattle.fe_desk.specs.Acknowledged.{cut_entries}
 use Rattle.fe_desk.specs.within.Desk.{IsDesk, IsAhead, IsHanded, unstored, client_of, run_state_of}
@@ -45,6 +48,14 @@ first_tied begun s first =
 none_connected : (begun : ServerState) (f : FrontState) (conn : ℕ) → IsFirst begun f → is_connected f conn ≡ true → ⊥
 none_connected begun f conn first is =
     true≢false (sym is ∙ ap (λ (m : FinMap nat_cmp Connection). is_some (get m conn)) first.connections ∙ ap (λ (o : Option Connection). is_some o) (get-empty nat_cmp conn))
+
+-- no mail is there
+pub first_quiet : (begun : ServerState) (s : DeskRunState) → IsFirstRunState begun s → HasNoMail s
+first_quiet begun s first = record {
+  boxes = λ conn. ap (λ (m : FinMap nat_cmp Connection). mails_on m conn) first.front.connections ∙ ap (λ (o : Option Connection). option_map_or (λ (c : Connection). c.mails) o []) (get-empty nat_cmp conn);
+  replies = subst AreWritten (sym first.clients) tt;
+  owes = first.owes;
+}
 
 -- lack of memory is no fault of the store
 none_both : (fault : DeskFault) {cause : Fault} → fault ≡ NoMemory false → fault ≡ Store cause → ⊥

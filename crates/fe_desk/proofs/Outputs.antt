@@ -75,14 +75,14 @@ unmade_clients s conn = by (is_making s conn)
 -- ---- output over what a step does
 
 -- the clients of one standing are those of another
-same : (s t : DeskRunState) → t.clients ≡ s.clients → outputs t ≡ outputs s
-same s t clients = ap (λ (cs : List Client). map output_of cs) clients
+pub same_outputs : (s t : DeskRunState) → t.clients ≡ s.clients → outputs t ≡ outputs s
+same_outputs s t clients = ap (λ (cs : List Client). map output_of cs) clients
 
 left_output : (s : DeskRunState) (conn : ℕ) (left : List ClientMessage) → outputs (with_left s conn left) ≡ outputs s
 left_output s conn left = each-on_client output_of conn (λ c. record c { left = left }) s.clients (λ c. refl)
 
-gone_output : (s : DeskRunState) (conn : ℕ) → outputs (gone s conn) ≡ outputs s
-gone_output s conn = left_output (unmade s conn) conn [] ∙ same s (unmade s conn) (unmade_clients s conn)
+pub gone_output : (s : DeskRunState) (conn : ℕ) → outputs (gone s conn) ≡ outputs s
+gone_output s conn = left_output (unmade s conn) conn [] ∙ same_outputs s (unmade s conn) (unmade_clients s conn)
 
 frame_output : (bad : Bool) (s : DeskRunState) (conn : ℕ) → outputs (after_frame bad s conn) ≡ outputs s
 frame_output true s conn = gone_output s conn
@@ -93,20 +93,20 @@ piece_output s conn before piece t p =
     let read = with_decoder s conn p.decoder in
     ap outputs p.after
     ∙ frame_output p.decoder.is_bad p.last conn
-    ∙ same read p.last (takes_all-keeps read conn p.more p.last p.takes)
+    ∙ same_outputs read p.last (takes_all-keeps read conn p.more p.last p.takes)
     ∙ each-on_client output_of conn (λ c. record c { decoder = p.decoder }) s.clients (λ c. refl)
 
 from_output : (s : DeskRunState) (conn : ℕ) (left : List ClientMessage) (before : Decoding) (piece : List ℕ) (t : DeskRunState) → TakesFrom s conn left before piece t → outputs t ≡ outputs s
 from_output s conn left before piece t p =
     by (is_connected p.mid.front conn) p.reading
-    ∙ same (with_left s conn []) p.mid (takes_all-keeps (with_left s conn []) conn left p.mid p.leftovers)
+    ∙ same_outputs (with_left s conn []) p.mid (takes_all-keeps (with_left s conn []) conn left p.mid p.leftovers)
     ∙ left_output s conn []
   where
     by : (b : Bool) → MatchBool b (TakesPiece p.mid conn before piece t) (t ≡ p.mid) → outputs t ≡ outputs p.mid
     by true r = piece_output p.mid conn before piece t r
     by false r = ap outputs r
 
-bytes_output : (s : DeskRunState) (o : Option Client) (piece : List ℕ) (t : DeskRunState) → TakesBytes s o piece t → outputs t ≡ outputs s
+pub bytes_output : (s : DeskRunState) (o : Option Client) (piece : List ℕ) (t : DeskRunState) → TakesBytes s o piece t → outputs t ≡ outputs s
 bytes_output s None piece t e = ap outputs e
 bytes_output s (Some c) piece t e = from_output s c.conn c.left c.decoder piece t e
 
@@ -120,8 +120,8 @@ acts_extends s (step.Connect conn) t e = by (is_connected s.front conn) e
 acts_extends s (step.Bytes conn piece) t e = extends_as (outputs s) (outputs t) (bytes_output s (find conn s.clients) piece.items t e)
 acts_extends s (step.Gone conn) t e = extends_as (outputs s) (outputs t) (ap outputs e ∙ gone_output s conn)
 acts_extends s step.Cut t e = extends_as (outputs s) (outputs t) (ap outputs e)
-acts_extends s step.Append t e = extends_as (outputs s) (outputs t) (ap outputs e ∙ same s (stored s) (stored_clients s.handed s))
-acts_extends s step.Post t e = extends_as (outputs s) (outputs t) (ap outputs e ∙ same s (posted s) (posted_clients s.handed s))
+acts_extends s step.Append t e = extends_as (outputs s) (outputs t) (ap outputs e ∙ same_outputs s (stored s) (stored_clients s.handed s))
+acts_extends s step.Post t e = extends_as (outputs s) (outputs t) (ap outputs e ∙ same_outputs s (posted s) (posted_clients s.handed s))
 acts_extends s step.CheckBegin t e = extends_as (outputs s) (outputs t) (ap outputs e)
 acts_extends s step.CheckStep t e = extends_as (outputs s) (outputs t) (ap outputs e)
 acts_extends s step.CheckFinish t e = extends_as (outputs s) (outputs t) (ap outputs e)

@@ -24,7 +24,7 @@ other_numbers a b e = grind (arith, nat_tests)
 
 -- ---- the first of a number
 
-behind : (x : Client) (xs : List Client) (conn at : ℕ) → IsFirstAt (x ∷ xs) conn (suc at) → IsFirstAt xs conn at
+pub behind : (x : Client) (xs : List Client) (conn at : ℕ) → IsFirstAt (x ∷ xs) conn (suc at) → IsFirstAt xs conn at
 behind x xs conn at p = let within = p.within in record {
   within = omega (arith, within);
   here = p.here;
@@ -34,7 +34,7 @@ behind x xs conn at p = let within = p.within in record {
 head_other : (x : Client) (xs : List Client) (conn at : ℕ) → IsFirstAt (x ∷ xs) conn (suc at) → nat_eq x.conn conn ≡ false
 head_other x xs conn at p = other_numbers x.conn conn (λ e. p.first 0 (omega arith) (ap (λ (n : ℕ). Some n) e))
 
-head_same : (x : Client) (xs : List Client) (conn : ℕ) → IsFirstAt (x ∷ xs) conn 0 → nat_eq x.conn conn ≡ true
+pub head_same : (x : Client) (xs : List Client) (conn : ℕ) → IsFirstAt (x ∷ xs) conn 0 → nat_eq x.conn conn ≡ true
 head_same x xs conn p = equal_numbers x.conn conn (same_Some _ _ p.here)
 
 -- it is the one that is found

@@ -1,24 +1,20 @@
 -- Where nothing is to be written, writing all of it changes nothing; and the steps that make no mail keep it so.
-use Rattle.std.proofs.Common.{◌≡◌, ℕ, Bool, true, false, true≢false, List, [], ◌∷◌, ◌++◌, Option, Some, None, refl, sym, ap, ◌∙◌, subst, append-nil, inl, inr, Result, Ok, Err, OnOk, if◌then◌else◌}
-use Rattle.std.specs.Prelude.{nat_eq, is_some, is_err, length, map, OnErr, MatchBool}
-use Rattle.std.specs.Option.{option_map_or}
-use Rattle.std.specs.FinMap.{insert}
+use Rattle.std.proofs.Common.{◌≡◌, ℕ, Bool, true, false, List, [], ◌∷◌, ◌++◌, Option, Some, None, refl, sym, ap, ◌∙◌, subst, append-nil, Result, Ok, Err, OnOk, if◌then◌else◌}
+use Rattle.std.specs.Prelude.{nat_eq, is_some, is_err, map, OnErr, MatchBool}
 use Rattle.std.specs.declared.alloc.AllocError.{AllocError}
-use Rattle.fe_state.proofs.Maps.{get_inserted, get_beside, same_or_other}
-use Rattle.fe_mail.specs.Connections.{first_connection, mails_on}
-use Rattle.fe_mail.specs.declared.connection.Connection.{Connection}
+use Rattle.fe_mail.specs.Connections.{mails_on}
 use Rattle.fe_front.specs.Front.{FrontState, is_connected}
-use Rattle.fe_front.specs.Steps as front
-use Rattle.fe_front.specs.Steps.{has_no_cut}
-use Rattle.fe_desk.specs.declared.handed.Handed.{Handed}
-use Rattle.fe_desk.specs.declared.handed.Handed.TheVariants.{Nothing, Cut, Stored}
 use Rattle.fe_desk.specs.declared.desk_inner.DeskInner.{DeskInner}
 use Rattle.fe_desk.specs.declared.step.Step.{Step}
 use Rattle.fe_desk.specs.declared.step.Step.TheVariants as step
-use Rattle.fe_desk.specs.DeskRunState.{emptied_box, Client, DeskRunState, all_emptied, all_written_out, emptied, discharged, stored_from, is_making}
-use Rattle.fe_desk.specs.Steps.{find, on_client, Acts, Connects, new_client, unmade, HasNoMail, AreWritten, mails_nothing}
-use Rattle.fe_desk.specs.within.Desk.{client_of, run_state_of, AreWrittenOutLater, KeepsFront}
-use Rattle.fe_desk.proofs.Emptying.{AreQuiet, quiet_all_emptied, quiet_all_written_out}
+use Rattle.fe_desk.specs.DeskRunState.{emptied_box, Client, DeskRunState, all_emptied, all_written_out, emptied, discharged}
+use Rattle.fe_wire.specs.Stream.{Decoding}
+use Rattle.fe_wire.specs.declared.client_message.ClientMessage.{ClientMessage}
+use Rattle.fe_desk.specs.Steps.{find, on_client, Acts, Connects, clients_with, new_client, unmade, gone, with_left, with_decoder, after_frame, TakesPiece, TakesFrom, TakesBytes, HasNoMail, AreWritten}
+use Rattle.fe_desk.specs.within.Desk.{AreQuiet, client_of, run_state_of, AreWrittenOutLater, KeepsFront}
+use Rattle.fe_desk.proofs.Emptying.{quiet_all_emptied, quiet_all_written_out}
+use Rattle.fe_desk.proofs.Outputs.{stored_clients, posted_clients, unmade_clients}
+use Rattle.fe_desk.proofs.Reading.{takes_all-keeps}
 use Rattle.fe_desk.specs.within.Goes.{Empties}
 use Rattle.fe_desk.specs.Ends.{WritesFirst}
 use Rattle.fe_desk.proofs.StepParts.{all_written, some_written, none_boxed, discharged_at}
@@ -26,7 +22,7 @@ use Rattle.fe_desk.proofs.Writing.{writes_some}
 
 -- ---- there is nothing to write
 
-are_quiet : (f : FrontState) (cs : List Client) → ((conn : ℕ) → mails_on f.connections conn ≡ []) → AreWritten cs → AreQuiet f cs
+pub are_quiet : (f : FrontState) (cs : List Client) → ((conn : ℕ) → mails_on f.connections conn ≡ []) → AreWritten cs → AreQuiet f cs
 are_quiet f [] boxes replies = tt
 are_quiet f (c ∷ cs) boxes replies = (record { reply = replies.0; box = boxes c.conn }, are_quiet f cs boxes replies.1)
 
@@ -72,14 +68,7 @@ empties p q (Err e) known kept written_out emptied later writes owes handed maki
     let some = some_written p q (Err e) later owes handed making groups in
     record { later = some.0; owes = some.1; writes = writes_some p q (Err e) writes owes handed making groups }
 
--- ---- steps that make no mail
-
--- a box where a connection came
-boxes_joined : (f : FrontState) (conn : ℕ) → ((q : ℕ) → mails_on f.connections q ≡ []) → (q : ℕ) → mails_on (front.connected f conn).connections q ≡ []
-boxes_joined f conn boxes q = elim (same_or_other q conn) [
-  | inl e ↦ ap (λ (k : ℕ). mails_on (insert f.connections conn first_connection) k) e ∙ ap (λ (o : Option Connection). option_map_or (λ (c : Connection). c.mails) o []) (get_inserted f.connections conn first_connection)
-  | inr ne ↦ ap (λ (o : Option Connection). option_map_or (λ (c : Connection). c.mails) o []) (get_beside f.connections conn first_connection q ne) ∙ boxes q
-]
+-- ---- steps leave the replies that wait
 
 -- a change of a client that leaves its reply
 on_client_replies : (conn : ℕ) (change : Client → Client) (cs : List Client) → ((c : Client) → (change c).reply ≡ c.reply) → AreWritten cs → AreWritten (on_client conn change cs)
@@ -94,56 +83,69 @@ one_more : (cs : List Client) (c : Client) → AreWritten cs → c.reply ≡ Non
 one_more [] c all none = (none, tt)
 one_more (d ∷ ds) c all none = (all.0, one_more ds c all.1 none)
 
-unmade_keeps : (s : DeskRunState) (conn : ℕ) → ((unmade s conn).owes ≡ s.owes) × ((unmade s conn).clients ≡ s.clients)
-unmade_keeps s conn = by (is_making s conn)
+came_written : (cs : List Client) (conn : ℕ) (d : Decoding) → AreWritten cs → AreWritten (clients_with cs conn d)
+came_written cs conn d all = by (is_some (find conn cs))
   where
-    by : (b : Bool) → ((if b then record s { making = None } else s).owes ≡ s.owes) × ((if b then record s { making = None } else s).clients ≡ s.clients)
-    by true = (refl, refl)
-    by false = (refl, refl)
+    by : (b : Bool) → AreWritten (if b then on_client conn (λ c. record c { decoder = d; left = [] }) cs else cs ++ new_client conn d ∷ [])
+    by true = on_client_replies conn (λ c. record c { decoder = d; left = [] }) cs (λ c. refl) all
+    by false = one_more cs (new_client conn d) all refl
 
-connects_quiet : (s t : DeskRunState) (conn : ℕ) → HasNoMail s → Connects s conn t → HasNoMail t
-connects_quiet s t conn quiet comes = subst HasNoMail (sym comes.after) (record {
-  boxes = boxes_joined s.front conn quiet.boxes;
-  replies = by (is_some (find conn s.clients));
-  owes = (unmade_keeps s conn).0 ∙ quiet.owes;
-})
+-- the clients are those of another standing
+as_written : (cs ds : List Client) → ds ≡ cs → AreWritten cs → AreWritten ds
+as_written cs ds same all = subst AreWritten (sym same) all
+
+left_written : (s : DeskRunState) (conn : ℕ) (left : List ClientMessage) → AreWritten s.clients → AreWritten (with_left s conn left).clients
+left_written s conn left all = on_client_replies conn (λ c. record c { left = left }) s.clients (λ c. refl) all
+
+gone_written : (s : DeskRunState) (conn : ℕ) → AreWritten s.clients → AreWritten (gone s conn).clients
+gone_written s conn all = left_written (unmade s conn) conn [] (as_written s.clients (unmade s conn).clients (unmade_clients s conn) all)
+
+frame_written : (bad : Bool) (s : DeskRunState) (conn : ℕ) → AreWritten s.clients → AreWritten (after_frame bad s conn).clients
+frame_written true s conn all = gone_written s conn all
+frame_written false s conn all = all
+
+piece_written : (s : DeskRunState) (conn : ℕ) (before : Decoding) (piece : List ℕ) (t : DeskRunState) → TakesPiece s conn before piece t → AreWritten s.clients → AreWritten t.clients
+piece_written s conn before piece t p all =
+    let read = with_decoder s conn p.decoder in
+    as_written (after_frame p.decoder.is_bad p.last conn).clients t.clients (ap (λ (u : DeskRunState). u.clients) p.after)
+    (frame_written p.decoder.is_bad p.last conn
+    (as_written read.clients p.last.clients (takes_all-keeps read conn p.more p.last p.takes)
+    (on_client_replies conn (λ c. record c { decoder = p.decoder }) s.clients (λ c. refl) all)))
+
+from_written : (s : DeskRunState) (conn : ℕ) (left : List ClientMessage) (before : Decoding) (piece : List ℕ) (t : DeskRunState) → TakesFrom s conn left before piece t → AreWritten s.clients → AreWritten t.clients
+from_written s conn left before piece t p all =
+    by (is_connected p.mid.front conn) p.reading
+    (as_written (with_left s conn []).clients p.mid.clients (takes_all-keeps (with_left s conn []) conn left p.mid p.leftovers) (left_written s conn [] all))
   where
-    by : (b : Bool) → AreWritten (if b then on_client conn (λ c. record c { decoder = comes.decoder; left = [] }) s.clients else s.clients ++ new_client conn comes.decoder ∷ [])
-    by true = on_client_replies conn (λ c. record c { decoder = comes.decoder; left = [] }) s.clients (λ c. refl) quiet.replies
-    by false = one_more s.clients (new_client conn comes.decoder) quiet.replies refl
+    by : (b : Bool) → MatchBool b (TakesPiece p.mid conn before piece t) (t ≡ p.mid) → AreWritten p.mid.clients → AreWritten t.clients
+    by true r rest = piece_written p.mid conn before piece t r rest
+    by false r rest = as_written p.mid.clients t.clients (ap (λ (u : DeskRunState). u.clients) r) rest
 
-cut_boxes : (f : FrontState) → (front.cut f).connections ≡ f.connections
-cut_boxes f = by (has_no_cut f)
+bytes_written : (s : DeskRunState) (o : Option Client) (piece : List ℕ) (t : DeskRunState) → TakesBytes s o piece t → AreWritten s.clients → AreWritten t.clients
+bytes_written s None piece t e all = as_written s.clients t.clients (ap (λ (u : DeskRunState). u.clients) e) all
+bytes_written s (Some c) piece t e all = from_written s c.conn c.left c.decoder piece t e all
+
+pub acts_written : (s : DeskRunState) (x : Step) (t : DeskRunState) → Acts s x t → AreWritten s.clients → AreWritten t.clients
+acts_written s (step.Connect conn) t e all = by (is_connected s.front conn) e
   where
-    by : (b : Bool) → (if b then f else record f { service = record f.service { pending = [] }; out = Some (record { first = f.durable; length = length f.service.pending }) }).connections ≡ f.connections
-    by true = refl
-    by false = refl
+    by : (b : Bool) → MatchBool b (t ≡ s) (Connects s conn t) → AreWritten t.clients
+    by true r = as_written s.clients t.clients (ap (λ (u : DeskRunState). u.clients) r) all
+    by false r = as_written (clients_with s.clients conn r.decoder) t.clients (ap (λ (u : DeskRunState). u.clients) r.after) (came_written s.clients conn r.decoder all)
+acts_written s (step.Bytes conn piece) t e all = bytes_written s (find conn s.clients) piece.items t e all
+acts_written s (step.Gone conn) t e all = as_written (gone s conn).clients t.clients (ap (λ (u : DeskRunState). u.clients) e) (gone_written s conn all)
+acts_written s step.Cut t e all = as_written s.clients t.clients (ap (λ (u : DeskRunState). u.clients) e) all
+acts_written s step.Append t e all = as_written s.clients t.clients (ap (λ (u : DeskRunState). u.clients) e ∙ stored_clients s.handed s) all
+acts_written s step.Post t e all = as_written s.clients t.clients (ap (λ (u : DeskRunState). u.clients) e ∙ posted_clients s.handed s) all
+acts_written s step.CheckBegin t e all = as_written s.clients t.clients (ap (λ (u : DeskRunState). u.clients) e) all
+acts_written s step.CheckStep t e all = as_written s.clients t.clients (ap (λ (u : DeskRunState). u.clients) e) all
+acts_written s step.CheckFinish t e all = as_written s.clients t.clients (ap (λ (u : DeskRunState). u.clients) e) all
 
-stored_quiet : (h : Handed) (s : DeskRunState) → HasNoMail s → HasNoMail (stored_from h s)
-stored_quiet Nothing s quiet = quiet
-stored_quiet (Cut batch) s quiet = record { boxes = quiet.boxes; replies = quiet.replies; owes = quiet.owes }
-stored_quiet (Stored batch) s quiet = quiet
-
-quiet_kept : (x : Step) (s t : DeskRunState) → mails_nothing x ≡ true → HasNoMail s → Acts s x t → HasNoMail t
-quiet_kept (step.Connect conn) s t none quiet acts = by (is_connected s.front conn) acts
-  where
-    by : (b : Bool) → MatchBool b (t ≡ s) (Connects s conn t) → HasNoMail t
-    by true same = subst HasNoMail (sym same) quiet
-    by false comes = connects_quiet s t conn quiet comes
-quiet_kept (step.Bytes conn piece) s t none quiet acts = absurd (true≢false (sym none))
-quiet_kept (step.Gone conn) s t none quiet acts = absurd (true≢false (sym none))
-quiet_kept step.Cut s t none quiet acts = subst HasNoMail (sym acts) (record {
-  boxes = λ conn. ap (λ m. mails_on m conn) (cut_boxes s.front) ∙ quiet.boxes conn;
-  replies = quiet.replies;
-  owes = quiet.owes;
-})
-quiet_kept step.Append s t none quiet acts = subst HasNoMail (sym acts) (stored_quiet s.handed s quiet)
-quiet_kept step.Post s t none quiet acts = absurd (true≢false (sym none))
-quiet_kept step.CheckBegin s t none quiet acts = subst HasNoMail (sym acts) quiet
-quiet_kept step.CheckStep s t none quiet acts = subst HasNoMail (sym acts) quiet
-quiet_kept step.CheckFinish s t none quiet acts = subst HasNoMail (sym acts) quiet
-
--- after what settles and acts
-pub still_quiet_after : (s mid t : DeskRunState) (x : Step) → mid ≡ discharged s → mails_nothing x ≡ true → HasNoMail s → Acts mid x t → HasNoMail t
-still_quiet_after s mid t x is none quiet acts =
-    quiet_kept x s t none quiet (subst (λ (m : DeskRunState). Acts m x t) (is ∙ discharged_at s quiet.owes) acts)
+-- where no mail was there, none is there after a step that leaves all boxes empty
+pub quiet_after : (s mid t : DeskRunState) (x : Step) → mid ≡ discharged s → HasNoMail s → Acts mid x t → t.owes ≡ mid.owes → ((conn : ℕ) → mails_on t.front.connections conn ≡ []) → HasNoMail t
+quiet_after s mid t x is quiet acts owes boxes =
+    let same : mid ≡ s = is ∙ discharged_at s quiet.owes in
+    record {
+      boxes = boxes;
+      replies = acts_written mid x t acts (as_written s.clients mid.clients (ap (λ (u : DeskRunState). u.clients) same) quiet.replies);
+      owes = owes ∙ ap (λ (u : DeskRunState). u.owes) same ∙ quiet.owes;
+    }

@@ -111,7 +111,7 @@ pub record AreWrittenSoFar (f : FrontState) (cs : List Client) (g : FrontState) 
 pub none_done : (f : FrontState) (cs : List Client) → AreWrittenSoFar f cs f [] cs
 none_done f cs = record { before = []; all = refl; front = refl; written_out = refl }
 
-emptied_more : (f : FrontState) (cs : List Client) (c : Client) → all_emptied f (cs ++ c ∷ []) ≡ emptied_box (all_emptied f cs) c.conn
+pub emptied_more : (f : FrontState) (cs : List Client) (c : Client) → all_emptied f (cs ++ c ∷ []) ≡ emptied_box (all_emptied f cs) c.conn
 emptied_more f [] c = refl
 emptied_more f (x ∷ xs) c = emptied_more (emptied_box f x.conn) xs c
 

@@ -1,6 +1,6 @@
 -- The mails that a desk writes rest on groups of entries that are stored, whatever its steps return.
 -- See `docs/headline.md`, "Including every acknowledged operation".
-use Rattle.std.specs.Prelude.{◌≡◌, ℕ, ◌+◌, Bool, true, false, List, [], ◌∷◌, ◌++◌, length, take, is_some, Some, IfSome, Contains, Result}
+use Rattle.std.specs.Prelude.{◌≡◌, ℕ, ◌+◌, Bool, true, false, List, [], ◌∷◌, ◌++◌, length, take, is_some, Option, None, Some, IfSome, Contains, Result, ⊤}
 use Rattle.std.specs.List.{flat_map, AllByRecursion}
 use Rattle.fe_state.specs.State.{ServerState, IsWithinLimits, after_all}
 use Rattle.fe_state.specs.declared.batch.Batch.{Batch}
@@ -21,10 +21,10 @@ use Rattle.fe_desk.specs.declared.handed.Handed.{Handed}
 use Rattle.fe_desk.specs.declared.handed.Handed.TheVariants.{Nothing, Cut, Stored}
 use Rattle.fe_desk.specs.declared.step.Step.{Step}
 use Rattle.fe_desk.specs.declared.step.Step.TheVariants as step
-use Rattle.fe_desk.specs.Crash.{DeskState}
+use Rattle.fe_desk.specs.Crash.{DeskState, IsFrom, desk_anew}
 use Rattle.fe_desk.specs.Messages.{read_by}
 use Rattle.fe_desk.specs.DeskRunState.{Client, DeskRunState, IsFirstRunState}
-use Rattle.fe_desk.specs.Steps.{Reads}
+use Rattle.fe_desk.specs.Steps.{Reads, HasNoMail}
 use Rattle.fe_desk.specs.Runs.{IsStep}
 use Rattle.fe_disk.specs.declared.disk.Disk.{Ghosts}
 
@@ -74,9 +74,13 @@ StepAsksFor asked d (step.Bytes conn piece) = (before after : Decoding) (more : 
     → Reads before after piece.items more → AllByRecursion (AsksFor (asked conn)) more
 StepAsksFor asked d other = Unit {0}
 
+-- every connection may ask for every session
+abbrev pub may_ask_any : ℕ → ℕ → Bool
+may_ask_any conn session = true
+
 -- If every connection may ask for every session, each step asks only for sessions that may be asked for.
 abbrev pub AnySessionMayBeAsked : Type 0 → Type 0
-AnySessionMayBeAsked D = (d : DeskState D) (x : Step) → StepAsksFor (λ conn session. true) d x
+AnySessionMayBeAsked D = (d : DeskState D) (x : Step) → StepAsksFor may_ask_any d x
 
 -- ---- what each step keeps
 
@@ -119,13 +123,34 @@ pub record IsAcknowledged {D : Type 0} (begun : ServerState) (asked : ℕ → �
   pub way : IsOnItsWay begun (stored_groups d) d.run_state.front d.run_state.handed
   pub all : d.keeper.store.has_failed ≡ false → d.synced ≡ length d.run_state.groups
 
--- steps one after another, each with its answer, that ask only for sessions that their connections may ask for
-abbrev pub AreStepsFor : {D : Type 0} → Ghosts D → (ℕ → ℕ → Bool) → DeskState D → List (Step × Result (Unit {0}) DeskFault) → DeskState D → Type 0
-AreStepsFor model asked old [] new = new ≡ old
-AreStepsFor {D} model asked old (given ∷ more) new =
-    (mid : DeskState D) × StepAsksFor asked old given.0 × IsStep model old given.0 given.1 mid × AreStepsFor model asked mid more new
+-- ---- a trace that begins anew
 
--- after any steps of a desk that was opened, its answers stand on stored groups, as `IsAcknowledged` says
+-- no batch is stored and not posted
+abbrev pub HasNoneToPost : Handed → Type 0
+HasNoneToPost Nothing = ⊤
+HasNoneToPost (Cut batch) = ⊤
+HasNoneToPost (Stored batch) = ⊥
+
+-- The clients were told all that is stored: no batch is still to be posted, and no mail to be written.
+pub record HasToldAll (s : DeskRunState) : Type 0 where
+  pub posted : HasNoneToPost s.handed
+  pub mails : HasNoMail s
+
+-- ---- steps and clearings
+
+-- From a desk over a state to another: steps, each with its answer, that ask only for sessions that their connections may ask for; and
+-- clearings of the trace (`None`), each where the clients were told all that is stored. From a clearing on the state is the one that
+-- the keeper has then.
+abbrev pub AreStepsFor : {D : Type 0} → Ghosts D → (ℕ → ℕ → Bool) → ServerState → DeskState D → List (Option (Step × Result (Unit {0}) DeskFault)) → ServerState → DeskState D
+    → Type 0
+AreStepsFor model asked begun old [] now new = (now ≡ begun) × (new ≡ old)
+AreStepsFor {D} model asked begun old (Some given ∷ more) now new =
+    (mid : DeskState D) × StepAsksFor asked old given.0 × IsStep model old given.0 given.1 mid × AreStepsFor model asked begun mid more now new
+AreStepsFor model asked begun old (None ∷ more) now new =
+    HasToldAll old.run_state × IsFrom begun old × AreStepsFor model asked old.keeper.state (desk_anew old) more now new
+
+-- After any steps of a desk that was opened, and any number of clearings of its trace, its answers stand on stored groups, as
+-- `IsAcknowledged` says, over the state of the last clearing.
 abbrev pub AcknowledgedStand : {D : Type 0} → Ghosts D → Type 0
-AcknowledgedStand {D} model = (begun : ServerState) (asked : ℕ → ℕ → Bool) (first last : DeskState D) (steps : List (Step × Result (Unit {0}) DeskFault)) → IsWithinLimits begun
-    → IsFirstRunState begun first.run_state → first.synced ≡ 0 → AreStepsFor model asked first steps last → IsAcknowledged begun asked last
+AcknowledgedStand {D} model = (begun now : ServerState) (asked : ℕ → ℕ → Bool) (first last : DeskState D) (steps : List (Option (Step × Result (Unit {0}) DeskFault)))
+    → IsWithinLimits begun → IsFirstRunState begun first.run_state → first.synced ≡ 0 → AreStepsFor model asked begun first steps now last → IsAcknowledged now asked last

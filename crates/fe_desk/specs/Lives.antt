@@ -1,6 +1,6 @@
 -- A store over any number of stops: what each life, from one opening to the next, did, and what stands after all of them. And steps that
 -- are given again until they are taken. See `docs/stops.md`, and of the steps `docs/model.md`, "The desk".
-use Rattle.std.specs.Prelude.{◌≡◌, ℕ, ◌≤◌, List, [], ◌∷◌, ◌++◌, length, take, ◌⊎◌, Bool, false, map, Contains}
+use Rattle.std.specs.Prelude.{◌≡◌, ℕ, ◌≤◌, List, [], ◌∷◌, ◌++◌, length, take, ◌⊎◌, Bool, false, map, Contains, Option, None, Some}
 use Rattle.fe_state.specs.State.{ServerState, IsWithinLimits}
 use Rattle.fe_state.specs.History.{IsHistory, after_groups}
 use Rattle.fe_state.specs.declared.entry.Entry.{Entry}
@@ -11,7 +11,7 @@ use Rattle.fe_state.specs.declared.request.Request.{Request}
 use Rattle.fe_keeper.specs.Stands.{StandsFor, LeavesPrefix}
 use Rattle.fe_desk.specs.declared.step.Step.{Step}
 use Rattle.fe_desk.specs.Acknowledged.{AnswersStand, IsAcknowledged, stored_groups}
-use Rattle.fe_desk.specs.Crash.{DeskState}
+use Rattle.fe_desk.specs.Crash.{DeskState, IsFrom}
 use Rattle.fe_desk.specs.DeskRunState.{DeskRunState, discharged}
 use Rattle.fe_desk.specs.Steps.{DeskStep, DeskRun, IsAgain}
 
@@ -45,15 +45,15 @@ LivesJoin = (begun s : ServerState) (lives : List Life) (next : List (List Entry
 
 -- ---- stops
 
--- A life that a stop ended: the desk after the steps that answered, whatever they answered; the sessions that each connection's
--- number may ask for in it; the groups that the step under way handed to the store; how many of all groups were stored for sure;
--- and the image that the stop left.
+-- A life that a stop ended, or the part of one that ended where the trace was cleared: the desk after the steps that answered, whatever
+-- they answered; the sessions that each connection's number may ask for in it; the groups that the step under way handed to the store;
+-- how many of all groups were stored for sure; and the image that the stop left, or none where the trace was cleared.
 pub record Stop (D : Type 0) : Type 0 where
   pub last : DeskState D
   pub asked : ℕ → ℕ → Bool
   pub under_way : List (List Entry)
   pub synced : ℕ
-  pub image : List ℕ
+  pub image : Option (List ℕ)
 
 -- all groups that were handed to the store
 abbrev pub all_groups : {D : Type 0} → Stop D → List (List Entry)
@@ -66,19 +66,34 @@ handed_by life = (life.groups, life.synced)
 abbrev pub stored_by : {D : Type 0} → Stop D → List (List Entry) × ℕ
 stored_by x = (all_groups x, x.synced)
 
--- The life is one of a desk over the state that was opened. Its groups, with those of the step under way, are a history, and the
--- stop left a prefix of it that has all stored groups.
+-- The life is one of a desk over the state that was opened. Its groups, with those of the step under way, are a history.
 pub record IsStopOf {D : Type 0} (begun : ServerState) (x : Stop D) : Type 0 where
   pub lived : IsAcknowledged begun x.asked x.last
   pub history : IsHistory begun (all_groups x)
   pub few : x.last.synced ≤ length x.last.run_state.groups
   pub stored : x.last.synced ≤ x.synced
-  pub leaves : LeavesPrefix begun (all_groups x) x.synced x.image
 
--- stops one after the other, each in a life over the state that the image before stands for; the last image stands for this state
+-- The image that the stop left is a prefix of the life's groups that has all stored ones, and stands for this state.
+pub record IsLeft {D : Type 0} (begun : ServerState) (x : Stop D) (image : List ℕ) (opened : ServerState) : Type 0 where
+  pub leaves : LeavesPrefix begun (all_groups x) x.synced image
+  pub stands : StandsFor image opened
+
+-- No stop came: no step was under way where the trace was cleared, and the keeper has this state.
+pub record WasCleared {D : Type 0} (begun : ServerState) (x : Stop D) (now : ServerState) : Type 0 where
+  pub from : IsFrom begun x.last
+  pub idle : x.under_way ≡ []
+  pub synced : x.synced ≡ x.last.synced
+  pub keeper : x.last.keeper.state ≡ now
+
+-- what comes after the life begins with this state
+abbrev pub LeadsTo : {D : Type 0} → ServerState → Stop D → Option (List ℕ) → ServerState → Type 0
+LeadsTo begun x None next = WasCleared begun x next
+LeadsTo begun x (Some image) next = IsLeft begun x image next
+
+-- stops one after the other, each in a life over the state that the one before leads to; the last one leads to this state
 abbrev pub AreStops : {D : Type 0} → ServerState → List (Stop D) → ServerState → Type 0
 AreStops begun [] s = s ≡ begun
-AreStops begun (x ∷ xs) s = IsStopOf begun x × ((opened : ServerState) × StandsFor x.image opened × AreStops opened xs s)
+AreStops begun (x ∷ xs) s = IsStopOf begun x × ((next : ServerState) × LeadsTo begun x x.image next × AreStops next xs s)
 
 -- ---- what stands after them
 

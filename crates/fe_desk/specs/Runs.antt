@@ -9,6 +9,7 @@ use Rattle.fe_desk.specs.Crash.{DeskState, disk_of}
 use Rattle.fe_state.specs.declared.entry.Entry.{Entry}
 use Rattle.fe_desk.specs.Messages.{outputs, TellsFed}
 use Rattle.fe_desk.specs.DeskRunState.{DeskRunState, discharged, IsFirstRunState}
+use Rattle.fe_desk.specs.declared.port.Port.{Port}
 use Rattle.fe_desk.specs.declared.trace.Trace.{Trace}
 use Rattle.fe_mail.specs.Connections.{mails_on}
 use Rattle.fe_desk.specs.declared.step.Step.{Step}
@@ -49,6 +50,19 @@ groups_of t = map (λ g. g.items) t.groups.items
 -- the bytes written to each connection number
 abbrev pub written_of : Trace → List (ℕ × List ℕ)
 written_of t = map (λ p. (p.conn, p.written)) t.ports.items
+
+-- nothing was written to these connection numbers
+abbrev pub AreSilent : List (ℕ × List ℕ) → Type 0
+AreSilent [] = Unit {0}
+AreSilent (o ∷ os) = (o.1 ≡ []) × AreSilent os
+
+-- what was written to these ports is all that was written: nothing was to the connection numbers before and behind them
+pub record AreWrittenTo (ports : List Port) (outs : List (ℕ × List ℕ)) : Type 0 where
+  pub before : List (ℕ × List ℕ)
+  pub behind : List (ℕ × List ℕ)
+  pub all : outs ≡ before ++ (map (λ p. (p.conn, p.written)) ports ++ behind)
+  pub none_before : AreSilent before
+  pub none_behind : AreSilent behind
 
 -- the trace is that of a run with this state and this many groups stored
 pub record IsTraceOf (t : Trace) (s : DeskRunState) (synced : ℕ) : Type 0 where

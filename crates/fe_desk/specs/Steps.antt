@@ -150,15 +150,3 @@ pub record HasNoMail (s : DeskRunState) : Type 0 where
   pub boxes : (conn : ℕ) → mails_on s.front.connections conn ≡ []
   pub replies : AreWritten s.clients
   pub owes : s.owes ≡ false
-
--- true only of steps that make no mail; false of `Gone`, though that makes none either
-abbrev pub mails_nothing : Step → Bool
-mails_nothing (step.Connect conn) = true
-mails_nothing (step.Bytes conn piece) = false
-mails_nothing (step.Gone conn) = false
-mails_nothing step.Cut = true
-mails_nothing step.Append = true
-mails_nothing step.Post = false
-mails_nothing step.CheckBegin = true
-mails_nothing step.CheckStep = true
-mails_nothing step.CheckFinish = true

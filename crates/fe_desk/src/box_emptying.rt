@@ -1,23 +1,27 @@
 //! Writing the mails in the boxes to their connections (`docs/model.md`, "The desk"). A mail is a reply on its way out; it waits in its
 //! connection's box.
 
-ghost use Rattle.std.specs.Prelude.{◌≡◌, true, map, OnOk, OnErr};
+ghost use Rattle.std.specs.Prelude.{◌≡◌, ◌≢◌, ℕ, true, [], map, OnOk, OnErr};
+ghost use Rattle.fe_mail.specs.Connections.{mails_on};
 ghost use Rattle.fe_desk.specs.DeskRunState.{all_written_out, all_emptied};
 ghost use Rattle.fe_desk.specs.Ends.{WritesFirst};
-ghost use Rattle.fe_desk.specs.within.Desk.{HasAllWithMail, client_of, KeepsFront, AreWrittenOutLater};
+ghost use Rattle.fe_desk.specs.within.Desk.{AreBeyond, IsMailed, HasAllWithMail, client_of, KeepsFront, AreWrittenOutLater};
 
 use crate::port::{Port, has_no_mail};
+use crate::span::Span;
 use fe_front::{ConnectionSet, Front};
 use std::alloc::AllocError;
 
-/// Writes the replies that wait, and the mails of each connection in the set; no other connection has a mail. If memory is short, what is
-/// not written stays.
+/// Writes the replies that wait at these ports, and the mails of each connection in the set; no other connection has a mail, and nothing
+/// is to be written to another port. If memory is short, what is not written stays.
 pub(crate) fn empty_boxes(
     front: &mut Front,
     ports: &mut Vec<Port>,
     mailed: &ConnectionSet,
+    span: Span,
 ) -> Result<(), AllocError>
-    requires { HasAllWithMail front.old mailed.now }
+    requires mailed { HasAllWithMail front.old mailed.now }
+    requires span { IsMailed front.old (map client_of ports.old.items) span }
     ensures written_out { OnOk result (map client_of ports.new.items
         ≡ all_written_out front.old (map client_of ports.old.items)) }
     ensures emptied { OnOk result (front.new ≡ all_emptied front.old (map client_of ports.old.items)) }
@@ -27,8 +31,9 @@ pub(crate) fn empty_boxes(
         (WritesFirst front.old (map client_of ports.old.items) front.new (map client_of ports.new.items)) }
     ensures numbers { map (λ p. p.conn) ports.new.items ≡ map (λ p. p.conn) ports.old.items }
     ensures front { KeepsFront front.old front.new }
+    ensures others { AreBeyond span ports.old.items ports.new.items }
 {
-    for at in 0..ports.len() {
+    for at in span.from..span.to {
         ports[at].take_mails(front, mailed)?;
     }
     Ok(())
@@ -46,4 +51,18 @@ pub(crate) fn add_mailed(front: &Front, posts: bool, mailed: &mut ConnectionSet)
     if !has_no_mail(front) {
         mailed.add_all();
     }
+}
+
+/// Whether one mail waits in all boxes, and it is that of this connection. Books whose counts are used up (spent) do not say so.
+pub(crate) fn has_lone_mail(front: &Front, conn: u64) -> bool
+    ensures { result ≡ true → (other : ℕ) → other ≢ conn → mails_on front.now.connections other ≡ [] }
+{
+    let books = front.books();
+    if books.spent {
+        return false;
+    }
+    if books.left == 1 {
+        return front.connections().has_mail(conn);
+    }
+    false
 }

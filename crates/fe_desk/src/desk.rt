@@ -8,13 +8,17 @@ ghost use Rattle.fe_keeper.specs.Stands.{EachStandsFor, LeavesPrefix};
 ghost use Rattle.fe_desk.specs.DeskRunState.{Extends, IsFirstRunState};
 ghost use Rattle.fe_desk.specs.Messages.{outputs};
 ghost use Rattle.fe_desk.specs.Crash.{DeskState, Advances, IsFrom, disk_of, desk_anew};
-ghost use Rattle.fe_desk.specs.Runs.{IsStep, IsTraceOf};
-ghost use Rattle.fe_desk.specs.Acknowledged.{IsAcknowledged, StepAsksFor};
+ghost use Rattle.fe_desk.specs.Runs.{AreWrittenTo, IsStep, IsTraceOf};
+ghost use Rattle.fe_desk.specs.within.Desk.{IsSilentBeyond};
+ghost use Rattle.fe_desk.specs.Acknowledged.{IsAcknowledged, StepAsksFor, HasToldAll};
 ghost use Rattle.fe_desk.specs.declared.fault.DeskFault.TheVariants.{NoMemory};
 
 use crate::desk_inner::DeskInner;
 use crate::fault::DeskFault;
 use crate::handed::Handed;
+use crate::port::Port;
+use crate::port_places::PortPlaces;
+use crate::span::Span;
 use crate::step::Step;
 use crate::trace::Trace;
 use fe_disk::Disk;
@@ -29,14 +33,23 @@ use std::marker::Model;
 /// is short, in a later one.
 pub struct Desk<D: Disk> {
     inner: DeskInner<D>,
-    /// No box has a mail, and no reply waits. False where that is not known.
+    /// No box has a mail, no reply waits, and nothing was written to a port out of the span `written` since the trace was cleared. False
+    /// where that is not known.
     quiet: bool,
+    written: Span,
+    places: PortPlaces,
 }
 
 impl<D: Disk + Drop> Drop for Desk<D> {
     fn drop(self) {
-        let Desk { inner, quiet: _ } = self;
+        let Desk {
+            inner,
+            quiet: _,
+            written: _,
+            places,
+        } = self;
         drop(inner);
+        drop(places);
     }
 }
 
@@ -51,13 +64,15 @@ impl<D: Disk> Model for Desk<D> {
     ghost coded = { Prim.hlevel (codes, state_code, front_code) };
 
     ghost use Rattle.std.specs.Prelude.{◌≡◌, true};
-    ghost use Rattle.fe_desk.specs.within.Desk.{desk_of, run_state_of, IsDesk};
+    ghost use Rattle.fe_desk.specs.within.Desk.{ArePlaces, IsSilentBeyond, desk_of, run_state_of, IsDesk};
+    ghost use Rattle.fe_desk.specs.Messages.{outputs};
     ghost use Rattle.fe_desk.specs.Steps.{HasNoMail};
 
     ghost view = { λ d. desk_of d.inner };
 
     ghost invariant = { λ d. IsDesk D.Disk (desk_of d.inner)
-        × (d.quiet ≡ true → HasNoMail (run_state_of d.inner)) };
+        × (d.quiet ≡ true → HasNoMail (run_state_of d.inner) × IsSilentBeyond d.written (outputs (run_state_of d.inner)))
+        × ArePlaces d.places (run_state_of d.inner).clients };
 }
 
 impl<D: Disk> Desk<D> {
@@ -78,6 +93,7 @@ impl<D: Disk> Desk<D> {
             return Err((DeskFault::NoMemory { fed: false }, keeper.into_disk()));
         };
         let trace = Trace::new(alloc);
+        let places = PortPlaces::new(alloc);
         let desk = Desk {
             inner: DeskInner {
                 front,
@@ -89,6 +105,8 @@ impl<D: Disk> Desk<D> {
                 alloc,
             },
             quiet: false,
+            written: Span::none(),
+            places,
         };
         Ok(desk)
     }
@@ -118,19 +136,46 @@ impl<D: Disk> Desk<D> {
             → StepAsksFor asked self.old step.now
             → IsAcknowledged begun asked self.old → IsAcknowledged begun asked self.new }
     {
-        let outcome = self.inner.step(step, self.quiet);
+        let outcome = self
+            .inner
+            .step(step, self.quiet, &mut self.places, &mut self.written);
         self.quiet = outcome.is_ok();
         outcome
     }
 
     /// The trace begins anew, so that a long run does not keep all that it did. If the disk is honest, each image that a stop may leave has
-    /// to stand for the keeper's state.
+    /// to stand for the keeper's state. No batch may be stored and not posted, and no mail left to be written.
     pub fn clear_trace(&mut self)
-        requires { D.honest (disk_of self.old)
+        requires stands { D.honest (disk_of self.old)
             → EachStandsFor D.Disk (disk_of self.old) self.old.keeper.state }
-        ensures { self.new ≡ desk_anew self.old }
+        requires told { HasToldAll self.old.run_state }
+        ensures anew { self.new ≡ desk_anew self.old }
+        // What stood acknowledged stands, over the state that the keeper has.
+        ensures acknowledged { (begun : ServerState) (asked : ℕ → ℕ → Bool) → IsFrom begun self.old
+            → IsAcknowledged begun asked self.old → IsAcknowledged self.old.keeper.state asked self.new }
     {
-        self.inner.trace.clear();
+        let span = self.written_span();
+        self.inner.trace.clear(span);
+        self.written = Span::none();
+    }
+
+    /// The ports to which something was written since the desk was opened, or since its trace was cleared, and maybe others.
+    pub fn written_ports(&self) -> &[Port]
+        ensures { AreWrittenTo result.now (outputs self.now.run_state) }
+    {
+        let ports = self.inner.trace.ports.as_slice();
+        let span = self.written_span().below(ports.len());
+        &ports[span.from..span.to]
+    }
+
+    /// The same, by their indexes.
+    fn written_span(&self) -> Span
+        ensures { IsSilentBeyond result (outputs self.now.run_state) }
+    {
+        if self.quiet {
+            return self.written;
+        }
+        self.inner.all_ports()
     }
 
     /// What the desk did since it was opened, or since its trace was cleared.
@@ -156,7 +201,13 @@ impl<D: Disk> Desk<D> {
             → D.may_leave (disk_of self) image
             → LeavesPrefix begun self.run_state.groups self.synced image }
     {
-        let Desk { inner, quiet: _ } = self;
+        let Desk {
+            inner,
+            quiet: _,
+            written: _,
+            places,
+        } = self;
+        drop(places);
         let DeskInner {
             keeper,
             trace,

@@ -15,7 +15,8 @@ pub fn lives_join()
 
 /// Each answer that was written, waits for memory or lies in a box is that of an entry of the groups that are stored, at the entry's place,
 /// and the reply to its request in the state there; or it was kept when the store was opened. Each welcome, goodbye and settled floor (the
-/// replies to attach, bye and settle) is that of an entry of those groups. This holds after any steps, whatever they answered.
+/// replies to attach, bye and settle) is that of an entry of those groups. This holds after any steps, whatever they answered,
+/// and any number of clearings of the trace: from a clearing on, over the state that the keeper had there.
 pub fn acknowledged_answers_stand<D: Disk>()
     ensures { AcknowledgedStand D.Disk }
 {}
@@ -28,6 +29,7 @@ pub fn any_session_may_be_asked<D: Disk>()
 /// Over any number of stops, where each store was opened from the image that the stop before left, there is one history: it
 /// has what each stop kept, and goes on with the groups of the last desk. A request number takes effect at most once in it while its
 /// session is kept. And each answer, welcome, goodbye and settled floor that was written in any of the lives is that of its entry in it.
+/// A clearing of the trace counts as the end of a life that no stop ended.
 pub fn stops_are_lives<D: Disk>()
     ensures { StopsAreLives D }
 {

@@ -3,15 +3,15 @@
 
 ghost use Rattle.std.specs.Prelude.{◌≡◌, ◌<◌, ◌∷◌, length};
 ghost use Rattle.fe_desk.specs.Steps.{with_left};
-ghost use Rattle.fe_desk.specs.within.Desk.{IsFirstAt, client_of, desk_of, run_state_of, IsReady};
+ghost use Rattle.fe_desk.specs.within.Desk.{ArePlaces, IsFirstAt, client_of, desk_of, run_state_of, IsReady};
 ghost use Rattle.fe_desk.specs.Messages.{left_of, outputs, desk_fault_of, EndsWith};
 ghost use Rattle.fe_desk.specs.Ends.{StopsBefore};
 ghost use Rattle.fe_desk.specs.within.Goes.{Goes, GoesPiece, LeavesSome, LeavesStream, StopsStream, TakesLeft, TakesStream};
 
-use crate::connections::place_of;
 use crate::desk_inner::DeskInner;
 use crate::fault::DeskFault;
 use crate::port::Port;
+use crate::port_places::PortPlaces;
 use fe_disk::Disk;
 use fe_keeper::Fault;
 use fe_messages::take_message;
@@ -20,14 +20,21 @@ use fe_wire::ClientMessage;
 impl<D: Disk> DeskInner<D> {
     /// Takes the bytes of a connection: first the messages of it that are left, then those that the piece completes, if the
     /// connection is still connected.
-    pub(crate) fn bytes(&mut self, conn: u64, piece: &[u8]) -> Result<(), DeskFault>
-        requires { IsReady D.Disk (desk_of self.old) }
+    pub(crate) fn bytes(
+        &mut self,
+        conn: u64,
+        piece: &[u8],
+        places: &mut PortPlaces,
+    ) -> Result<(), DeskFault>
+        requires ready { IsReady D.Disk (desk_of self.old) }
+        requires places { ArePlaces places.old (run_state_of self.old).clients }
+        ensures places { ArePlaces places.new (run_state_of self.old).clients }
         ensures outputs { outputs (run_state_of self.new) ≡ outputs (run_state_of self.old) }
         ensures goes { GoesPiece D.Disk (TakesStream (run_state_of self.old) conn piece.now)
             (LeavesStream (run_state_of self.old) conn piece.now) (StopsStream (run_state_of self.old) conn piece.now)
             result (desk_of self.old) (desk_of self.new) }
     {
-        let Some(at) = place_of(&self.trace.ports, conn) else {
+        let Some(at) = places.find(&self.trace.ports, conn) else {
             return Ok(());
         };
         if let Err(fault) = self.take_left(at, conn) {

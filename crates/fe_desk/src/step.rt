@@ -1,7 +1,6 @@
 //! The steps of a desk, a server in one thread: what comes to it, and what it does to its store (`docs/model.md`, "The desk").
 
 ghost use Rattle.std.specs.Prelude.{◌≡◌, true};
-ghost use Rattle.fe_desk.specs.Steps.{mails_nothing};
 
 /// A step of a desk. A step with nothing to act on only writes the mails, replies on their way out, that an earlier step left
 /// unwritten.
@@ -28,13 +27,6 @@ pub enum Step {
 }
 
 impl Step {
-    /// True only if no box had a mail before the step (`quiet`) and the step makes none, so that no box has one after it.
-    pub(crate) fn is_still(&self, quiet: bool) -> bool
-        ensures { result ≡ true → (quiet ≡ true) × (mails_nothing self.now ≡ true) }
-    {
-        quiet && !matches!(self, Step::Bytes { .. } | Step::Gone { .. } | Step::Post)
-    }
-
     /// Whether no box had a mail before the step (`quiet`) and the step posts the batch that is stored, if there is one.
     pub(crate) fn posts(&self, quiet: bool) -> bool
         ensures { result ≡ true → (quiet ≡ true) × (self.now ≡ Step.Post) }

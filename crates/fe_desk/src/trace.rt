@@ -1,10 +1,12 @@
 //! What a desk did: which entries it gave to its store, and what it wrote to which connections (`docs/model.md`, "The desk").
 
-ghost use Rattle.std.specs.Prelude.{◌≡◌, [], map};
+ghost use Rattle.std.specs.Prelude.{◌≡◌, ◌≤◌, [], length, map};
 ghost use Rattle.fe_desk.specs.Crash.{unwritten_to};
-ghost use Rattle.fe_desk.specs.within.Desk.{client_of};
+ghost use Rattle.fe_desk.specs.Runs.{written_of};
+ghost use Rattle.fe_desk.specs.within.Desk.{IsSilentBeyond, client_of};
 
 use crate::port::Port;
+use crate::span::Span;
 use fe_state::Entry;
 use std::alloc::Global;
 
@@ -44,23 +46,27 @@ impl Trace {
         }
     }
 
-    /// The trace begins anew. Its ports stay, with nothing written.
-    pub(crate) fn clear(&mut self)
+    /// The trace begins anew. Its ports stay, with nothing written. Nothing may be written to ports out of the span.
+    pub(crate) fn clear(&mut self, span: Span)
+        requires { IsSilentBeyond span (written_of self.old) }
         ensures groups { self.new.groups.items ≡ [] }
         ensures synced { self.new.synced ≡ 0 }
         ensures ports { map client_of self.new.ports.items ≡ map unwritten_to (map client_of self.old.ports.items) }
     {
         self.groups.clear();
         self.synced = 0;
-        clear_all(self.ports.as_mut_slice());
+        let span = span.below(self.ports.len());
+        clear_each(&mut self.ports, span);
     }
 }
 
-/// Nothing is written to any of these ports.
-fn clear_all(ports: &mut [Port])
-    ensures { map client_of ports.new ≡ map unwritten_to (map client_of ports.old) }
+/// Nothing is written to the ports of the span any more, nor was to the others.
+fn clear_each(ports: &mut Vec<Port>, span: Span)
+    requires within { (span.from ≤ span.to) × (span.to ≤ length ports.old.items) }
+    requires silent { IsSilentBeyond span (map (λ p. (p.conn, p.written)) ports.old.items) }
+    ensures { map client_of ports.new.items ≡ map unwritten_to (map client_of ports.old.items) }
 {
-    for port in ports.iter_mut() {
-        port.written.clear();
+    for at in span.from..span.to {
+        ports[at].written.clear();
     }
 }

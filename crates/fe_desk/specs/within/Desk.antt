@@ -1,5 +1,5 @@
 -- What is always true of a desk (`docs/model.md`, "The desk").
-use Rattle.std.specs.Prelude.{◌≡◌, ℕ, ◌<◌, ◌≤◌, true, false, List, ◌++◌, length, map, drop, Option, None, is_some, [], ◌≢◌, Some, slice_get, ◌⊎◌, IsTrue}
+use Rattle.std.specs.Prelude.{◌≡◌, ℕ, ◌<◌, ◌≤◌, true, false, List, ◌∷◌, ◌++◌, length, map, take, drop, nat_eq, Option, None, is_some, [], ◌≢◌, Some, slice_get, ◌⊎◌, IsTrue}
 use Rattle.fe_state.specs.State.{ServerState, after_all}
 use Rattle.fe_state.specs.History.{AreLegal}
 use Rattle.fe_state.specs.declared.entry.Entry.{Entry}
@@ -11,6 +11,8 @@ use Rattle.fe_desk.specs.declared.handed.Handed.{Handed}
 use Rattle.fe_desk.specs.declared.handed.Handed.TheVariants.{Nothing, Cut, Stored}
 use Rattle.fe_desk.specs.declared.desk_inner.DeskInner.{DeskInner}
 use Rattle.fe_desk.specs.declared.port.Port.{Port}
+use Rattle.fe_desk.specs.declared.port_places.PortPlaces.{PortPlaces}
+use Rattle.fe_desk.specs.declared.span.Span.{Span}
 use Rattle.fe_desk.specs.Acknowledged.{cut_entries}
 use Rattle.fe_desk.specs.DeskRunState.{Client, DeskRunState, written_out, all_written_out, all_emptied, emptied_box, output_of, Extends}
 use Rattle.fe_desk.specs.Steps.{find, BeginsStream, clients_with}
@@ -18,6 +20,8 @@ use Rattle.fe_desk.specs.Crash.{DeskState, IsFrom, disk_of}
 use Rattle.fe_disk.specs.declared.disk.Disk.{Ghosts}
 use Rattle.fe_mail.specs.Connections.{mails_on}
 use Rattle.fe_desk.specs.Messages.{outputs}
+use Rattle.fe_desk.specs.Runs.{AreSilent}
+use Rattle.indexmap.specs.IndexMap.{get}
 use Rattle.std.specs.Option.{option_map}
 use Rattle.fe_wire.specs.Stream.{Decoding}
 use Rattle.fe_front.specs.Steps.{connected}
@@ -139,6 +143,44 @@ pub record Joins (f : FrontState) (cs : List Client) (conn : ℕ) (g : FrontStat
   pub begins : BeginsStream decoder
   pub front : g ≡ connected f conn
   pub clients : ds ≡ clients_with cs conn decoder
+
+-- each index that is known is that of the first client of its number
+abbrev pub ArePlaces : PortPlaces → List Client → Type 0
+ArePlaces places clients = (conn at : ℕ) → get nat_eq places.indexes conn ≡ Some at → IsFirstAt clients conn at
+
+-- ---- which clients something is to be written to
+
+-- nothing is to be written to a client
+pub record IsQuiet (f : FrontState) (c : Client) : Type 0 where
+  pub reply : c.reply ≡ None
+  pub box : mails_on f.connections c.conn ≡ []
+
+-- nothing is to be written to any of these
+abbrev pub AreQuiet : FrontState → List Client → Type 0
+AreQuiet f [] = Unit {0}
+AreQuiet f (c ∷ cs) = IsQuiet f c × AreQuiet f cs
+
+-- nothing is to be written to a client before the span, nor behind it once the others are written all
+pub record IsMailed (f : FrontState) (clients : List Client) (span : Span) : Type 0 where
+  pub ordered : span.from ≤ span.to
+  pub within : span.to ≤ length clients
+  pub before : AreQuiet f (take span.from clients)
+  pub behind : AreQuiet (all_emptied f (take span.to clients)) (drop span.to clients)
+
+-- the ports out of the span are as they were
+pub record AreBeyond (span : Span) (old new : List Port) : Type 0 where
+  pub before : take span.from new ≡ take span.from old
+  pub behind : drop span.to new ≡ drop span.to old
+
+-- the span has all of this many
+pub record IsAll (span : Span) (count : ℕ) : Type 0 where
+  pub from : span.from ≡ 0
+  pub to : span.to ≡ count
+
+-- nothing was written out of the span
+pub record IsSilentBeyond (span : Span) (outs : List (ℕ × List ℕ)) : Type 0 where
+  pub before : AreSilent (take span.from outs)
+  pub behind : AreSilent (drop span.to outs)
 
 -- the set has each connection with a mail
 abbrev pub HasAllWithMail : FrontState → ConnectionSet → Type 0

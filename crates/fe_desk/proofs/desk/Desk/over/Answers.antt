@@ -5,6 +5,7 @@ use Rattle.fe_desk.specs.declared.desk_inner.DeskInner.{DeskInner}
 use Rattle.fe_desk.specs.within.Desk.{client_of, desk_of}
 use Rattle.fe_desk.proofs.Answering.{first_acknowledged}
 use Rattle.fe_desk.proofs.Openings.{first_desk}
+use Rattle.fe_desk.proofs.Spans.{none_known}
 use Rattle.fe_desk.proofs.desk.Desk.over.Goals as goal
 
 pub invariant_of-desk : goal.invariant_of-desk
@@ -25,6 +26,7 @@ invariant_of-desk g c =
           })
           trace.ensures.synced (λ honest. c.state.ensures.durable honest c.requires),
       λ quiet. absurd (true≢false (sym quiet)),
+      none_known c.new-places.result (map client_of trace.result.ports.items) c.new-places.ensures,
     )
 
 pub returns-clause-acknowledged : goal.returns-clause-acknowledged

@@ -14,13 +14,13 @@ returns-then-is_err-clause-goes g c =
     let e = c.connect.ensures in
     let none = sym c.is_err.ensures.value ∙ c.if-is_err.true in
     let same = same_desk (desk_of c.args.self.now) (desk_of c.connect.new.self) (when_err c.connect.result none e.err) e.stays.store.keeper e.stays.store.synced in
-    act_at c.in-Connect.is (act_short {k = g.D.Disk} g.met.D.Disk.only_now c.requires same (when_err c.connect.result none e.unconnected, same))
+    act_at c.in-Connect.is (act_short {k = g.D.Disk} g.met.D.Disk.only_now c.requires.ready same (when_err c.connect.result none e.unconnected, same))
 
 pub returns-else-is_err-clause-goes : goal.returns-else-is_err-clause-goes
 returns-else-is_err-clause-goes g c =
     let e = c.connect.ensures in
     let came = when_ok c.connect.result (sym c.is_err.ensures.value ∙ c.if-is_err.false) e.connected in
-    act_at c.in-Connect.is (act_still {k = g.D.Disk} g.met.D.Disk.only_now c.requires e.stays came e.stays.store.keeper)
+    act_at c.in-Connect.is (act_still {k = g.D.Disk} g.met.D.Disk.only_now c.requires.ready e.stays came e.stays.store.keeper)
 
 pub returns-in-Bytes-clause-goes : goal.returns-in-Bytes-clause-goes
 returns-in-Bytes-clause-goes g c = act_at c.in-Bytes.is (act_bytes c.in-Bytes.conn c.in-Bytes.piece c.as_slice.result.now c.as_slice.ensures.value c.bytes.ensures.outputs c.bytes.ensures.goes)
@@ -28,12 +28,12 @@ returns-in-Bytes-clause-goes g c = act_at c.in-Bytes.is (act_bytes c.in-Bytes.co
 pub returns-in-Gone-clause-goes : goal.returns-in-Gone-clause-goes
 returns-in-Gone-clause-goes g c =
     let e = c.leave.ensures in
-    act_at c.in-Gone.is (act_still {k = g.D.Disk} g.met.D.Disk.only_now c.requires e.stays e.gone e.stays.store.keeper)
+    act_at c.in-Gone.is (act_still {k = g.D.Disk} g.met.D.Disk.only_now c.requires.ready e.stays e.gone e.stays.store.keeper)
 
 pub returns-in-Cut-clause-goes : goal.returns-in-Cut-clause-goes
 returns-in-Cut-clause-goes g c =
     let e = c.cut.ensures in
-    act_at c.in-Cut.is (act_still {k = g.D.Disk} g.met.D.Disk.only_now c.requires e.stays e.cut e.stays.store.keeper)
+    act_at c.in-Cut.is (act_still {k = g.D.Disk} g.met.D.Disk.only_now c.requires.ready e.stays e.cut e.stays.store.keeper)
 
 pub returns-in-Append-clause-goes : goal.returns-in-Append-clause-goes
 returns-in-Append-clause-goes g c = act_at c.in-Append.is (act_append c.desk_outcome.ensures c.store.ensures)
@@ -41,31 +41,31 @@ returns-in-Append-clause-goes g c = act_at c.in-Append.is (act_append c.desk_out
 pub returns-in-Post-clause-goes : goal.returns-in-Post-clause-goes
 returns-in-Post-clause-goes g c =
     let e = c.post.ensures in
-    act_at c.in-Post.is (act_still {k = g.D.Disk} g.met.D.Disk.only_now c.requires e.stays e.posted e.stays.store.keeper)
+    act_at c.in-Post.is (act_still {k = g.D.Disk} g.met.D.Disk.only_now c.requires.ready e.stays e.posted e.stays.store.keeper)
 
 pub returns-in-CheckBegin : goal.returns-in-CheckBegin
 returns-in-CheckBegin g c =
     let old = c.args.self.now in
     let e = c.checkpoint_begin.ensures in
     let goes =
-    act_check step.CheckBegin (desk_of old) c.checkpoint_begin.new.self c.checkpoint_begin.result (ForDeviceAndMemory (IsTrue (can_begin old.keeper.store))) g.met.D.Disk.counts_now c.requires e.rests
+    act_check step.CheckBegin (desk_of old) c.checkpoint_begin.new.self c.checkpoint_begin.result (ForDeviceAndMemory (IsTrue (can_begin old.keeper.store))) g.met.D.Disk.counts_now c.requires.ready e.rests
     refl e.store (λ can same. (can, same)) (λ place none. none) (λ breaks. breaks) c.desk_outcome-in-CheckBegin.ensures e.ends in
-    record { goes = act_at c.in-CheckBegin.is goes; changed = λ is. absurd (posts_not step.CheckBegin refl (sym c.in-CheckBegin.is ∙ is)) }
+    record { places = c.requires.places; goes = act_at c.in-CheckBegin.is goes; changed = λ is. absurd (posts_not step.CheckBegin refl (sym c.in-CheckBegin.is ∙ is)) }
 
 pub returns-in-CheckStep : goal.returns-in-CheckStep
 returns-in-CheckStep g c =
     let old = c.args.self.now in
     let e = c.checkpoint_step.ensures in
     let goes =
-    act_check step.CheckStep (desk_of old) c.checkpoint_step.new.self c.checkpoint_step.result (ForDevice (IsTrue (has_slices old.keeper.store.checkpoint))) g.met.D.Disk.counts_now c.requires e.rests
+    act_check step.CheckStep (desk_of old) c.checkpoint_step.new.self c.checkpoint_step.result (ForDevice (IsTrue (has_slices old.keeper.store.checkpoint))) g.met.D.Disk.counts_now c.requires.ready e.rests
     refl e.store (λ none same. absurd none) (λ place none. none) (λ breaks. breaks) c.desk_outcome-in-CheckStep.ensures e.ends in
-    record { goes = act_at c.in-CheckStep.is goes; changed = λ is. absurd (posts_not step.CheckStep refl (sym c.in-CheckStep.is ∙ is)) }
+    record { places = c.requires.places; goes = act_at c.in-CheckStep.is goes; changed = λ is. absurd (posts_not step.CheckStep refl (sym c.in-CheckStep.is ∙ is)) }
 
 pub returns-in-CheckFinish : goal.returns-in-CheckFinish
 returns-in-CheckFinish g c =
     let old = c.args.self.now in
     let e = c.checkpoint_finish.ensures in
     let goes =
-    act_check step.CheckFinish (desk_of old) c.checkpoint_finish.new.self c.checkpoint_finish.result (ForDevice (IsTrue (is_some old.keeper.store.checkpoint))) g.met.D.Disk.counts_now c.requires e.rests
+    act_check step.CheckFinish (desk_of old) c.checkpoint_finish.new.self c.checkpoint_finish.result (ForDevice (IsTrue (is_some old.keeper.store.checkpoint))) g.met.D.Disk.counts_now c.requires.ready e.rests
     refl e.store (λ none same. absurd none) (λ place none. none) (λ breaks. breaks) c.desk_outcome-in-CheckFinish.ensures e.ends in
-    record { goes = act_at c.in-CheckFinish.is goes; changed = λ is. absurd (posts_not step.CheckFinish refl (sym c.in-CheckFinish.is ∙ is)) }
+    record { places = c.requires.places; goes = act_at c.in-CheckFinish.is goes; changed = λ is. absurd (posts_not step.CheckFinish refl (sym c.in-CheckFinish.is ∙ is)) }

@@ -14,7 +14,7 @@ use Rattle.fe_desk.proofs.desk_inner.DeskInner.bytes.Goals as goal
 
 pub returns-in_default-clause-goes : goal.returns-in_default-clause-goes
 returns-in_default-clause-goes g c =
-    unread {k = g.D.Disk} g.met.D.Disk.only_now c.requires (stream_unknown (run_state_of c.args.self.now) c.args.conn c.args.piece.now c.in_default.ensures.none)
+    unread {k = g.D.Disk} g.met.D.Disk.only_now c.requires.ready (stream_unknown (run_state_of c.args.self.now) c.args.conn c.args.piece.now c.in_default.ensures.none)
 
 pub returns-in-Err-clause-outputs : goal.returns-in-Err-clause-outputs
 returns-in-Err-clause-outputs g c = left_outputs c.args.conn (run_state_of c.args.self.now) (run_state_of c.take_left.new.self) c.take_left.ensures.clients
@@ -53,6 +53,7 @@ returns-in_default-feed g c =
     let completes : CompletesMessage is.client.decoder piece =
     subst (λ (d : Decoding). CompletesMessage d piece) (port_reads piece is ports c.in-Some.at p refl c.take_left.ensures.place c.index_mut.ensures.value) c.in_default-feed.ensures.memory in
     record {
+      places = c.find.ensures.places;
       outputs = subst (λ (cs : List Client). outputs (record b.run_state { clients = cs }) ≡ outputs s) same (left_outputs conn s b.run_state c.take_left.ensures.clients);
       goes =
           subst
@@ -90,6 +91,7 @@ returns-in-Err-take_left g c =
     has_fed c.args.conn c.in-Some.at c.args.piece.now s u c.take_left.new.self.trace.ports.items c.index_mut.result.now c.feed.new.self is goes.ends.1 (sym c.connected.ensures ∙ c.if-not-connected.false) refl
     c.take_left.ensures.place c.index_mut.ensures.value c.in-Ok.ensures.reads c.in-Ok.ensures.client in
     record {
+      places = c.find.ensures.places;
       outputs = left_outputs c.args.conn m n c.take_left-2.ensures.clients ∙ fed_outputs fed;
       goes =
           piece_faulty true c.desk_fault-in-Err-take_left.ensures (λ some. stream_more fed n c.take_left-2.ensures.clients c.take_left-2.ensures.rest some) (λ last stops. inr (fed_stops fed last stops))
@@ -111,6 +113,7 @@ returns-then-bad g c =
     let bad : c.feed.new.self.decoder.is_bad ≡ true = sym c.in-Ok.ensures.bad ∙ c.if-bad.true in
     let gone : run_state_of c.leave.new.self ≡ after_frame c.feed.new.self.decoder.is_bad n c.args.conn = c.leave.ensures.gone ∙ ap (λ (x : Bool). after_frame x n c.args.conn) (sym bad) in
     record {
+      places = c.find.ensures.places;
       outputs = ap (λ (t : DeskRunState). outputs t) c.leave.ensures.gone ∙ gone_outputs n c.args.conn ∙ left_outputs c.args.conn m n c.take_left-2.ensures.clients ∙ fed_outputs fed;
       goes =
           piece_done (then goes (before goes.ends.0.fine.after (record { keeper = refl; groups = refl; synced = refl }) refl rest))
@@ -131,6 +134,7 @@ returns-else-bad g c =
     let rest = c.in_default-take_left-2.ensures.goes in
     let bad : c.feed.new.self.decoder.is_bad ≡ false = sym c.in-Ok.ensures.bad ∙ c.if-bad.false in
     record {
+      places = c.find.ensures.places;
       outputs = left_outputs c.args.conn m n c.take_left-2.ensures.clients ∙ fed_outputs fed;
       goes =
           piece_done (then goes (before goes.ends.0.fine.after (record { keeper = refl; groups = refl; synced = refl }) refl rest)) stays_itself
