@@ -32,12 +32,12 @@ take_front zero xs ys = refl
 take_front (suc n) [] ys = refl
 take_front (suc n) (x ∷ xs) ys = ap (λ t. x ∷ t) (take_front n xs ys)
 
--- the bytes up to the next ones, and those of the next that a half took
-pub wrote_further : (bytes before mid after : List ℕ) (next count : ℕ) → count ≤ length bytes - next → mid ≡ before ++ take next bytes
-    → after ≡ mid ++ take count (take (length bytes - next) (drop next bytes)) → after ≡ before ++ take (next + count) bytes
-wrote_further bytes before mid after next count few so_far more =
+-- the bytes up to the next ones, and those of the next `most` that a half took
+pub wrote_further : (bytes before mid after : List ℕ) (next most count : ℕ) → count ≤ most → mid ≡ before ++ take next bytes
+    → after ≡ mid ++ take count (take most (drop next bytes)) → after ≡ before ++ take (next + count) bytes
+wrote_further bytes before mid after next most count few so_far more =
     more
-    ∙ ap (λ t. mid ++ t) (take-take count (length bytes - next) (drop next bytes) few)
+    ∙ ap (λ t. mid ++ t) (take-take count most (drop next bytes) few)
     ∙ ap (λ t. t ++ take count (drop next bytes)) so_far
     ∙ append_assoc before (take next bytes) (take count (drop next bytes))
     ∙ ap (λ t. before ++ t) (sym (take-add next count bytes))

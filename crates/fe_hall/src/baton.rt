@@ -7,6 +7,7 @@
 //! lock. A side that has the baton waits for nothing but the lock: `Lock::wait` (`hold`) gives it up, and so does a side that waits
 //! elsewhere.
 
+use fe_shared::Free;
 use std::sync::{Mutex, MutexGuard, Wait};
 
 /// The baton of a hall: a lock whose value is not used.
@@ -35,8 +36,8 @@ impl<'a> BatonGuard<'a> {
         BatonGuard { guard: None }
     }
 
-    /// Waits for the baton, unless the side has it. A side that holds the hall's lock must not call this: the baton comes before the lock.
-    pub(crate) fn take<R: Wait>(&mut self, rt: &R, baton: &'a Baton) {
+    /// Waits for the baton, unless the side has it.
+    pub(crate) fn take<R: Wait>(&mut self, rt: &R, _free: &mut Free, baton: &'a Baton) {
         if self.guard.is_none() {
             self.guard = Some(baton.lock.lock(rt));
         }

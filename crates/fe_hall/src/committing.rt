@@ -15,7 +15,7 @@ use crate::hall::Hall;
 use fe_disk::Disk;
 use fe_history::{History, StoreSeat, Tally};
 use fe_keeper::{Fault, Keeper};
-use fe_shared::{CutBatch, CutOutcome, Posted};
+use fe_shared::{CutBatch, CutOutcome, Free, Posted};
 use std::sync::Wait;
 
 /// A checkpoint is begun once more than this many bytes of the journal are used.
@@ -40,15 +40,16 @@ pub fn commit_side<C: Tally, M: Tally, D: Disk, R: Wait>(
 {
     // It names what is always true of the keeper (`docs/DECISIONS.md`, "Toolchain").
     let _ = keeper.state();
+    let mut free = Free::of_committing(seat);
     let mut slices = true;
     let mut cuts = hall.history();
     for _ in rt.forever() {
-        let cut = match hall.next_batch(rt, &mut cuts) {
+        let cut = match hall.next_batch(rt, &mut free, &mut cuts) {
             CutOutcome::Batch(cut) => cut,
             CutOutcome::Stopped(all) => return Ended::stopped(all),
             CutOutcome::Strange(why) => return Ended::broken(Break::of_cut(why), hall.stop(rt)),
         };
-        if let Err(why) = commit(rt, hall, keeper, seat, cut, &cuts) {
+        if let Err(why) = commit(rt, &mut free, hall, keeper, seat, cut, &cuts) {
             return Ended::broken(why, hall.stop(rt));
         }
         match tend(keeper, slices) {
@@ -62,6 +63,7 @@ pub fn commit_side<C: Tally, M: Tally, D: Disk, R: Wait>(
 /// Stores a batch, notes it in the history and posts it. The error is why the side ends.
 fn commit<C: Tally, M: Tally, D: Disk, R: Wait>(
     rt: &R,
+    free: &mut Free,
     hall: &Hall<C, M>,
     keeper: &mut Keeper<D>,
     seat: &mut StoreSeat<M>,
@@ -82,7 +84,7 @@ fn commit<C: Tally, M: Tally, D: Disk, R: Wait>(
                 drop(batch);
                 return Err(Break::of_note(why));
             }
-            match hall.post(rt, batch, seat) {
+            match hall.post(rt, free, batch, seat) {
                 Ok(posted) => Ok(posted),
                 Err(why) => Err(Break::of_post(why)),
             }

@@ -9,11 +9,11 @@ ghost use Rattle.fe_shared.specs.Marks.{IsBegun, TakingIssued};
 
 use crate::baton::{Baton, BatonGuard};
 use crate::hold::Lock;
-use fe_front::{ConnectionSet, Front, REMAINDERS};
+use fe_front::{Front, REMAINDERS};
 use fe_history::{GatheredReceipts, History, HistoryWords, NewHistory, Receipt, StoreSeat, Tally};
 use fe_shared::{
-    CallSeat, ConnectRight, CutOutcome, HasStopped, LastAnswer, MailSeat, NewSeats, PlaceThen,
-    Posted, Shared, Taking, Unconnected, Unposted,
+    Bells, CallSeat, ConnectRight, CutOutcome, Free, HasStopped, LastAnswer, MailSeat, NewSeats,
+    Owed, OwedByPost, PlaceThen, Posted, Shared, Taking, Unconnected, Unposted,
 };
 use fe_state::Batch;
 use fe_wire::ClientMessage;
@@ -22,9 +22,12 @@ use std::sync::ledger::Blank;
 use std::sync::{Condvar, MutexGuard, Wait};
 use std::time::{Clock, Duration};
 
-/// A read side gives up waiting once all entries that it waits for are stored and posted, and its write side has taken no mail for this
-/// many milliseconds (`Hall::await_room`).
-const STILL_MILLIS: u64 = 1000;
+/// A read side gives up waiting once all entries that it waits for are stored and posted, and its write side has taken no mail and
+/// written no byte for this many milliseconds (`Hall::await_room`).
+const STILL_MILLIS: u64 = 30_000;
+
+/// The same for one that gave up before, and whose client has read nothing since.
+const STILL_AGAIN_MILLIS: u64 = 1000;
 
 /// A front that many threads share. A hold of its lock makes at most one event. A side is a connection's reading or writing
 /// thread, or the committing thread, which stores; each has a seat, which shows who it is and counts what it did.
@@ -38,13 +41,8 @@ pub struct Hall<C: Tally, M: Tally> {
     /// The words that count the history's batches, and the history as it began.
     history_words: HistoryWords<M>,
     begun: History<M>,
-    /// A condition variable, or bell, that is rung after each message, since entries may be pending then, and when the hall is stopped.
-    work: Condvar,
-    /// This bell is rung when there is room for an event again, since the pending entries were cut, and when the hall is stopped.
-    room: Condvar,
-    /// These bells are rung for the sides of a connection, each for the connections whose numbers have one remainder by 256.
-    bells: Vec<Condvar>,
-    ghost all_bells: { length bells.items ≡ 256 },
+    /// The condition variables, or bells, for which sides wait.
+    bells: Bells,
 }
 
 impl<C: Tally, M: Tally> Hall<C, M> {
@@ -66,18 +64,18 @@ impl<C: Tally, M: Tally> Hall<C, M> {
         ensures front { IfErr result (λ e. e.1 ≡ front) }
     {
         match bells(alloc) {
-            Ok(bells) => {
+            Ok(sides) => {
                 let (history_words, begun) = history.named::<M>();
                 let (seen, stored) = (begun.again(), begun.again());
                 seen.shows_legal();
-                let (shared, right, holds) = Shared::new(alloc, front, calls, mails, seen);
+                let (shared, right, holds, bells) = Shared::new(
+                    alloc, front, calls, mails, seen, sides,
+                );
                 let hall = Hall {
                     lock: Lock::new(shared, holds),
                     baton: Baton::new(),
                     history_words,
                     begun,
-                    work: Condvar::new(),
-                    room: Condvar::new(),
                     bells,
                 };
                 Ok((hall, StoreSeat::new(stored), right))
@@ -98,18 +96,15 @@ impl<C: Tally, M: Tally> Hall<C, M> {
     ) -> Result<NewSeats<C, M>, Unconnected>
         ensures { IfOk result (λ seats. seats ≡ conn) }
     {
-        self.lock.enter(rt).connect(right, conn)
+        self.lock.connect(rt, right, conn)
     }
 
     /// Stops the hall, so that all sides end: a read side at its next message, a write side once its box is empty, the committing side once
     /// all that is pending is stored and posted.
     pub fn stop<R: Wait>(&self, rt: &R) -> HasStopped {
-        let stopped = self.lock.enter(rt).stop();
-        self.work.notify_all();
-        self.room.notify_all();
-        for bell in &self.bells {
-            bell.notify_all();
-        }
+        let mut owed = Owed::none();
+        let stopped = self.lock.stop(rt, &mut owed);
+        self.bells.ring(owed);
         stopped
     }
 
@@ -117,6 +112,7 @@ impl<C: Tally, M: Tally> Hall<C, M> {
     pub(crate) fn handle<R: Wait>(
         &self,
         rt: &R,
+        free: &mut Free,
         alloc: Global,
         message: &ClientMessage,
         seat: &mut CallSeat<C>,
@@ -124,122 +120,146 @@ impl<C: Tally, M: Tally> Hall<C, M> {
     ) -> LastAnswer
         ensures { (place : ℕ) × (seat.new ≡ message_answered seat.old message.now place result) }
     {
-        let mut hold = self.lock.enter(rt);
+        let words = &self.history_words;
+        let mut hold = self.lock.enter(rt, free);
         for _ in rt.forever() {
-            let mails = hold.mails_made();
-            if let Some(last_answer) = hold.handle(alloc, &self.history_words, message, seat) {
-                let mails_came = hold.mails_made() != mails;
+            let mut owed = Owed::none();
+            if let Some(last_answer) = hold.handle(alloc, words, message, seat, &mut owed) {
                 MutexGuard::unlock(hold);
-                self.work.notify_one();
-                if mails_came {
-                    self.ring(seat.conn());
-                }
+                self.bells.ring(owed);
                 return last_answer;
             }
-            hold = self.lock.wait(rt, hold, &self.room, baton_guard);
+            self.bells.ring(owed);
+            hold = self.lock.wait(rt, hold, self.bells.room(), baton_guard);
         }
         unreachable!()
     }
 
     /// Waits until the connection's box, its mails that wait to go out, is empty and the write side has written all that it took, or the
     /// connection is gone, or the hall is stopped. It does not wait if there is no memory to note that it does.
-    pub(crate) fn await_rest<R: Wait>(&self, rt: &R, seat: &CallSeat<C>) {
+    pub(crate) fn await_rest<R: Wait>(&self, rt: &R, free: &mut Free, seat: &CallSeat<C>) {
         let conn = seat.conn();
-        let mut hold = self.lock.enter(rt);
-        if hold.watch(conn).is_err() {
+        let mut hold = self.lock.enter(rt, free);
+        let mut owed = Owed::none();
+        let watched = hold.watch(conn, &mut owed);
+        // A write side that waits for mail has written what it took. The bell wakes it, and it says so.
+        self.bells.ring(owed);
+        if watched.is_err() {
             return;
         }
-        // A write side that waits for mail has written what it took. The bell wakes it, and it says so.
-        self.ring(conn);
         let mut baton_guard = BatonGuard::none();
         for _ in rt.forever() {
             if hold.is_over(conn) || !hold.is_watched(conn) {
-                let _ = hold.unwatch(conn);
+                let mut owed = Owed::none();
+                hold.unwatch(conn, &mut owed);
+                self.bells.ring(owed);
                 return;
             }
-            hold = self.lock.wait(rt, hold, self.bell(conn), &mut baton_guard);
+            hold = self
+                .lock
+                .wait(rt, hold, self.bells.sides(conn), &mut baton_guard);
         }
         unreachable!()
     }
 
     /// Waits until the write side of a connection is close behind its read side (by 64 mails at most), or has taken what came of its
     /// messages before `place_then`, except the answers to requests that still wait; or the connection is gone, the hall stopped, or memory
-    /// short to note that it waits. It gives up once the write side has taken no mail for a second, if the entries before `place_then` are
-    /// stored and posted. Returns the place, the number of entries made so far.
+    /// short to note that it waits. If the entries before `place_then` are stored and posted, it gives up once the write side has taken no
+    /// mail and written no byte for 30 seconds, or for one if the side gave up before (`in_vain`) and nothing was taken or written since.
+    /// Returns the place, the number of entries made so far, and whether it gave up.
     pub(crate) fn await_room<R: Clock + Wait>(
         &self,
         rt: &R,
+        free: &mut Free,
         conn: u64,
         place_then: &PlaceThen,
+        in_vain: bool,
         baton_guard: &mut BatonGuard<'_>,
-    ) -> PlaceThen {
-        let bell = self.bell(conn);
-        let limit = Duration::from_millis(STILL_MILLIS);
-        let mut hold = self.lock.enter(rt);
+    ) -> (PlaceThen, bool) {
+        let bell = self.bells.sides(conn);
+        let mut in_vain = in_vain;
+        let mut hold = self.lock.enter(rt, free);
         for _ in rt.forever() {
             if hold.may_go_on(conn, place_then) {
-                return hold.place_then();
+                return (hold.place_then(), false);
             }
             baton_guard.give_up();
-            let (next, in_vain) = self
+            let limit = Duration::from_millis(if in_vain {
+                STILL_AGAIN_MILLIS
+            } else {
+                STILL_MILLIS
+            });
+            (hold, in_vain) = self
                 .lock
                 .wait_at_most(rt, hold, bell, limit, conn, place_then);
-            hold = next;
             if in_vain && hold.is_durable(place_then) {
-                let _ = hold.unwatch(conn);
-                return hold.place_then();
+                let mut owed = Owed::none();
+                hold.unwatch(conn, &mut owed);
+                self.bells.ring(owed);
+                return (hold.place_then(), true);
             }
         }
         unreachable!()
     }
 
+    /// Notes that bytes of a connection's replies went out. Returns whether its read side waits for its box.
+    pub(crate) fn note_written<R: Wait>(&self, rt: &R, free: &mut Free, conn: u64) -> bool {
+        self.lock.enter(rt, free).note_written(conn)
+    }
+
     /// The place after all entries made so far.
-    pub(crate) fn place_then<R: Wait>(&self, rt: &R) -> PlaceThen {
-        self.lock.enter(rt).place_then()
+    pub(crate) fn place_then<R: Wait>(&self, rt: &R, free: &mut Free) -> PlaceThen {
+        self.lock.enter(rt, free).place_then()
     }
 
     /// Waits until the write side has taken what comes of the connection's messages, except the answers to requests that still wait, and
     /// removes the connection. No more messages of it come. A `Rest` shows that nothing is left to wait for, or that memory was short to
     /// wait. If the hall is stopped, its write side goes on, and takes what is in the box.
-    pub(crate) fn drain<R: Wait>(&self, rt: &R, seat: &mut CallSeat<C>)
+    pub(crate) fn drain<R: Wait>(&self, rt: &R, free: &mut Free, seat: &mut CallSeat<C>)
         ensures untaken { TookNoMessage seat.old seat.new }
         ensures rested { HasRested seat.new }
     {
         let conn = seat.conn();
         let mut baton_guard = BatonGuard::none();
-        let mut hold = self.lock.enter(rt);
+        let mut hold = self.lock.enter(rt, free);
         for _ in rt.forever() {
             if let Some(rest) = hold.rest(seat) {
-                hold.depart(seat, rest);
+                let mut owed = Owed::none();
+                hold.depart(seat, rest, &mut owed);
                 MutexGuard::unlock(hold);
-                self.ring(conn);
+                self.bells.ring(owed);
                 return;
             }
-            hold = self.lock.wait(rt, hold, self.bell(conn), &mut baton_guard);
+            hold = self
+                .lock
+                .wait(rt, hold, self.bells.sides(conn), &mut baton_guard);
         }
         unreachable!()
     }
 
     /// Removes the connection of a read side, if it is still connected.
-    pub(crate) fn leave_by_reader<R: Wait>(&self, rt: &R, seat: &mut CallSeat<C>)
+    pub(crate) fn leave_by_reader<R: Wait>(&self, rt: &R, free: &mut Free, seat: &mut CallSeat<C>)
         ensures { seat.new ≡ record seat.old { departed = true } }
     {
-        self.lock.enter(rt).leave_by_reader(seat);
-        self.ring(seat.conn());
+        let mut owed = Owed::none();
+        self.lock.enter(rt, free).leave_by_reader(seat, &mut owed);
+        self.bells.ring(owed);
     }
 
     /// Removes the connection of a write side, if it is still connected.
-    pub(crate) fn leave_by_writer<R: Wait>(&self, rt: &R, seat: &mut MailSeat<M>)
+    pub(crate) fn leave_by_writer<R: Wait>(&self, rt: &R, free: &mut Free, seat: &mut MailSeat<M>)
         ensures { seat.new ≡ record seat.old { departed = true } }
     {
-        self.lock.enter(rt).leave_by_writer(seat);
-        self.ring(seat.conn());
+        let mut owed = Owed::none();
+        self.lock.enter(rt, free).leave_by_writer(seat, &mut owed);
+        self.bells.ring(owed);
     }
 
     /// Waits for a mail in the box and takes it, or records in the seat why none comes. An answer is added to the history.
     pub(crate) fn take_mail<R: Wait>(
         &self,
         rt: &R,
+        free: &mut Free,
         seat: &mut MailSeat<M>,
         history: &mut History<M>,
         baton_guard: &mut BatonGuard<'_>,
@@ -249,15 +269,13 @@ impl<C: Tally, M: Tally> Hall<C, M> {
         ensures issued { TakingIssued seat.old.conn result history.new }
     {
         let conn = seat.conn();
-        let mut hold = self.lock.enter(rt);
+        let mut hold = self.lock.enter(rt, free);
         for _ in rt.forever() {
-            if let Some(taking) = hold.take_mail(seat) {
-                let is_awaited = !seat.more() && hold.is_watched(conn);
+            let mut owed = Owed::none();
+            if let Some(taking) = hold.take_mail(seat, &mut owed) {
                 hold.teach(history);
                 MutexGuard::unlock(hold);
-                if is_awaited {
-                    self.ring(conn);
-                }
+                self.bells.ring(owed);
                 if let Taking::Mail { mail, .. } = &taking {
                     if let Some(receipt) = Receipt::of(conn, mail) {
                         history.issue(&self.history_words, receipt);
@@ -265,28 +283,38 @@ impl<C: Tally, M: Tally> Hall<C, M> {
                 }
                 return taking;
             }
-            if hold.unwatch(conn) {
-                self.ring(conn);
-            }
-            hold = self.lock.wait(rt, hold, self.bell(conn), baton_guard);
+            hold.unwatch(conn, &mut owed);
+            self.bells.ring(owed);
+            hold = self
+                .lock
+                .wait(rt, hold, self.bells.sides(conn), baton_guard);
         }
         unreachable!()
     }
 
     /// Waits for entries and cuts them into a batch, or says that the hall is stopped and nothing is left to store, or that another side
     /// cut a batch. A cut makes room for events, and is added to the history.
-    pub(crate) fn next_batch<R: Wait>(&self, rt: &R, cuts: &mut History<M>) -> CutOutcome
+    pub(crate) fn next_batch<R: Wait>(
+        &self,
+        rt: &R,
+        free: &mut Free,
+        cuts: &mut History<M>,
+    ) -> CutOutcome
         ensures { IsCutIn result cuts.new }
     {
         let mut baton_guard = BatonGuard::none();
-        let mut hold = self.lock.enter(rt);
+        let mut hold = self.lock.enter(rt, free);
         for _ in rt.forever() {
-            if let Some(cutting) = hold.cut(&self.history_words, cuts) {
+            let mut owed = Owed::none();
+            if let Some(cutting) = hold.cut(&self.history_words, cuts, &mut owed) {
                 MutexGuard::unlock(hold);
-                self.room.notify_all();
+                self.bells.ring(owed);
                 return cutting;
             }
-            hold = self.lock.wait(rt, hold, &self.work, &mut baton_guard);
+            self.bells.ring(owed);
+            hold = self
+                .lock
+                .wait(rt, hold, self.bells.work(), &mut baton_guard);
         }
         unreachable!()
     }
@@ -296,21 +324,18 @@ impl<C: Tally, M: Tally> Hall<C, M> {
     pub(crate) fn post<R: Wait>(
         &self,
         rt: &R,
+        free: &mut Free,
         batch: Batch,
         seat: &StoreSeat<M>,
     ) -> Result<Posted, Unposted>
         requires stored { WasStoredLast seat.now batch }
         ensures { IfOk result (λ posted. posted ≡ batch.first + length batch.entries) }
     {
-        let mut changed = ConnectionSet::new();
-        let mut hold = self.lock.enter(rt);
-        let outcome = hold.post(batch, seat, &mut changed);
+        let mut owed = OwedByPost::none();
+        let mut hold = self.lock.enter(rt, free);
+        let outcome = hold.post(batch, seat, &mut owed);
         MutexGuard::unlock(hold);
-        for at in 0..self.bells.len() {
-            if changed.may_have(at as u64) {
-                self.bells[at].notify_all();
-            }
-        }
+        self.bells.ring_posted(owed);
         outcome
     }
 
@@ -330,16 +355,6 @@ impl<C: Tally, M: Tally> Hall<C, M> {
         ensures whole { result.whole ≡ true }
     {
         GatheredReceipts::none(alloc, self.begun.again())
-    }
-
-    /// The bell of the sides of a connection. Connections with the same remainder share it.
-    fn bell(&self, conn: u64) -> &Condvar {
-        &self.bells[(conn % REMAINDERS) as usize]
-    }
-
-    /// Rings for the sides of a connection that wait for its box.
-    fn ring(&self, conn: u64) {
-        self.bell(conn).notify_all();
     }
 
     /// What is under the lock, and the words of the history, once no thread uses the hall.

@@ -4,6 +4,7 @@
 ghost use Rattle.std.specs.Prelude.{◌≡◌, ◌<◌, ◌≤◌, ◌+◌, ◌++◌, [], ℕ, List, length, take, IfOk, OnErr};
 
 use crate::read_count::ReadCount;
+use fe_shared::Free;
 use std::alloc::Global;
 use std::sync::Wait;
 
@@ -29,7 +30,7 @@ pub trait ReadHalf {
     ghost failed: { Self → Type 0 };
 
     /// Reads some bytes into the front of the buffer, and returns how many; 0 if the stream has ended.
-    fn read(&mut self, buffer: &mut [u8]) -> Result<usize, HalfFault>
+    fn read(&mut self, free: &mut Free, buffer: &mut [u8]) -> Result<usize, HalfFault>
         requires { 0 < length buffer.old }
         ensures fits { IfOk result (λ n. n ≤ length buffer.old) }
         ensures is_known { is_known self.old → is_known self.new }
@@ -52,7 +53,7 @@ pub trait WriteHalf {
     ghost failed: { Self → Type 0 };
 
     /// Writes some bytes from the front, and returns how many; 0 if it takes no more.
-    fn write(&mut self, bytes: &[u8]) -> Result<usize, HalfFault>
+    fn write(&mut self, free: &mut Free, bytes: &[u8]) -> Result<usize, HalfFault>
         requires { 0 < length bytes.now }
         ensures fits { IfOk result (λ n. n ≤ length bytes.now) }
         ensures is_known { is_known self.old → is_known self.new }
@@ -65,7 +66,7 @@ pub trait WriteHalf {
 /// What each message of a read side passes before it is handled.
 pub trait Gate {
     /// Returns once a message of this connection may be handled.
-    fn pass<R: Wait>(&self, rt: &R, conn: u64);
+    fn pass<R: Wait>(&self, rt: &R, free: &mut Free, conn: u64);
 
     /// Lets a message through that need not wait, in place of `pass`; `false` leaves it to `pass`.
     fn passes_at_once(&self, _conn: u64) -> bool {
@@ -78,7 +79,7 @@ pub trait Gate {
 pub struct Open;
 
 impl Gate for Open {
-    fn pass<R: Wait>(&self, _rt: &R, _conn: u64) {}
+    fn pass<R: Wait>(&self, _rt: &R, _free: &mut Free, _conn: u64) {}
 
     fn passes_at_once(&self, _conn: u64) -> bool {
         true
@@ -122,7 +123,7 @@ impl ReadHalf for MemoryRead {
 
     ghost failed = { λ _. ⊥ };
 
-    fn read(&mut self, buffer: &mut [u8]) -> Result<usize, HalfFault> {
+    fn read(&mut self, _free: &mut Free, buffer: &mut [u8]) -> Result<usize, HalfFault> {
         let count = buffer
             .len()
             .min(self.piece)
@@ -166,7 +167,7 @@ impl WriteHalf for MemoryWrite {
 
     ghost failed = { λ _. Unit {0} };
 
-    fn write(&mut self, bytes: &[u8]) -> Result<usize, HalfFault> {
+    fn write(&mut self, _free: &mut Free, bytes: &[u8]) -> Result<usize, HalfFault> {
         match self.bytes.extend_from_slice(bytes) {
             Ok(()) => Ok(bytes.len()),
             Err(_) => Err(HalfFault),

@@ -2,11 +2,13 @@
 //! mail taken, a batch cut or posted, or a connection that comes or goes.
 
 ghost use Rattle.std.specs.Sync.Mutex.{mutex_guard_value as under};
-ghost use Rattle.std.specs.Prelude.{◌≡◌, false};
+ghost use Rattle.std.specs.Prelude.{◌≡◌, false, IfOk};
 
 use crate::baton::BatonGuard;
 use fe_history::Tally;
-use fe_shared::{HoldRight, PlaceThen, Shared};
+use fe_shared::{
+    ConnectRight, Free, HasStopped, HoldRight, NewSeats, Owed, PlaceThen, Shared, Unconnected, Whom,
+};
 use std::sync::{Condvar, CondvarTimeouts, Mutex, MutexGuard, Wait};
 use std::time::{Clock, Duration};
 
@@ -31,9 +33,34 @@ impl<C: Tally, M: Tally> Lock<C, M> {
         }
     }
 
-    /// Takes the lock, for one event. The standard library's `lock` sleeps at once if another thread sleeps already, so
-    /// this tries first.
-    pub(crate) fn enter<R: Wait>(&self, rt: &R) -> Hold<'_, C, M>
+    /// Takes the lock, for one event, and for as long as the thread of a side is not free.
+    pub(crate) fn enter<'a, R: Wait>(&'a self, rt: &R, _free: &'a mut Free) -> Hold<'a, C, M>
+        ensures { (under result).used ≡ false }
+    {
+        self.lock(rt)
+    }
+
+    /// Makes a connection with this number (`Shared::connect`).
+    pub(crate) fn connect<R: Wait>(
+        &self,
+        rt: &R,
+        right: &ConnectRight,
+        conn: u64,
+    ) -> Result<NewSeats<C, M>, Unconnected>
+        ensures { IfOk result (λ seats. seats ≡ conn) }
+    {
+        self.lock(rt).connect(right, conn)
+    }
+
+    /// Stops the hall (`Shared::stop`).
+    pub(crate) fn stop<R: Wait>(&self, rt: &R, owed: &mut Owed) -> HasStopped
+        requires { owed.old.whom ≡ Whom.Nobody }
+    {
+        self.lock(rt).stop(owed)
+    }
+
+    /// Takes the lock. The standard library's `lock` sleeps at once if another thread sleeps already, so this tries first.
+    fn lock<R: Wait>(&self, rt: &R) -> Hold<'_, C, M>
         ensures { (under result).used ≡ false }
     {
         for _k in 0..LOOKS {

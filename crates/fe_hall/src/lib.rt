@@ -29,8 +29,8 @@ pub use fe_history::{
     Tally,
 };
 pub use fe_shared::{
-    CallSeat, ConnectRight, HasStopped, LastAnswer, MailLog, MailSeat, MessageLog, NewSeats, PARTS,
-    SeatMissing, Seats, Short, Unconnected, reserve_one,
+    CallSeat, ConnectRight, Free, HasStopped, LastAnswer, MailLog, MailSeat, MessageLog, NewSeats,
+    PARTS, SeatMissing, Seats, Short, Unconnected, reserve_one,
 };
 pub use hall::Hall;
 pub use halves::{Gate, HalfFault, MemoryRead, MemoryWrite, Open, ReadHalf, WriteHalf};

@@ -11,7 +11,7 @@ use crate::ends::ReadEnd;
 use crate::hall::Hall;
 use crate::halves::{Gate, ReadHalf};
 use fe_history::{LISTED, Tally};
-use fe_shared::{CallSeat, LastAnswer, PlaceThen, feed, reserve_one, zeros};
+use fe_shared::{CallSeat, Free, LastAnswer, PlaceThen, feed, reserve_one, zeros};
 use fe_wire::{ClientMessage, Decoder, Version};
 use std::alloc::Global;
 use std::sync::Wait;
@@ -56,6 +56,7 @@ pub fn read_side<C: Tally, M: Tally, H: ReadHalf, G: Gate, R: Clock + Wait>(
     // At the end of the stream, and after the last read, the connection goes only once the hall let the side rest, or is stopped.
     ensures rested { IsQuietEnd result.2 → HasRested result.0 }
 {
+    let (seat, mut free) = seat.begin_side();
     let decoder = Decoder::with_version(Version::Two);
     let listed = Vec::new(alloc);
     let mut reading = Reading {
@@ -65,9 +66,10 @@ pub fn read_side<C: Tally, M: Tally, H: ReadHalf, G: Gate, R: Clock + Wait>(
         listed,
         run: 0,
         place_then: None,
+        in_vain: false,
     };
-    let end = reading.read_all(rt, hall, half, gate, turns);
-    depart(rt, hall, &mut reading.seat, end);
+    let end = reading.read_all(rt, &mut free, hall, half, gate, turns);
+    depart(rt, &mut free, hall, &mut reading.seat, end);
     let Reading { seat, listed, .. } = reading;
     (seat, listed, end)
 }
@@ -84,6 +86,8 @@ struct Reading<C: Tally> {
     run: u64,
     /// The place (the number of entries so far) when this run began; `None` in the first run.
     place_then: Option<PlaceThen>,
+    /// Whether the side gave up its last wait for the write side, whose client reads nothing.
+    in_vain: bool,
 }
 
 impl<C: Tally> Reading<C> {
@@ -91,6 +95,7 @@ impl<C: Tally> Reading<C> {
     fn read_all<M: Tally, H: ReadHalf, G: Gate, R: Clock + Wait>(
         &mut self,
         rt: &R,
+        free: &mut Free,
         hall: &Hall<C, M>,
         half: &mut H,
         gate: &G,
@@ -117,12 +122,12 @@ impl<C: Tally> Reading<C> {
                 Some(count) => *count -= 1,
                 None => {}
             }
-            let count = match half.read(piece) {
+            let count = match half.read(free, piece) {
                 Err(_) => return ReadEnd::Device,
                 Ok(0) => return ReadEnd::Closed,
                 Ok(count) => count,
             };
-            if let Some(end) = self.take_piece(rt, hall, gate, &piece[..count]) {
+            if let Some(end) = self.take_piece(rt, free, hall, gate, &piece[..count]) {
                 return end;
             }
         }
@@ -133,6 +138,7 @@ impl<C: Tally> Reading<C> {
     fn take_piece<M: Tally, G: Gate, R: Clock + Wait>(
         &mut self,
         rt: &R,
+        free: &mut Free,
         hall: &Hall<C, M>,
         gate: &G,
         piece: &[u8],
@@ -154,9 +160,9 @@ impl<C: Tally> Reading<C> {
         for message in messages {
             // A message that had to wait has given the baton up.
             if messages.len() > 1 {
-                baton_guard.take(rt, &hall.baton);
+                baton_guard.take(rt, free, &hall.baton);
             }
-            if let Some(end) = self.take(rt, hall, gate, message, &mut baton_guard) {
+            if let Some(end) = self.take(rt, free, hall, gate, message, &mut baton_guard) {
                 return Some(end);
             }
         }
@@ -171,6 +177,7 @@ impl<C: Tally> Reading<C> {
     fn take<M: Tally, G: Gate, R: Clock + Wait>(
         &mut self,
         rt: &R,
+        free: &mut Free,
         hall: &Hall<C, M>,
         gate: &G,
         message: &ClientMessage,
@@ -195,24 +202,32 @@ impl<C: Tally> Reading<C> {
         }
         if !gate.passes_at_once(self.seat.conn()) {
             baton_guard.give_up();
-            gate.pass(rt, self.seat.conn());
+            gate.pass(rt, free, self.seat.conn());
         }
         if self.run < RUN_LENGTH {
             self.run += 1;
         } else {
-            let place_then = match &self.place_then {
-                Some(place_then) => hall.await_room(rt, self.seat.conn(), place_then, baton_guard),
-                None => hall.place_then(rt),
+            let (place_then, in_vain) = match &self.place_then {
+                Some(place_then) => hall.await_room(
+                    rt,
+                    free,
+                    self.seat.conn(),
+                    place_then,
+                    self.in_vain,
+                    baton_guard,
+                ),
+                None => (hall.place_then(rt, free), false),
             };
             self.run = 1;
+            self.in_vain = in_vain;
             self.place_then = Some(place_then);
         }
         // A report may be long, and a client may ask for many and read none. So each waits until the replies before it are written.
         if matches!(message, ClientMessage::Report) {
             baton_guard.give_up();
-            hall.await_rest(rt, &self.seat);
+            hall.await_rest(rt, free, &self.seat);
         }
-        match hall.handle(rt, self.alloc, message, &mut self.seat, baton_guard) {
+        match hall.handle(rt, free, self.alloc, message, &mut self.seat, baton_guard) {
             LastAnswer::Served => {}
             LastAnswer::Gone => return Some(ReadEnd::Gone),
             LastAnswer::Stopped => return Some(ReadEnd::Stopped),
@@ -228,6 +243,7 @@ impl<C: Tally> Reading<C> {
 /// Removes the connection of a read side that ended so, except at `Stopped`; at `Closed` and `Turns` once it is drained (`Hall::drain`).
 fn depart<C: Tally, M: Tally, R: Wait>(
     rt: &R,
+    free: &mut Free,
     hall: &Hall<C, M>,
     seat: &mut CallSeat<C>,
     end: ReadEnd,
@@ -238,9 +254,9 @@ fn depart<C: Tally, M: Tally, R: Wait>(
     ensures rested { IsQuietEnd end → HasRested seat.new }
 {
     match end {
-        ReadEnd::Closed => hall.drain(rt, seat),
-        ReadEnd::Turns => hall.drain(rt, seat),
+        ReadEnd::Closed => hall.drain(rt, free, seat),
+        ReadEnd::Turns => hall.drain(rt, free, seat),
         ReadEnd::Stopped => {}
-        _ => hall.leave_by_reader(rt, seat),
+        _ => hall.leave_by_reader(rt, free, seat),
     }
 }

@@ -1,7 +1,7 @@
 //! The write side of a connection, its writing thread (`docs/model.md`, "The hall"): it takes the mails, replies that wait in the
 //! connection's box, sends their frames in order, and adds each answer to the history (`docs/headline.md`, "Every acknowledged answer").
 
-ghost use Rattle.std.specs.Prelude.{◌≡◌, ◌≢◌, ◌⊎◌, true, ◌≤◌, ◌++◌, [], ℕ, List, length, take, OnErr, IfOk, IfErr, MatchResult};
+ghost use Rattle.std.specs.Prelude.{◌≡◌, ◌≢◌, ◌⊎◌, true, ◌≤◌, ◌<◌, ◌++◌, [], ℕ, List, length, take, OnErr, IfOk, IfErr, MatchResult};
 ghost use Rattle.fe_mail.specs.declared.mail.Mail.{Mail as TakenMail};
 ghost use Rattle.fe_hall.specs.Writes.{AreTaken, IsWritten, IsEndAfter, TakesOn, IsBatch, AreSpelled};
 ghost use Rattle.fe_hall.specs.within.Sides.{IssuesOn};
@@ -14,12 +14,15 @@ use crate::halves::{HalfFault, WriteHalf};
 use crate::write_end::WriteEnd;
 use fe_history::{History, Receipt, Receipts, Tally};
 use fe_messages::Reply;
-use fe_shared::{MailSeat, Taking, put, reserve_one};
+use fe_shared::{Free, MailSeat, Taking, put, reserve_one};
 use std::alloc::Global;
 use std::sync::Wait;
 
 /// Once the frames of the mails that were taken have this many bytes, they are written, even if more mails are in the box.
 const BATCH_BYTES: usize = 65_536;
+
+/// A write has at most this many bytes while the read side waits for the box, so that it learns that bytes go out, however slowly.
+const PIECE_BYTES: usize = 4096;
 
 /// The most receipts that a side keeps.
 const RECEIPTS: usize = 1024;
@@ -52,14 +55,15 @@ pub fn write_side<C: Tally, M: Tally, H: WriteHalf, R: Wait>(
     ensures ended_as { IsEndAfter result.2 result.0.last_answer }
     ensures departed { result.2 ≢ WriteEnd.Stopped → result.0.departed ≡ true }
 {
+    let (seat, mut free) = seat.begin_side();
     let mut writing = Writing {
         seat,
         receipts: Vec::new(alloc),
         frames: Vec::new(alloc),
         history: hall.history(),
     };
-    let end = writing.write_all(rt, hall, half);
-    depart(rt, hall, &mut writing.seat, end);
+    let end = writing.write_all(rt, &mut free, hall, half);
+    depart(rt, &mut free, hall, &mut writing.seat, end);
     let Writing {
         seat,
         receipts,
@@ -89,6 +93,7 @@ impl<M: Tally> Writing<M> {
     fn write_all<C: Tally, H: WriteHalf, R: Wait>(
         &mut self,
         rt: &R,
+        free: &mut Free,
         hall: &Hall<C, M>,
         half: &mut H,
     ) -> WriteEnd
@@ -101,8 +106,15 @@ impl<M: Tally> Writing<M> {
         ensures ended_as { IsEndAfter result self.new.seat.last_answer }
     {
         for _ in rt.forever() {
-            let taken = self.take_mails(rt, hall);
-            if let Err(_) = write_whole(half, self.frames.as_slice()) {
+            let taken = self.take_mails(rt, free, hall);
+            if let Err(_) = write_whole(
+                rt,
+                free,
+                hall,
+                self.seat.conn(),
+                half,
+                self.frames.as_slice(),
+            ) {
                 return WriteEnd::Device;
             }
             self.frames.clear();
@@ -115,7 +127,12 @@ impl<M: Tally> Writing<M> {
 
     /// Waits for a mail, and takes and spells mails until the box is empty or enough bytes are spelled for a write. If
     /// memory is short, at most the last mail that was taken is not spelled.
-    fn take_mails<C: Tally, R: Wait>(&mut self, rt: &R, hall: &Hall<C, M>) -> Result<(), WriteEnd>
+    fn take_mails<C: Tally, R: Wait>(
+        &mut self,
+        rt: &R,
+        free: &mut Free,
+        hall: &Hall<C, M>,
+    ) -> Result<(), WriteEnd>
         requires { self.old.frames.items ≡ [] }
         ensures took { (mails : List TakenMail)
             × TakesOn self.old.seat self.new.seat self.old.receipts.items self.new.receipts.items mails
@@ -129,9 +146,9 @@ impl<M: Tally> Writing<M> {
             if !more || self.frames.len() >= BATCH_BYTES {
                 return Ok(());
             }
-            more = self.take_mail(rt, hall, &mut baton_guard)?;
+            more = self.take_mail(rt, free, hall, &mut baton_guard)?;
             if more {
-                baton_guard.take(rt, &hall.baton);
+                baton_guard.take(rt, free, &hall.baton);
             }
         }
         unreachable!()
@@ -142,6 +159,7 @@ impl<M: Tally> Writing<M> {
     fn take_mail<C: Tally, R: Wait>(
         &mut self,
         rt: &R,
+        free: &mut Free,
         hall: &Hall<C, M>,
         baton_guard: &mut BatonGuard<'_>,
     ) -> Result<bool, WriteEnd>
@@ -160,7 +178,7 @@ impl<M: Tally> Writing<M> {
                 return Err(WriteEnd::NoMemory(short));
             }
         }
-        let taking = hall.take_mail(rt, &mut self.seat, &mut self.history, baton_guard);
+        let taking = hall.take_mail(rt, free, &mut self.seat, &mut self.history, baton_guard);
         let (mail, more) = match taking {
             Taking::Mail { mail, more } => (mail, more),
             Taking::Gone => return Err(WriteEnd::Gone),
@@ -184,6 +202,7 @@ impl<M: Tally> Writing<M> {
 /// Removes the connection of a write side that ended so, except at `Stopped`.
 fn depart<C: Tally, M: Tally, R: Wait>(
     rt: &R,
+    free: &mut Free,
     hall: &Hall<C, M>,
     seat: &mut MailSeat<M>,
     end: WriteEnd,
@@ -194,12 +213,19 @@ fn depart<C: Tally, M: Tally, R: Wait>(
 {
     match end {
         WriteEnd::Stopped => {}
-        _ => hall.leave_by_writer(rt, seat),
+        _ => hall.leave_by_writer(rt, free, seat),
     }
 }
 
-/// Writes all of these bytes, in one write if the half takes them at once.
-fn write_whole<H: WriteHalf>(half: &mut H, bytes: &[u8]) -> Result<(), HalfFault>
+/// Writes all of these bytes, in one write if the half takes them at once; but in pieces while the read side waits.
+fn write_whole<C: Tally, M: Tally, H: WriteHalf, R: Wait>(
+    rt: &R,
+    free: &mut Free,
+    hall: &Hall<C, M>,
+    conn: u64,
+    half: &mut H,
+    bytes: &[u8],
+) -> Result<(), HalfFault>
     ensures wrote { H.is_known half.old → H.is_known half.new
         × MatchResult result (λ _. H.got half.new ≡ H.got half.old ++ bytes.now)
         (λ _. (n : ℕ) × (n ≤ length bytes.now) × (H.got half.new ≡ H.got half.old ++ take n bytes.now)) }
@@ -207,11 +233,26 @@ fn write_whole<H: WriteHalf>(half: &mut H, bytes: &[u8]) -> Result<(), HalfFault
 {
     let mut next = 0;
     while next < bytes.len() {
-        let count = half.write(&bytes[next..])?;
+        let in_pieces = bytes.len() - next > PIECE_BYTES && hall.note_written(rt, free, conn);
+        let end = piece_end(next, bytes.len(), in_pieces);
+        let count = half.write(free, &bytes[next..end])?;
         if count == 0 {
             return Err(HalfFault);
         }
         next += count;
     }
     Ok(())
+}
+
+/// Where a write from `next` on ends, of this many bytes.
+fn piece_end(next: usize, length: usize, in_pieces: bool) -> usize
+    requires { next < length }
+    ensures some { next < result }
+    ensures within { result ≤ length }
+{
+    if in_pieces && length - next > PIECE_BYTES {
+        next + PIECE_BYTES
+    } else {
+        length
+    }
 }

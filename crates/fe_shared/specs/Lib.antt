@@ -1,3 +1,4 @@
+pub mod Bells
 pub mod Logs
 pub mod Shown
 pub mod Seats

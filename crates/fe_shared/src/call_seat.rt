@@ -3,6 +3,7 @@
 ghost use Rattle.std.specs.Prelude.{◌≡◌, ◌+◌, true};
 ghost use Rattle.fe_shared.specs.Seats.{calls_in, first_call_seat, message_taken, IsNewPart, one_seat};
 
+use crate::free::Free;
 use crate::last_answer::LastAnswer;
 use crate::message_log::MessageLog;
 use crate::seats::Seats;
@@ -66,6 +67,13 @@ impl<C: Tally> CallSeat<C> {
             departed: false,
             rested: false,
         }
+    }
+
+    /// The seat of a side that begins, and what shows that its thread does not hold the lock.
+    pub fn begin_side(self) -> (CallSeat<C>, Free)
+        ensures { result.0 ≡ self }
+    {
+        (self, Free::of_side())
     }
 
     /// The connection's number.

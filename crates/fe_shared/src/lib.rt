@@ -5,7 +5,9 @@
 //! can be compared with the seats. What a call shows is a value of a type of its own, which nothing else can make.
 #![tactic(auto)]
 
+mod bells;
 mod call_seat;
+mod free;
 mod last_answer;
 mod mail_log;
 mod mail_seat;
@@ -19,7 +21,9 @@ mod taking;
 mod unconnected;
 mod watchers;
 
+pub use bells::{Bells, Owed, OwedByPost, Whom};
 pub use call_seat::CallSeat;
+pub use free::Free;
 pub use last_answer::LastAnswer;
 pub use mail_log::MailLog;
 pub use mail_seat::MailSeat;

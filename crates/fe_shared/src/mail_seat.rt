@@ -3,6 +3,7 @@
 ghost use Rattle.std.specs.Prelude.{◌≡◌, ◌+◌, true};
 ghost use Rattle.fe_shared.specs.Seats.{first_mail_seat, mail_taken, IsNewPart, one_seat};
 
+use crate::free::Free;
 use crate::last_answer::LastAnswer;
 use crate::mail_log::MailLog;
 use crate::seats::Seats;
@@ -60,6 +61,13 @@ impl<M: Tally> MailSeat<M> {
             last_answer: LastAnswer::Served,
             departed: false,
         }
+    }
+
+    /// The seat of a side that begins, and what shows that its thread does not hold the lock.
+    pub fn begin_side(self) -> (MailSeat<M>, Free)
+        ensures { result.0 ≡ self }
+    {
+        (self, Free::of_side())
     }
 
     /// The connection's number.

@@ -1,6 +1,7 @@
 //! The pace of a connection: how far its write side, the thread that takes its mails, lags behind its read side, the one that reads
 //! messages and may have to wait (`docs/DECISIONS.md`, "Hall").
 
+use fe_front::Front;
 use std::alloc::Global;
 
 /// How many paces are kept, each for the numbers of connections with one remainder.
@@ -43,11 +44,14 @@ impl Paces {
         }
     }
 
-    /// Notes that a message of a connection was handled.
-    pub(crate) fn note_message(&mut self, conn: u64) {
+    /// Notes that a message of a connection was handled. The calls that it withdrew get no mail any more: the front's books had counted
+    /// `withdrawn` of them before.
+    pub(crate) fn note_message(&mut self, conn: u64, withdrawn: u64, front: &Front) {
+        let gone = front.books().withdrawn.saturating_sub(withdrawn);
         if let Some(pace) = self.rows.get_mut((conn % PACES) as usize) {
             if pace.conn == conn {
-                pace.behind = pace.behind.saturating_add(1);
+                let behind = u64::from(pace.behind).saturating_add(1);
+                pace.behind = u32::try_from(behind.saturating_sub(gone)).unwrap_or(u32::MAX);
             }
         }
     }

@@ -2,7 +2,7 @@
 //! parts whose counts add up to its own, and exists in proofs alone; a hold is one time that a thread has the lock
 //! (`docs/model.md`, "The hall").
 
-ghost use Rattle.std.specs.Prelude.{IsNone, ◌≡◌, ◌≢◌, ◌+◌, ◌≤◌, ◌↔◌, ℕ, List, [], true, false, Ok, Err, Some, None, IsTrue, IsErr, IfErr, IfOk, OnOk, OnErr, IfSome, MatchOption};
+ghost use Rattle.std.specs.Prelude.{IsNone, ◌≡◌, ◌≢◌, ◌+◌, ◌≤◌, ◌↔◌, ℕ, List, [], true, false, Ok, Err, Some, None, IsTrue, IsErr, IfErr, IfOk, length, OnOk, OnErr, IfSome, MatchOption};
 ghost use Rattle.fe_state.specs.declared.entry.Entry.{Entry};
 ghost use Rattle.fe_front.specs.Front.{has_room, is_connected};
 ghost use Rattle.fe_mail.specs.Books.{AddUp};
@@ -10,12 +10,14 @@ ghost use Rattle.fe_front.specs.Event as event;
 ghost use Rattle.fe_messages.specs.Taking.{Takes};
 ghost use Rattle.fe_history.specs.Acts.{GoesOnFrom, IsLegal};
 ghost use Rattle.fe_history.specs.Rules.{Hears};
+ghost use Rattle.fe_shared.specs.Bells.{owed_by_look, owed_by_message, sides_if};
 ghost use Rattle.fe_shared.specs.Marks.{IsBegun, MayBeIssued, waits};
 ghost use Rattle.fe_shared.specs.Holds.{IsDrained, IsOver, IsUnconnected, Leaves, MakesStep, MakesEvent, MakesNoEvent, MakesNothing, TakesMail};
 ghost use Rattle.fe_shared.specs.Seats.{HasRested, IsOpen, TookNoMessage, message_answered, taking_answered, takes_more, most_connections, IsBlankOf};
 
 mod batches;
 
+use crate::bells::{Bells, Owed, Whom};
 use crate::call_seat::CallSeat;
 use crate::last_answer::LastAnswer;
 use crate::mail_seat::MailSeat;
@@ -33,6 +35,7 @@ use fe_messages::take_message;
 use fe_wire::ClientMessage;
 use std::alloc::Global;
 use std::marker::Model;
+use std::sync::Condvar;
 use std::sync::ledger::{Blank, Book, Share};
 
 /// The most connections that a hall makes.
@@ -191,7 +194,7 @@ impl SeatMissing {
 }
 
 impl<C: Tally, M: Tally> Shared<C, M> {
-    /// A front that has only begun, with no connection made, and the rights to make some and to begin holds. Before the
+    /// A front that has only begun, with no connection made, the rights to make some and to begin holds, and the bells. Before the
     /// first hold there is no event.
     pub fn new(
         alloc: Global,
@@ -199,11 +202,13 @@ impl<C: Tally, M: Tally> Shared<C, M> {
         calls: Blank,
         mails: Blank,
         history: History<M>,
-    ) -> (Shared<C, M>, ConnectRight, HoldRight)
+        sides: Vec<Condvar>,
+    ) -> (Shared<C, M>, ConnectRight, HoldRight, Bells)
         requires begun { IsBegun front history }
         requires legal { IsLegal history }
         requires calls { IsBlankOf C.name C.parts C.all calls.name calls.parts }
         requires mails { IsBlankOf M.name M.parts M.all mails.name mails.parts }
+        requires sides { length sides.items ≡ 256 }
         ensures { result.0.front ≡ front }
     {
         let (called, spare_calls) = calls.open::<C>();
@@ -222,7 +227,7 @@ impl<C: Tally, M: Tally> Shared<C, M> {
             stopped: false,
             used: true,
         };
-        (shared, ConnectRight(()), HoldRight(()))
+        (shared, ConnectRight(()), HoldRight(()), Bells::new(sides))
     }
 
     /// Begins a hold, in which one event may be made.
@@ -273,8 +278,10 @@ impl<C: Tally, M: Tally> Shared<C, M> {
         history_words: &HistoryWords<M>,
         message: &ClientMessage,
         seat: &mut CallSeat<C>,
+        owed: &mut Owed,
     ) -> Option<LastAnswer>
         requires fresh { self.old.used ≡ false }
+        requires unowed { owed.old.whom ≡ Whom.Nobody }
         ensures taken { result ≡ Some LastAnswer.Served
             → (es : List Entry) × Takes self.old.front seat.old.conn message.now es self.new.front
             × MakesEvent self.old self.new }
@@ -289,6 +296,8 @@ impl<C: Tally, M: Tally> Shared<C, M> {
         ensures gone { result ≡ Some LastAnswer.Gone → is_connected self.old.front seat.old.conn ≡ false }
         ensures spent { result ≡ Some LastAnswer.Spent → takes_more self.old.front.books ≡ false }
         ensures full { result ≡ None → has_room self.old.front ≡ false }
+        ensures owes { result ≡ Some LastAnswer.Served → owed.new.whom
+            ≡ owed_by_message seat.old.conn self.old.front.books.mails self.new.front.books.mails }
     {
         self.used = true;
         if self.stopped {
@@ -315,24 +324,29 @@ impl<C: Tally, M: Tally> Shared<C, M> {
         seat.take(&mut self.calls, message, self.front.state().place());
         self.history.hear(history_words, &self.mails, took);
         self.history.shows_legal();
-        self.paces.note_message(conn);
+        self.paces.note_message(conn, books.withdrawn, &self.front);
+        owed.whom = Whom::of_message(conn, books.mails, self.front.books().mails);
         Some(LastAnswer::Served)
     }
 
     /// Notes that the read side of a connection waits for its box. Fails if there is no memory for that.
-    pub fn watch(&mut self, conn: u64) -> Result<(), Short>
+    pub fn watch(&mut self, conn: u64, owed: &mut Owed) -> Result<(), Short>
+        requires unowed { owed.old.whom ≡ Whom.Nobody }
         ensures watched { OnOk result (IsTrue (waits self.new.watched conn)) }
         ensures still { MakesNoEvent self.old self.new }
+        ensures owes { owed.new.whom ≡ Whom.Sides conn }
     {
+        owed.whom = Whom::Sides(conn);
         self.watchers.add(conn)
     }
 
-    /// Notes that the read side of a connection waits no more. Returns whether it was noted as waiting.
-    pub fn unwatch(&mut self, conn: u64) -> bool
-        ensures watched { result ≡ waits self.old.watched conn }
+    /// Notes that the read side of a connection waits no more.
+    pub fn unwatch(&mut self, conn: u64, owed: &mut Owed)
+        requires unowed { owed.old.whom ≡ Whom.Nobody }
         ensures still { MakesNoEvent self.old self.new }
+        ensures owes { owed.new.whom ≡ sides_if (waits self.old.watched conn) conn }
     {
-        self.watchers.remove(conn)
+        owed.whom = Whom::sides_if(self.watchers.remove(conn), conn);
     }
 
     /// Whether it is noted that the read side of a connection waits for its box.
@@ -342,15 +356,26 @@ impl<C: Tally, M: Tally> Shared<C, M> {
         self.watchers.has(conn)
     }
 
+    /// Notes that bytes of a connection's replies went out. Returns whether its read side is noted as waiting for its box.
+    pub fn note_written(&mut self, conn: u64) -> bool
+        ensures watched { result ≡ waits self.new.watched conn }
+        ensures still { MakesNoEvent self.old self.new }
+    {
+        self.watchers.note_move(conn)
+    }
+
     /// Stops the hall. This is no event of the front, and the hold makes none after it.
-    pub fn stop(&mut self) -> HasStopped
+    pub fn stop(&mut self, owed: &mut Owed) -> HasStopped
         requires fresh { self.old.used ≡ false }
+        requires unowed { owed.old.whom ≡ Whom.Nobody }
         ensures stopped { self.new.stopped ≡ true }
         ensures used { self.new.used ≡ true }
         ensures front { self.new.front ≡ self.old.front }
+        ensures owes { owed.new.whom ≡ Whom.All }
     {
         self.used = true;
         self.stopped = true;
+        owed.whom = Whom::All;
         HasStopped(())
     }
 
@@ -422,26 +447,21 @@ impl<C: Tally, M: Tally> Shared<C, M> {
     }
 
     /// Whether a timed wait of a connection's read side goes on: it has to wait for the entries before `place_then` (`is_drained`), and
-    /// its write side has taken nothing since it was noted that the side waits.
+    /// its write side has taken and written nothing since it was noted that the side waits.
     pub fn is_stuck(&self, conn: u64, place_then: &PlaceThen) -> bool
         ensures { IsTrue result → ¬ IsDrained self.now.front self.now.stopped conn place_then.now }
     {
         !self.is_drained(conn, place_then.place) && self.watchers.is_still(conn)
     }
 
-    /// How many mails were made, those that met a full box among them.
-    pub fn mails_made(&self) -> u64
-        ensures { result ≡ self.now.front.books.mails }
-    {
-        self.front.books().mails
-    }
-
     /// Takes the first mail out of a connection's box, or records in the write side's seat why none comes. `None` says that one may come.
-    pub fn take_mail(&mut self, seat: &mut MailSeat<M>) -> Option<Taking>
+    pub fn take_mail(&mut self, seat: &mut MailSeat<M>, owed: &mut Owed) -> Option<Taking>
         requires fresh { self.old.used ≡ false }
+        requires unowed { owed.old.whom ≡ Whom.Nobody }
         ensures takes { TakesMail self.old seat.old.conn result self.new }
         ensures seat { MatchOption result (seat.new ≡ seat.old) (λ taking. seat.new ≡ taking_answered seat.old taking) }
         ensures stored { IfSome result (λ taking. MayBeIssued seat.old.conn taking self.new.history) }
+        ensures owes { owed.new.whom ≡ owed_by_look seat.old.conn (waits self.new.watched seat.old.conn) result }
     {
         self.used = true;
         let _ = self.front.state();
@@ -449,8 +469,9 @@ impl<C: Tally, M: Tally> Shared<C, M> {
         if let Some(mail) = self.front.take_mail(conn) {
             let more = self.front.connections().has_mail(conn);
             seat.take(&mut self.mails, &mail, more);
-            self.watchers.note_move(conn);
+            let watched = self.watchers.note_move(conn);
             self.paces.note_mail(conn);
+            owed.whom = Whom::of_look(more, watched, conn);
             return Some(Taking::Mail { mail, more });
         }
         if !self.front.connected(conn) {
@@ -476,50 +497,59 @@ impl<C: Tally, M: Tally> Shared<C, M> {
     }
 
     /// Removes a connection, with its box and what waits of its session: the event of this hold.
-    fn drop_connection(&mut self, conn: u64)
-        ensures { Leaves self.old conn self.new }
+    fn drop_connection(&mut self, conn: u64, owed: &mut Owed)
+        requires unowed { owed.old.whom ≡ Whom.Nobody }
+        ensures step { Leaves self.old conn self.new }
+        ensures owes { owed.new.whom ≡ Whom.Sides conn }
     {
         self.used = true;
         let _ = self.front.state();
         let _ = self.front.gone(conn);
+        owed.whom = Whom::Sides(conn);
     }
 
     /// Removes the connection of a read side.
-    pub fn leave_by_reader(&mut self, seat: &mut CallSeat<C>)
+    pub fn leave_by_reader(&mut self, seat: &mut CallSeat<C>, owed: &mut Owed)
         requires fresh { self.old.used ≡ false }
+        requires unowed { owed.old.whom ≡ Whom.Nobody }
         ensures step { Leaves self.old seat.old.conn self.new }
         ensures seat { seat.new ≡ record seat.old { departed = true } }
+        ensures owes { owed.new.whom ≡ Whom.Sides seat.old.conn }
     {
-        self.drop_connection(seat.conn());
+        self.drop_connection(seat.conn(), owed);
         seat.depart(&self.calls);
     }
 
     /// Removes the connection of a write side.
-    pub fn leave_by_writer(&mut self, seat: &mut MailSeat<M>)
+    pub fn leave_by_writer(&mut self, seat: &mut MailSeat<M>, owed: &mut Owed)
         requires fresh { self.old.used ≡ false }
+        requires unowed { owed.old.whom ≡ Whom.Nobody }
         ensures step { Leaves self.old seat.old.conn self.new }
         ensures seat { seat.new ≡ record seat.old { departed = true } }
+        ensures owes { owed.new.whom ≡ Whom.Sides seat.old.conn }
     {
-        self.drop_connection(seat.conn());
+        self.drop_connection(seat.conn(), owed);
         seat.depart(&self.mails);
     }
 
     /// Removes the connection of a read side that need not wait. If the hall is stopped, records that instead, and the
     /// write side goes on.
-    pub fn depart(&mut self, seat: &mut CallSeat<C>, rest: Rest)
+    pub fn depart(&mut self, seat: &mut CallSeat<C>, rest: Rest, owed: &mut Owed)
         requires fresh { self.old.used ≡ false }
+        requires unowed { owed.old.whom ≡ Whom.Nobody }
         requires own { rest.conn ≡ seat.old.conn }
         ensures rested { HasRested seat.new }
         ensures untaken { TookNoMessage seat.old seat.new }
         ensures step { self.old.stopped ≡ false → Leaves self.old seat.old.conn self.new }
         ensures stopped { self.old.stopped ≡ true → MakesNothing self.old self.new }
+        ensures owes { self.old.stopped ≡ false → owed.new.whom ≡ Whom.Sides seat.old.conn }
     {
         if self.stopped {
             self.used = true;
             seat.set_last_answer(&self.calls, LastAnswer::Stopped);
             return;
         }
-        self.drop_connection(seat.conn());
+        self.drop_connection(seat.conn(), owed);
         seat.rest(&self.calls, rest);
     }
 

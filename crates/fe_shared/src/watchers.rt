@@ -12,7 +12,7 @@ use std::alloc::Global;
 #[derive(Clone, Copy)]
 struct Watcher {
     conn: u64,
-    /// Whether a mail was taken out of the box since it was noted that the side waits.
+    /// Whether a mail was taken out of the box, or a part of its replies written, since it was noted that the side waits.
     moved: bool,
 }
 
@@ -56,14 +56,17 @@ impl Watchers {
         was
     }
 
-    /// Notes that a mail was taken out of the box of a connection.
-    pub(crate) fn note_move(&mut self, conn: u64) {
+    /// Notes that a mail was taken out of the box of a connection, or a part of its replies written. Returns whether its read side waits.
+    pub(crate) fn note_move(&mut self, conn: u64) -> bool
+        ensures { result ≡ waits self.new.items.items conn }
+    {
         if let Some(at) = self.items.iter().position(|other| other.conn == conn) {
             self.items[at].moved = true;
         }
+        self.has(conn)
     }
 
-    /// Whether the read side of a connection waits, and nothing was taken out of its box since that was noted.
+    /// Whether the read side of a connection waits, and nothing was taken out of its box or written since that was noted.
     pub(crate) fn is_still(&self, conn: u64) -> bool {
         self.items
             .iter()

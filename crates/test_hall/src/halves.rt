@@ -2,7 +2,7 @@
 
 use crate::board::{Board, BoardAnswer};
 use fe_disk::SyncHold;
-use fe_hall::{HalfFault, ReadCount, ReadHalf, WriteHalf};
+use fe_hall::{Free, HalfFault, ReadCount, ReadHalf, WriteHalf};
 use std::alloc::Global;
 use std::sync::{Mutex, Wait};
 use std::thread;
@@ -82,7 +82,7 @@ impl<'r, 'b, 'h, R: Clock + Wait> ReadHalf for ClientRead<'r, 'b, 'h, R> {
 
     ghost failed = { λ _. ⊤ };
 
-    fn read(&mut self, buffer: &mut [u8]) -> Result<usize, HalfFault> {
+    fn read(&mut self, _free: &mut Free, buffer: &mut [u8]) -> Result<usize, HalfFault> {
         self.reads.rise();
         if self.next >= self.line.len() {
             self.next = 0;
@@ -123,7 +123,7 @@ impl<'r, 'b, R: Clock + Wait> WriteHalf for ClientWrite<'r, 'b, R> {
 
     ghost failed = { λ _. ⊤ };
 
-    fn write(&mut self, bytes: &[u8]) -> Result<usize, HalfFault> {
+    fn write(&mut self, _free: &mut Free, bytes: &[u8]) -> Result<usize, HalfFault> {
         if self.board.lock(self.rt).hear(self.conn, bytes).is_err() {
             return Err(HalfFault);
         }

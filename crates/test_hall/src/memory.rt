@@ -12,7 +12,7 @@ use crate::saying::{Say, put_said};
 use crate::stage::hall_over;
 use fe_disk::Liar;
 use fe_hall::{
-    CallSeat, CommitEnd, ConnectRight, HalfFault, Hall, MemoryRead, NewHistory, Open, PARTS,
+    CallSeat, CommitEnd, ConnectRight, Free, HalfFault, Hall, MemoryRead, NewHistory, Open, PARTS,
     ReadEnd, ReadHalf, StoreSeat, Tally, commit_side, read_side,
 };
 use fe_keeper::{Fault, Keeper};
@@ -75,8 +75,8 @@ impl ReadHalf for Failing {
 
     ghost failed = { λ _. ⊤ };
 
-    fn read(&mut self, buffer: &mut [u8]) -> Result<usize, HalfFault> {
-        match self.half.read(buffer)? {
+    fn read(&mut self, free: &mut Free, buffer: &mut [u8]) -> Result<usize, HalfFault> {
+        match self.half.read(free, buffer)? {
             0 => Err(HalfFault),
             count => Ok(count),
         }

@@ -5,12 +5,13 @@ ghost use Rattle.std.specs.Prelude.{◌≡◌, ◌+◌, ℕ, [], Some, false, If
 ghost use Rattle.fe_front.specs.Posting.{may_have, Notes};
 ghost use Rattle.fe_front.specs.Event as event;
 ghost use Rattle.fe_history.specs.Acts.{WasStoredLast};
+ghost use Rattle.fe_shared.specs.Bells.{owed_by_cut};
 ghost use Rattle.fe_shared.specs.Holds.{Cuts, IsCutIn, IsUnposted, MakesStep, MakesNothing};
 ghost use Rattle.fe_shared.specs.Marks.{waits};
 
 use super::{MOST_COUNTED, Shared};
+use crate::bells::{Owed, OwedByPost, Whom};
 use fe_disk::Disk;
-use fe_front::ConnectionSet;
 use fe_history::{History, HistoryWords, StoreSeat, Tally};
 use fe_keeper::Keeper;
 use fe_state::Batch;
@@ -91,10 +92,13 @@ impl<C: Tally, M: Tally> Shared<C, M> {
         &mut self,
         history_words: &HistoryWords<M>,
         cuts: &mut History<M>,
+        owed: &mut Owed,
     ) -> Option<CutOutcome>
         requires fresh { self.old.used ≡ false }
+        requires unowed { owed.old.whom ≡ Whom.Nobody }
         ensures cuts { Cuts self.old result self.new }
         ensures noted { IfSome result (λ cutting. IsCutIn cutting cuts.new) }
+        ensures owes { owed.new.whom ≡ owed_by_cut result }
     {
         self.used = true;
         if !self.front.has_cut() {
@@ -115,29 +119,30 @@ impl<C: Tally, M: Tally> Shared<C, M> {
         };
         cuts.learn(&history);
         self.history = history;
+        owed.whom = Whom::Room;
         Some(CutOutcome::Batch(CutBatch { batch, count }))
     }
 
     /// Posts the batch that is out, once it is stored: its entries are durable, and each one's mail goes into the box of the connection
-    /// that has its session. Adds to `changed` the connections whose boxes change and, in any case, those whose read sides wait. The batch
+    /// that has its session. Owes rings to the connections whose boxes change and, in any case, to those whose read sides wait. The batch
     /// is not posted if a book has no room for its mails, or if it is not the one that is out.
     pub fn post(
         &mut self,
         batch: Batch,
         seat: &StoreSeat<M>,
-        changed: &mut ConnectionSet,
+        owed: &mut OwedByPost,
     ) -> Result<Posted, Unposted>
         requires fresh { self.old.used ≡ false }
         requires stored { WasStoredLast seat.now batch }
         ensures refused { IfErr result (IsUnposted self.old.front batch) }
         ensures step { OnOk result (MakesStep self.old (event.Post batch) [] self.new) }
         ensures durable { IfOk result (λ posted. posted ≡ batch.first + length batch.entries) }
-        ensures notes { Notes self.old.front self.new.front changed.old changed.new }
-        ensures added { (conn : ℕ) → IsTrue (waits self.new.watched conn) → IsTrue (may_have changed.new conn) }
+        ensures notes { Notes self.old.front self.new.front owed.old.changed owed.new.changed }
+        ensures added { (conn : ℕ) → IsTrue (waits self.new.watched conn) → IsTrue (may_have owed.new.changed conn) }
         ensures err { OnErr result (MakesNothing self.old self.new) }
     {
         self.used = true;
-        self.watchers.add_to(changed);
+        self.watchers.add_to(&mut owed.changed);
         let count = batch.entries.as_slice().len() as u64;
         let posts_more = self.front.books().mails <= MOST_COUNTED - count;
         if !posts_more {
@@ -145,7 +150,7 @@ impl<C: Tally, M: Tally> Shared<C, M> {
             return Err(Unposted::Full(FullBook(())));
         }
         let _ = self.front.state();
-        match self.front.post(batch, changed) {
+        match self.front.post(batch, &mut owed.changed) {
             Ok(()) => {
                 self.history.learn(seat.history());
                 self.history.shows_legal();

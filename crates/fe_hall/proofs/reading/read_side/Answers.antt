@@ -1,12 +1,13 @@
+use Rattle.std.proofs.Common.{sym}
 use Rattle.fe_hall.proofs.Handling.{stream_left}
 use Rattle.fe_hall.proofs.Streams.{begins}
 use Rattle.fe_hall.proofs.reading.read_side.Goals as goal
 
 pub returns-clause-handled : goal.returns-clause-handled
-returns-clause-handled g c = λ is_known none.
+returns-clause-handled g c = rw (sym c.begin_side-seat.ensures) λ is_known none.
     stream_left _ _ _ _ _ _ c.depart.ensures.untaken
     ((c.read_all-end.ensures.handled is_known).1 none
-    (rw c.new-listed.ensures.items (begins c.with_version-decoder.result c.args.seat c.with_version-decoder.ensures.version c.with_version-decoder.ensures.begins)))
+    (rw c.new-listed.ensures.items (begins c.with_version-decoder.result c.begin_side-seat.result.0 c.with_version-decoder.ensures.version c.with_version-decoder.ensures.begins)))
 
 pub returns-clause-is_known : goal.returns-clause-is_known
 returns-clause-is_known g c = λ is_known. (c.read_all-end.ensures.handled is_known).0

@@ -1,4 +1,4 @@
-use Rattle.std.proofs.Common.{◌-◌, ◌≤◌, length, drop, arith, length-drop}
+use Rattle.std.proofs.Common.{◌-◌, ◌≤◌, drop, arith, length-drop}
 use Rattle.std.proofs.lemmas.List.{length-take}
 use Rattle.fe_hall.proofs.Written.{wrote_further}
 use Rattle.fe_hall.proofs.writing.write_whole.Goals as goal
@@ -8,10 +8,11 @@ loop-next-preserved g c =
     let bytes = c.args.bytes.now in
     let next = c.loop-next.next in
     let got = g.H.WriteHalf.got in
-    let few : c.in_ok-count.count ≤ length bytes - next = omega (arith, c.in_ok-count.ensures.fits, length-take (length bytes - next) (drop next bytes), length-drop next bytes) in
+    let most = c.piece_end-end.result - next in
+    let few : c.in_ok-count.count ≤ most = omega (arith, c.in_ok-count.ensures.fits, length-take most (drop next bytes), length-drop next bytes) in
     record {
-      within = omega (arith, few, c.loop-next.invariant.within);
+      within = omega (arith, few, c.piece_end-end.ensures.within, c.loop-next.invariant.within);
       is_known = λ known. c.write.ensures.is_known (c.loop-next.invariant.is_known known);
       got = λ known.
-          wrote_further bytes (got c.args.half.now) (got c.loop-next.half) (got c.write.new.self) next c.in_ok-count.count few (c.loop-next.invariant.got known) (c.in_ok-count.ensures.got (c.loop-next.invariant.is_known known));
+          wrote_further bytes (got c.args.half.now) (got c.loop-next.half) (got c.write.new.self) next most c.in_ok-count.count few (c.loop-next.invariant.got known) (c.in_ok-count.ensures.got (c.loop-next.invariant.is_known known));
     }
