@@ -2,6 +2,7 @@
 -- See `ARCHITECTURE.md`, "Threads".
 use Rattle.std.specs.Prelude.{◌≡◌, ◌⊎◌, ◌-◌, ◌<◌, ◌≤◌, ℕ, true, Option, None, Some, Result, Ok, Err}
 use Rattle.fe_server.specs.declared.register.Admission.{Admission}
+use Rattle.fe_server.specs.declared.register.Bounds.{Bounds}
 use Rattle.fe_server.specs.declared.register.Expected.{Expected}
 use Rattle.fe_server.specs.declared.register.Full.{Full}
 use Rattle.fe_server.specs.declared.register.NoMore.{NoMore}
@@ -21,7 +22,7 @@ abbrev pub kept_from : Option Expected → ℕ → ℕ
 kept_from None awaited = awaited
 kept_from (Some expected) awaited = 0
 
--- A connection was admitted, or refused, under these bounds: at most `most` are there at once and, unless it is 0, at most `accepts` come.
-abbrev pub IsBoundBy : ℕ → ℕ → Result Admission Full → Type 0
-IsBoundBy most accepts (Ok admission) = (admission.most ≡ most) × (admission.accepts ≡ accepts)
-IsBoundBy most accepts (Err full) = (full.most ≡ most) × (full.accepts ≡ accepts)
+-- A connection was admitted, or refused, under these bounds.
+abbrev pub IsBoundBy : Bounds → Result Admission Full → Type 0
+IsBoundBy bounds (Ok admission) = admission.bounds ≡ bounds
+IsBoundBy bounds (Err full) = full.bounds ≡ bounds

@@ -216,7 +216,7 @@ fn serve_late<
 ) -> ArrivalEnded {
     let (accepted, expected) = match server.take_late(rt) {
         Ok(late) => late,
-        Err(none) => return ArrivalEnded::of(none),
+        Err(none) => return ArrivalEnded::of_late(none),
     };
     let admission = match server.enter_late(rt, expected, millis) {
         Ok(admission) => admission,

@@ -2,10 +2,12 @@
 
 ghost use Rattle.std.specs.Prelude.{◌≡◌, IfOk};
 
-use crate::connection::{Accepted, Connection, ConnectionSeats, Unshared};
+use crate::connection::{Accepted, Connection};
 use crate::reads::{ReadLimit, Unstarted};
-use crate::register::{Admission, Full, NoArrival};
+use crate::register::{Admission, Full, NoArrival, NoLate};
 use crate::running_server::RunningServer;
+use crate::sides::ConnectionSeats;
+use crate::socket_handle::Unshared;
 use fe_hall::{ConnectRight, Gate, Hall, NewSeats, Short, Tally, Unconnected};
 use std::alloc::Global;
 use std::sync::Wait;
@@ -25,8 +27,14 @@ pub(crate) struct Arrival<C: Tally, M: Tally> {
 pub(crate) struct ArrivalEnded(());
 
 impl ArrivalEnded {
-    /// No client waited.
+    /// No connection waited for its thread.
     pub(crate) fn of(none: NoArrival) -> ArrivalEnded {
+        drop(none);
+        ArrivalEnded(())
+    }
+
+    /// No client waited for a place.
+    pub(crate) fn of_late(none: NoLate) -> ArrivalEnded {
         drop(none);
         ArrivalEnded(())
     }

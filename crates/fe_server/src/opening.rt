@@ -13,7 +13,7 @@ use crate::failed::Failed;
 use crate::serve_fault::ServeFault;
 use crate::served::Served;
 use crate::server::serve_store;
-use fe_disk::{Disk, FileDisk};
+use fe_disk::{Disk, FileDisk, StoreFile};
 use fe_hall::Gate;
 use fe_options::Settings;
 use fe_store::open_store;
@@ -52,15 +52,19 @@ impl Unopened {
 
 /// Serves the store that the settings name, at the socket that they name, and gives what the server left, or why it did not begin. It
 /// opens the store before it makes the socket, so the socket's file means that the server is ready.
-pub fn serve<R: Files<File = File> + Net + Clock + Threads + Wait + Sync, G: Gate + Sync>(
+pub fn serve<
+    F: StoreFile + Drop + Send,
+    R: Files<File = File> + Net + Clock + Threads + Wait + Sync,
+    G: Gate + Sync,
+>(
     rt: &R,
     alloc: Global,
     settings: &Settings,
     gate: &G,
-) -> Result<Result<Served<FileDisk>, Failed<FileDisk>>, Unopened>
+) -> Result<Result<Served<FileDisk<F>>, Failed<FileDisk<F>>>, Unopened>
     // The store that was opened was served: its keeper is returned with what was stored since, and its account says which answers were
     // issued, that is handed out.
-    ensures served { IfOk result (WasServed ⟦<FileDisk as Disk>⟧) }
+    ensures served { IfOk result (WasServed ⟦<FileDisk<F> as Disk>⟧) }
     ensures add_up { IfOk result (λ answer. IfOk answer (λ served. AddUp served.audit.books)) }
     ensures unspent { IfOk result (λ answer. IfOk answer (λ served. served.audit.books.spent ≡ false)) }
     ensures borne_out { IfOk result (λ answer. IfOk answer
@@ -72,7 +76,7 @@ pub fn serve<R: Files<File = File> + Net + Clock + Threads + Wait + Sync, G: Gat
     ensures wrong_size { (found : ℕ) → IsErrOf result (served.Store (store.Size found)) → found ≢ device_bytes }
     ensures unformatted { IsErrOf result (served.Store store.Unformatted) → settings.now.format ≡ false }
 {
-    match open_store(rt, alloc, settings.store.as_str(), settings.format) {
+    match open_store::<F, R>(rt, alloc, settings.store.as_str(), settings.format) {
         Ok(keeper) => match bind(rt, alloc, settings.socket.as_str()) {
             Some(listener) => Ok(serve_store(rt, alloc, listener, settings, keeper, gate)),
             None => {

@@ -10,28 +10,47 @@ use crate::arrival::{Arrival, ArrivalEnded, Bar, Unkept, Unserved};
 use crate::connection::Accepted;
 use crate::socket_handle::SocketHandle;
 use crate::stop_fault::StopFault;
-use fe_hall::{CommitEnd, Tally, reserve_one};
+use fe_hall::{CommitEnd, Ended, Tally, reserve_one};
+use fe_options::Settings;
 use std::alloc::Global;
 use std::net::Shutdown;
 use std::os::unix::net::UnixStream;
 use std::thread::JoinHandle;
 
-/// The right to one connection: at most `most` (the setting `connections`) are there at once and, unless `accepts` is 0, at most that
-/// many come in all. Only `Register::enter` makes it. It is not `Drop`: a connection cannot end without giving it back to
+/// How many connections may be there at once (the setting `connections`), and how many may come in all (`accepts`; 0 sets no bound). They
+/// are made of settings alone, so nobody is refused for other bounds.
+#[derive(Clone, Copy)]
+pub(crate) struct Bounds {
+    most: u64,
+    accepts: u64,
+}
+
+impl Bounds {
+    /// The bounds that these settings set.
+    pub(crate) fn of(settings: &Settings) -> Bounds
+        ensures most { result.most ≡ settings.now.connections }
+        ensures accepts { result.accepts ≡ settings.now.accepts }
+    {
+        Bounds {
+            most: settings.connections,
+            accepts: settings.accepts,
+        }
+    }
+}
+
+/// The right to one connection, within these bounds. Only `Register::enter` makes it. It is not `Drop`: a connection cannot end without giving it back to
 /// `Register::leave`.
 pub(crate) struct Admission {
     /// The number of the connection, which no other one has.
     pub(crate) conn: u64,
-    most: u64,
-    accepts: u64,
+    bounds: Bounds,
 }
 
 /// Shows that one more connection could not come: no place was free beside those kept for clients who wait, `accepts` came in all, or the
 /// server had ended. Only a register makes it.
 #[derive(Drop)]
 pub(crate) struct Full {
-    most: u64,
-    accepts: u64,
+    bounds: Bounds,
 }
 
 /// A place that is about to be free, kept for a client who waits for it. Only `Register::put_late` makes it. It is not
@@ -64,9 +83,13 @@ impl Waiting {
     }
 }
 
-/// Shows that no client waited for its thread. Only `Register::take` and `Register::take_late` make it.
+/// Shows that no connection waited for its thread. Only `Register::take` makes it.
 #[derive(Drop)]
 pub(crate) struct NoArrival(());
+
+/// Shows that no client waited for a place without a thread. Only `Register::take_late` makes it.
+#[derive(Drop)]
+pub(crate) struct NoLate(());
 
 /// Shows that a server had not ended. Only `Register::running` makes it, and no connection is accepted without it.
 #[derive(Drop)]
@@ -111,7 +134,7 @@ pub(crate) struct Register<C: Tally, M: Tally> {
     /// How many clients wait for a place that is about to be free.
     awaited: u64,
     /// The clients who wait for a place and whose threads have not begun.
-    waiting_clients: Vec<(Accepted, Expected)>,
+    waiting_clients: Vec<(Accepted, Expected, Full)>,
     /// The handles by which the streams of connections are ended.
     handles: Vec<SocketHandle>,
     /// Another handle of the listener, as a socket that can be shut down, while connections are accepted.
@@ -144,6 +167,8 @@ impl<C: Tally, M: Tally> Register<C, M> {
         ensures handle { OnOk result (IsAdded (λ handle. handle.conn ≡ arrival.connection.admission.conn)
             self.old.handles.items self.new.handles.items) }
         ensures back { IfErr result (λ back. back.arrival ≡ arrival) }
+        ensures counts { (self.new.admitted ≡ self.old.admitted) × (self.new.came ≡ self.old.came)
+            × (self.new.present ≡ self.old.present) }
     {
         if let Err(short) = reserve_one(&mut self.arrivals) {
             return Err(Unkept::of(arrival, Bar::Memory(short)));
@@ -165,6 +190,8 @@ impl<C: Tally, M: Tally> Register<C, M> {
     pub(crate) fn take(&mut self) -> Result<Arrival<C, M>, NoArrival>
         ensures taken { IfOk result (λ arrival. self.old.arrivals.items ≡ self.new.arrivals.items ++ arrival ∷ []) }
         ensures none { OnErr result (self.old.arrivals.items ≡ []) }
+        ensures counts { (self.new.admitted ≡ self.old.admitted) × (self.new.came ≡ self.old.came)
+            × (self.new.present ≡ self.old.present) }
     {
         match self.arrivals.pop() {
             Some(arrival) => Ok(arrival),
@@ -172,11 +199,11 @@ impl<C: Tally, M: Tally> Register<C, M> {
         }
     }
 
-    /// Whether a client who waits has to wait on: the server has `most` connections, and has not ended.
-    pub(crate) fn is_full(&self, most: u64) -> bool
-        ensures { IsTrue result ↔ ((self.now.over ≡ false) × (most ≤ self.now.present)) }
+    /// Whether a client who waits has to wait on: the server has as many connections as it may have, and has not ended.
+    pub(crate) fn is_full(&self, bounds: Bounds) -> bool
+        ensures { IsTrue result ↔ ((self.now.over ≡ false) × (bounds.most ≤ self.now.present)) }
     {
-        !self.over && self.present >= most
+        !self.over && self.present >= bounds.most
     }
 
     /// Whether the clients who wait may become the last of the `accepts` that come. If `accepts` is 0, there is no last one.
@@ -187,9 +214,9 @@ impl<C: Tally, M: Tally> Register<C, M> {
         !self.over && self.came < accepts && accepts - self.came <= self.awaited
     }
 
-    /// Keeps a client for its thread, and for it the place of a connection that is about to end. Each place is kept once, so nobody waits
-    /// again for a connection that was awaited in vain. Returns the client if there is no such place, if as many clients wait as there are
-    /// places, if the server has ended, or if there is no memory.
+    /// Keeps a client for its thread, and for it a place that became free since it was refused, or that of a connection that is about to
+    /// end. Each place is kept once, so nobody waits again for a connection that was awaited in vain. Returns the client if there is no
+    /// such place, if as many clients wait as there are places, if the server has ended, or if there is no memory.
     pub(crate) fn put_late(
         &mut self,
         accepted: Accepted,
@@ -203,68 +230,83 @@ impl<C: Tally, M: Tally> Register<C, M> {
         ensures counts { (self.new.admitted ≡ self.old.admitted) × (self.new.came ≡ self.old.came)
             × (self.new.present ≡ self.old.present) }
     {
-        if self.over || self.awaited >= full.most || self.waiting_clients.reserve(1).is_err() {
+        if self.over
+            || self.awaited >= full.bounds.most
+            || self.waiting_clients.reserve(1).is_err()
+        {
             return Err((accepted, full));
         }
-        let Some(at) = self.handles.iter().position(|handle| handle.is_ending()) else {
+        let is_free = self.has_place(full.bounds);
+        if !keep_place(&mut self.handles, is_free) {
             return Err((accepted, full));
-        };
-        self.handles[at].expect_end();
+        }
         self.awaited += 1;
-        drop(full);
-        self.waiting_clients.push_reserved((accepted, Expected(())));
+        self.waiting_clients
+            .push_reserved((accepted, Expected(()), full));
         Ok(Waiting(()))
     }
 
+    /// Whether another client may come, and a place is free beside those kept for clients who wait.
+    fn has_place(&self, bounds: Bounds) -> bool
+        ensures { IsTrue result → self.now.present + self.now.awaited < bounds.most }
+    {
+        let Bounds { most, accepts } = bounds;
+        (accepts == 0 || self.came < accepts)
+            && self.present < most
+            && self.awaited < most - self.present
+    }
+
     /// Takes a client that waits for a place and whose thread has not begun, the last that was put.
-    pub(crate) fn take_late(&mut self) -> Result<(Accepted, Expected), NoArrival>
+    pub(crate) fn take_late(&mut self) -> Result<(Accepted, Expected), NoLate>
         ensures taken { IfOk result
-            (λ late. self.old.waiting_clients.items ≡ self.new.waiting_clients.items ++ late ∷ []) }
+            (λ late. IsAdded (λ kept. kept.0 ≡ late.0) self.new.waiting_clients.items self.old.waiting_clients.items) }
         ensures none { OnErr result (self.old.waiting_clients.items ≡ []) }
+        ensures counts { (self.new.admitted ≡ self.old.admitted) × (self.new.came ≡ self.old.came)
+            × (self.new.present ≡ self.old.present) }
     {
         match self.waiting_clients.pop() {
-            Some(late) => Ok(late),
-            None => Err(NoArrival(())),
+            Some((accepted, expected, full)) => {
+                drop(full);
+                Ok((accepted, expected))
+            }
+            None => Err(NoLate(())),
         }
     }
 
-    /// Admits one more connection, and gives it the next number. At most `most` are there at once and, unless `accepts`
-    /// is 0, at most that many come. A place that another client waits for is not given to one who does not wait.
+    /// Admits one more connection within the bounds, and gives it the next number. A place that another client waits for is not given to
+    /// one who does not wait.
     pub(crate) fn enter(
         &mut self,
         expected: Option<Expected>,
-        most: u64,
-        accepts: u64,
+        bounds: Bounds,
     ) -> Result<Admission, Full>
-        ensures bounds { IsBoundBy most accepts result }
+        ensures bounds { IsBoundBy bounds result }
         ensures number { IfOk result (λ admission. (admission.conn ≡ self.old.admitted)
             × (self.new.admitted ≡ admission.conn + 1)) }
-        ensures few { OnOk result ((self.new.present ≡ self.old.present + 1) × (self.new.present ≤ most)) }
-        ensures came { OnOk result ((self.new.came ≡ self.old.came + 1) × (0 < accepts → self.new.came ≤ accepts)) }
+        ensures few { OnOk result ((self.new.present ≡ self.old.present + 1) × (self.new.present ≤ bounds.most)) }
+        ensures came { OnOk result ((self.new.came ≡ self.old.came + 1)
+            × (0 < bounds.accepts → self.new.came ≤ bounds.accepts)) }
         ensures running { OnOk result (self.old.over ≡ false) }
         ensures refused { OnErr result ((self.new.admitted ≡ self.old.admitted) × (self.new.came ≡ self.old.came)
             × (self.new.present ≡ self.old.present)) }
         ensures awaited { self.new.awaited ≡ awaited_after expected self.old.awaited }
         // It is refused only if the server has ended, no place is free beside those kept for others, all came, or no number is left.
         ensures why { OnErr result ((self.old.over ≡ true)
-            ⊎ (most ≤ self.old.present + kept_from expected self.old.awaited)
-            ⊎ ((0 < accepts) × (accepts ≤ self.old.came)) ⊎ (2 ^ 64 ≤ self.old.admitted + 1)) }
+            ⊎ (bounds.most ≤ self.old.present + kept_from expected self.old.awaited)
+            ⊎ ((0 < bounds.accepts) × (bounds.accepts ≤ self.old.came)) ⊎ (2 ^ 64 ≤ self.old.admitted + 1)) }
     {
         let kept = places_kept(&mut self.awaited, expected);
+        let Bounds { most, accepts } = bounds;
         let all_came = accepts > 0 && self.came >= accepts;
         let is_full = self.present >= most || most - self.present <= kept;
         if self.over || is_full || all_came || self.admitted == u64::MAX {
-            return Err(Full { most, accepts });
+            return Err(Full { bounds });
         }
         let conn = self.admitted;
         self.admitted += 1;
         self.came += 1;
         self.present += 1;
-        Ok(Admission {
-            conn,
-            most,
-            accepts,
-        })
+        Ok(Admission { conn, bounds })
     }
 
     /// Removes a connection that has ended. There is room for another connection then.
@@ -273,12 +315,9 @@ impl<C: Tally, M: Tally> Register<C, M> {
         ensures handles { self.new.handles.items ≡ without admission.conn self.old.handles.items }
         ensures present { self.new.present ≡ self.old.present - 1 }
         ensures came { self.new.came ≡ self.old.came }
+        ensures admitted { self.new.admitted ≡ self.old.admitted }
     {
-        let Admission {
-            conn,
-            most: _,
-            accepts: _,
-        } = admission;
+        let Admission { conn, bounds: _ } = admission;
         self.present = self.present.saturating_sub(1);
         self.handles.retain(|handle| handle.conn != conn);
     }
@@ -287,6 +326,7 @@ impl<C: Tally, M: Tally> Register<C, M> {
     pub(crate) fn refuse(&mut self, unserved: Unserved) -> Admission
         ensures came { self.new.came ≡ self.old.came - 1 }
         ensures present { self.new.present ≡ self.old.present }
+        ensures admitted { self.new.admitted ≡ self.old.admitted }
         ensures admission { result ≡ unserved.connection.admission }
     {
         self.came = self.came.saturating_sub(1);
@@ -294,19 +334,24 @@ impl<C: Tally, M: Tally> Register<C, M> {
     }
 
     /// Notes that the committing side has ended, and how: no connection comes any more.
-    pub(crate) fn end(&mut self, end: CommitEnd) -> Ending
+    pub(crate) fn end(&mut self, ended: Ended) -> Ending
         ensures over { self.new.over ≡ true }
-        ensures end { result.end ≡ end }
+        ensures end { result.end ≡ ended }
+        ensures counts { (self.new.admitted ≡ self.old.admitted) × (self.new.came ≡ self.old.came)
+            × (self.new.present ≡ self.old.present) }
     {
         self.over = true;
         if let Some(listening_socket) = self.listening_socket.take() {
             let _ = listening_socket.shutdown(Shutdown::Both);
         }
-        Ending { end }
+        Ending { end: ended.end() }
     }
 
     /// Drops the handle of the listener, since no connection is accepted any more.
-    pub(crate) fn stop_accepting(&mut self) {
+    pub(crate) fn stop_accepting(&mut self)
+        ensures counts { (self.new.admitted ≡ self.old.admitted) × (self.new.came ≡ self.old.came)
+            × (self.new.present ≡ self.old.present) }
+    {
         drop(self.listening_socket.take());
     }
 
@@ -364,6 +409,18 @@ impl<C: Tally, M: Tally> Register<C, M> {
     }
 }
 
+/// Keeps the place of a connection that is about to end, unless a place is free. Whether there is a place.
+fn keep_place(handles: &mut Vec<SocketHandle>, is_free: bool) -> bool {
+    if is_free {
+        return true;
+    }
+    let Some(at) = handles.iter().position(|handle| handle.is_ending()) else {
+        return false;
+    };
+    handles[at].expect_end();
+    true
+}
+
 /// How many of the awaited places are kept from a client that wants to enter. A client for whom a place was kept waits no more.
 fn places_kept(awaited: &mut u64, expected: Option<Expected>) -> u64
     ensures kept { result ≡ kept_from expected awaited.old }
@@ -383,25 +440,18 @@ fn dismiss<C: Tally, M: Tally>(arrivals: Vec<Arrival<C, M>>) {
     let mut arrivals = arrivals;
     while let Some(arrival) = arrivals.pop() {
         let Arrival { connection, seats } = arrival;
-        let Admission {
-            conn: _,
-            most: _,
-            accepts: _,
-        } = connection.close();
+        let Admission { conn: _, bounds: _ } = connection.close();
         drop(seats);
     }
     arrivals.destroy_empty();
 }
 
 /// Closes the sockets of clients whose threads have not begun.
-fn dismiss_late(waiting_clients: Vec<(Accepted, Expected)>) {
+fn dismiss_late(waiting_clients: Vec<(Accepted, Expected, Full)>) {
     let mut waiting_clients = waiting_clients;
-    while let Some((accepted, expected)) = waiting_clients.pop() {
+    while let Some((accepted, expected, full)) = waiting_clients.pop() {
         let Expected(()) = expected;
-        accepted.close(Full {
-            most: 0,
-            accepts: 0,
-        });
+        accepted.close(full);
     }
     waiting_clients.destroy_empty();
 }

@@ -11,16 +11,17 @@ ghost use Rattle.fe_server.specs.within.HasServed.{AreBlank};
 
 use crate::accepting::AllServed;
 use crate::arrival::{Arrival, Unkept, Unserved};
-use crate::connection::{Accepted, Connection, ConnectionOutcome};
-use crate::finished_connections::FinishedConnections;
+use crate::connection::{Accepted, Connection};
 use crate::listener::Listener;
 use crate::register::{
-    Admission, Expected, Full, NoArrival, NoMore, Register, Running, ServerEnded, Waiting,
+    Admission, Bounds, Expected, Full, NoArrival, NoLate, NoMore, Register, Running, ServerEnded,
+    Waiting,
 };
+use crate::sides::{ConnectionOutcome, FinishedConnections};
 use fe_disk::Disk;
 use fe_front::Front;
 use fe_hall::{
-    CallSeat, CommitEnd, ConnectRight, Hall, MailSeat, NewHistory, StoreSeat, Tally, commit_side,
+    CallSeat, ConnectRight, Ended, Hall, MailSeat, NewHistory, StoreSeat, Tally, commit_side,
 };
 use fe_keeper::Keeper;
 use fe_options::Settings;
@@ -44,10 +45,8 @@ pub(crate) struct RunningServer<C: Tally, M: Tally> {
     /// The condition variable that is rung when a place for a connection may be free, when a client who waited for one waits no more, and
     /// when the server ends.
     freed: Condvar,
-    /// How many connections may be there at once.
-    most: u64,
-    /// How many connections may come; 0 sets no bound.
-    accepts: u64,
+    /// How many connections may be there, and come.
+    bounds: Bounds,
     /// How many reads are made from each connection at most.
     pub(crate) turns: u64,
     /// Whether what was sent and the receipts are kept, to be compared when the hall is closed. They are if `accepts` bounds them.
@@ -75,8 +74,8 @@ impl<C: Tally, M: Tally> Opened<C, M> {
         requires { AreBlank C.name C.parts C.all calls.name calls.parts M.name M.parts M.all mails.name mails.parts
             M.book history.book history.acts state.now }
         ensures begun { IfOk result (λ opened. opened.0.begun.value ≡ state.now) }
-        ensures most { IfOk result (λ opened. opened.0.server.most ≡ settings.now.connections) }
-        ensures accepts { IfOk result (λ opened. opened.0.server.accepts ≡ settings.now.accepts) }
+        ensures most { IfOk result (λ opened. opened.0.server.bounds.most ≡ settings.now.connections) }
+        ensures accepts { IfOk result (λ opened. opened.0.server.bounds.accepts ≡ settings.now.accepts) }
         ensures turns { IfOk result (λ opened. opened.0.server.turns ≡ settings.now.turns) }
         ensures keeps { IfOk result (λ opened. opened.0.server.keeps ≡ nat_lt 0 settings.now.accepts) }
         ensures seat { IfOk result (λ opened. opened.1 ≡ history.acts) }
@@ -99,8 +98,7 @@ impl<C: Tally, M: Tally> Opened<C, M> {
                     register: Mutex::new(Register::new(alloc, listening_socket)),
                     finished: Mutex::new(FinishedConnections::new(alloc, &right, receipts)),
                     freed: Condvar::new(),
-                    most: settings.connections,
-                    accepts: settings.accepts,
+                    bounds: Bounds::of(settings),
                     turns: settings.turns,
                     keeps: settings.accepts > 0,
                 };
@@ -128,8 +126,7 @@ impl<C: Tally, M: Tally> Opened<C, M> {
             register,
             finished,
             freed,
-            most: _,
-            accepts: _,
+            bounds: _,
             turns: _,
             keeps,
         } = server;
@@ -143,10 +140,10 @@ impl<C: Tally, M: Tally> RunningServer<C, M> {
     /// Admits one more connection if there is room for it, beside the clients who wait.
     pub(crate) fn enter<R: Wait>(&self, rt: &R) -> Result<Admission, Full>
         // The admission, or the refusal, has the bounds of the settings. Only the register makes either.
-        ensures bounds { IsBoundBy self.now.most self.now.accepts result }
+        ensures bounds { IsBoundBy self.now.bounds result }
     {
-        let (most, accepts) = (self.most, self.accepts);
-        self.register.lock(rt).enter(None, most, accepts)
+        let bounds = self.bounds;
+        self.register.lock(rt).enter(None, bounds)
     }
 
     /// Keeps a client until its thread takes it, and for it a place that is about to be free. Returns the client if each such place was
@@ -161,7 +158,7 @@ impl<C: Tally, M: Tally> RunningServer<C, M> {
     }
 
     /// Takes a client that waits for a place and whose thread has not begun.
-    pub(crate) fn take_late<R: Wait>(&self, rt: &R) -> Result<(Accepted, Expected), NoArrival> {
+    pub(crate) fn take_late<R: Wait>(&self, rt: &R) -> Result<(Accepted, Expected), NoLate> {
         self.register.lock(rt).take_late()
     }
 
@@ -173,17 +170,17 @@ impl<C: Tally, M: Tally> RunningServer<C, M> {
         expected: Expected,
         millis: u64,
     ) -> Result<Admission, Full>
-        ensures bounds { IsBoundBy self.now.most self.now.accepts result }
+        ensures bounds { IsBoundBy self.now.bounds result }
     {
-        let (most, accepts) = (self.most, self.accepts);
+        let bounds = self.bounds;
         let register = self.register.lock(rt);
         let (mut register, _) = self.freed.wait_timeout_while(
             rt,
             register,
             Duration::from_millis(millis),
-            |register| register.is_full(most),
+            |register| register.is_full(bounds),
         );
-        let entered = register.enter(Some(expected), most, accepts);
+        let entered = register.enter(Some(expected), bounds);
         // The accepting thread may wait to learn what became of this client.
         self.freed.notify_all();
         entered
@@ -239,19 +236,19 @@ impl<C: Tally, M: Tally> RunningServer<C, M> {
     {
         let mut keeper = keeper;
         let mut seat = seat;
-        let end = commit_side(rt, &self.hall, &mut keeper, &mut seat).end();
-        let over = self.end(rt, end);
+        let ended = commit_side(rt, &self.hall, &mut keeper, &mut seat);
+        let over = self.end(rt, ended);
         (keeper, over, seat)
     }
 
     /// Ends the server after its committing side: no connection comes any more, and those that are there end. A write side ends its
     /// stream once it has written the mails of its box, and a read side ends it as soon as it has another message. A stream that neither
     /// has ended in time is ended here.
-    fn end<R: Clock + Wait>(&self, rt: &R, end: CommitEnd) -> ServerEnded
-        ensures { result.end ≡ end }
+    fn end<R: Clock + Wait>(&self, rt: &R, ended: Ended) -> ServerEnded
+        ensures { result.end ≡ ended }
     {
         let mut register = self.register.lock(rt);
-        let ending = register.end(end);
+        let ending = register.end(ended);
         // Clients who wait are sent away.
         self.freed.notify_all();
         let waited = self.freed.wait_timeout_while(

@@ -200,7 +200,7 @@ fn run<
     gate: &G,
 ) -> (Keeper<D>, ServerEnded, StoreSeat<M>)
     requires begun { opened.now.begun.value ≡ keeper.state }
-    requires most { opened.now.server.most ≡ settings.now.connections }
+    requires most { opened.now.server.bounds.most ≡ settings.now.connections }
     requires turns { opened.now.server.turns ≡ settings.now.turns }
     requires keeps { opened.now.server.keeps ≡ nat_lt 0 settings.now.accepts }
     requires seat { seat ≡ act.Began keeper.state ∷ [] }

@@ -1,10 +1,14 @@
 //! A handle by which the stream of a connection is ended from outside (`docs/DECISIONS.md`, "Server").
 
-ghost use Rattle.std.specs.Prelude.{◌≡◌};
+ghost use Rattle.std.specs.Prelude.{◌≡◌, IfOk};
 
 use crate::connection::ClientSocket;
 use std::alloc::Global;
 use std::sync::Arc;
+
+/// Shows that a socket could not be shared once more. Only `SocketHandle::of` makes it.
+#[derive(Drop)]
+pub(crate) struct Unshared(());
 
 /// Ends the stream of a connection from outside, and sees whether it has ended. It neither reads nor writes.
 #[derive(Drop)]
@@ -16,14 +20,20 @@ pub(crate) struct SocketHandle {
 }
 
 impl SocketHandle {
-    /// A handle of the connection with this number.
-    pub(crate) fn of(conn: u64, socket: Arc<ClientSocket, Global>) -> SocketHandle
-        ensures { result.conn ≡ conn }
+    /// A handle of the connection with this number and socket.
+    pub(crate) fn of(
+        conn: u64,
+        socket: &Arc<ClientSocket, Global>,
+    ) -> Result<SocketHandle, Unshared>
+        ensures { IfOk result (λ handle. handle.conn ≡ conn) }
     {
-        SocketHandle {
-            conn,
-            is_expected: false,
-            socket,
+        match Arc::try_clone(socket) {
+            Ok(socket) => Ok(SocketHandle {
+                conn,
+                is_expected: false,
+                socket,
+            }),
+            Err(_) => Err(Unshared(())),
         }
     }
 

@@ -2,7 +2,7 @@
 
 ghost use Rattle.std.specs.Prelude.{◌≡◌};
 
-use fe_hall::{HalfFault, ReadCount, ReadHalf, WriteHalf};
+use fe_hall::{Free, HalfFault, ReadCount, ReadHalf, WriteHalf};
 use fe_streams::{Incoming, StreamFailed, write_some};
 use std::io::{Read, Write};
 
@@ -46,7 +46,7 @@ impl<R: Read> ReadHalf for StreamRead<R> {
 
     ghost failed = { λ h. IsSome h.failure };
 
-    fn read(&mut self, buffer: &mut [u8]) -> Result<usize, HalfFault> {
+    fn read(&mut self, _free: &mut Free, buffer: &mut [u8]) -> Result<usize, HalfFault> {
         self.reads.rise();
         match self.incoming.read_some(buffer) {
             Ok(count) => Ok(count),
@@ -87,7 +87,7 @@ impl<W: Write> WriteHalf for StreamWrite<W> {
 
     ghost failed = { λ h. IsSome h.failure };
 
-    fn write(&mut self, bytes: &[u8]) -> Result<usize, HalfFault> {
+    fn write(&mut self, _free: &mut Free, bytes: &[u8]) -> Result<usize, HalfFault> {
         match write_some(&mut self.writer, bytes) {
             Ok(count) => Ok(count),
             Err(failure) => {

@@ -3,6 +3,7 @@ use Rattle.std.specs.Prelude.{◌≡◌, ℕ, List, [], ◌∷◌, ◌++◌, len
 use Rattle.std.proofs.Common.{sym, ap, ◌∙◌, append-nil, append_assoc}
 use Rattle.std.specs.List.{flat_map}
 use Rattle.std.proofs.lemmas.List.Concat.{flat_map-append}
+use Rattle.fe_client.specs.Ends.{Cause}
 use Rattle.fe_client.specs.Events.{Event}
 
 abbrev pub code : Event → List ℕ
@@ -15,6 +16,11 @@ code Event.Flushed = 131 ∷ []
 -- the later log is the earlier one followed by these events
 abbrev pub Follows : List ℕ → List Event → List ℕ → Type 0
 Follows before events after = after ≡ before ++ flat_map code events
+
+-- of the causes to break off, only that the connection is over is noted
+abbrev pub Notes : Type 0 → Cause → Type 0
+Notes over Cause.Over = over
+Notes over other = Unit {0}
 
 -- ---- laws
 

@@ -1,10 +1,11 @@
 //! A server holds one connection at its gate, and serves another one at the same time.
 
 use fe_client::{StreamConnection, call_over};
-use fe_disk::SyncHold;
-use fe_hall::Gate;
+use fe_disk::{SyncHold, SystemFile};
+use fe_hall::{Free, Gate};
 use fe_options::read_settings;
 use fe_server::{books_text, serve};
+use fe_text::{CountedReader, CountedWriter};
 use std::net::Net;
 use std::os::unix::net::UnixStream;
 use std::process::Abort;
@@ -34,7 +35,7 @@ struct Barrier {
 }
 
 impl Gate for Barrier {
-    fn pass<R: Wait>(&self, rt: &R, conn: u64) {
+    fn pass<R: Wait>(&self, rt: &R, _free: &mut Free, conn: u64) {
         if conn == 0 {
             self.hold.pass(rt);
         }
@@ -68,9 +69,11 @@ fn connected<R: Net + Clock + Abort>(rt: &R, socket: &str) -> UnixStream {
 /// Sends the lines, and checks that these answers are printed.
 fn asks(rt: &(impl Abort + AllocGlobal), stream: &UnixStream, lines: &[u8], answers: &[u8]) {
     let mut connection = StreamConnection::new(stream, stream);
-    let mut reader = lines;
+    let mut reader = CountedReader::new(lines);
     let mut printed = Vec::new(rt.alloc());
-    let ended = call_over(rt.alloc(), &mut connection, &mut reader, &mut printed);
+    let mut writer = CountedWriter::new(&mut printed);
+    let ended = call_over(rt.alloc(), &mut connection, &mut reader, &mut writer);
+    drop(writer);
     assert!(rt; ended.is_ok() && printed.as_slice() == answers);
 }
 
@@ -126,7 +129,7 @@ fn gate_holds_one(rt: HostRuntime) {
     };
     let (answer, _) = thread::join(
         &rt,
-        || serve(&rt, rt.alloc(), &settings, &gate),
+        || serve::<SystemFile, _, _>(&rt, rt.alloc(), &settings, &gate),
         || two_calls(&rt, socket.as_str(), &gate.hold),
     );
     let answer = answer.ok().expect(&rt, "the store was served");

@@ -43,15 +43,19 @@ impl Dialogue<'_, '_> {
 
 impl Streams for Dialogue<'_, '_> {
     ghost use Rattle.std.specs.Prelude.{◌≡◌, true};
-    ghost use Rattle.test_sockets.specs.Scripts.{Follows, follows_none, follows_both};
+    ghost use Rattle.test_sockets.specs.Scripts.{Follows, Notes, follows_none, follows_both};
 
     ghost leads = { λ s events t. Follows s.log.items events t.log.items };
 
-    ghost is_over = { λ s. s.has_failed ≡ true };
+    ghost because = { λ s. Notes (s.has_failed ≡ true) };
 
     ghost stays = { λ s. follows_none s.log.items };
 
     ghost joins = { λ s t u a b p q. follows_both s.log.items t.log.items u.log.items a b p q };
+
+    ghost begins = { λ s. tt };
+
+    ghost keeps_reads = { λ s t events count happened reads. reads };
 
     /// The user types the next line only once the reply to the one before can be seen.
     fn read(&mut self, buffer: &mut [u8]) -> Result<Option<usize>, StreamFault> {

@@ -1,5 +1,5 @@
 use Rattle.fe_server.proofs.Accounts.{account_issued}
-use Rattle.fe_server.proofs.finished_connections.FinishedConnections.account.Goals as goal
+use Rattle.fe_server.proofs.sides.finished_connections.FinishedConnections.account.Goals as goal
 
 pub returns-clause-issued : goal.returns-clause-issued
 returns-clause-issued g c =

@@ -1,6 +1,6 @@
 use Rattle.std.proofs.Common.{ap}
 use Rattle.fe_server.proofs.Known.{nothing_read_of, some_of}
-use Rattle.fe_server.proofs.connection.serve_streams.Goals as goal
+use Rattle.fe_server.proofs.sides.serve_streams.Goals as goal
 
 pub returns-clause-handled : goal.returns-clause-handled
 returns-clause-handled g c = λ is_known.

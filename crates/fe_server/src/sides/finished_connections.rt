@@ -9,7 +9,7 @@ ghost use Rattle.fe_shared.specs.Seats.{Seats as Totals};
 ghost use Rattle.fe_server.specs.declared.stop_fault.StopFault.TheVariants as fault;
 ghost use Rattle.fe_server.specs.FinishedConnections.{IsSettled, joined_to, lacks};
 
-use crate::connection::{ConnectionOutcome, ReadOutcome, WriteOutcome};
+use super::{ConnectionOutcome, ReadOutcome, WriteOutcome};
 use crate::stop_fault::StopFault;
 use fe_hall::{
     Account, Audit, ConnectRight, GatheredReceipts, Hall, Seats, StoreSeat, Tally, account_of,

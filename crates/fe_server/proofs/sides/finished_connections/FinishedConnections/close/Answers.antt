@@ -3,7 +3,7 @@ use Rattle.fe_history.specs.Acts.{Account}
 use Rattle.fe_server.specs.FinishedConnections.{lacks}
 use Rattle.fe_server.proofs.Accounts.{account_issued}
 use Rattle.fe_server.proofs.Ends.{kept_whole}
-use Rattle.fe_server.proofs.finished_connections.FinishedConnections.close.Goals as goal
+use Rattle.fe_server.proofs.sides.finished_connections.FinishedConnections.close.Goals as goal
 
 pub returns-in-Ok-clause-issued : goal.returns-in-Ok-clause-issued
 returns-in-Ok-clause-issued g c =
