@@ -2,13 +2,14 @@
 //! from standard input to a server, and `look` shows what is in a store (`docs/commands.md`, "Commands").
 #![tactic(auto)]
 
-ghost use Rattle.std.specs.Prelude.{◌≡◌, ℕ, true, take, is_ok, IfOk, IfErr, OnOk};
+ghost use Rattle.std.specs.Prelude.{◌≡◌, ◌⊎◌, ℕ, take, is_ok, IfOk, IfErr, OnOk};
 ghost use Rattle.std.specs.Io.KnownBytes.{Appends};
 ghost use Rattle.clap.specs.Words.{kind_of};
 ghost use Rattle.fe_disk.specs.Memory.{MemoryState};
-ghost use Rattle.fe_schedules.specs.Schedule.{RunsAll};
+ghost use Rattle.fe_schedules.specs.Schedule.{RunsAll, RunsUntil, ReaderFails};
+ghost use Rattle.fe_schedules.specs.declared.fault.ScheduleFault.{ScheduleFault};
 ghost use Rattle.fe_server.specs.BooksText.{books_text};
-ghost use Rattle.femem.specs.within.Faults.{status_of, AreSettings, RefusesFile, WritesBooks, command_status, words_status, shown_status, IsWordsStatus};
+ghost use Rattle.femem.specs.within.Faults.{status_of, of_schedule, AreSettings, RefusesFile, WritesBooks, command_status, words_status, shown_status, IsWordsStatus};
 
 mod fault;
 
@@ -16,18 +17,17 @@ use crate::fault::Fault;
 use clap::Error;
 use clap::error::ErrorKind;
 use fe_client::call;
-use fe_disk::MemoryDisk;
+use fe_disk::{MemoryDisk, SystemFile};
 use fe_front::Books;
 use fe_hall::Open;
 use fe_look::look;
 use fe_options::{Invocation, Settings, arguments, not_text, read_settings};
-use fe_schedules::{CountedReader, CountedWriter, DEVICE_BYTES, run_schedule};
+use fe_schedules::{DEVICE_BYTES, run_schedule};
 use fe_server::{Served, books_text, serve};
-use fe_text::{StreamFault, write_out};
+use fe_text::{CountedReader, CountedWriter, Sink, Source, StreamFault};
 use libc::net as c;
 use std::alloc::Global;
 use std::fs::File;
-use std::io::{Read, Write};
 use std::net::Net;
 use std::process::ExitCode;
 use std::rt::{Env, Files, Runtime};
@@ -77,36 +77,46 @@ fn start<R: Runtime + Files<File = File> + Net + Threads + Wait + Sync + AllocGl
             let mut writer = CountedWriter::new(io::writer(rt));
             run_by(rt.alloc(), &mut reader, &mut writer)?;
         }
-        Invocation::Look { store } => look(rt, rt.alloc(), store, &mut io::writer(rt))?,
-        Invocation::Serve { settings } => serve_by(rt, settings, &mut io::writer(rt))?,
+        Invocation::Look { store } => {
+            let mut writer = CountedWriter::new(io::writer(rt));
+            look(rt, rt.alloc(), store, &mut writer)?;
+        }
+        Invocation::Serve { settings } => {
+            let mut writer = CountedWriter::new(io::writer(rt));
+            serve_by(rt, settings, &mut writer)?;
+        }
         Invocation::Call { socket } => {
-            let mut reader = rt.reader();
-            call(rt, rt.alloc(), socket, &mut reader, &mut io::writer(rt))?;
+            let mut reader = CountedReader::new(rt.reader());
+            let mut writer = CountedWriter::new(io::writer(rt));
+            call(rt, rt.alloc(), socket, &mut reader, &mut writer)?;
         }
     }
     Ok(())
 }
 
 /// Runs the schedule from the reader, on a disk in memory.
-fn run_by<R: Read, W: Write>(
-    alloc: Global,
-    reader: &mut CountedReader<R>,
-    writer: &mut CountedWriter<W>,
-) -> Result<(), Fault>
+fn run_by<R: Source, W: Sink>(alloc: Global, reader: &mut R, writer: &mut W) -> Result<(), Fault>
     ensures ok { OnOk result ((disk : MemoryState)
-        × RunsAll (R.remaining reader.old.stream) (W.contents writer.old.stream) (W.contents writer.new.stream) disk) }
-    ensures flushed { OnOk result (writer.new.is_flushed ≡ true) }
+        × RunsAll (R.remaining reader.old) (W.contents writer.old) (W.contents writer.new) disk) }
+    ensures flushed { OnOk result (W.is_handed_on writer.new) }
+    // The fault and its line are those of the schedule: the first lines of the input ran, and what the fault says ended them.
+    ensures fault { IfErr result (λ fault. (fault ≡ Fault.Memory) ⊎ ((end : ScheduleFault) × (fault ≡ of_schedule end)
+        × RunsUntil (ReaderFails R.has_failed R.was_read reader.old reader.new) (W.has_failed writer.new)
+        (reader.new ≡ reader.old) end (R.remaining reader.old) (W.contents writer.old) (W.contents writer.new))) }
 {
     let Ok(disk) = MemoryDisk::new(alloc, DEVICE_BYTES) else {
         return Err(Fault::Memory);
     };
     let (ended, disk) = run_schedule(alloc, disk, reader, writer);
     drop(disk);
-    Ok(ended?)
+    match ended {
+        Ok(()) => Ok(()),
+        Err(fault) => Err(Fault::from(fault)),
+    }
 }
 
 /// Serves with the settings in a file, and writes the books, the counts of calls and mails, once the server has ended without a fault.
-fn serve_by<R: Files<File = File> + Net + Clock + Threads + Wait + Sync + AllocGlobal, W: Write>(
+fn serve_by<R: Files<File = File> + Net + Clock + Threads + Wait + Sync + AllocGlobal, W: Sink>(
     rt: &R,
     path: &str,
     writer: &mut W,
@@ -114,7 +124,7 @@ fn serve_by<R: Files<File = File> + Net + Clock + Threads + Wait + Sync + AllocG
     ensures { OnOk result (WritesBooks (W.contents writer.old) (W.contents writer.new)) }
 {
     let settings = settings_at(rt, path)?;
-    match serve(rt, rt.alloc(), &settings, &Open)? {
+    match serve::<SystemFile, R, Open>(rt, rt.alloc(), &settings, &Open)? {
         Ok(Served { audit, keeper }) => {
             drop(keeper);
             let books = audit.books();
@@ -138,13 +148,17 @@ fn settings_at<R: Files + AllocGlobal>(rt: &R, path: &str) -> Result<Settings, F
 }
 
 /// Writes the books. If the writer fails, a prefix of their text is written.
-fn show_books<W: Write>(alloc: Global, books: &Books, writer: &mut W) -> Result<(), StreamFault>
+fn show_books<W: Sink>(alloc: Global, books: &Books, writer: &mut W) -> Result<(), StreamFault>
     ensures ok { OnOk result (Appends (W.contents writer.old) (W.contents writer.new) (books_text books.now)) }
     ensures front { (count : ℕ)
         × Appends (W.contents writer.old) (W.contents writer.new) (take count (books_text books.now)) }
+    ensures fails { IfErr result (λ fault. (fault ≡ StreamFault.Memory) ⊎ W.has_failed writer.new fault) }
 {
     match books_text(alloc, books) {
-        Ok(mut text) => write_out(&mut text, writer),
+        Ok(mut text) => match writer.write_whole(&mut text) {
+            Ok(()) => Ok(()),
+            Err(fault) => Err(fault),
+        },
         Err(_) => Err(StreamFault::Memory),
     }
 }
