@@ -7,7 +7,7 @@
 #include <fcntl.h>
 #include <sys/mman.h>
 
-enum { TAKERS = 4, PUTTERS = 2, EACH = 600, JOBS = PUTTERS * EACH, CAPACITY = 20, ATTEMPTS = 16, KILLS = 80 };
+enum { TAKERS = 4, PUTTERS = 2, EACH = 600, JOBS = PUTTERS * EACH, CAPACITY = 20, WIDE = 64, ATTEMPTS = 16, KILLS = 80 };
 
 /* A worker may begin while the server is restarted. */
 static const femem_settings any_time = {.wait = 60000, .reconnect = 60000, .wait_for_server = true};
@@ -30,20 +30,46 @@ static femem_job taken(femem_queue *queue, uint64_t value, uint32_t attempt) {
   return job;
 }
 
-/* Jobs come in the order of their puts; a full queue waits for room, an empty one for a job. */
+/* Jobs come in the order of their puts while no put runs out of time, and else each comes once; a full queue waits for
+   room, an empty one for a job. A put that ran out of time has put nothing. */
 static void orders(femem_queue *queue) {
   femem_job job;
   ERROR(femem_queue_take(queue, &job, 0), FEMEM_WITHDRAWN);
-  for (uint64_t round = 0; round < 3; round++) {
+  for (uint64_t round = 0; round < 4; round++) {
+    bool seen[CAPACITY] = {false};
     for (uint64_t i = 0; i < CAPACITY; i++) put(queue, 100 * round + i);
-    ERROR(femem_queue_put(queue, 99, NULL, 100), FEMEM_WITHDRAWN);
+    if (round > 0) ERROR(femem_queue_put(queue, 99, NULL, 100 * (int64_t)(round - 1)), FEMEM_WITHDRAWN);
     for (uint64_t i = 0; i < CAPACITY; i++) {
-      job = taken(queue, 100 * round + i, 1);
+      ERROR(femem_queue_take(queue, &job, 20000), FEMEM_OK);
+      uint64_t at = job.value - 100 * round;
+      CHECK(at < CAPACITY && !seen[at % CAPACITY] && job.attempt == 1 && (round > 1 || at == i));
+      seen[at % CAPACITY] = true;
       ERROR(femem_queue_done(queue, &job), FEMEM_OK);
       ERROR(femem_queue_done(queue, &job), FEMEM_NOT_OWNER);
     }
     ERROR(femem_queue_take(queue, &job, 100), FEMEM_WITHDRAWN);
   }
+}
+
+/* A put waits only while as many jobs are open as the capacity says, wherever they are: a program that puts one for each
+   that it takes never waits, and each job that is done makes room for one. */
+static void room(femem *client) {
+  femem_queue *queue = queue_opened(client, "room", WIDE, 3, 500);
+  femem_job job, held[3];
+  for (uint64_t i = 0; i < WIDE - 2; i++) put(queue, i);
+  for (int i = 0; i < 4 * WIDE; i++) {
+    ERROR(femem_queue_take(queue, &job, 5000), FEMEM_OK);
+    ERROR(femem_queue_put(queue, 7, NULL, 5000), FEMEM_OK);
+    ERROR(femem_queue_done(queue, &job), FEMEM_OK);
+  }
+  for (int i = 0; i < 3; i++) ERROR(femem_queue_take(queue, &held[i], 5000), FEMEM_OK);
+  for (int i = 0; i < 2; i++) ERROR(femem_queue_put(queue, 7, NULL, 0), FEMEM_OK);
+  for (int i = 0; i < 3; i++) {
+    ERROR(femem_queue_put(queue, 7, NULL, 0), FEMEM_WITHDRAWN);
+    ERROR(femem_queue_done(queue, &held[2 - i]), FEMEM_OK);
+    ERROR(femem_queue_put(queue, 7, NULL, 0), FEMEM_OK);
+  }
+  femem_queue_close(queue);
 }
 
 /* A job that fails is tried again, three times in all, and then set aside until it is dropped. */
@@ -85,6 +111,45 @@ static void takers_away(femem_queue *queue) {
   femem_queue_close(second);
   ERROR(femem_bye_within(other, 60000), FEMEM_OK);
   femem_close(other);
+}
+
+/* Two looks at which the taker was away, and none in between for long: it may have been there. */
+static void takers_away_for_moments(femem *client) {
+  femem *other = opened(9, &usual);
+  femem_queue *queue = queue_opened(client, "calls", CAPACITY, 3, 2000);
+  femem_queue *second = queue_opened(other, "calls", CAPACITY, 3, 2000);
+  put(queue, 12);
+  femem_job job = taken(second, 12, 1), again;
+  femem_queue_close(second);
+  ERROR(femem_queue_take(queue, &again, 0), FEMEM_WITHDRAWN);
+  pause_for(5500);
+  ERROR(femem_queue_take(queue, &again, 0), FEMEM_WITHDRAWN);
+  again = taken(queue, 12, 2);
+  CHECK(again.number == job.number);
+  ERROR(femem_queue_done(queue, &again), FEMEM_OK);
+  femem_queue_close(queue);
+  ERROR(femem_bye_within(other, 60000), FEMEM_OK);
+  femem_close(other);
+}
+
+/* A descriptor that is readable ends a wait for a job and one for room, as if the time were over. */
+static void stops(femem *client) {
+  femem_queue *queue = queue_opened(client, "stops", 4, 3, 0), *next = queue_opened(client, "next", 4, 3, 0);
+  femem_job job;
+  int ends[2];
+  if (pipe(ends) || write(ends[1], "", 1) != 1) give_up("no pipe");
+  for (int i = 0; i < 4; i++) put(queue, 7), put(next, 7);
+  job = taken(queue, 7, 1);
+  uint64_t before = femem_number(client);
+  femem_stop_at(client, ends[0]);
+  ERROR(femem_queue_put(queue, 7, NULL, 5000), FEMEM_WITHDRAWN);
+  ERROR(femem_queue_move(queue, &job, next, 7, 5000), FEMEM_WITHDRAWN);
+  for (int i = 0; i < 3; i++) ERROR(femem_queue_take(queue, &job, 5000), FEMEM_OK);
+  ERROR(femem_queue_take(queue, &job, 5000), FEMEM_WITHDRAWN);
+  CHECK(femem_number(client) - before < 200);
+  femem_stop_at(client, -1);
+  femem_queue_close(queue), femem_queue_close(next);
+  close(ends[0]), close(ends[1]);
 }
 
 static void arguments(femem *client) {
@@ -129,6 +194,9 @@ static void calls(void) {
   failures_of_jobs(queue);
   takers_away(queue);
   femem_queue_close(queue);
+  takers_away_for_moments(client);
+  room(client);
+  stops(client);
   arguments(client);
   ERROR(femem_bye_within(client, 60000), FEMEM_OK);
   femem_close(client);

@@ -31,13 +31,9 @@ femem_error femem_report(femem *client, const char **text) {
   return client->report_error;
 }
 
-femem_error femem_bye(femem *client) { return femem_bye_within(client, LONGEST_BYE); }
-
-femem_error femem_bye_within(femem *client, int64_t within) {
-  int64_t end = fe_moment(within);
-  if (fe_is_copy(client)) return FEMEM_FORKED;
+static femem_error say_bye(femem *client, int64_t end) {
   if (client->out > 0) return FEMEM_BAD_CALL;
-  femem_error error = client->bye && !client->ended ? FEMEM_OK : fe_usable_until(client, end);
+  femem_error error = client->bye && client->broken != FEMEM_ENDED ? FEMEM_OK : fe_usable_until(client, end);
   if (error) return error;
   if (!client->bye && client->file) session_file_leave(client->file);
   if (!client->bye) fe_put_bare(client, BYE);
@@ -48,6 +44,13 @@ femem_error femem_bye_within(femem *client, int64_t within) {
   /* If this fails, the next life ends the session once more. */
   if (client->file) session_file_begin(client->file);
   return FEMEM_OK;
+}
+
+femem_error femem_bye(femem *client) { return femem_bye_within(client, LONGEST_BYE); }
+
+femem_error femem_bye_within(femem *client, int64_t within) {
+  femem_error error = fe_enter(client, within != 0);
+  return error ? error : fe_leave(client, say_bye(client, fe_moment(within)));
 }
 
 int femem_descriptor(const femem *client) { return client->descriptor; }
@@ -98,7 +101,9 @@ static const struct {
   {FEMEM_FILE_IN_USE, "another client has the session file"},
   {FEMEM_FILE_DAMAGED, "the session file is damaged"},
   {FEMEM_OTHER_REQUEST, "the key was asked with another request"},
-  {FEMEM_NOT_OWNER, "the job was ended or is another client's"},
+  {FEMEM_NOT_OWNER, "it is not held here: it was released, ended or taken over"},
+  {FEMEM_NO_RIGHT, "this process may not use the socket"},
+  {FEMEM_BROKEN, "the barrier's round was broken"},
   {FEMEM_BAD_FRAME, "the server sent a bad frame"},
   {FEMEM_WRONG_NUMBER, "the server replied to a number that is not out"},
   {FEMEM_STRANGE_REPLY, "the server sent a reply to nothing that was asked"},

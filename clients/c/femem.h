@@ -18,9 +18,9 @@ extern "C" {
 
 /* The version of this header. */
 #define FEMEM_VERSION_MAJOR 1
-#define FEMEM_VERSION_MINOR 0
+#define FEMEM_VERSION_MINOR 1
 #define FEMEM_VERSION_PATCH 0
-#define FEMEM_VERSION "1.0.0"
+#define FEMEM_VERSION "1.1.0"
 
 #ifdef __GNUC__
 #pragma GCC visibility push(default)
@@ -72,6 +72,8 @@ typedef enum femem_error {
   FEMEM_FILE_DAMAGED = 214,   /* the session file has content that no client writes */
   FEMEM_OTHER_REQUEST = 215,  /* the key was used with another request */
   FEMEM_NOT_OWNER = 216,      /* the job was ended, or another client has it */
+  FEMEM_NO_RIGHT = 217,       /* this process may not use the socket: its group may, or its owner alone */
+  FEMEM_BROKEN = 218,         /* the barrier's round was broken */
 
   /* The server, or whatever answers in its place, breaks the formats. The connection is closed. */
   FEMEM_BAD_FRAME = 301,      /* bytes that are not a reply */
@@ -128,7 +130,7 @@ typedef struct femem_settings {
   int64_t wait;         /* how long a call waits before it takes its request back; 0: no limit */
   int64_t reconnect;    /* how long a client tries to reach a lost server; 0: no limit */
   bool resume;          /* numbers continue at the session's floor; otherwise what the session kept is settled first */
-  bool wait_for_server; /* the first connection is tried again, too, where the path does not lead to a socket */
+  bool wait_for_server; /* the first connection is tried again, too, where the path can't lead to a server */
 } femem_settings;
 
 /* No limit for `wait`, 30 seconds for `reconnect`. NULL for settings means these. */
@@ -137,9 +139,11 @@ typedef struct femem_settings {
 /* ---- opening and closing ---- */
 
 /* Opens a client of the session on the socket at `path`, and attaches it. `settings` may be NULL. If it fails,
-   *client is NULL. A server that does not listen is tried again for `reconnect`, or for `wait` if `reconnect` has no
-   limit. A path that is missing or that this process may not use fails at once, unless the settings say
-   `wait_for_server`. Errors: FEMEM_UNREACHABLE (errno says why), FEMEM_TIMEOUT, FEMEM_REFUSED_SESSION_LIMIT,
+   *client is NULL. A server that is away is tried again for `reconnect`, or for `wait` if `reconnect` has no limit: it
+   does not listen, or its socket is missing, perhaps with the folder. A path that can't be a socket's fails at once: the
+   folder above its folder is missing, something else is there, or it has no right form. Where this process may not use
+   the path it fails after a second, FEMEM_NO_RIGHT. With `wait_for_server` such paths are tried again, too. Errors:
+   FEMEM_UNREACHABLE (errno says why), FEMEM_NO_RIGHT, FEMEM_TIMEOUT, FEMEM_REFUSED_SESSION_LIMIT,
    FEMEM_REFUSED_CLOSING, FEMEM_MEMORY, FEMEM_BAD_CALL if the path is empty or too long for a socket, or if settings of
    a newer version have a field that this one does not know. */
 femem_error femem_open(femem **client, const char *path, uint64_t session, const femem_settings *settings);
@@ -272,6 +276,57 @@ femem_error femem_settle(femem *client);
    report. */
 femem_error femem_report(femem *client, const char **text);
 
+/* ---- programs with a loop of their own ----
+
+   Such a program opens a client with femem_open_begin, and then asks poll, or the like, about it:
+
+     struct pollfd line = {femem_descriptor(client), POLLIN, 0};
+     if (femem_wants_write(client)) line.events |= POLLOUT;
+     poll(&line, 1, femem_poll_time(client));
+     error = femem_poll(client);
+
+   all four again each time, since the descriptor changes. femem_poll opens the client, comes back when the server was
+   away, writes and reads. Once it is FEMEM_OK, femem_next with a time of 0 takes the answers that have come.
+
+   These calls never wait, for a client of femem_open_begin, or of femem_open from its first femem_poll on: femem_poll,
+   femem_send and the others of its name, femem_flush, femem_cancel, femem_next, femem_wait, femem_reconnect and
+   femem_bye_within with a time of 0, femem_close, and what tells of a client. FEMEM_TIMEOUT: it would wait. Then
+   femem_send has sent nothing, femem_cancel's answer comes later, and the others are called again after femem_poll.
+   With a session file they wait for the disk, as each sends only what is synced. Every other call that asks the server
+   waits for it, as with any client. The calls of queues, channels, locks and the like do so, too. */
+
+/* Makes a client of the session, as femem_open does, and does not connect: femem_poll does. Until that is FEMEM_OK, only
+   femem_poll, what tells of a client, femem_log, femem_stop_at and femem_close are for it: others that ask the server are
+   FEMEM_BAD_CALL. Errors: FEMEM_MEMORY, and FEMEM_BAD_CALL as in femem_open. Never waits. */
+femem_error femem_open_begin(femem **client, const char *path, uint64_t session, const femem_settings *settings);
+
+/* The same for a session file, as femem_open_file has it. Waits for the disk. Errors: also FEMEM_FILE_FAULT (errno says
+   why), FEMEM_FILE_IN_USE, FEMEM_FILE_DAMAGED. */
+femem_error femem_open_file_begin(femem **client, const char *path, const char *file, const femem_settings *settings);
+
+/* Does what can be done at once: connects if it is time, writes what is out, reads what has come. FEMEM_OK: the client
+   is open. FEMEM_TIMEOUT: it is not yet, or not again; what is out is sent when it is back. Otherwise it failed, with an
+   error of femem_open, and femem_errno: a client that never was open can only be closed, and another one comes back by
+   femem_reconnect. FEMEM_UNREACHABLE with ETIMEDOUT is a server that took the connection and did not answer. It tries
+   for as long as femem_open, and then as `reconnect` says; FEMEM_NEVER is once, and not at all. FEMEM_ENDED after
+   femem_bye. It reads some of what has come, so a poller that tells only of changes needs it until nothing comes. */
+femem_error femem_poll(femem *client);
+
+/* Whether output is left, so that a loop asks for POLLOUT. It asks for POLLIN in any case. */
+bool femem_wants_write(const femem *client);
+
+/* In how many milliseconds femem_poll is due even if the descriptor is not ready: to try again, to give up, or to ask
+   after a long silence. -1: not at all. As the time of poll. */
+int femem_poll_time(const femem *client);
+
+/* Gets a line without its end, such as "session 7: back; requests without an answer: 2". It makes no call with the client. */
+typedef void (*femem_log_function)(void *context, const char *line);
+
+/* From now on the function gets a line when the client is attached, its connection is lost, the server is tried again (at
+   first, and every five seconds), it is back, the session is lost, the client is given up, and when a request of the
+   program was taken back. It runs within the call that finds this. Without it, and with NULL, nothing is told. */
+void femem_log(femem *client, femem_log_function function, void *context);
+
 /* ---- over the client's own restarts: only with a session file, otherwise FEMEM_BAD_CALL ---- */
 
 /* The longest key, in bytes. */
@@ -283,7 +338,8 @@ enum { FEMEM_KEY = 1024 };
    FEMEM_OTHER_REQUEST if the key has another request. Takes memory for a new key. */
 femem_error femem_once(femem *client, const char *key, const femem_request *request, femem_answer *answer);
 
-/* The same with its own time in milliseconds, in place of `wait`, as femem_call_within has. */
+/* The same with its own time in milliseconds, in place of `wait`, as femem_call_within has. An answer of a recovered request that
+   was not taken is dropped if nothing could be said of a request that was taken back before. */
 femem_error femem_once_within(femem *client, const char *key, const femem_request *request, int64_t within,
                               femem_answer *answer);
 
@@ -353,7 +409,8 @@ femem_error femem_queue_done(femem_queue *queue, const femem_job *job);
 /* The attempt has failed: the job is given to another taker, or set aside if this was its last attempt. */
 femem_error femem_queue_fail(femem_queue *queue, const femem_job *job);
 
-/* The jobs that are set aside, `most` at most; *count gets how many there are. `jobs` may be NULL if `most` is 0. */
+/* The jobs that are set aside, `most` at most; *count gets how many there are. `jobs` may be NULL if `most` is 0. One whose
+   last taker was killed is among them in a look from away_after to twice that after the first: its taker may come back. */
 femem_error femem_queue_aside(femem_queue *queue, femem_job *jobs, size_t most, size_t *count);
 
 /* Ends a job that is set aside. FEMEM_NOT_OWNER: it has ended. */
@@ -419,6 +476,161 @@ const char *femem_error_text(femem_error error);
 
 /* The version of the running library; FEMEM_VERSION is that of this header. */
 const char *femem_version(void);
+
+/* ---- the first of several ---- */
+
+/* Makes requests, 1 to 31, until one of them is answered, and takes the others back. FEMEM_OK: answers[i] is that of
+   requests[i], FEMEM_WITHDRAWN for one that has not happened; several may have. FEMEM_WITHDRAWN: none was answered within
+   `within` milliseconds, and none has happened. FEMEM_BAD_CALL with the setting `resume`. */
+femem_error femem_wait_any(femem *client, const femem_request *requests, size_t count, int64_t within,
+                           femem_answer *answers);
+
+/* From now on femem_wait_any, femem_queue_put, femem_queue_take, femem_queue_move, and the calls below that wait, end as
+   if their time were over once that descriptor is readable; -1: none. It may be the end of a pipe to which a signal
+   handler writes. Not while the server is away. */
+void femem_stop_at(femem *client, int descriptor);
+
+/* ---- locks, semaphores, counters and barriers ----
+
+   Each has a name, and clients in C and Python that give the same name and size share it; docs/patterns.md has the words
+   and steps. A handle is of one client, whose other calls may be used in between, and is closed before its client. What it
+   holds when it is closed, or when its process is killed, stays held by the session: the next process of the session
+   adopts it, or gives it back. FEMEM_BAD_CALL if the array of that name is another pattern's, or of another size, or with
+   the setting `resume`. Each call may also return an error of the connection; what it then has done, the next call finds.
+
+   Handles of locks, and of queues that take, have a request out (femem_out) until they are closed, so femem_bye comes
+   after that. By it others see that this client is there. A program that does something else for long while it holds a
+   lock calls femem_present now and then, and so comes back when the server was restarted: otherwise others may find it
+   absent. */
+
+/* Comes back if the server was restarted, and shows that this client is there. Waits only for the server. */
+femem_error femem_present(femem *client);
+
+/* A lock, held by one client at a time. */
+typedef struct femem_lock femem_lock;
+
+/* Opens the lock of that name (1 to 32 bytes), an array of its own. It is made when it is first acquired. Takes memory. If
+   it fails, *lock is NULL. FEMEM_BAD_NAME. */
+femem_error femem_lock_open(femem_lock **lock, femem *client, const char *name);
+
+/* Opens the lock of a key, of at least one byte, in the array of that name. Such an array has `capacity` places, 4,096 if
+   it is 0, and all who share it give the same number; with 1/8 more it takes two words each of the server's 65,536. Two
+   keys may have one place, and then wait for each other: one key has that of any of n others with a chance of n / capacity.
+   Who holds one of two such keys and acquires the other one waits for itself. */
+femem_error femem_lock_open_in(femem_lock **lock, femem *client, const char *name, uint32_t capacity, const char *key);
+
+/* Frees the handle. It waits a second at most. NULL is allowed. */
+void femem_lock_close(femem_lock *lock);
+
+/* Waits for the lock, `within` milliseconds at most: FEMEM_WITHDRAWN; then it is not held. An owner that was not connected
+   for `takeover_after` milliseconds loses it; FEMEM_NEVER: none does. It may come back and go on: femem_lock_generation
+   tells the two apart. FEMEM_BAD_CALL if this handle holds it. Takes memory. */
+femem_error femem_lock_acquire(femem_lock *lock, int64_t within, int64_t takeover_after);
+
+/* The same under a key, which needs a session file: one acquisition, however often the program is restarted and calls this,
+   until femem_forget forgets the key. If it has happened, by this process or an earlier one, it gives FEMEM_OK, or
+   FEMEM_NOT_OWNER if it is over: the lock was given back, broken or taken over. What an earlier process left without a key
+   is given back first. FEMEM_OTHER_REQUEST if the key has another request. FEMEM_BAD_CALL for a lock of
+   femem_lock_open_in. */
+femem_error femem_lock_acquire_once(femem_lock *lock, const char *key, int64_t within, int64_t takeover_after);
+
+/* Gives the lock back, also one that an earlier process of this session left. FEMEM_NOT_OWNER: it is free, another
+   session's, or was taken over. */
+femem_error femem_lock_release(femem_lock *lock);
+
+/* The session that holds the lock, and whether its client is connected; `is_there` may be NULL. FEMEM_NOT_NOW: it is free.
+   FEMEM_NO_ARRAY: there is no such lock. */
+femem_error femem_lock_owner(femem_lock *lock, uint64_t *session, bool *is_there);
+
+/* Frees the lock, whoever holds it. The owner's release is FEMEM_NOT_OWNER. FEMEM_NO_ARRAY: there is no such lock. */
+femem_error femem_lock_break(femem_lock *lock);
+
+/* A number of the last acquisition, greater than that of each acquisition before it, by whatever client. What the lock
+   protects can refuse a smaller one than it has seen. */
+uint64_t femem_lock_generation(const femem_lock *lock);
+
+/* Whether the last acquisition found the lock held by an earlier process of this session. */
+bool femem_lock_adopted(const femem_lock *lock);
+
+/* Whether the last acquisition took the lock from an owner that was away; *session is then that owner's. */
+bool femem_lock_broke(const femem_lock *lock, uint64_t *session);
+
+/* A semaphore: a number of permits, each held by one client at a time. */
+typedef struct femem_semaphore femem_semaphore;
+
+/* Opens the semaphore of that name with so many permits, 1 to 32,766. Takes memory. If it fails, *semaphore is NULL.
+   FEMEM_BAD_NAME. */
+femem_error femem_semaphore_open(femem_semaphore **semaphore, femem *client, const char *name, uint32_t permits);
+
+/* Frees the handle. Never waits. NULL is allowed. */
+void femem_semaphore_close(femem_semaphore *semaphore);
+
+/* Waits for a permit, `within` milliseconds at most: FEMEM_WITHDRAWN. Of the permits that an earlier process of this session
+   left, the first call adopts one and gives back the others. FEMEM_BAD_CALL if this handle holds all permits. Takes
+   memory. */
+femem_error femem_semaphore_acquire(femem_semaphore *semaphore, int64_t within);
+
+/* The same under a key, which needs a session file: one acquisition, however often the program is restarted and calls this,
+   until femem_forget forgets the key. FEMEM_NOT_OWNER: its permit was given back. All permits that an earlier process left
+   without a key are given back first. FEMEM_OTHER_REQUEST if the key has another request. */
+femem_error femem_semaphore_acquire_once(femem_semaphore *semaphore, const char *key, int64_t within);
+
+/* Gives back a permit of this handle, or one that an earlier process of this session left. FEMEM_NOT_OWNER: there is none. */
+femem_error femem_semaphore_release(femem_semaphore *semaphore);
+
+/* Gives back a permit of a session whose client is gone for good. FEMEM_NOT_OWNER: it has none. */
+femem_error femem_semaphore_release_of(femem_semaphore *semaphore, uint64_t session);
+
+/* The sessions that hold permits, `most` at most, each once for each permit; *count gets how many there are. `sessions` may
+   be NULL if `most` is 0. */
+femem_error femem_semaphore_holders(femem_semaphore *semaphore, uint64_t *sessions, size_t most, size_t *count);
+
+/* Whether an earlier process of this session had left the permit of the last acquisition. */
+bool femem_semaphore_adopted(const femem_semaphore *semaphore);
+
+/* A counter: a number modulo 2^64. */
+typedef struct femem_counter femem_counter;
+
+/* Opens the counter of that name, which is made, with 0, if it is missing. FEMEM_BAD_NAME. Takes memory. If it fails,
+   *counter is NULL. */
+femem_error femem_counter_open(femem_counter **counter, femem *client, const char *name);
+
+/* Frees the handle. Never waits. NULL is allowed. */
+void femem_counter_close(femem_counter *counter);
+
+/* Adds, modulo 2^64; *was, which may be NULL, is the number before. With a key, which needs a session file, it is added
+   once, however often the program is restarted and calls this; `key` may be NULL. FEMEM_NO_ARRAY if the array was
+   removed. Without a key it never waits for others; with one it waits if a request of one's own has emptied the word. */
+femem_error femem_counter_add(femem_counter *counter, uint64_t amount, const char *key, uint64_t *was);
+
+/* The number. FEMEM_NO_ARRAY if the array was removed. */
+femem_error femem_counter_value(femem_counter *counter, uint64_t *value);
+
+/* A barrier, at which a number of parties wait for each other, again and again. */
+typedef struct femem_barrier femem_barrier;
+
+/* Opens the barrier of that name (1 to 30 bytes) for so many parties, at least 1. Takes memory. If it fails, *barrier is
+   NULL. FEMEM_BAD_NAME. */
+femem_error femem_barrier_open(femem_barrier **barrier, femem *client, const char *name, uint32_t parties);
+
+/* Frees the handle. Never waits. NULL is allowed. */
+void femem_barrier_close(femem_barrier *barrier);
+
+/* Waits until all have arrived. *number, which may be NULL, is that of this arrival, from 0 on. FEMEM_WITHDRAWN: not all
+   arrived within `within` milliseconds, and the round is broken. FEMEM_BROKEN: the round was broken, until somebody resets
+   it. After another error this arrival counts. */
+femem_error femem_barrier_wait(femem_barrier *barrier, int64_t within, uint32_t *number);
+
+/* Breaks the round, if it is not decided, and begins a new one. */
+femem_error femem_barrier_reset(femem_barrier *barrier);
+
+/* ---- a job that moves on ---- */
+
+/* Ends a job that was taken from one queue, and puts one with that value into the next, in one step: for each job at most
+   once, whoever takes it and however often. Waits for room in the next queue, `within` milliseconds at most:
+   FEMEM_WITHDRAWN; then the job is still this taker's. FEMEM_NOT_OWNER: the job was ended before, by another attempt or by
+   a move of this process whose answer did not come. The value is below 2^64 - 1. The two may be of one client. */
+femem_error femem_queue_move(femem_queue *from, const femem_job *job, femem_queue *next, uint64_t value, int64_t within);
 
 #ifdef __GNUC__
 #pragma GCC visibility pop

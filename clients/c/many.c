@@ -25,12 +25,27 @@ static femem_error begin_once(femem *client, const char *key, const femem_reques
   return FEMEM_OK;
 }
 
+/* Drops a recovered answer that nobody has taken, if it holds the floor below this request, which was taken back and would
+   not end. */
+static bool unblock(femem *client, uint64_t number) {
+  const slot *place = fe_find(client, number);
+  bool drops = place && fe_is_blocked(client, place) && fe_slot_of(client, client->low)->recovered;
+  return drops && fe_drop_recovered(client);
+}
+
+femem_error fe_take_end(femem *client, uint64_t number, femem_answer *answer) {
+  femem_error error;
+  do error = fe_take(client, number, answer, client->settings.wait);
+  while (error == FEMEM_TIMEOUT && unblock(client, number));
+  return error;
+}
+
 /* Waits for a key's answer. Takes the request back when its time is over. */
 static femem_error end_once(femem *client, const char *key, int64_t within, femem_answer *answer) {
   uint64_t number = answer->number;
-  femem_error error = fe_wait_for(client, fe_is_answered, number, fe_moment(within));
-  if (error == FEMEM_TIMEOUT && (error = fe_ask_back(client, number)) == FEMEM_OK)
-    error = fe_wait_for(client, fe_is_answered, number, fe_moment(client->settings.wait));
+  femem_error error = fe_wait_for_answer(client, number, within);
+  if (error == FEMEM_TIMEOUT) error = fe_ask_back(client, number);
+  if (error == FEMEM_OK && fe_find(client, number)) error = fe_take_end(client, number, answer);
   if (error) return error;
   const kept_key *kept = fe_find_key(client, key);
   *answer = kept ? kept->answer : fe_end_of(client, number);
@@ -95,18 +110,17 @@ static femem_error take_next(femem *client, batch *many) {
   femem_answer *answer = &many->answers[many->taken];
   uint64_t number = answer->number;
   if (many->keys) return end_once(client, many->keys[many->taken], client->settings.wait, answer);
-  femem_error error = femem_wait(client, number, answer, client->settings.wait);
+  femem_error error = fe_take(client, number, answer, client->settings.wait);
   if (error != FEMEM_TIMEOUT) return error;
-  error = femem_cancel(client, number, answer);
+  error = fe_take_back(client, number, answer);
   return fe_find(client, number) ? error : FEMEM_OK;
 }
 
 static femem_error run_batch(femem *client, batch many) {
+  for (size_t i = 0; i < many.count; i++) many.answers[i] = (femem_answer){.error = FEMEM_NOTHING_OUT};
   if (fe_is_copy(client)) return FEMEM_FORKED;
-  for (size_t i = 0; i < many.count; i++) {
+  for (size_t i = 0; i < many.count; i++)
     if (!fe_is_spelled(&many.requests[i]) || (many.keys && !fe_is_key(many.keys[i]))) return FEMEM_BAD_CALL;
-    many.answers[i] = (femem_answer){.error = FEMEM_NOTHING_OUT};
-  }
   while (many.taken < many.count) {
     femem_error error = send_more(client, &many);
     if (error && (error != FEMEM_WINDOW_FULL || many.sent == many.taken)) return error;
@@ -131,4 +145,45 @@ femem_error femem_batch_once(femem *client, const char *const *keys, const femem
   if (fe_is_copy(client)) return FEMEM_FORKED;
   if (!client->file || !keys) return FEMEM_BAD_CALL;
   return run_batch(client, (batch){.keys = keys, .requests = requests, .answers = answers, .count = count});
+}
+
+/* ---- the first of several ---- */
+
+/* Takes back those that have no answer, and takes all answers. How many have happened is in *happened. */
+static femem_error end_others(femem *client, size_t count, femem_answer *answers, size_t *happened) {
+  femem_error error = FEMEM_OK;
+  *happened = 0;
+  for (size_t i = 0; i < count && error == FEMEM_OK; i++) error = fe_ask_back(client, answers[i].number);
+  for (size_t i = 0; i < count; i++) {
+    uint64_t number = answers[i].number;
+    if (error == FEMEM_OK) error = fe_take_end(client, number, &answers[i]);
+    if (error) fe_abandon(client, number);
+    else if (answers[i].error != FEMEM_WITHDRAWN) ++*happened;
+  }
+  return error;
+}
+
+femem_error femem_wait_any(femem *client, const femem_request *requests, size_t count, int64_t within,
+                           femem_answer *answers) {
+  uint64_t numbers[WINDOW];
+  size_t sent = 0, happened;
+  if (fe_is_copy(client)) return FEMEM_FORKED;
+  if (count == 0 || count >= WINDOW || client->settings.resume) return FEMEM_BAD_CALL;
+  for (size_t i = 0; i < count; i++)
+    if (!fe_is_spelled(&requests[i])) return FEMEM_BAD_CALL;
+  femem_error error = FEMEM_OK;
+  for (size_t i = 0; i < count; i++) answers[i] = (femem_answer){.error = FEMEM_WITHDRAWN};
+  for (; sent < count && error == FEMEM_OK; sent += error == FEMEM_OK) {
+    error = fe_send_request(client, &requests[sent], NULL, SEND_ENDS, &numbers[sent]);
+    if (error == FEMEM_OK) answers[sent].number = numbers[sent];
+  }
+  client->awaited = numbers;
+  client->may_stop = true;
+  if (error == FEMEM_OK) error = fe_wait_for(client, fe_any_of, count, fe_moment(within));
+  client->awaited = NULL;
+  client->may_stop = false;
+  femem_error ended = end_others(client, sent, answers, &happened);
+  if (ended || (error && error != FEMEM_TIMEOUT)) return ended ? ended : error;
+  if (happened > 0) return FEMEM_OK;
+  return sent < count ? error : FEMEM_WITHDRAWN;
 }

@@ -22,8 +22,7 @@ static bool take_settings(femem_settings *taken, const femem_settings *given) {
   return true;
 }
 
-/* A client that is not connected yet. */
-static femem_error make(femem **client, const char *path, uint64_t session, const femem_settings *settings) {
+femem_error fe_make(femem **client, const char *path, uint64_t session, const femem_settings *settings) {
   struct sockaddr_un address = {.sun_family = AF_UNIX};
   femem_settings taken;
   if (!path || !*path || strlen(path) >= sizeof address.sun_path) return FEMEM_BAD_CALL;
@@ -32,7 +31,7 @@ static femem_error make(femem **client, const char *path, uint64_t session, cons
   femem *made = *client = calloc(1, sizeof *made);
   if (!made) return FEMEM_MEMORY;
   made->forks = fe_forks();
-  made->descriptor = -1;
+  made->descriptor = made->stop = -1;
   made->address = address;
   made->session = session;
   made->settings = taken;
@@ -48,7 +47,7 @@ static femem_error reach_first(femem *client) {
 femem_error femem_open(femem **client, const char *path, uint64_t session, const femem_settings *settings) {
   if (!client) return FEMEM_BAD_CALL;
   *client = NULL;
-  femem_error error = make(client, path, session, settings);
+  femem_error error = fe_make(client, path, session, settings);
   if (error == FEMEM_OK) error = reach_first(*client);
   if (error == FEMEM_OK) return FEMEM_OK;
   int why = *client ? (*client)->system : errno;
@@ -75,7 +74,7 @@ static void recover(femem *client, uint64_t wire) {
   *place = (slot){.state = TAKEN}; /* ended; its answer is not known here */
   if (kept->wire != wire) return;
   *place = (slot){.state = OUT, .wire = wire, .request = kept->request, .answer.number = kept->number,
-                  .keyed = kept->key, .recovered = true, .unwanted = kept->ends_with_process,
+                  .keyed = kept->key, .recovered = true, .again = true, .unwanted = kept->ends_with_process,
                   .cancelled = kept->ends_with_process ? TO_END : NOT};
   client->out++;
   if (place->unwanted) return;
@@ -86,9 +85,8 @@ static void recover(femem *client, uint64_t wire) {
   memcpy(listed->key, kept->key->key, kept->key->length);
 }
 
-/* Restores the earlier life's state from the session file. How many of its settles and attaches are still under way is
-   not known. */
-static femem_error restore(femem *client) {
+/* How many of its settles and attaches are still under way is not known. */
+femem_error fe_restore(femem *client) {
   const session_file *file = client->file;
   client->recovered = calloc(WINDOW, sizeof *client->recovered);
   if (!client->recovered) return FEMEM_MEMORY;
@@ -105,15 +103,19 @@ static femem_error restore(femem *client) {
   return FEMEM_OK;
 }
 
+femem_error fe_make_file(femem **client, const char *path, const char *file, const femem_settings *settings) {
+  if (!file || (settings && settings->resume)) return FEMEM_BAD_CALL;
+  femem_error error = fe_make(client, path, 0, settings);
+  return error ? error : session_file_open(&(*client)->file, file);
+}
+
 femem_error femem_open_file(femem **client, const char *path, const char *file, const femem_settings *settings) {
   if (!client) return FEMEM_BAD_CALL;
   *client = NULL;
-  if (!file || (settings && settings->resume)) return FEMEM_BAD_CALL;
   femem *made = NULL;
-  femem_error error = make(&made, path, 0, settings);
-  if (error == FEMEM_OK) error = session_file_open(&made->file, file);
+  femem_error error = fe_make_file(&made, path, file, settings);
   if (error == FEMEM_OK && made->file->leaving) error = end_left(made->file, path, settings);
-  if (error == FEMEM_OK) error = restore(made);
+  if (error == FEMEM_OK) error = fe_restore(made);
   if (error == FEMEM_OK) error = reach_first(made);
   if (error == FEMEM_OK) {
     made->returns = 0;
@@ -133,7 +135,9 @@ void femem_close(femem *client) {
     session_file_sync(client->file, client->floor_told, client->floor_asked, client->next);
   fe_close_line(client, FEMEM_DISCONNECTED);
   session_file_close(client->file);
+  session_file_close(client->left);
   free(client->recovered);
+  free(client->held);
   free(client->text);
   free(client);
 }
@@ -141,6 +145,10 @@ void femem_close(femem *client) {
 femem_error femem_reconnect(femem *client, int64_t within) {
   if (fe_is_copy(client)) return FEMEM_FORKED;
   if (client->ended) return FEMEM_ENDED;
+  femem_error error = fe_enter(client, within != 0);
+  if (error) return error;
   if (client->phase != RETURNING) fe_close_line(client, FEMEM_DISCONNECTED);
-  return fe_reach(client, fe_moment(within), true);
+  client->trying = false;
+  client->failed = FEMEM_OK;
+  return fe_leave(client, fe_reach(client, fe_moment(within), true));
 }

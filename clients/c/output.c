@@ -29,6 +29,11 @@ void fe_put_short(femem *client, uint8_t kind, uint64_t number) {
   fe_put8(at + 5, number);
 }
 
+void fe_put_probe(femem *client) {
+  client->probes++;
+  fe_put_short(client, CANCEL, PROBE);
+}
+
 void fe_put_bare(femem *client, uint8_t kind) {
   uint8_t *at = fe_room(client, 5);
   if (!at) return;
@@ -39,6 +44,7 @@ void fe_put_bare(femem *client, uint8_t kind) {
 void fe_put_settle(femem *client, uint64_t floor) {
   client->floor_asked = floor;
   client->settles++;
+  fe_note_passed(client, floor);
   fe_put_short(client, SETTLE, floor);
 }
 
@@ -54,17 +60,28 @@ void fe_put_slot(femem *client, uint64_t number) {
   if (at) memcpy(at, spelled, size);
 }
 
+static void put_with_cancel(femem *client, uint64_t number) {
+  fe_put_slot(client, number);
+  fe_put_cancel(client, number);
+}
+
 void fe_put_again(femem *client) {
   uint64_t floor = client->restored ? client->low : client->floor_asked;
   client->restored = false;
   for (uint64_t ended = client->floor_told; client->late && ended < client->low; ended++) fe_put_cancel(client, ended);
   client->late = false;
+  /* Of what is BACK the answer shows whether it has happened meanwhile. */
+  for (uint64_t number = client->floor_told; number < client->next; number++)
+    if (fe_slot_of(client, number)->state == BACK) put_with_cancel(client, number);
   if (floor > client->floor_told) fe_put_settle(client, floor);
   for (uint64_t number = client->low; number < client->next; number++) {
-    if (fe_slot_of(client, number)->state != OUT) continue;
-    fe_put_slot(client, number);
-    if (fe_slot_of(client, number)->cancelled == TO_END) fe_put_cancel(client, number);
+    slot *place = fe_slot_of(client, number);
+    if (place->state != OUT) continue;
+    place->again = true;
+    if (place->cancelled == TO_END) put_with_cancel(client, number);
+    else fe_put_slot(client, number);
   }
+  fe_raise_floor(client);
   if (client->report == REPORT_ASKED) fe_put_bare(client, REPORT);
   if (client->bye) fe_put_bare(client, BYE);
 }

@@ -6,8 +6,17 @@
 #include <string.h>
 
 enum { SLOW = 50, SLOWEST = 1000 }; /* milliseconds */
+enum { FIND_AFTER = 30000000 };     /* microseconds, after which pages are found again in any case */
+enum { UNCOUNTED_AFTER = 3 };       /* waits of a put, after which it looks for pages that have ended */
 
 /* ---- opening ---- */
+
+/* The slots of a page: a quarter of the capacity, more in a small queue, and no more than fit well into a server. */
+static uint32_t slots_of(uint32_t capacity, uint32_t attempts) {
+  uint32_t quarter = (capacity + 3) / 4, most = PAGE_WORDS / (SLOT_WORDS + attempts);
+  uint32_t least = capacity < LEAST_SLOTS ? capacity : LEAST_SLOTS, wanted = quarter > least ? quarter : least;
+  return wanted < most ? wanted : most;
+}
 
 femem_error femem_queue_open(femem_queue **queue, femem *client, const char *name, uint32_t capacity,
                              uint32_t attempts, int64_t away_after) {
@@ -21,90 +30,78 @@ femem_error femem_queue_open(femem_queue **queue, femem *client, const char *nam
   if (!made) return FEMEM_MEMORY;
   made->client = client;
   memcpy(made->name, name, length);
-  made->slots = (capacity + PAGES - 1) / PAGES;
+  made->capacity = capacity;
   made->attempts = attempts;
+  made->slots = slots_of(capacity, attempts);
   made->away_after = 1000 * (away_after ? away_after : 5000);
-  femem_error error = fe_shared_array(client, name, ROOT_LENGTH, &made->root);
-  if (error == FEMEM_OK) error = fq_begin_root(made, capacity);
+  size_t bytes = made->slots / 8 + 1;
+  made->bits = calloc(PAGES, bytes);
+  for (size_t i = 0; made->bits && i < PAGES; i++) made->pages[i].is_ended = made->bits + i * bytes;
+  femem_error error = made->bits ? fe_shared_array(client, name, ROOT_LENGTH, &made->root) : FEMEM_MEMORY;
+  if (error == FEMEM_OK) error = fq_begin_root(made);
   if (error == FEMEM_OK) error = fq_find_pages(made);
   if (error) femem_queue_close(made);
   else *queue = made;
   return error;
 }
 
-/* No request is out whose answer nobody needs. */
-static bool is_quiet(femem *client, uint64_t unused) {
-  (void)unused;
-  for (const slot *place = client->slots; place < client->slots + WINDOW; place++)
-    if (place->unwanted && (place->state == OUT || place->state == PARKED)) return false;
-  return true;
-}
-
 void femem_queue_close(femem_queue *queue) {
   if (!queue) return;
-  femem *client = queue->client;
-  if (!fe_is_copy(client) && client->phase == SERVED) {
-    if (queue->present) fe_ask_back(client, queue->present);
-    fe_wait_for(client, is_quiet, 0, fe_moment(SLOWEST));
-  }
+  fp_hide(queue->client, queue->shows);
   free(queue->held);
+  free(queue->bits);
   free(queue);
 }
 
 /* ---- putting ---- */
 
-/* What is left until the moment, in milliseconds. */
-static int64_t left(int64_t end) {
-  int64_t most = (end - fe_now() + 999) / 1000;
-  return end < 0 ? FEMEM_FOREVER : most > 0 ? most : 0;
-}
-
 /* Waits until a word is full, for some milliseconds. */
 static femem_error wait_for(femem_queue *queue, femem_operation operation, uint64_t array, uint64_t index,
                             int64_t within, femem_answer *answer) {
-  femem_request request = {.operation = operation, .array = array, .index = (uint32_t)index, .no_wait = within == 0};
-  uint64_t number;
-  femem_error error = fe_send_request(queue->client, &request, NULL, SEND_ENDS, &number);
-  if (error) return error;
-  error = femem_wait(queue->client, number, answer, within);
-  if (error == FEMEM_OK) return answer->error;
-  if (error == FEMEM_TIMEOUT) error = femem_cancel(queue->client, number, answer);
-  if (error != FEMEM_OK && error != FEMEM_WITHDRAWN && error != FEMEM_NO_ARRAY) fe_abandon(queue->client, number);
-  return error;
+  queue->asked++;
+  femem_request request = {.operation = operation, .array = array, .index = (uint32_t)index};
+  return fp_wait(queue->client, request, within, answer);
 }
 
-/* Removes the first page that is finished. */
-static femem_error remove_any(femem_queue *queue, bool *removed) {
-  femem_error error = FEMEM_OK;
-  *removed = false;
-  for (uint64_t page = 0; error == FEMEM_OK && !*removed && (page = fq_page_above(queue, page)) > 0;)
-    error = fq_remove_ended(queue, page, removed);
-  return error;
+/* Waits for a signal of room. FEMEM_WITHDRAWN at the end of the time. */
+static femem_error wait_for_room(femem_queue *queue, int64_t pause, int64_t end) {
+  int64_t most = fp_left(end);
+  femem_answer answer;
+  if (most == 0 || queue->client->stopped) return FEMEM_WITHDRAWN;
+  femem_error error = wait_for(queue, FEMEM_READFF, queue->root, ROOM, most > 0 && most < pause ? most : pause, &answer);
+  return error == FEMEM_WITHDRAWN ? FEMEM_OK : error;
 }
 
-/* Finds a page to put into, where `full` has no more tickets. Makes one if there is room, and otherwise waits. */
+/* Whether no name is free for a page. */
+static bool has_all_names(const femem_queue *queue) {
+  for (const queue_page *at = queue->pages; at < queue->pages + PAGES; at++)
+    if (at->id == 0) return false;
+  return true;
+}
+
+/* Finds a page to put into, where `full` has no more tickets. Makes one if there is a name, and otherwise waits. */
 static femem_error find_room(femem_queue *queue, uint64_t full, int64_t end) {
   for (int64_t pause = SLOW;; pause = 2 * pause < SLOWEST ? 2 * pause : SLOWEST) {
-    femem_answer answer;
-    bool removed = false;
     femem_error error = fq_find_pages(queue);
-    if (error == FEMEM_OK && fq_newest(queue) <= full) error = fq_make_page(queue);
+    bool is_new = error == FEMEM_OK && fq_newest(queue) > full;
+    if (error == FEMEM_OK && !is_new) error = fq_remove_finished(queue);
+    if (error == FEMEM_OK && !is_new) error = fq_make_page(queue);
     queue->putting = fq_newest(queue);
     if (error || queue->putting > full) return error;
     if (fq_page_above(queue, 0) == 0) continue;
     error = femem_purge(queue->client, queue->root, ROOM);
-    if (error == FEMEM_OK) error = remove_any(queue, &removed);
+    if (error == FEMEM_OK) error = fq_remove_ended(queue);
+    bool holds_all = (uint64_t)PAGES * queue->slots >= queue->capacity; /* or a server has no room for so many */
+    if (error == FEMEM_OK && has_all_names(queue))
+      error = holds_all ? wait_for_room(queue, pause, end) : FEMEM_WORD_LIMIT;
     if (error) return error;
-    if (removed) continue;
-    int64_t most = left(end);
-    if (most == 0) return FEMEM_WITHDRAWN;
-    error = wait_for(queue, FEMEM_READFF, queue->root, ROOM, most > 0 && most < pause ? most : pause, &answer);
-    if (error && error != FEMEM_WITHDRAWN) return error;
   }
 }
 
-/* Draws a ticket. *ticket is that of the page queue->putting. */
-static femem_error draw(femem_queue *queue, uint64_t *ticket, int64_t end) {
+/* Draws a ticket, unless the last put has kept one. *ticket is that of the page queue->putting. */
+femem_error fq_draw(femem_queue *queue, uint64_t *ticket, int64_t end) {
+  *ticket = queue->ticket;
+  if (queue->has_ticket) return FEMEM_OK;
   for (uint64_t full = 0;;) {
     if (queue->putting == 0) {
       femem_error error = find_room(queue, full, end);
@@ -123,6 +120,69 @@ static femem_error draw(femem_queue *queue, uint64_t *ticket, int64_t end) {
   }
 }
 
+/* Raises the limit of the page to put into: with all tickets before them, as many jobs are open then as the capacity says.
+   Without `fresh` counts a page before it may have all its tickets drawn. */
+static void raise_limit(femem_queue *queue, bool fresh) {
+  queue_page *of = fq_page(queue, queue->putting);
+  uint64_t open = 0;
+  for (const queue_page *at = queue->pages; at < queue->pages + PAGES; at++) {
+    uint64_t tickets = fresh ? fq_capped(queue, at->tail) : queue->slots;
+    if (at->id > 0 && at->id < queue->putting && tickets > at->finished) open += tickets - at->finished;
+  }
+  if (of && queue->capacity + of->finished > open + of->limit) of->limit = queue->capacity + of->finished - open;
+}
+
+/* Reads how many slots have ended: of the oldest page, since jobs are done in about their order, or of all up to the one
+   to put into. They are read before tickets are counted, so that what is found is never too high. */
+static femem_error read_counts(femem_queue *queue, bool all, bool purges) {
+  femem_request asked[1 + 2 * PAGES] = {{.operation = FEMEM_PURGE, .array = queue->root, .index = ROOM}};
+  femem_answer words[1 + 2 * PAGES];
+  uint64_t ids[PAGES], pages = 0;
+  for (uint64_t id = 0; (id = fq_page_above(queue, id)) > 0 && id <= queue->putting && (all || pages == 0); pages++) {
+    ids[pages] = id;
+    asked[1 + 2 * pages] = fq_read(id, FINISHED, true);
+    asked[2 + 2 * pages] = fq_read(id, TAIL, true);
+  }
+  size_t skipped = purges ? 0 : 1, count = 1 + (all ? 2 * pages : pages);
+  femem_error error = fq_together(queue, asked + skipped, count - skipped, words + skipped);
+  for (uint64_t i = 0; i < pages && error == FEMEM_OK; i++) {
+    const femem_answer *finished = &words[1 + 2 * i], *tail = finished + 1;
+    queue_page *of = fq_page(queue, ids[i]);
+    if (finished->error == FEMEM_NO_ARRAY) fq_forget_page(queue, ids[i]);
+    if (finished->error) continue;
+    of->finished = finished->value;
+    if (all && tail->error == FEMEM_OK) of->tail = tail->value;
+  }
+  if (error == FEMEM_OK) raise_limit(queue, all);
+  return error;
+}
+
+/* Whether the ticket may be used; also if its page is gone, since the put finds that out. */
+static bool is_allowed(femem_queue *queue, uint64_t ticket) {
+  const queue_page *of = fq_page(queue, queue->putting);
+  return !of || ticket < of->limit;
+}
+
+/* Waits until the ticket may be used. If the time is over, the next put goes on with it. */
+femem_error fq_wait_for_turn(femem_queue *queue, uint64_t ticket, int64_t end) {
+  int64_t pause = SLOW;
+  raise_limit(queue, false);
+  for (int tries = 0; !is_allowed(queue, ticket); tries++) {
+    femem_error error = read_counts(queue, tries > 0, tries > 1);
+    /* A page may have ended though it was not counted so. */
+    if (error == FEMEM_OK && tries > UNCOUNTED_AFTER && !is_allowed(queue, ticket)) error = fq_remove_ended(queue);
+    if (error == FEMEM_OK && tries > 1 && !is_allowed(queue, ticket)) {
+      error = wait_for_room(queue, pause, end);
+      pause = 2 * pause < SLOWEST ? 2 * pause : SLOWEST;
+    }
+    queue->has_ticket = error == FEMEM_WITHDRAWN;
+    queue->ticket = ticket;
+    if (error) return error;
+  }
+  queue->has_ticket = false;
+  return FEMEM_OK;
+}
+
 /* Signals a job to takers. */
 static femem_error signal_job(femem_queue *queue, uint64_t number) {
   femem_request signal = fq_fill(queue->root, JOBS, number);
@@ -130,7 +190,7 @@ static femem_error signal_job(femem_queue *queue, uint64_t number) {
   femem_error error = fq_together(queue, &signal, 1, &answer);
   if (error == FEMEM_OK && answer.error == FEMEM_NOT_NOW)
     error = fq_tell(queue, FEMEM_WRITEXF, queue->root, JOBS, NOTHING);
-  return error ? error : femem_flush(queue->client);
+  return error ? error : fe_flush(queue->client);
 }
 
 /* Puts the value into a slot, with its signal. *in says whether it is in. */
@@ -145,14 +205,14 @@ static femem_error put_into(femem_queue *queue, uint64_t ticket, uint64_t value,
   if (error && !key) fe_abandon(queue->client, number);
   if (error) return error;
   error = key ? femem_once(queue->client, key, &put, &answer)
-              : femem_wait(queue->client, number, &answer, queue->client->settings.wait);
+              : fe_take(queue->client, number, &answer, queue->client->settings.wait);
   *in = error == FEMEM_OK && answer.error == FEMEM_OK;
   if (*in && answers[0].error == FEMEM_NOT_NOW && answers[1].error == FEMEM_OK && answers[1].value > ticket)
     error = fq_tell(queue, FEMEM_WRITEXF, queue->root, JOBS, NOTHING);
   if (error == FEMEM_NOT_NOW || error == FEMEM_NO_ARRAY) error = FEMEM_OK;
   if (answer.error && answer.error != FEMEM_NOT_NOW && answer.error != FEMEM_NO_ARRAY && !error) error = answer.error;
   if (!*in && answer.error == FEMEM_NO_ARRAY) fq_forget_page(queue, page);
-  return error ? error : femem_flush(queue->client);
+  return error ? error : fe_flush(queue->client);
 }
 
 /* Whether the value is in under the key, by an earlier try of this process or an earlier one. */
@@ -171,7 +231,7 @@ static femem_error is_in(femem_queue *queue, uint64_t value, const char *key, bo
 
 femem_error femem_queue_put(femem_queue *queue, uint64_t value, const char *key, int64_t within) {
   femem *client = queue->client;
-  int64_t end = fe_moment(within);
+  int64_t end = fp_begin(client, within);
   if (fe_is_copy(client)) return FEMEM_FORKED;
   if (value == NOTHING || (key && (!client->file || !fe_is_key(key)))) return FEMEM_BAD_CALL;
   for (;;) {
@@ -179,7 +239,8 @@ femem_error femem_queue_put(femem_queue *queue, uint64_t value, const char *key,
     uint64_t ticket;
     femem_error error = key ? is_in(queue, value, key, &in) : FEMEM_OK;
     if (error || in) return error;
-    error = draw(queue, &ticket, end);
+    error = fq_draw(queue, &ticket, end);
+    if (error == FEMEM_OK) error = fq_wait_for_turn(queue, ticket, end);
     if (error == FEMEM_OK) error = put_into(queue, ticket, value, key, &in);
     if (error || in) return error;
   }
@@ -187,63 +248,79 @@ femem_error femem_queue_put(femem_queue *queue, uint64_t value, const char *key,
 
 /* ---- taking ---- */
 
-/* One request waits at the presence array for as long as the queue is open. */
-static femem_error be_present(femem_queue *queue) {
-  femem *client = queue->client;
-  const slot *place = queue->present ? fe_find(client, queue->present) : NULL;
-  if (place) return FEMEM_OK;
-  femem_error error = fe_shared_array(client, "presence", 1, &queue->presence);
-  /* Whoever fills the word ends what waits there, and all would look absent. */
-  if (error == FEMEM_OK) error = fq_tell(queue, FEMEM_PURGE, queue->presence, 0, 0);
-  if (error) return error;
-  femem_request show = fq_read(queue->presence, 0, false);
-  return fe_send_request(client, &show, NULL, SEND_ENDS | SEND_UNWANTED, &queue->present);
-}
-
-/* The oldest page with a job that no ticket was drawn for, or 0. */
-static femem_error find_work(femem_queue *queue, uint64_t *page) {
-  for (*page = 0; (*page = fq_page_above(queue, *page)) > 0;) {
-    femem_request reads[] = {fq_read(*page, TAIL, true), fq_read(*page, HEAD, true)};
-    femem_answer words[2];
-    femem_error error = fq_together(queue, reads, 2, words);
-    if (error) return error;
-    if (words[0].error == FEMEM_NO_ARRAY) {
-      fq_forget_page(queue, *page);
-      continue;
-    }
-    uint64_t tail = words[0].value < queue->slots ? words[0].value : queue->slots;
-    if (words[0].error == FEMEM_OK && words[1].error == FEMEM_OK && words[1].value < tail) return FEMEM_OK;
+/* The oldest known page with a job that no ticket was drawn for, or 0. */
+static femem_error find_work(femem_queue *queue, uint64_t *found) {
+  femem_request reads[2 * PAGES];
+  femem_answer words[2 * PAGES];
+  uint64_t ids[PAGES], count = 0;
+  for (uint64_t id = 0; (id = fq_page_above(queue, id)) > 0; count++) {
+    ids[count] = id;
+    reads[2 * count] = fq_read(id, TAIL, true);
+    reads[2 * count + 1] = fq_read(id, HEAD, true);
   }
-  return FEMEM_OK;
+  *found = 0;
+  femem_error error = fq_together(queue, reads, 2 * count, words);
+  for (uint64_t i = 0; i < count && error == FEMEM_OK; i++) {
+    queue_page *of = fq_page(queue, ids[i]);
+    if (words[2 * i].error == FEMEM_NO_ARRAY) fq_forget_page(queue, ids[i]);
+    if (words[2 * i].error || words[2 * i + 1].error) continue;
+    of->tail = words[2 * i].value;
+    of->head = words[2 * i + 1].value;
+    if (*found == 0 && of->head < fq_capped(queue, of->tail)) *found = ids[i];
+  }
+  return error;
 }
 
-/* Takes the job of a slot whose ticket this client has. */
+/* Whether there may be a page that is not known: one is made once the newest has no more tickets. */
+static bool may_find(femem_queue *queue) {
+  const queue_page *newest = fq_page(queue, fq_newest(queue));
+  int64_t since = fe_now() - queue->found_at;
+  return since > FIND_AFTER || ((!newest || newest->tail >= queue->slots) && (queue->has_taken || since > 1000 * SLOWEST));
+}
+
+/* Takes the job of a slot whose ticket this client has. One that was claimed before was signalled; if its taker was killed
+   since, no look below HEAD has seen it yet. */
 static femem_error take_slot(femem_queue *queue, uint64_t page, uint64_t ticket, femem_job *job) {
   femem_request requests[] = {fq_fill(page, fq_claim(queue, ticket, 0), femem_session(queue->client)),
-                              fq_read(page, fq_value(queue, ticket), true)};
-  femem_answer answers[2], late;
-  femem_error error = fq_together(queue, requests, 2, answers);
+                              fq_read(page, fq_value(queue, ticket), true), fq_read(page, fq_source(queue, ticket), true)};
+  femem_answer answers[3], late;
+  femem_error error = fq_together(queue, requests, 3, answers);
+  if (error == FEMEM_OK && answers[0].error == FEMEM_NOT_NOW) {
+    queue->report = NULL;
+    return fq_look_at(queue, fq_number(page, ticket), true, job);
+  }
   if (error || answers[0].error) return error;
   uint64_t value = answers[1].value;
   if (answers[1].error == FEMEM_NOT_NOW) {
     error = wait_for(queue, FEMEM_READFF, page, fq_value(queue, ticket), SLOW, &late);
     if (error == FEMEM_OK) value = late.value;
     if (error == FEMEM_WITHDRAWN) error = fq_void(queue, page, ticket, &value);
+    if (error == FEMEM_OK) error = fq_together(queue, requests + 2, 1, answers + 2);
     if (error) return error == FEMEM_NO_ARRAY ? FEMEM_OK : error;
   }
-  return value == NOTHING ? FEMEM_OK : fq_hold(queue, fq_number(page, ticket), value, 0, job);
+  if (value == NOTHING) return FEMEM_OK;
+  return fq_hold_if_counts(queue, fq_number(page, ticket), value, 0, &answers[2], job);
 }
 
-/* Draws a ticket of a page, and takes its job. *drawn says whether the page had a ticket with a slot. */
-static femem_error take_from(femem_queue *queue, uint64_t page, femem_job *job, bool *drawn) {
-  femem_request requests[] = {fq_add(page, HEAD, 1), fq_read(page, TAIL, true)};
-  femem_answer words[2];
-  femem_error error = fq_together(queue, requests, 2, words);
-  uint64_t tail = words[1].value < queue->slots ? words[1].value : queue->slots;
-  *drawn = error == FEMEM_OK && words[0].error == FEMEM_OK && words[1].error == FEMEM_OK && words[0].value < tail;
-  queue->taking = *drawn ? page : 0;
-  if (error == FEMEM_OK && words[0].error == FEMEM_NO_ARRAY) fq_forget_page(queue, page);
-  return *drawn ? take_slot(queue, page, words[0].value, job) : error;
+/* Draws a ticket of a page, and takes its job. *drawn says whether the page had a ticket with a slot. TAIL is read if the
+   ticket may be above what was seen of it. */
+static femem_error take_from(femem_queue *queue, uint64_t id, femem_job *job, bool *drawn) {
+  queue_page *of = fq_page(queue, id);
+  femem_request requests[] = {fq_add(id, HEAD, 1), fq_read(id, TAIL, true)};
+  femem_answer words[2] = {{0}};
+  bool near = !of || of->head + 1 >= of->tail;
+  femem_error error = fq_together(queue, requests, near ? 2 : 1, words);
+  if (error == FEMEM_OK && !near && words[0].value >= of->tail) {
+    near = true;
+    error = fq_together(queue, requests + 1, 1, words + 1);
+  }
+  bool here = error == FEMEM_OK && words[0].error == FEMEM_OK && words[1].error == FEMEM_OK && of;
+  if (here && near) of->tail = words[1].value;
+  if (here) of->head = words[0].value + 1;
+  *drawn = here && words[0].value < fq_capped(queue, of->tail);
+  queue->taking = *drawn ? id : 0;
+  if (error == FEMEM_OK && words[0].error == FEMEM_NO_ARRAY) fq_forget_page(queue, id);
+  return *drawn ? take_slot(queue, id, words[0].value, job) : error;
 }
 
 /* Takes a job for which no ticket was drawn. *more says whether there may be another one. */
@@ -254,6 +331,10 @@ static femem_error take_next(femem_queue *queue, femem_job *job, bool *more) {
     if (error || *more) return error;
   }
   femem_error error = find_work(queue, &page);
+  if (error == FEMEM_OK && page == 0 && may_find(queue)) {
+    error = fq_find_pages(queue);
+    if (error == FEMEM_OK) error = find_work(queue, &page);
+  }
   *more = error == FEMEM_OK && page > 0;
   if (!*more) return error;
   bool drawn;
@@ -264,13 +345,14 @@ static femem_error take_next(femem_queue *queue, femem_job *job, bool *more) {
 static femem_error take_new(femem_queue *queue, uint64_t number, femem_job *job, bool *is_new) {
   uint64_t page = fq_page_of(number), ticket = fq_slot_of(number);
   femem_request requests[] = {fq_fill(page, fq_claim(queue, ticket, 0), femem_session(queue->client)),
-                              fq_read(page, fq_value(queue, ticket), true), fq_read(page, fq_end(queue, ticket), true)};
-  femem_answer answers[3];
-  femem_error error = fq_together(queue, requests, 3, answers);
+                              fq_read(page, fq_value(queue, ticket), true), fq_read(page, fq_end(queue, ticket), true),
+                              fq_read(page, fq_source(queue, ticket), true)};
+  femem_answer answers[4];
+  femem_error error = fq_together(queue, requests, 4, answers);
   *is_new = error == FEMEM_OK && answers[0].error == FEMEM_OK;
   bool there = *is_new && answers[1].error == FEMEM_OK && answers[1].value != NOTHING;
   if (!there || answers[2].error != FEMEM_NOT_NOW) return error;
-  return fq_hold(queue, number, answers[1].value, 0, job);
+  return fq_hold_if_counts(queue, number, answers[1].value, 0, &answers[3], job);
 }
 
 /* Looks at the job of a signal. */
@@ -285,24 +367,24 @@ static femem_error look_at_signal(femem_queue *queue, uint64_t number, femem_job
   if (!fq_is_known(queue, page) || ticket >= queue->slots) return FEMEM_OK;
   bool is_new;
   femem_error error = take_new(queue, number, job, &is_new);
-  return error || is_new ? error : fq_look(queue, page, ticket, ticket + 1, job);
+  return error || is_new ? error : fq_look_at(queue, number, false, job);
 }
 
 femem_error femem_queue_take(femem_queue *queue, femem_job *job, int64_t within) {
-  int64_t end = fe_moment(within);
+  int64_t end = fp_begin(queue->client, within);
   *job = (femem_job){0};
   if (fe_is_copy(queue->client)) return FEMEM_FORKED;
-  femem_error error = be_present(queue);
+  femem_error error = fp_show(queue->client, &queue->shows);
   for (bool last = false; error == FEMEM_OK;) {
     bool more = true;
     femem_answer signal;
-    if (fe_now() >= queue->rescue_at) error = fq_rescue(queue, job);
+    if (fe_now() >= (last ? queue->look_from : queue->rescue_at)) error = fq_rescue(queue, job);
     while (error == FEMEM_OK && job->number == 0 && more) error = take_next(queue, job, &more);
     if (error || job->number) return error;
     if (last) return FEMEM_WITHDRAWN;
-    int64_t pause = left(queue->rescue_at), most = left(end);
+    int64_t pause = fp_left(queue->rescue_at), most = fp_left(end);
     error = wait_for(queue, FEMEM_READFE, queue->root, JOBS, most >= 0 && most < pause ? most : pause, &signal);
-    last = fe_is_past(end);
+    last = fp_is_over(queue->client, end);
     if (error == FEMEM_OK) error = look_at_signal(queue, signal.value, job);
     if (error == FEMEM_WITHDRAWN || error == FEMEM_NOT_NOW) error = FEMEM_OK;
     if (error == FEMEM_OK && job->number) return FEMEM_OK;
@@ -312,28 +394,26 @@ femem_error femem_queue_take(femem_queue *queue, femem_job *job, int64_t within)
 
 /* ---- what becomes of a job ---- */
 
-static void let_go(femem_queue *queue, uint64_t number) {
+void fq_let_go(femem_queue *queue, uint64_t number) {
   for (size_t i = 0; i < queue->held_count; i++)
     if (queue->held[i].number == number) queue->held[i--] = queue->held[--queue->held_count];
 }
 
-/* Ends a job, and removes its page if this was the last one there. */
+/* Once END is filled the job has ended, whatever becomes of its count. */
 static femem_error end_job(femem_queue *queue, uint64_t number, uint64_t how) {
-  uint64_t page = fq_page_of(number);
-  femem_request requests[] = {fq_fill(page, fq_end(queue, fq_slot_of(number)), how), fq_read(page, FINISHED, true)};
-  femem_answer answers[2];
-  femem_error error = fq_together(queue, requests, 2, answers);
+  uint64_t page = fq_page_of(number), ticket = fq_slot_of(number);
+  femem_request end = fq_fill(page, fq_end(queue, ticket), how);
+  femem_answer answer;
+  femem_error error = fq_together(queue, &end, 1, &answer);
   if (error) return error;
-  if (answers[0].error) return FEMEM_NOT_OWNER;
-  bool removed, last = answers[1].error == FEMEM_OK && answers[1].value + 1 >= queue->slots;
-  error = fq_finished(queue, page);
-  if (error == FEMEM_OK && last) error = fq_remove_ended(queue, page, &removed);
-  return error ? error : femem_flush(queue->client);
+  if (answer.error) return FEMEM_NOT_OWNER;
+  fq_finished(queue, page, ticket);
+  return FEMEM_OK;
 }
 
 femem_error femem_queue_done(femem_queue *queue, const femem_job *job) {
   femem_error error = end_job(queue, job->number, ENDED_DONE);
-  if (error == FEMEM_OK || error == FEMEM_NOT_OWNER) let_go(queue, job->number);
+  if (error == FEMEM_OK || error == FEMEM_NOT_OWNER) fq_let_go(queue, job->number);
   return error;
 }
 
@@ -346,7 +426,7 @@ femem_error femem_queue_fail(femem_queue *queue, const femem_job *job) {
   femem_answer answer;
   femem_error error = fq_together(queue, &give_up, 1, &answer);
   if (error) return error;
-  let_go(queue, job->number);
+  fq_let_go(queue, job->number);
   return answer.error ? FEMEM_NOT_OWNER : signal_job(queue, job->number);
 }
 

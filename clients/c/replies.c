@@ -42,7 +42,8 @@ static femem_error take_answer(femem *client, const reply *told) {
   if (!fe_is_known(client, told->number)) return FEMEM_OK;
   slot *place = fe_slot_of(client, told->number);
   femem_answer answer = fe_answer_of(told);
-  if (place->state != OUT) return is_same(&place->answer, &answer) ? FEMEM_OK : FEMEM_CHANGED_ANSWER;
+  bool open = place->state == OUT || place->state == BACK;
+  if (!open) return is_same(&place->answer, &answer) ? FEMEM_OK : FEMEM_CHANGED_ANSWER;
   if (!fe_fits(&place->request, told)) return FEMEM_STRANGE_REPLY;
   FEMEM_POINT("answered");
   fe_answered(client, place, answer);
@@ -54,12 +55,10 @@ static femem_error take_withdrawn(femem *client, const reply *told) {
   if (client->cancels > 0 && told->number < client->low) return client->cancels--, FEMEM_OK; /* came late */
   if (!fe_is_known(client, told->number)) return FEMEM_WRONG_NUMBER;
   slot *place = fe_slot_of(client, told->number);
+  if (place->state == BACK && client->cancels > 0) return client->cancels--, FEMEM_OK; /* it was asked again */
   if (place->state != OUT || place->cancelled == NOT || client->cancels == 0) return FEMEM_WRONG_NUMBER;
   client->cancels--;
-  if (place->cancelled == TO_END) {
-    fe_answered(client, place, (femem_answer){.error = FEMEM_WITHDRAWN});
-    return FEMEM_OK;
-  }
+  if (place->cancelled == TO_END) return fe_ended(client, place, FEMEM_WITHDRAWN), FEMEM_OK;
   place->state = PARKED;
   place->cancelled = NOT;
   fe_end_move(client);
@@ -74,13 +73,14 @@ static void serve(femem *client, uint64_t floor) {
   if (client->file) client->settles = client->attaches = WINDOW;
   client->phase = SERVED;
   client->opened = true;
+  client->trying = false;
+  fe_log(client, "attached");
 }
 
 /* The first welcome may be for another connection that had the session until now. This one's follows, and the settles
    sent for each are answered in the same order. */
-static femem_error take_first_welcome(femem *client, uint64_t floor) {
-  if (floor < client->floor_told) return FEMEM_STRANGE_REPLY;
-  client->floor_told = floor;
+static femem_error begin_opening(femem *client) {
+  uint64_t floor = client->floor_told;
   if (client->settings.resume) {
     serve(client, floor);
     client->resumed_end = floor + WINDOW;
@@ -91,21 +91,34 @@ static femem_error take_first_welcome(femem *client, uint64_t floor) {
   return FEMEM_OK;
 }
 
+/* Goes on once a welcome has come, and the refusals of all probes: each follows an attach that was repeated. */
+static femem_error go_on(femem *client) {
+  if (!client->welcomed || client->probes > 0) return FEMEM_OK;
+  if (client->phase == OPENING) return begin_opening(client);
+  if (client->phase != RETURNING) return FEMEM_OK;
+  client->phase = SERVED;
+  client->trying = false;
+  client->returns++;
+  fe_log(client, "%s; requests without an answer: %u", client->restored ? "attached" : "back", client->out);
+  fe_put_again(client);
+  return FEMEM_OK;
+}
+
 static femem_error take_welcome(femem *client, const reply *told) {
   if (told->number != client->session || told->value < 1 || told->value > GREATEST_FLOOR) return FEMEM_STRANGE_REPLY;
   client->welcomed = true;
-  if (client->phase == OPENING) return take_first_welcome(client, told->value);
+  if (client->phase == OPENING) {
+    if (told->value < client->floor_told) return FEMEM_STRANGE_REPLY;
+    client->floor_told = told->value;
+    return go_on(client);
+  }
   if (client->attaches == 0) return FEMEM_STRANGE_REPLY;
   client->attaches--;
   bool same = told->value >= client->floor_told && told->value <= client->floor_asked &&
               client->floor_asked - told->value <= WINDOW;
   if (!same && !client->bye) return FEMEM_SESSION_LOST;
-  if (same) client->floor_told = told->value;
-  if (client->phase != RETURNING) return FEMEM_OK;
-  client->phase = SERVED;
-  client->returns++;
-  fe_put_again(client);
-  return FEMEM_OK;
+  if (same) fe_told_floor(client, told->value);
+  return client->phase == RETURNING ? go_on(client) : FEMEM_OK;
 }
 
 static femem_error take_settled(femem *client, const reply *told) {
@@ -116,7 +129,7 @@ static femem_error take_settled(femem *client, const reply *told) {
   }
   if (client->settles == 0 || floor < client->floor_told || floor > client->floor_asked) return FEMEM_STRANGE_REPLY;
   client->settles--;
-  client->floor_told = floor;
+  fe_told_floor(client, floor);
   return FEMEM_OK;
 }
 
@@ -160,14 +173,15 @@ static femem_error take_refused(femem *client, const reply *told) {
      beyond the window. */
   bool late = refusal == FEMEM_REFUSED_STILL_WAITING && client->phase == SERVED && !client->bye;
   if (late && own) return client->retaken++, client->late = true, FEMEM_DISCONNECTED;
-  if (client->phase == OPENING) return take_opening_refusal(client, told, refusal);
-  if (client->phase == RETURNING) return told->number == client->session ? refusal : FEMEM_STRANGE_REPLY;
+  bool asked = told->number == PROBE && client->probes > 0;
+  if (asked && refusal != FEMEM_REFUSED_NOT_ATTACHED) return client->probes--, go_on(client);
+  if (client->phase == OPENING && !asked) return take_opening_refusal(client, told, refusal);
+  if (client->phase == RETURNING && !asked) return told->number == client->session ? refusal : FEMEM_STRANGE_REPLY;
   if (refusal == FEMEM_REFUSED_NOT_ATTACHED) return refusal;
-  if (told->number == PROBE && client->probes > 0) return client->probes--, FEMEM_OK;
   if (refusal == FEMEM_REFUSED_NOT_WAITING) return take_not_waiting(client, told);
   if (told->number == 0) return take_refused_report(client, refusal);
   if (fe_is_known(client, told->number) && fe_slot_of(client, told->number)->state == OUT) {
-    fe_answered(client, fe_slot_of(client, told->number), (femem_answer){.error = refusal});
+    fe_ended(client, fe_slot_of(client, told->number), refusal);
     return FEMEM_OK;
   }
   bool settle = client->settles > 0 && told->number <= client->floor_asked && told->number >= client->floor_told;
@@ -235,6 +249,6 @@ femem_error fe_digest(femem *client) {
   }
   memmove(client->input, client->input + at, client->input_end - at);
   client->input_end -= at;
-  if (error) fe_close_line(client, error);
+  if (error) fe_lose_line(client, error);
   return error;
 }

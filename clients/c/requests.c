@@ -23,7 +23,7 @@ static void begin_moves(femem *client) {
 }
 
 /* Drops a recovered answer that was not taken. Returns whether there was one. */
-static bool drop_recovered(femem *client) {
+bool fe_drop_recovered(femem *client) {
   for (uint64_t wire = client->low; wire < client->next; wire++) {
     slot *place = fe_slot_of(client, wire);
     if (place->wire != wire || place->state != ANSWERED || !place->recovered) continue;
@@ -32,6 +32,25 @@ static bool drop_recovered(femem *client) {
     return true;
   }
   return false;
+}
+
+/* Its place is not that of a request that is BACK: the settle past that is under way. */
+static bool is_left(femem *client, uint64_t number) { return fe_slot_of(client, number)->state != BACK; }
+
+static bool is_free(femem *client, uint64_t number) {
+  slot_state state = fe_slot_of(client, number)->state;
+  return state == FREE || state == TAKEN;
+}
+
+/* Waits until the next number's place is no longer that of a request that is BACK, nor has that one's answer. */
+static femem_error free_place(femem *client, int64_t end) {
+  femem_error error = fe_wait_for(client, is_left, client->next, end);
+  slot *place = fe_slot_of(client, client->next);
+  if (error || place->state != ANSWERED || place->wire >= client->low) return error;
+  if (!place->recovered) return FEMEM_WINDOW_FULL;
+  femem_answer unwanted;
+  fe_hand_out(client, place, &unwanted);
+  return FEMEM_OK;
 }
 
 static bool is_crowded(const femem *client) { return client->out + client->ready >= WINDOW; }
@@ -46,13 +65,15 @@ static bool has_place(femem *client, uint64_t wire) {
    for requests that no caller waits for, and moves waiting ones. */
 static femem_error make_room(femem *client) {
   int64_t end = fe_moment(client->settings.wait);
+  femem_error freed = free_place(client, end);
+  if (freed) return freed;
   if (is_stuck(client)) fe_step(client, 0); /* takes what has come; errors of the connection show below */
   for (bool first = true; is_stuck(client); first = false) {
     femem_error error = fe_usable(client);
     if (error) return error;
     slot *place = fe_slot_of(client, client->low);
     bool crowded = is_crowded(client), alone = place->keyed || place->recovered || place->given_up;
-    if ((crowded || (place->state == ANSWERED && alone)) && drop_recovered(client)) continue;
+    if ((crowded || (place->state == ANSWERED && alone)) && fe_drop_recovered(client)) continue;
     if (place->state == ANSWERED || (crowded && !alone) || client->settings.resume) return FEMEM_WINDOW_FULL;
     if (!first && fe_is_past(end)) return FEMEM_TIMEOUT;
     error = fe_write_all(client, end);
@@ -74,8 +95,8 @@ static femem_error make_ready(femem *client) {
     if (!found) error = fe_usable(client);
     found = false;
     if (error == FEMEM_OK) error = make_room(client);
-    if (error == FEMEM_OK && !fe_has_room(client, RESERVE)) error = femem_flush(client);
-  } while (error == FEMEM_OK && client->phase != SERVED);
+    if (error == FEMEM_OK && !fe_has_room(client, RESERVE)) error = fe_flush(client);
+  } while (error == FEMEM_OK && (client->phase != SERVED || is_stuck(client) || !is_free(client, client->next)));
   return error;
 }
 
@@ -94,8 +115,8 @@ femem_error fe_send_request(femem *client, const femem_request *request, const c
   client->last = client->next++;
   *fe_slot_of(client, own) =
       (slot){.state = OUT, .wire = own, .request = *request, .answer.number = own, .keyed = key != NULL,
-             .unwanted = how & SEND_UNWANTED};
-  client->out++;
+             .unwanted = how & SEND_UNWANTED, .ends = ends};
+  if (client->out++ == 0 && client->at_once) client->quiet_since = fe_now();
   fe_put_slot(client, own);
   if (client->low - client->floor_asked >= SETTLE_AFTER) fe_put_settle(client, client->low);
   if (number) *number = own;
@@ -103,25 +124,36 @@ femem_error fe_send_request(femem *client, const femem_request *request, const c
 }
 
 femem_error femem_send(femem *client, const femem_request *request, uint64_t *number) {
-  return fe_send_request(client, request, NULL, 0, number);
+  femem_error error = fe_enter(client, false);
+  return error ? error : fe_leave(client, fe_send_request(client, request, NULL, 0, number));
 }
 
 femem_error femem_flush(femem *client) {
-  if (fe_is_copy(client)) return FEMEM_FORKED;
+  femem_error error = fe_enter(client, false);
+  return error ? error : fe_leave(client, fe_flush(client));
+}
+
+femem_error fe_flush(femem *client) {
   femem_error error = fe_come_back(client, fe_moment(client->settings.wait));
   return error ? error : fe_write_all(client, fe_moment(client->settings.wait));
 }
 
-femem_error femem_next(femem *client, femem_answer *answer, int64_t within) {
-  if (fe_is_copy(client)) return FEMEM_FORKED;
+static femem_error take_any(femem *client, femem_answer *answer, int64_t within) {
   if (client->ready == 0 && client->out == 0) {
     /* What settles, or ends the connection, comes then too: otherwise its descriptor would stay readable. */
     femem_error error = client->phase == SERVED ? fe_read_some(client) : FEMEM_OK;
     return error && error != FEMEM_DISCONNECTED ? error : FEMEM_NOTHING_OUT;
   }
   femem_error error = fe_wait_for(client, fe_any_answered, 0, fe_moment(within));
+  /* The last one that was out may be nobody's, or have a key. */
+  if (error == FEMEM_OK && client->ready == 0) return FEMEM_NOTHING_OUT;
   if (error == FEMEM_OK) fe_hand_out(client, fe_slot_of(client, client->ready_numbers[client->first_ready]), answer);
   return error;
+}
+
+femem_error femem_next(femem *client, femem_answer *answer, int64_t within) {
+  femem_error error = fe_enter(client, within != 0);
+  return error ? error : fe_leave(client, take_any(client, answer, within));
 }
 
 femem_answer fe_end_of(const femem *client, uint64_t number) {
@@ -131,12 +163,22 @@ femem_answer fe_end_of(const femem *client, uint64_t number) {
   return last ? last->answer : (femem_answer){.number = number, .error = FEMEM_WITHDRAWN};
 }
 
+femem_error fe_wait_for_answer(femem *client, uint64_t number, int64_t within) {
+  femem_error error = fe_wait_for(client, fe_is_answered, number, fe_moment(within));
+  slot *place = fe_find(client, number);
+  return error == FEMEM_OK && place && place->state != ANSWERED ? FEMEM_TIMEOUT : error;
+}
+
 femem_error femem_wait(femem *client, uint64_t number, femem_answer *answer, int64_t within) {
-  if (fe_is_copy(client)) return FEMEM_FORKED;
+  femem_error error = fe_enter(client, within != 0);
+  return error ? error : fe_leave(client, fe_take(client, number, answer, within));
+}
+
+femem_error fe_take(femem *client, uint64_t number, femem_answer *answer, int64_t within) {
   slot *place = fe_find(client, number);
   if (!place) return FEMEM_NOTHING_OUT;
   place->given_up = false;
-  femem_error error = fe_wait_for(client, fe_is_answered, number, fe_moment(within));
+  femem_error error = fe_wait_for_answer(client, number, within);
   if (error) return error;
   place = fe_find(client, number);
   if (place) fe_hand_out(client, place, answer);
@@ -145,11 +187,12 @@ femem_error femem_wait(femem *client, uint64_t number, femem_answer *answer, int
 }
 
 femem_error fe_ask_back(femem *client, uint64_t number) {
-  femem_error error = fe_has_room(client, RESERVE) ? FEMEM_OK : femem_flush(client);
+  /* A cancel of each request that is out has room in the reserve. */
+  femem_error error = client->at_once || fe_has_room(client, RESERVE) ? FEMEM_OK : fe_flush(client);
   slot *place = fe_find(client, number);
-  if (error || !place || place->state == ANSWERED || place->cancelled == TO_END) return error;
+  if (error || !place || place->state == ANSWERED || place->state == BACK || place->cancelled == TO_END) return error;
   if (place->state == PARKED) {
-    fe_answered(client, place, (femem_answer){.error = FEMEM_WITHDRAWN});
+    fe_ended(client, place, FEMEM_WITHDRAWN);
     return FEMEM_OK;
   }
   bool moving = place->cancelled == TO_MOVE;
@@ -168,10 +211,14 @@ void fe_abandon(femem *client, uint64_t number) {
 }
 
 femem_error femem_cancel(femem *client, uint64_t number, femem_answer *answer) {
-  if (fe_is_copy(client)) return FEMEM_FORKED;
+  femem_error error = fe_enter(client, false);
+  return error ? error : fe_leave(client, fe_take_back(client, number, answer));
+}
+
+femem_error fe_take_back(femem *client, uint64_t number, femem_answer *answer) {
   if (!fe_find(client, number)) return FEMEM_NOTHING_OUT;
   femem_error error = fe_ask_back(client, number);
-  if (error == FEMEM_OK) error = femem_wait(client, number, answer, client->settings.wait);
+  if (error == FEMEM_OK) error = fe_take_end(client, number, answer);
   return error ? error : answer->error;
 }
 
@@ -179,9 +226,9 @@ femem_error fe_call(femem *client, const femem_request *request, unsigned how, i
   uint64_t number;
   femem_error error = fe_send_request(client, request, NULL, how, &number);
   if (error) return error;
-  error = femem_wait(client, number, answer, within);
+  error = fe_take(client, number, answer, within);
   if (error != FEMEM_TIMEOUT) return error ? error : answer->error;
-  error = femem_cancel(client, number, answer);
+  error = fe_take_back(client, number, answer);
   slot *place = fe_find(client, number);
   if (place) place->given_up = true;
   return error;

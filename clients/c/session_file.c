@@ -155,16 +155,30 @@ void session_file_move(session_file *file, uint64_t wire, uint64_t to) {
   session_put_moved(file, wire, to);
 }
 
+static bool has_happened(const femem_answer *answer) {
+  return answer->error == FEMEM_OK || (answer->error >= FEMEM_NO_ARRAY && answer->error <= FEMEM_NOT_NOW);
+}
+
 void session_file_end(session_file *file, uint64_t wire, const femem_answer *answer) {
-  bool happened = answer->error == FEMEM_OK || (answer->error >= FEMEM_NO_ARRAY && answer->error <= FEMEM_NOT_NOW);
   const kept_key *key = session_place(file, wire)->key;
-  if (key && happened) {
+  if (key && has_happened(answer)) {
     session_answered(file, wire, answer);
     session_put_answered(file, wire, key);
   } else {
     session_ended(file, wire);
     session_put_ended(file, wire);
   }
+}
+
+void session_file_pass(session_file *file, uint64_t wire) { session_put_ended(file, wire); }
+
+bool session_file_passed(session_file *file, uint64_t wire, const femem_answer *answer) {
+  const kept_key *key = session_place(file, wire)->key;
+  if (!key || !has_happened(answer)) return session_ended(file, wire), false;
+  session_answered(file, wire, answer);
+  bool fits = session_room(file, key->length);
+  if (fits) session_put_kept(file, key);
+  return fits;
 }
 
 bool session_file_forget(session_file *file, const char *key) {
@@ -182,14 +196,12 @@ void session_file_leave(session_file *file) {
 
 /* ---- opening ---- */
 
-/* Takes the file's content, cuts off what an interrupted write left, and rewrites a file of version 1. File and folder
-   are synced, since a former process may have ended before a sync of its last block, or of the file's new name. */
+/* Takes the file's content, and cuts off what an interrupted write left. File and folder are synced, since a former
+   process may have ended before a sync of its last block, or of the file's new name. */
 static femem_error take_all(session_file *file, const uint8_t *bytes) {
   size_t end = file->size;
-  bool old = session_is_old(bytes, file->size);
-  femem_error error = old ? session_read_old(file, bytes, file->size) : session_read(file, bytes, file->size, &end);
+  femem_error error = session_read(file, bytes, file->size, &end);
   if (error) return error;
-  if (old) return write_anew(file) ? FEMEM_OK : FEMEM_FILE_FAULT;
   bool cut = end == file->size || ftruncate(file->descriptor, (off_t)end) == 0;
   file->size = end; /* `compacted` is not known, so a large file is rewritten once */
   bool is_synced = cut && fsync(file->descriptor) == 0 && sync_folder(file->path);

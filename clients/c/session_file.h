@@ -62,6 +62,11 @@ bool session_file_ask(session_file *file, uint64_t wire, uint64_t number, const 
 void session_file_move(session_file *file, uint64_t wire, uint64_t to);
 /* Notes how a request has ended. A key keeps an answer, and is forgotten if the request has not happened. */
 void session_file_end(session_file *file, uint64_t wire, const femem_answer *answer);
+/* Notes in the file that a request has ended without effect, before a settle passes it. Until the floor is above it, an
+   answer may still come: so its key is kept here. */
+void session_file_pass(session_file *file, uint64_t wire);
+/* How that request has ended. If it has happened, its key has the answer in the file after the next sync: true. */
+bool session_file_passed(session_file *file, uint64_t wire, const femem_answer *answer);
 /* Drops a key that has an answer. False if there is no memory; then nothing has changed. */
 bool session_file_forget(session_file *file, const char *key);
 /* Notes that the session is about to be ended. */
@@ -114,13 +119,5 @@ void session_put_header(const session_file *file, uint8_t *header);
 
 /* Reads a whole file of version 2. `end` is where the blocks end. FEMEM_FILE_DAMAGED, FEMEM_MEMORY. */
 femem_error session_read(session_file *file, const uint8_t *bytes, size_t size, size_t *end);
-
-
-/* ---- session_old.c ---- */
-
-/* Whether the bytes begin like a file of version 1. */
-bool session_is_old(const uint8_t *bytes, size_t size);
-/* Reads a whole file of version 1. FEMEM_FILE_DAMAGED, FEMEM_MEMORY. */
-femem_error session_read_old(session_file *file, const uint8_t *bytes, size_t size);
 
 #endif

@@ -231,6 +231,8 @@ static void earlier_server(int listener) {
   said(line, value_of, 2);
   heard(line, cancel_of, 3);
   said(line, withdrawn_of, 3);
+  heard(line, settle_of, 6); /* the earlier life's connection may still have a copy of it */
+  said(line, settled_of, 6);
   hear_end(line);
 }
 
@@ -265,6 +267,7 @@ static void earlier(void) {
   ERROR(femem_wait(client, 34, &answer, 20000), FEMEM_OK);
   CHECK(answer.value == 2 && answer.number == 34);
   ERROR(femem_cancel(client, 35, &answer), FEMEM_WITHDRAWN);
+  CHECK(femem_floor(client) == 38);
   /* The key's answer comes from the file: nothing is sent. */
   ERROR(femem_once(client, "four", &add_one, &answer), FEMEM_OK);
   CHECK(answer.value == 4 && answer.number == 36 && femem_out(client) == 0 && femem_ready(client) == 0);
@@ -327,6 +330,8 @@ static void keys_server(int listener) {
   heard(line, read_of, 2);
   heard(line, cancel_of, 2);
   said(line, withdrawn_of, 2);
+  heard(line, settle_of, 3);
+  said(line, settled_of, 3);
   heard(line, read_of, 3);
   said(line, value_of, 3);
   heard(line, add_of, 4);
@@ -358,6 +363,7 @@ static void keys(void) {
   ERROR(femem_once(client, "two", &add_one, &answer), FEMEM_OTHER_REQUEST);
   ERROR(femem_forget(client, "two"), FEMEM_BAD_CALL);
   ERROR(femem_cancel(client, 34, &answer), FEMEM_WITHDRAWN);
+  CHECK(femem_floor(client) == 35);
   ERROR(femem_once(client, "two", &read_one, &answer), FEMEM_OK);
   CHECK(answer.value == 3 && answer.number == 35);
   ERROR(femem_once(client, "one", &read_one, &answer), FEMEM_OTHER_REQUEST);
@@ -536,6 +542,155 @@ static void left_answers(void) {
     CHECK(value == due);
   }
   CHECK(femem_out(client) == 0 && femem_ready(client) == 0);
+  femem_close(client);
+  END(server);
+}
+
+static void held_server(int listener) {
+  int line = take_line(listener);
+  meet_any(line);
+  heard(line, add_of, 1);
+  hear_end(line);
+  line = take_line(listener);
+  welcome_any(line, "0000000000000021");
+  heard(line, add_of, 1);
+  said(line, value_of, 1);
+  for (unsigned number = 2; number <= 3; number++) heard(line, read_of, number);
+  close(line);
+  line = take_line(listener);
+  welcome_any(line, "0000000000000021");
+  for (unsigned number = 2; number <= 3; number++) heard(line, read_of, number);
+  said(line, value_of, 2);
+  heard(line, cancel_of, 3);
+  said(line, withdrawn_of, 3);
+  heard(line, settle_of, 4);
+  said(line, settled_of, 4);
+  hear_end(line);
+}
+
+/* Nor do they hold up the end of a request that was sent again and is taken back, which needs the floor above it. */
+static void left_answer_holds(void) {
+  test = "a recovered answer below a request that is taken back";
+  fresh();
+  pid_t server = begin_at(32, held_server);
+  pid_t life = life_of(3);
+  if (life == 0) {
+    femem *client = OPEN(&patient, FEMEM_OK);
+    femem_send_int_fetch_add(client, 1, 0, 1, NULL);
+    femem_flush(client);
+    _exit(1);
+  }
+  END(life);
+  femem *client = OPEN(&going_on, FEMEM_OK);
+  const femem_request asked[] = {read_one, read_one};
+  femem_answer got[2];
+  ERROR(femem_wait_any(client, asked, 2, FEMEM_FOREVER, got), FEMEM_OK);
+  CHECK(got[0].error == FEMEM_OK && got[0].value == 2 && got[1].error == FEMEM_WITHDRAWN);
+  CHECK(femem_out(client) == 0 && femem_ready(client) == 0 && femem_reconnects(client) == 1);
+  femem_close(client);
+  END(server);
+}
+
+static void cancelled_server(int listener) {
+  int line = take_line(listener);
+  meet_any(line);
+  heard(line, add_of, 1);
+  hear_end(line);
+  line = take_line(listener);
+  welcome_any(line, "0000000000000021");
+  heard(line, add_of, 1);
+  said(line, value_of, 1);
+  heard(line, read_of, 2);
+  close(line);
+  line = take_line(listener);
+  welcome_any(line, "0000000000000021");
+  heard(line, read_of, 2);
+  heard(line, cancel_of, 2);
+  said(line, withdrawn_of, 2);
+  heard(line, settle_of, 3);
+  said(line, settled_of, 3);
+  hear_end(line);
+}
+
+/* Nor that of a cancel. */
+static void left_answer_and_cancel(void) {
+  test = "a recovered answer below a request that is cancelled";
+  fresh();
+  pid_t server = begin_at(32, cancelled_server);
+  pid_t life = life_of(3);
+  if (life == 0) {
+    femem *client = OPEN(&patient, FEMEM_OK);
+    femem_send_int_fetch_add(client, 1, 0, 1, NULL);
+    femem_flush(client);
+    _exit(1);
+  }
+  END(life);
+  femem *client = OPEN(&going_on, FEMEM_OK);
+  uint64_t number = 0;
+  femem_answer answer = {0};
+  ERROR(femem_send_readfe(client, 1, 0, &number), FEMEM_OK);
+  while (femem_reconnects(client) == 0) femem_wait(client, number, &answer, 10);
+  ERROR(femem_cancel(client, number, &answer), FEMEM_WITHDRAWN);
+  CHECK(femem_out(client) == 0 && femem_ready(client) == 0);
+  femem_close(client);
+  END(server);
+}
+
+static void passed_server(int listener) {
+  int line = take_line(listener);
+  meet_any(line);
+  heard(line, add_of, 1);
+  said(line, value_of, 1);
+  heard(line, read_of, 2);
+  heard(line, cancel_of, 2);
+  close(line);
+  line = take_line(listener);
+  welcome_any(line, "0000000000000021");
+  heard(line, read_of, 2);
+  heard(line, cancel_of, 2);
+  said(line, withdrawn_of, 2);
+  heard(line, settle_of, 3);
+  close(line);
+  line = take_line(listener);
+  welcome_any(line, "0000000000000021");
+  heard(line, read_of, 2);
+  heard(line, cancel_of, 2);
+  heard(line, settle_of, 3);
+  said(line, value_of, 2); /* it happens after all */
+  said(line, not_waiting_of, 2);
+  said(line, settled_of, 3);
+  hear_end(line);
+  line = take_line(listener);
+  welcome_any(line, "0000000000000023");
+  hear_end(line);
+}
+
+/* A key is free only once it is sure that its request does nothing. If the answer comes after all, though a settle was
+   sent, the key has it, in a later process too. */
+static void passed_key(void) {
+  test = "a key whose request was taken back";
+  fresh();
+  pid_t server = begin_at(32, passed_server);
+  pid_t life = life_of(0);
+  if (life == 0) {
+    femem *client = OPEN(&going_on, FEMEM_OK);
+    uint64_t number = 0;
+    femem_answer answer = {0};
+    ERROR(femem_send_int_fetch_add(client, 1, 0, 1, &number), FEMEM_OK);
+    ERROR(femem_once_within(client, "key", &read_one, 0, &answer), FEMEM_TIMEOUT);
+    ERROR(femem_forget(client, "key"), FEMEM_BAD_CALL);
+    ERROR(femem_once_within(client, "key", &read_one, 0, &answer), FEMEM_TIMEOUT);
+    ERROR(femem_wait(client, number, &answer, 20000), FEMEM_OK);
+    ERROR(femem_once(client, "key", &read_one, &answer), FEMEM_OK);
+    CHECK(answer.value == 2 && femem_reconnects(client) == 2 && femem_out(client) == 0);
+    ERROR(femem_settle(client), FEMEM_OK); /* reads what has come */
+    _exit(failures > 0); /* as if it was killed */
+  }
+  END(life);
+  femem *client = OPEN(&going_on, FEMEM_OK);
+  femem_answer answer = {0};
+  ERROR(femem_once(client, "key", &read_one, &answer), FEMEM_OK);
+  CHECK(answer.value == 2 && femem_out(client) == 0);
   femem_close(client);
   END(server);
 }
@@ -754,8 +909,8 @@ int main(void) {
   snprintf(kept_at, sizeof kept_at, "%s/session", folder);
   snprintf(kept_new, sizeof kept_new, "%s/session.new", folder);
   void (*const tests[])(void) = {batch, many, many_keys, earlier, ends_with_process, keys, file_fault,
-                                 leaving, strange_session, left_answers, crowded, late_request, closed_by_a_send,
-                                 copied,
+                                 leaving, strange_session, left_answers, left_answer_holds,
+                                 left_answer_and_cancel, passed_key, crowded, late_request, closed_by_a_send, copied,
                                  arguments};
   for (size_t i = 0; i < sizeof tests / sizeof *tests; i++) tests[i]();
   unlink(path);

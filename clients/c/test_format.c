@@ -482,7 +482,7 @@ static void damage(void) {
   }
   write_kept((const uint8_t *)"something else that stands in a file", 36);
   CHECK(OPEN_FILE(FEMEM_FILE_DAMAGED) == NULL);
-  write_kept((const uint8_t *)"femempy1\0\0\0\1", 12); /* of the Python client's version 1 */
+  write_kept((const uint8_t *)"FEMEMSF1\0\0\0\1", 12); /* another version */
   CHECK(OPEN_FILE(FEMEM_FILE_DAMAGED) == NULL);
 }
 
@@ -647,86 +647,6 @@ static void refused_requests(void) {
   }
 }
 
-/* ---- version 1 ---- */
-
-static uint64_t fnv(uint64_t begin, const uint8_t *at, size_t count) {
-  uint64_t sum = UINT64_C(0xcbf29ce484222325) ^ begin;
-  while (count-- > 0) sum = (sum ^ *at++) * UINT64_C(0x100000001b3);
-  return sum;
-}
-
-static void add_old_request(bytes *to) {
-  static const uint8_t zeros[32];
-  add(to, 23, 1), add(to, 0, 2), add_text(to, zeros, 32), add(to, 0, 8), add(to, 1, 8), add(to, 1, 8);
-}
-
-static void old_asked(bytes *to, uint64_t wire, const char *key) {
-  add_number(to, 1, wire), add(to, wire, 8), add(to, strlen(key), 1), add_text(to, key, strlen(key));
-  add_old_request(to);
-}
-
-static void old_answered(bytes *to, uint64_t wire, uint32_t error) {
-  add_number(to, 3, wire), add(to, error, 4), add(to, 0, 4), add(to, 0, 8), add(to, 7, 8);
-}
-
-static void old_forgotten(bytes *to, const char *key) {
-  add(to, 5, 1), add(to, strlen(key), 1), add_text(to, key, strlen(key));
-}
-
-/* Opens a file of version 1 with one group, and again what became of it. */
-static session_file *old_file(const bytes *payload, uint64_t floor, uint64_t next, femem_error due, int line) {
-  static bytes all, after;
-  all.count = 0;
-  add_text(&all, "FEMEMSF1", 8), add(&all, session, 8), add(&all, fnv(0, all.at, 16), 8);
-  add(&all, payload->count, 4), add(&all, floor, 8), add(&all, next, 8), add_text(&all, payload->at, payload->count);
-  add(&all, fnv(session, all.at + 24, all.count - 24), 8);
-  write_kept(all.at, all.count);
-  session_file *kept = file_opened(due, line);
-  after.count = read_kept(after.at, MOST);
-  bool same = after.count == all.count && memcmp(after.at, all.at, all.count) == 0;
-  check(kept ? memcmp(after.at, "FEMEMSF2", 8) == 0 : same, "only a file that is read is rewritten", line);
-  if (!kept) return NULL;
-  session_file_close(kept);
-  return file_opened(FEMEM_OK, line);
-}
-#define OLD(floor, next, due) kept = old_file(&p, floor, next, due, __LINE__); p.count = 0
-#define OLD_REFUSED OLD(1, 5, FEMEM_FILE_DAMAGED)
-
-static void version_one(void) {
-  test = "files of version 1";
-  fresh();
-  static bytes p;
-  session_file *kept;
-  old_asked(&p, 1, "a"), old_asked(&p, 2, ""), old_asked(&p, 3, "c"), old_answered(&p, 1, 0);
-  add_moved(&p, 2, 4), old_asked(&p, 5, "e"), add_number(&p, 2, 5); OLD(1, 6, FEMEM_OK);
-  CHECK(kept->session == session && kept->floor == 1 && kept->asked == 3 && kept->next == 6 && !kept->leaving);
-  CHECK(found(kept, "a") && found(kept, "a")->answer.value == 7 && found(kept, "a")->number == 1);
-  CHECK(found(kept, "c") && !found(kept, "c")->is_answered && !found(kept, "e"));
-  CHECK(kept->requests[4].wire == 4 && kept->requests[4].number == 2 && kept->requests[4].request.operand == 1);
-  session_file_close(kept);
-  old_asked(&p, 3, ""), old_asked(&p, 1, ""), old_asked(&p, 2, ""); OLD(1, 4, FEMEM_OK); /* as in a rewritten file */
-  CHECK(kept->asked == 1 && kept->requests[2].wire == 2 && kept->requests[3].wire == 3);
-  session_file_close(kept);
-  OLD(0, 0, FEMEM_OK);
-  CHECK(kept->session == session && kept->next == 0);
-  session_file_close(kept);
-  /* What contradicts itself, with right sums. */
-  old_asked(&p, 1, "a"), old_forgotten(&p, "a"), add_number(&p, 2, 1); OLD_REFUSED;
-  old_asked(&p, 1, "a"), old_forgotten(&p, "a"), old_answered(&p, 1, 0); OLD_REFUSED;
-  old_asked(&p, 1, "a"), old_forgotten(&p, "a"); OLD_REFUSED;
-  old_asked(&p, 1, "a"), old_asked(&p, 33, "b"), old_answered(&p, 33, 0), old_forgotten(&p, "a"); OLD_REFUSED;
-  old_asked(&p, 1, "a"), old_asked(&p, 2, "b"), add_moved(&p, 1, 2), add_number(&p, 2, 2); OLD_REFUSED;
-  old_asked(&p, 1, "a"), add_moved(&p, 1, 0), old_asked(&p, 2, "q"); OLD_REFUSED;
-  old_asked(&p, 1, "a"); OLD(1, UINT64_MAX, FEMEM_FILE_DAMAGED);
-  old_asked(&p, 1, "a"); OLD(UINT64_MAX, UINT64_MAX, FEMEM_FILE_DAMAGED);
-  old_asked(&p, 40, "a"); OLD(50, 3, FEMEM_FILE_DAMAGED);
-  old_asked(&p, 1, "a.b"), p.at[19] = 0; OLD_REFUSED;
-  old_asked(&p, 1, ""), old_answered(&p, 1, 0); OLD_REFUSED;
-  old_asked(&p, 1, "a"), old_answered(&p, 1, 0), old_forgotten(&p, "a"), old_asked(&p, 1, "a"); OLD_REFUSED;
-  old_asked(&p, 1, "a"), old_answered(&p, 1, 11); OLD_REFUSED;
-  old_asked(&p, 1, "a"), old_answered(&p, 1, 300); OLD_REFUSED;
-}
-
 /* ---- any content ---- */
 
 static uint64_t drawn = 0x9e3779b97f4a7c15;
@@ -804,56 +724,6 @@ static void any_records(void) {
   CHECK(opened > 300 && opened + damaged == 20000);
 }
 
-/* The same for version 1. */
-static void add_any_old(bytes *to) {
-  static const char *const keys[] = {"", "a", "b", "cc"};
-  const char *key = keys[draw(4)];
-  uint64_t wire = draw(8) == 0 ? draw(3) : 1 + draw(4) + (draw(4) == 0 ? 32 : 0);
-  switch (1 + draw(7)) {
-    case 1: old_asked(to, wire, key); break;
-    case 2: add_number(to, 2, wire); break;
-    case 3: old_answered(to, wire, draw(4) ? 0 : draw(13)); break;
-    case 4: add_moved(to, wire, 1 + draw(40)); break;
-    case 5: old_forgotten(to, key); break;
-    case 6:
-      add_number(to, 6, wire), add(to, strlen(key), 1), add_text(to, key, strlen(key)), add_old_request(to);
-      add(to, draw(4) ? 0 : draw(13), 4), add(to, 0, 4), add(to, 0, 8), add(to, 7, 8);
-      break;
-    default: add(to, 7, 1);
-  }
-}
-
-static void any_old_records(void) {
-  test = "any records of version 1";
-  static bytes all, payload;
-  unsigned opened = 0, damaged = 0;
-  for (int round = 0; round < 20000; round++) {
-    all.count = 0;
-    add_text(&all, "FEMEMSF1", 8), add(&all, session, 8), add(&all, fnv(0, all.at, 16), 8);
-    for (unsigned groups = 1 + draw(2); groups > 0; groups--) {
-      size_t begin = all.count;
-      payload.count = 0;
-      for (unsigned records = 1 + draw(6); records > 0; records--) add_any_old(&payload);
-      if (draw(6) == 0) payload.at[draw((unsigned)payload.count)] = (uint8_t)draw(256);
-      add(&all, payload.count, 4), add(&all, 1 + draw(3), 8), add(&all, 2 + draw(40), 8);
-      add_text(&all, payload.at, payload.count);
-      add(&all, fnv(session, all.at + begin, all.count - begin), 8);
-    }
-    uint8_t *exact = malloc(all.count);
-    memcpy(exact, all.at, all.count);
-    session_file *kept = calloc(1, sizeof *kept);
-    kept->descriptor = -1;
-    CHECK(session_room(kept, 0));
-    femem_error error = session_read_old(kept, exact, all.count);
-    free(exact);
-    opened += error == FEMEM_OK;
-    damaged += error == FEMEM_FILE_DAMAGED;
-    if (error == FEMEM_OK) use(kept);
-    session_file_close(kept);
-  }
-  CHECK(opened > 300 && opened + damaged == 20000);
-}
-
 int main(void) {
   setvbuf(stdout, NULL, _IOLBF, 0);
   alarm(200);
@@ -863,7 +733,7 @@ int main(void) {
   snprintf(victim, sizeof victim, "%s/victim", folder);
   void (*const tests[])(void) = {keeps, settles, no_plain_file, a_link_beside_it, another_name, compaction, one_block,
                                  unused_fields, worked_example, damage, refused_records, refused_numbers,
-                                 refused_requests, version_one, any_records, any_old_records};
+                                 refused_requests, any_records};
   for (size_t i = 0; i < sizeof tests / sizeof *tests; i++) tests[i]();
   fresh();
   rmdir(folder);

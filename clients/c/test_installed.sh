@@ -6,29 +6,30 @@ folder=$(mktemp -d)
 trap 'rm -rf "$folder"' EXIT
 fail() { echo "femem client, installed: $*" >&2; exit 1; }
 
+version=$(sed -n 's/^#define FEMEM_VERSION "\(.*\)"/\1/p' femem.h)
+shared=libfemem.so.${version%%~*}
 make -s install DESTDIR="$folder/root" PREFIX=/usr LDCONFIG="touch $folder/staged"
 [ ! -e "$folder/staged" ] || fail "ldconfig runs where nothing is installed for this machine"
 make -s install PREFIX="$folder/own" LDCONFIG="touch $folder/told"
 [ -e "$folder/told" ] || fail "ldconfig does not run after an installation"
 make -s install PREFIX="$folder/own" LDCONFIG=false || fail "an installation ends where ldconfig fails"
 root=$folder/root/usr
-for file in include/femem.h lib/libfemem.a lib/libfemem.so.1.0.0 lib/pkgconfig/femem.pc share/man/man3/libfemem.3; do
+for file in include/femem.h lib/libfemem.a lib/$shared lib/pkgconfig/femem.pc share/man/man3/libfemem.3; do
   [ -f "$root/$file" ] || fail "$file is missing"
 done
 [ "$(readlink "$root/lib/libfemem.so")" = libfemem.so.1 ] || fail "libfemem.so"
-[ "$(readlink "$root/lib/libfemem.so.1")" = libfemem.so.1.0.0 ] || fail "libfemem.so.1"
+[ "$(readlink "$root/lib/libfemem.so.1")" = "$shared" ] || fail "libfemem.so.1"
 
 # Both libraries export the header's functions, and no other name.
 grep -o '\bfemem_[a-z_]*(' femem.h | tr -d '(' | sort -u > "$folder/declared"
 [ "$(wc -l < "$folder/declared")" -gt 40 ] || fail "the header declares few functions"
-nm -D --defined-only "$root/lib/libfemem.so.1" | awk '{ print $3 }' | sort > "$folder/shared"
+nm -D --defined-only "$root/lib/libfemem.so.1" | awk '$2 == "T" && $3 ~ /@@/ { sub(/@@.*/, "", $3); print $3 }' | sort > "$folder/shared"
 nm -g --defined-only "$root/lib/libfemem.a" | awk 'NF == 3 { print $3 }' | sort > "$folder/static"
 diff "$folder/declared" "$folder/shared" >&2 || fail "the shared library's names"
 diff "$folder/declared" "$folder/static" >&2 || fail "the static library's names"
 objdump -p "$root/lib/libfemem.so.1" | grep -q 'SONAME *libfemem.so.1$' || fail "the soname"
 
 # The version is the same everywhere; the manual page has each function, and no name that the header has not.
-version=$(sed -n 's/^#define FEMEM_VERSION "\(.*\)"/\1/p' femem.h)
 grep -qx "Version: $version" "$root/lib/pkgconfig/femem.pc" || fail "the version of femem.pc"
 grep -qx "prefix=/usr" "$root/lib/pkgconfig/femem.pc" || fail "the prefix of femem.pc"
 cat > "$folder/program.c" << 'END'
@@ -37,7 +38,7 @@ cat > "$folder/program.c" << 'END'
 #include <string.h>
 int main(void) {
   femem *client = NULL;
-  femem_error error = femem_open(&client, "/nowhere/femem.socket", 7, NULL);
+  femem_error error = femem_open(&client, "/none/of/these", 7, NULL);
   printf("%s: %s\n", femem_version(), femem_error_text(error));
   return strcmp(femem_version(), FEMEM_VERSION) != 0 || error != FEMEM_UNREACHABLE;
 }
@@ -58,8 +59,13 @@ head -n 1 libfemem.3 | grep -q "\"femem $version\"" || fail "the version of libf
 while read -r name; do grep -qw "$name" libfemem.3 || fail "libfemem.3 does not have $name"; done < "$folder/declared"
 grep -ow 'femem_[a-z_]*\|FEMEM_[A-Z_]*' libfemem.3 | sort -u > "$folder/named"
 while read -r name; do grep -qw "$name" femem.h || fail "femem.h does not have $name"; done < "$folder/named"
+page=$root/share/man/man3/libfemem.3
+while read -r name; do
+  grep -q "^.fB.*\b$name(" "$page" || fail "libfemem.3 has no prototype of $name"
+  [ "$(readlink "${page%/*}/$name.3")" = libfemem.3 ] || fail "$name.3 leads nowhere"
+done < "$folder/declared"
 if command -v man > /dev/null; then
-  said=$(LC_ALL=C.UTF-8 MANWIDTH=120 man --warnings -l libfemem.3 2>&1 > /dev/null) || fail "man: $said"
+  said=$(LC_ALL=C.UTF-8 MANWIDTH=120 man --warnings -l "$page" 2>&1 > /dev/null) || fail "man: $said"
   [ -z "$said" ] || fail "man: $said"
 fi
 echo "femem client, installed: $(wc -l < "$folder/declared") functions"

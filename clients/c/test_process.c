@@ -150,21 +150,26 @@ static void welcome_server(int listener) {
 }
 
 
+/* A connection that fails, with that errno, in less than the time of `returning`. */
+static void fails_soon(const char *at, femem_error error, int why) {
+  femem *client;
+  int64_t began = moment_now();
+  errno = 0;
+  ERROR(femem_open(&client, at, 7, &returning), error);
+  CHECK(took_less(began, 5000) && !client && errno == why);
+}
+
 /* The first connection fails at once where the path can't lead to a socket, unless the settings say to wait. */
 static void wrong_paths(void) {
   test = "paths that lead to no socket";
-  static const struct { const char *at; int error; } nowhere[] = {
-    {"/none/of/these", ENOENT}, {"/dev/null/socket", ENOTDIR}};
-  for (int i = 0; i < 2; i++) {
-    femem *client;
-    int64_t began = moment_now();
-    errno = 0;
-    ERROR(femem_open(&client, nowhere[i].at, 7, &returning), FEMEM_UNREACHABLE);
-    CHECK(took_less(began, 5000) && !client && errno == nowhere[i].error);
-    ERROR(femem_open(&client, "", 7, &returning), FEMEM_BAD_CALL);
-  }
-  static const int errors[] = {ENOENT, EACCES, ENOTDIR, ELOOP, ENAMETOOLONG};
-  for (int i = 0; i < 5; i++) {
+  fails_soon("/none/of/these", FEMEM_UNREACHABLE, ENOENT);
+  fails_soon("/dev/null/socket", FEMEM_UNREACHABLE, ENOTDIR);
+  fails_soon("/", FEMEM_UNREACHABLE, ENOTSOCK);
+  fails_soon("/proc/self/cmdline", FEMEM_UNREACHABLE, ENOTSOCK);
+  femem *none;
+  ERROR(femem_open(&none, "", 7, &returning), FEMEM_BAD_CALL);
+  static const int errors[] = {ENOTDIR, ELOOP, ENAMETOOLONG, EPROTOTYPE};
+  for (int i = 0; i < 4; i++) {
     femem *client;
     int64_t began = moment_now();
     failing_connects = 1000;
@@ -177,7 +182,7 @@ static void wrong_paths(void) {
   /* Who names a time for it gets the time. */
   femem_settings waits = returning;
   waits.wait_for_server = true;
-  for (int i = 0; i < 5; i++) {
+  for (int i = 0; i < 4; i++) {
     pid_t server = begin(welcome_server);
     failing_connects = 3;
     failure = errors[i];
@@ -194,6 +199,45 @@ static void wrong_paths(void) {
   CHECK(failing_connects == 0);
   femem_close(client);
   END(server);
+}
+
+/* A server that is away: its socket is missing, or its folder too, or it belongs to root for a moment. */
+static void away(void) {
+  test = "a server that is away";
+  static const int errors[] = {ENOENT, EACCES, EPERM};
+  for (int i = 0; i < 3; i++) {
+    pid_t server = begin(welcome_server);
+    failing_connects = 3;
+    failure = errors[i];
+    femem *client = opened(&returning);
+    CHECK(failing_connects == 0);
+    femem_close(client);
+    END(server);
+  }
+  const femem_settings once = {.reconnect = FEMEM_NEVER}, shortly = {.reconnect = 200};
+  const femem_settings *given[] = {&once, &shortly};
+  for (int i = 0; i < 2; i++) {
+    femem *client;
+    int64_t began = moment_now();
+    failed = 0;
+    ERROR(femem_open(&client, "/tmp/femem_none/socket", 7, given[i]), FEMEM_UNREACHABLE);
+    CHECK(took_less(began, 200) == (i == 0) && !client && errno == ENOENT);
+  }
+}
+
+/* No right to the socket is an error of its own, a second after the first try. */
+static void no_right(void) {
+  test = "no right to the socket";
+  femem *client;
+  failing_connects = 100000;
+  failure = EACCES;
+  int64_t began = moment_now();
+  ERROR(femem_open(&client, path, 7, &returning), FEMEM_NO_RIGHT);
+  CHECK(!took_less(began, 1000) && took_less(began, 5000) && errno == EACCES);
+  const femem_settings once = {.reconnect = FEMEM_NEVER}, waits = {.reconnect = 200, .wait_for_server = true};
+  ERROR(femem_open(&client, path, 7, &once), FEMEM_NO_RIGHT);
+  ERROR(femem_open(&client, path, 7, &waits), FEMEM_NO_RIGHT);
+  failing_connects = 0;
 }
 
 /* ---- settings ---- */
@@ -434,7 +478,7 @@ int main(void) {
   alarm(200);
   if (!mkdtemp(folder)) return 1;
   snprintf(path, sizeof path, "%s/socket", folder);
-  void (*const tests[])(void) = {lost_send, told_send, short_of_descriptors, wrong_paths, zeros, sizes,
+  void (*const tests[])(void) = {lost_send, told_send, short_of_descriptors, wrong_paths, away, no_right, zeros, sizes,
                                  forks, own_client, ends};
   for (size_t i = 0; i < sizeof tests / sizeof *tests; i++) tests[i]();
   unlink(path);

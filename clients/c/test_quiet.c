@@ -8,17 +8,27 @@
 #define STILL_OWN "0000000a 46 8000000000000000 0a"
 #define NOT_OWN "0000000a 46 8000000000000000 01"
 
+/* Nothing comes for a while. */
+static void hear_nothing(int line) {
+  uint8_t byte;
+  rest(100000);
+  if (recv(line, &byte, 1, MSG_DONTWAIT) >= 0) _exit(1);
+}
+
 static void unwelcome_server(int listener) {
   int line = take_line(listener);
   hear(line, ATTACH_7);
-  hear(line, ATTACH_7);
+  hear(line, ATTACH_7 ASKED_AFTER);
   say(line, WELCOME_7);
+  hear_nothing(line);
+  say(line, STILL_OWN);
   hear(line, ADD("01"));
   say(line, WELCOME_7 VALUE("01", "05"));
   hear_end(line);
 }
 
-/* No welcome comes to the first attach; both come to the second. */
+/* No welcome comes in time to the first attach. It may be that one's that comes then, and the second attach unread: so
+   nothing is sent before the refusal of what followed the second one. */
 static void attaches_again(void) {
   test = "an attach that is not answered";
   pid_t server = begin(unwelcome_server);

@@ -179,6 +179,8 @@ static void several_server(int listener) {
   heard(line, cancel_of, 3);
   heard(line, read_of, 33);
   said(line, withdrawn_of, 3);
+  heard(line, settle_of, 33); /* the broken connection may still have a copy of it */
+  said(line, settled_of, 33);
   said(line, value_of, 33);
   hear_end(line);
 }
@@ -197,6 +199,7 @@ static void several_move(void) {
   ERROR(femem_int_fetch_add(client, 1, 0, 1, &value), FEMEM_OK);
   CHECK(value == 34);
   ERROR(femem_cancel(client, numbers[2], &answer), FEMEM_WITHDRAWN);
+  CHECK(femem_floor(client) > numbers[2]);
   ERROR(femem_wait(client, numbers[0], &answer, 20000), FEMEM_OK);
   CHECK(answer.value == 33 && answer.number == 33);
   femem_close(client);
@@ -316,6 +319,316 @@ static void quiet_descriptor(void) {
 
 /* ---- coming back ---- */
 
+static void breaking_server(int listener) {
+  int line = take_line(listener);
+  meet(line);
+  for (unsigned number = 1; number <= 3; number++) heard(line, read_of, number);
+  close(line);
+  line = take_line(listener);
+  hear(line, ATTACH_7);
+  say(line, "00000011 41 0000000000000007 0000000000000021");
+  for (unsigned number = 1; number <= 3; number++) heard(line, read_of, number);
+  said(line, value_of, 1);
+  heard(line, cancel_of, 3);
+  said(line, withdrawn_of, 3);
+  heard(line, cancel_of, 2); /* 1 is taken: what waits below 3 moves */
+  said(line, withdrawn_of, 2);
+  heard(line, settle_of, 4);
+  heard(line, read_of, 4);
+  close(line);
+  line = take_line(listener);
+  hear(line, ATTACH_7);
+  say(line, "00000011 41 0000000000000007 0000000000000021");
+  heard(line, read_of, 3); /* its copies were read meanwhile, perhaps */
+  heard(line, cancel_of, 3);
+  heard(line, settle_of, 4);
+  heard(line, read_of, 4);
+  said(line, value_of, 3);
+  said(line, not_waiting_of, 3);
+  said(line, settled_of, 4);
+  said(line, value_of, 4);
+  hear_end(line);
+}
+
+/* A request that two connections carried is told as withdrawn only once the floor is above it: what waits below it moves,
+   but an answer has to be taken first. If the connection breaks before, it may have happened after all. */
+static void breaks_while_taken_back(void) {
+  test = "a request that two connections carried";
+  pid_t server = begin_at(32, breaking_server);
+  femem *client = opened(&going_on);
+  uint64_t numbers[3] = {0};
+  femem_answer answer = {0};
+  for (int i = 0; i < 3; i++) ERROR(femem_send_readfe(client, 1, 0, &numbers[i]), FEMEM_OK);
+  ERROR(femem_wait(client, numbers[0], &answer, 0), FEMEM_TIMEOUT);
+  while (femem_ready(client) == 0) femem_wait(client, numbers[1], &answer, 10);
+  ERROR(femem_cancel(client, numbers[2], &answer), FEMEM_TIMEOUT);
+  CHECK(femem_out(client) == 2);
+  ERROR(femem_wait(client, numbers[0], &answer, 20000), FEMEM_OK);
+  ERROR(femem_wait(client, numbers[2], &answer, 20000), FEMEM_OK);
+  CHECK(answer.value == 3 && answer.number == numbers[2]);
+  ERROR(femem_wait(client, numbers[1], &answer, 20000), FEMEM_OK);
+  CHECK(answer.value == 4 && answer.number == numbers[1] && femem_out(client) == 0);
+  femem_close(client);
+  END(server);
+}
+
+static void twice_server(int listener) {
+  int line = take_line(listener);
+  meet(line);
+  for (unsigned number = 1; number <= 2; number++) heard(line, read_of, number);
+  close(line);
+  line = take_line(listener);
+  hear(line, ATTACH_7);
+  say(line, "00000011 41 0000000000000007 0000000000000021");
+  for (unsigned number = 1; number <= 2; number++) heard(line, read_of, number);
+  said(line, value_of, 1);
+  heard(line, cancel_of, 2);
+  said(line, withdrawn_of, 2);
+  heard(line, add_of, 3);
+  close(line);
+  line = take_line(listener);
+  hear(line, ATTACH_7);
+  say(line, "00000011 41 0000000000000007 0000000000000021");
+  heard(line, read_of, 2);
+  heard(line, cancel_of, 2);
+  heard(line, add_of, 3);
+  said(line, withdrawn_of, 2);
+  said(line, value_of, 3);
+  heard(line, settle_of, 4);
+  said(line, settled_of, 4);
+  hear_end(line);
+}
+
+/* Sends requests that wait, and goes on until they were sent again and one is answered. */
+static void sent_twice(femem *client, unsigned count, uint64_t *numbers) {
+  femem_answer answer;
+  for (unsigned i = 0; i < count; i++) ERROR(femem_send_readfe(client, 1, 0, &numbers[i]), FEMEM_OK);
+  ERROR(femem_wait(client, numbers[0], &answer, 0), FEMEM_TIMEOUT);
+  while (femem_ready(client) == 0) femem_wait(client, numbers[1], &answer, 10);
+}
+
+/* A request that was taken back, and waits for the floor, is asked again with its cancel at each return. */
+static void taken_back_twice(void) {
+  test = "a request that is taken back over two connections";
+  pid_t server = begin_at(32, twice_server);
+  femem *client = opened(&going_on);
+  uint64_t numbers[2] = {0}, value = 0;
+  femem_answer answer = {0};
+  sent_twice(client, 2, numbers);
+  ERROR(femem_cancel(client, numbers[1], &answer), FEMEM_TIMEOUT);
+  ERROR(femem_int_fetch_add(client, 1, 0, 1, &value), FEMEM_OK);
+  CHECK(value == 3 && femem_reconnects(client) == 2 && femem_out(client) == 1);
+  ERROR(femem_wait(client, numbers[0], &answer, 20000), FEMEM_OK);
+  ERROR(femem_wait(client, numbers[1], &answer, 20000), FEMEM_OK);
+  CHECK(answer.error == FEMEM_WITHDRAWN && femem_out(client) == 0);
+  femem_close(client);
+  END(server);
+}
+
+static void answered_server(int listener) {
+  int line = take_line(listener);
+  meet(line);
+  for (unsigned number = 1; number <= 3; number++) heard(line, read_of, number);
+  close(line);
+  line = take_line(listener);
+  hear(line, ATTACH_7);
+  say(line, "00000011 41 0000000000000007 0000000000000021");
+  for (unsigned number = 1; number <= 3; number++) heard(line, read_of, number);
+  said(line, value_of, 1);
+  heard(line, cancel_of, 3);
+  said(line, withdrawn_of, 3);
+  heard(line, add_of, 4); /* 2 could not move below the answer, so it is not cancelled */
+  said(line, value_of, 4);
+  heard(line, cancel_of, 2);
+  said(line, withdrawn_of, 2);
+  heard(line, settle_of, 5);
+  heard(line, read_of, 5);
+  said(line, settled_of, 5);
+  said(line, value_of, 5);
+  hear_end(line);
+}
+
+/* What waits below a request that was taken back, and above an answer that was not taken, stays as it is. */
+static void stays_above_an_answer(void) {
+  test = "a request between an answer and one that is taken back";
+  pid_t server = begin_at(32, answered_server);
+  femem *client = opened(&going_on);
+  uint64_t numbers[3] = {0}, value = 0;
+  femem_answer answer = {0};
+  sent_twice(client, 3, numbers);
+  ERROR(femem_cancel(client, numbers[2], &answer), FEMEM_TIMEOUT);
+  ERROR(femem_int_fetch_add(client, 1, 0, 1, &value), FEMEM_OK);
+  ERROR(femem_wait(client, numbers[0], &answer, 20000), FEMEM_OK);
+  ERROR(femem_wait(client, numbers[2], &answer, 20000), FEMEM_OK);
+  CHECK(answer.error == FEMEM_WITHDRAWN);
+  ERROR(femem_wait(client, numbers[1], &answer, 20000), FEMEM_OK);
+  CHECK(answer.value == 5 && femem_out(client) == 0);
+  femem_close(client);
+  END(server);
+}
+
+/* A pipe that lets the next scripts' servers go on. */
+static int go[2];
+
+/* Takes requests that wait, over two connections, answers all others of a window, and hears of a cancel. */
+static int fill(int listener, unsigned count, unsigned cancelled) {
+  int line = take_line(listener);
+  char byte;
+  meet(line);
+  for (unsigned number = 1; number <= count; number++) heard(line, read_of, number);
+  close(line);
+  line = take_line(listener);
+  hear(line, ATTACH_7);
+  say(line, "00000011 41 0000000000000007 0000000000000021");
+  for (unsigned number = 1; number <= count; number++) heard(line, read_of, number);
+  for (unsigned number = count + 1; number <= 32; number++) {
+    heard(line, add_of, number);
+    said(line, value_of, number);
+  }
+  heard(line, cancel_of, cancelled);
+  if (read(go[0], &byte, 1) != 1) _exit(1);
+  return line;
+}
+
+static void place_server(int listener) {
+  int line = fill(listener, 1, 1);
+  said(line, withdrawn_of, 1);
+  heard(line, settle_of, 33);
+  said(line, settled_of, 33);
+  heard(line, add_of, 33);
+  said(line, value_of, 33);
+  hear_end(line);
+}
+
+static void turn_server(int listener) {
+  int line = fill(listener, 3, 2);
+  heard(line, cancel_of, 1);
+  heard(line, cancel_of, 3);
+  said(line, withdrawn_of, 2);
+  said(line, withdrawn_of, 1);
+  said(line, withdrawn_of, 3);
+  heard(line, settle_of, 3); /* not above 3, which keeps its number: the place of the next is still that of 2 */
+  heard(line, read_of, 33);
+  heard(line, read_of, 3);
+  said(line, settled_of, 3);
+  heard(line, add_of, 34);
+  said(line, value_of, 34);
+  said(line, value_of, 33);
+  said(line, value_of, 3);
+  hear_end(line);
+}
+
+static void exchanging_server(int listener) {
+  int line = fill(listener, 3, 1);
+  said(line, withdrawn_of, 1);
+  heard(line, settle_of, 2);
+  said(line, settled_of, 2);
+  heard(line, cancel_of, 3);
+  said(line, withdrawn_of, 3);
+  heard(line, cancel_of, 2);
+  said(line, withdrawn_of, 2);
+  heard(line, settle_of, 33);
+  heard(line, read_of, 33); /* the place of 1, whose answer was not taken */
+  said(line, settled_of, 33);
+  said(line, value_of, 33);
+  hear_end(line);
+}
+
+static pid_t begin_full(script run) {
+  if (pipe(go)) abort();
+  return begin_at(32, run);
+}
+
+/* A client that has sent `count` requests twice, has used all 32 numbers, and has cancelled one of those. */
+static femem *full(unsigned count, unsigned cancelled, uint64_t *numbers) {
+  femem_answer answer;
+  uint64_t number = 0;
+  femem *client = opened(&(femem_settings){.wait = 20, .reconnect = 20000});
+  for (unsigned i = 0; i < count; i++) ERROR(femem_send_readfe(client, 1, 0, &numbers[i]), FEMEM_OK);
+  while (femem_reconnects(client) == 0) femem_wait(client, numbers[0], &answer, 10);
+  for (unsigned due = count + 1; due <= 32; due++) {
+    ERROR(femem_send_int_fetch_add(client, 1, 0, 1, &number), FEMEM_OK);
+    ERROR(femem_wait(client, number, &answer, 20000), FEMEM_OK);
+  }
+  ERROR(femem_cancel(client, numbers[cancelled - 1], &answer), FEMEM_TIMEOUT);
+  return client;
+}
+
+/* Sends one more, for which there is a place once the answer to the request that was taken back is taken. */
+static uint64_t sent_at_last(femem *client, uint64_t back) {
+  femem_answer answer = {0};
+  uint64_t number = 0;
+  unsigned taken = 0;
+  femem_error error;
+  while ((error = femem_send_int_fetch_add(client, 1, 0, 1, &number)) == FEMEM_TIMEOUT || error == FEMEM_WINDOW_FULL) {
+    if (error == FEMEM_TIMEOUT) continue;
+    ERROR(femem_wait(client, back, &answer, 20000), FEMEM_OK);
+    CHECK(answer.error == FEMEM_WITHDRAWN && answer.number == back);
+    if (taken++ > 0) break;
+  }
+  ERROR(error, FEMEM_OK);
+  CHECK(taken == 1);
+  return number;
+}
+
+/* The place of a request that was taken back is used for the next only once that one's answer is taken. */
+static void place_is_kept(void) {
+  test = "the place of a request that is taken back";
+  pid_t server = begin_full(place_server);
+  uint64_t numbers[1] = {0};
+  femem_answer answer = {0};
+  femem *client = full(1, 1, numbers);
+  CHECK(write(go[1], "", 1) == 1 && readable(client, 20000) == 1);
+  uint64_t next = sent_at_last(client, numbers[0]);
+  ERROR(femem_wait(client, next, &answer, 20000), FEMEM_OK);
+  CHECK(answer.value == 33 && femem_out(client) == 0 && femem_ready(client) == 0);
+  femem_close(client);
+  END(server);
+  close(go[0]);
+  close(go[1]);
+}
+
+/* A request that moves, behind one that was taken back, keeps its number while that one's place is needed. */
+static void waits_its_turn(void) {
+  test = "a request that moves behind one that is taken back";
+  pid_t server = begin_full(turn_server);
+  uint64_t numbers[3] = {0};
+  femem_answer answer = {0};
+  femem *client = full(3, 2, numbers);
+  CHECK(write(go[1], "", 1) == 1);
+  uint64_t next = sent_at_last(client, numbers[1]);
+  ERROR(femem_wait(client, next, &answer, 20000), FEMEM_OK);
+  ERROR(femem_wait(client, numbers[0], &answer, 20000), FEMEM_OK);
+  CHECK(answer.value == 33 && answer.number == numbers[0]);
+  ERROR(femem_wait(client, numbers[2], &answer, 20000), FEMEM_OK);
+  CHECK(answer.value == 3 && answer.number == numbers[2] && femem_out(client) == 0);
+  femem_close(client);
+  END(server);
+  close(go[0]);
+  close(go[1]);
+}
+
+/* Nor is it lost to a request that moves. */
+static void answer_makes_room(void) {
+  test = "a request that moves to the place of an answer";
+  pid_t server = begin_full(exchanging_server);
+  uint64_t numbers[3] = {0};
+  femem_answer answer = {0};
+  femem *client = full(3, 1, numbers);
+  CHECK(write(go[1], "", 1) == 1);
+  while (femem_ready(client) == 0) femem_wait(client, numbers[1], &answer, 10);
+  if (femem_cancel(client, numbers[2], &answer) == FEMEM_TIMEOUT) femem_wait(client, numbers[2], &answer, 20000);
+  CHECK(answer.error == FEMEM_WITHDRAWN && answer.number == numbers[2]);
+  ERROR(femem_wait(client, numbers[1], &answer, 20000), FEMEM_OK);
+  CHECK(answer.value == 33 && answer.number == numbers[1]);
+  ERROR(femem_next(client, &answer, 0), FEMEM_OK);
+  CHECK(answer.error == FEMEM_WITHDRAWN && answer.number == numbers[0] && femem_ready(client) == 0);
+  femem_close(client);
+  END(server);
+  close(go[0]);
+  close(go[1]);
+}
+
 static void slow_server(int listener) {
   int line = take_line(listener);
   welcome(line);
@@ -357,7 +670,9 @@ int main(void) {
   if (!mkdtemp(folder)) return 1;
   snprintf(path, sizeof path, "%s/socket", folder);
   void (*const tests[])(void) = {out_of_time, late_withdrawals, moves_on, several_move, stopped_move, resumed_stays,
-                               quiet_descriptor, short_waits};
+                               quiet_descriptor, short_waits, breaks_while_taken_back,
+                               taken_back_twice, stays_above_an_answer, place_is_kept, waits_its_turn,
+                               answer_makes_room};
   for (size_t i = 0; i < sizeof tests / sizeof *tests; i++) tests[i]();
   unlink(path);
   rmdir(folder);

@@ -4,7 +4,7 @@
 
 bool fe_is_answered(femem *client, uint64_t number) {
   slot *place = fe_find(client, number);
-  return !place || place->state == ANSWERED;
+  return !place || place->state == ANSWERED || fe_is_blocked(client, place);
 }
 
 bool fe_is_settled(femem *client, uint64_t floor) { return client->floor_told >= floor; }
@@ -12,6 +12,12 @@ bool fe_is_settled(femem *client, uint64_t floor) { return client->floor_told >=
 bool fe_any_answered(femem *client, uint64_t unused) {
   (void)unused;
   return client->ready > 0 || client->out == 0;
+}
+
+bool fe_any_of(femem *client, uint64_t count) {
+  for (uint64_t i = 0; i < count; i++)
+    if (fe_is_answered(client, client->awaited[i])) return true;
+  return false;
 }
 
 /* No request is moving, and the one that held the floor is not being cancelled. */
@@ -39,7 +45,8 @@ static bool is_written(femem *client, uint64_t unused) {
 
 femem_error fe_wait_for(femem *client, condition holds, uint64_t number, int64_t end) {
   if (holds(client, number)) return FEMEM_OK;
-  client->quiet_since = fe_now();
+  if (client->at_once) end = fe_now();
+  else client->quiet_since = fe_now();
   for (bool first = true;; first = false) {
     if (!first && fe_is_past(end)) return FEMEM_TIMEOUT;
     bool returns = client->phase == RETURNING;

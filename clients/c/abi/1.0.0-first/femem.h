@@ -1,0 +1,328 @@
+/* A client of femem, the recoverable full/empty memory server: one session over one Unix socket, with frames of
+   version 2 (docs/formats.md, "Frames"). C11 and POSIX, nothing else. README.md next to this file says for each call
+   what it answers, when it waits, and what a stop of the server does to it.
+
+   A client is used by one thread at a time. No call raises a signal. Only femem_open, the first femem_report and the
+   calls that say so take memory. */
+#ifndef FEMEM_H
+#define FEMEM_H
+
+#include <stdbool.h>
+#include <stddef.h>
+#include <stdint.h>
+
+#ifdef __cplusplus
+extern "C" {
+#endif
+
+/* The version of this header. */
+#define FEMEM_VERSION_MAJOR 1
+#define FEMEM_VERSION_MINOR 0
+#define FEMEM_VERSION_PATCH 0
+#define FEMEM_VERSION "1.0.0"
+
+#ifdef __GNUC__
+#pragma GCC visibility push(default)
+#endif
+
+/* A client: one session and its connection. */
+typedef struct femem femem;
+
+/* The result of a call. Answers have the codes of docs/formats.md; refusals have 100 plus their number. */
+typedef enum femem_error {
+  FEMEM_OK = 0,
+
+  /* Answers of the server that are errors. They are kept like any other. */
+  FEMEM_NO_ARRAY = 4,
+  FEMEM_BAD_INDEX = 5,
+  FEMEM_NAME_TAKEN = 6,
+  FEMEM_ARRAY_LIMIT = 7,
+  FEMEM_WORD_LIMIT = 8,
+  FEMEM_BAD_NAME = 9,
+  FEMEM_BAD_LENGTH = 10,
+  FEMEM_NOT_NOW = 11,
+
+  /* Refusals of the server: the message changed nothing. */
+  FEMEM_REFUSED_NOT_ATTACHED = 101,
+  FEMEM_REFUSED_SESSION_LIMIT = 102,
+  FEMEM_REFUSED_BELOW_FLOOR = 103,
+  FEMEM_REFUSED_BEYOND_WINDOW = 104,
+  FEMEM_REFUSED_NUMBER_USED = 105,
+  FEMEM_REFUSED_STILL_WAITING = 106,
+  FEMEM_REFUSED_CLOSING = 107,
+  FEMEM_REFUSED_NO_MEMORY = 108,
+  FEMEM_REFUSED_SPENT = 109,
+  FEMEM_REFUSED_NOT_WAITING = 110,
+
+  /* What the client itself reports. After the first four the request, if there is one, is still out. */
+  FEMEM_TIMEOUT = 201,        /* no answer in time */
+  FEMEM_DISCONNECTED = 202,   /* the server closed the connection, or is gone */
+  FEMEM_UNREACHABLE = 203,    /* no server was reached in time */
+  FEMEM_SYSTEM = 204,         /* a system call failed: femem_errno */
+  FEMEM_WITHDRAWN = 205,      /* the request was taken back, and has not happened */
+  FEMEM_WINDOW_FULL = 206,    /* no number is free: take answers first */
+  FEMEM_NOTHING_OUT = 207,    /* no answer can come */
+  FEMEM_BAD_CALL = 208,       /* an argument is not as femem.h says */
+  FEMEM_ENDED = 209,          /* the session has said bye */
+  FEMEM_MEMORY = 210,         /* no memory here */
+  FEMEM_FORKED = 211,         /* the client belongs to the parent process */
+  FEMEM_FILE_FAULT = 212,     /* the session file can't be read, written or synced: femem_errno, or errno at opening */
+  FEMEM_FILE_IN_USE = 213,    /* another client has the session file */
+  FEMEM_FILE_DAMAGED = 214,   /* the session file has content that no client writes */
+  FEMEM_OTHER_REQUEST = 215,  /* the key was used with another request */
+
+  /* The server, or whatever answers in its place, breaks the formats. The connection is closed. */
+  FEMEM_BAD_FRAME = 301,      /* bytes that are not a reply */
+  FEMEM_WRONG_NUMBER = 302,   /* a reply under a number that is not out */
+  FEMEM_STRANGE_REPLY = 303,  /* a reply to nothing that was asked, or of the wrong kind */
+  FEMEM_CHANGED_ANSWER = 304, /* an answer came again and is different */
+  FEMEM_SESSION_LOST = 305    /* the session was ended and begun again, or is an older one: nothing was sent again */
+} femem_error;
+
+/* The codes of requests in docs/formats.md. */
+typedef enum femem_operation {
+  FEMEM_CREATE = 1,
+  FEMEM_FIND = 2,
+  FEMEM_REMOVE = 3,
+  FEMEM_READFE = 16,
+  FEMEM_READFF = 17,
+  FEMEM_READXX = 18,
+  FEMEM_WRITEEF = 19,
+  FEMEM_WRITEFF = 20,
+  FEMEM_WRITEXF = 21,
+  FEMEM_PURGE = 22,
+  FEMEM_INT_FETCH_ADD = 23
+} femem_operation;
+
+/* A request for femem_send and femem_call. Fields that the operation does not use are not read. */
+typedef struct femem_request {
+  femem_operation operation;
+  bool no_wait;         /* eight operations: FEMEM_NOT_NOW if it would wait */
+  bool full;            /* create: the tag of the new words */
+  uint8_t name_length;  /* create, find: 0 to 32 */
+  char name[32];        /* create, find */
+  uint32_t length;      /* create */
+  uint32_t index;       /* eight operations */
+  uint64_t array;       /* eight operations, remove */
+  uint64_t operand;     /* writeef, writeff, writexf, int_fetch_add */
+} femem_request;
+
+/* An answer: `error` is FEMEM_OK or says why there is no value. */
+typedef struct femem_answer {
+  uint64_t number;
+  femem_error error;
+  uint32_t length;      /* create, find */
+  uint64_t array;       /* create, find */
+  uint64_t value;       /* readfe, readff, readxx, int_fetch_add */
+} femem_answer;
+
+/* Times are in milliseconds; FEMEM_FOREVER is no limit. */
+#define FEMEM_FOREVER ((int64_t)-1)
+
+typedef struct femem_settings {
+  int64_t wait;      /* how long a call waits before it takes its request back; without settings: no limit */
+  int64_t reconnect; /* how long a client tries to reach a lost server; 0, or without settings: not at all */
+  bool resume;       /* numbers continue at the session's floor; otherwise what the session kept is settled first */
+} femem_settings;
+
+/* ---- opening and closing ---- */
+
+/* Opens a client of the session on the socket at `path`, and attaches it. `settings` may be NULL. If it fails,
+   *client is NULL. Errors: FEMEM_UNREACHABLE, FEMEM_TIMEOUT, FEMEM_REFUSED_SESSION_LIMIT, FEMEM_REFUSED_CLOSING,
+   FEMEM_MEMORY, FEMEM_BAD_CALL if the path is too long for a socket. */
+femem_error femem_open(femem **client, const char *path, uint64_t session, const femem_settings *settings);
+
+/* Opens a client of the session in the file at `file`, which is created if it is missing. The file holds the session's
+   number and every unanswered request, and is written and synced before anything is sent; so the requests of an earlier
+   life of the program are sent again, and each happens once. A lock on the file keeps a second client out. `resume`
+   must be false. This takes the memory for the file. Errors: those of femem_open, FEMEM_FILE_FAULT (errno says why),
+   FEMEM_FILE_IN_USE, FEMEM_FILE_DAMAGED. */
+femem_error femem_open_file(femem **client, const char *path, const char *file, const femem_settings *settings);
+
+/* Closes the connection and frees the client. The session stays on the server. NULL is allowed. */
+void femem_close(femem *client);
+
+/* Reconnects, within `within` milliseconds, and sends again what is out, under the same numbers. */
+femem_error femem_reconnect(femem *client, int64_t within);
+
+/* Ends the session. FEMEM_BAD_CALL while something is out. A session file begins a new session with the next client. */
+femem_error femem_bye(femem *client);
+
+/* ---- one request and its answer ----
+
+   A name ends with a zero byte. Each call waits for its answer. A request that is not answered within the `wait` of the
+   settings is taken back: FEMEM_WITHDRAWN, or its answer if it had happened. A pointer for a result may be NULL. Each
+   call may also return an error of the connection: FEMEM_DISCONNECTED, FEMEM_UNREACHABLE, FEMEM_TIMEOUT, and those from
+   FEMEM_BAD_FRAME on. */
+
+/* Creates an array of `length` words of value 0, all full or all empty. Never waits for others. Answers the array's id.
+   Errors: FEMEM_BAD_NAME, FEMEM_BAD_LENGTH, FEMEM_NAME_TAKEN, FEMEM_ARRAY_LIMIT, FEMEM_WORD_LIMIT. */
+femem_error femem_create(femem *client, const char *name, uint32_t length, bool full, uint64_t *array);
+
+/* Finds an array by its name: its id and its length. Errors: FEMEM_BAD_NAME, FEMEM_NO_ARRAY. */
+femem_error femem_find(femem *client, const char *name, uint64_t *array, uint32_t *length);
+
+/* Removes an array; what waits on it is answered FEMEM_NO_ARRAY. Errors: FEMEM_NO_ARRAY. */
+femem_error femem_remove(femem *client, uint64_t array);
+
+/* Waits until the word is full, empties it, and answers its value. Errors, as for all
+   operations on words: FEMEM_NO_ARRAY, FEMEM_BAD_INDEX. */
+femem_error femem_readfe(femem *client, uint64_t array, uint32_t index, uint64_t *value);
+
+/* Waits until the word is full, leaves it so, and answers its value. */
+femem_error femem_readff(femem *client, uint64_t array, uint32_t index, uint64_t *value);
+
+/* Answers the value, whether the word is full or empty. */
+femem_error femem_readxx(femem *client, uint64_t array, uint32_t index, uint64_t *value);
+
+/* Waits until the word is empty, and fills it with the operand. */
+femem_error femem_writeef(femem *client, uint64_t array, uint32_t index, uint64_t operand);
+
+/* Waits until the word is full, and replaces its value. */
+femem_error femem_writeff(femem *client, uint64_t array, uint32_t index, uint64_t operand);
+
+/* Fills the word with the operand, whether it is full or empty. */
+femem_error femem_writexf(femem *client, uint64_t array, uint32_t index, uint64_t operand);
+
+/* Empties the word and sets its value to 0. */
+femem_error femem_purge(femem *client, uint64_t array, uint32_t index);
+
+/* Waits until the word is full, adds the operand modulo 2^64, and answers the old value. The word stays full. */
+femem_error femem_int_fetch_add(femem *client, uint64_t array, uint32_t index, uint64_t operand, uint64_t *value);
+
+/* Any request; with `no_wait` also one that must not wait. */
+femem_error femem_call(femem *client, const femem_request *request, femem_answer *answer);
+
+/* Like femem_call, with its own time in milliseconds. */
+femem_error femem_call_within(femem *client, const femem_request *request, int64_t within, femem_answer *answer);
+
+/* Any number of requests, in as few sends as the window allows: 32 in the first, 16 in each further one; with a session
+   file each send has one sync. answers[i] is that of requests[i]. FEMEM_OK if each has been answered, whatever its
+   error; otherwise why the batch stopped. Then the error of an answer is FEMEM_TIMEOUT if its request is still out
+   under its number, and FEMEM_NOTHING_OUT if it was not sent. A program that is killed within a batch learns in its
+   next life only of the requests that were out at that moment; with femem_batch_once it learns of all. */
+femem_error femem_batch(femem *client, const femem_request *requests, size_t count, femem_answer *answers);
+
+/* ---- requests without waiting ---- */
+
+/* Sends a request. `number`, which may be NULL, gets the number that its answer will have. At most 32 requests are out
+   or have an answer that was not taken; then it is FEMEM_WINDOW_FULL. A request that waits long does not keep others
+   from being sent: it is taken back and sent again under a later number, but keeps its number for the caller. */
+femem_error femem_send(femem *client, const femem_request *request, uint64_t *number);
+
+/* Sends femem_readfe. */
+femem_error femem_send_readfe(femem *client, uint64_t array, uint32_t index, uint64_t *number);
+
+/* Sends femem_readff. */
+femem_error femem_send_readff(femem *client, uint64_t array, uint32_t index, uint64_t *number);
+
+/* Sends femem_readxx. */
+femem_error femem_send_readxx(femem *client, uint64_t array, uint32_t index, uint64_t *number);
+
+/* Sends femem_writeef. */
+femem_error femem_send_writeef(femem *client, uint64_t array, uint32_t index, uint64_t operand, uint64_t *number);
+
+/* Sends femem_writeff. */
+femem_error femem_send_writeff(femem *client, uint64_t array, uint32_t index, uint64_t operand, uint64_t *number);
+
+/* Sends femem_writexf. */
+femem_error femem_send_writexf(femem *client, uint64_t array, uint32_t index, uint64_t operand, uint64_t *number);
+
+/* Sends femem_purge. */
+femem_error femem_send_purge(femem *client, uint64_t array, uint32_t index, uint64_t *number);
+
+/* Sends femem_int_fetch_add. */
+femem_error femem_send_int_fetch_add(femem *client, uint64_t array, uint32_t index, uint64_t operand,
+                                     uint64_t *number);
+
+/* Writes what was sent but not yet written. The calls that wait do this by themselves. */
+femem_error femem_flush(femem *client);
+
+/* The next answer, in order of arrival, within `within` milliseconds. FEMEM_OK if there is one, whatever its error;
+   FEMEM_NOTHING_OUT if none can come; FEMEM_TIMEOUT. */
+femem_error femem_next(femem *client, femem_answer *answer, int64_t within);
+
+/* The answer of that number, within `within` milliseconds. */
+femem_error femem_wait(femem *client, uint64_t number, femem_answer *answer, int64_t within);
+
+/* Takes a request back: FEMEM_WITHDRAWN, or FEMEM_OK with the answer of a request that had happened. */
+femem_error femem_cancel(femem *client, uint64_t number, femem_answer *answer);
+
+/* Settles everything answered and taken, and waits for the server's reply. The other calls settle by themselves. */
+femem_error femem_settle(femem *client);
+
+/* What waits on the server, as a text that ends with a zero byte. The client owns it, and keeps it until its next
+   report. */
+femem_error femem_report(femem *client, const char **text);
+
+/* ---- over the client's own restarts: only with a session file, otherwise FEMEM_BAD_CALL ---- */
+
+/* The longest key. */
+enum { FEMEM_KEY = 64 };
+
+/* Makes the request once under that key (1 to FEMEM_KEY bytes and a zero byte), whatever stops in between and however
+   often the program is restarted. The answer is that of the one time; it comes from the file if it is there. If the
+   request has not happened (FEMEM_WITHDRAWN as in femem_call, or a refusal), the key is free again.
+   FEMEM_OTHER_REQUEST if the key has another request. Takes memory for a new key. */
+femem_error femem_once(femem *client, const char *key, const femem_request *request, femem_answer *answer);
+
+/* femem_batch under keys, one for each request. Called again it gives the same answers. */
+femem_error femem_batch_once(femem *client, const char *const *keys, const femem_request *requests, size_t count,
+                             femem_answer *answers);
+
+/* Forgets a key and its answer. FEMEM_NOTHING_OUT if there is none, FEMEM_BAD_CALL while its request is out. */
+femem_error femem_forget(femem *client, const char *key);
+
+/* A request of the earlier life. femem_wait has its answer, by `number`; if it has a key, femem_once has. Without one
+   `key` is "". */
+typedef struct femem_recovered {
+  uint64_t number;
+  femem_request request;
+  char key[FEMEM_KEY + 1];
+} femem_recovered;
+
+/* The requests of the earlier life that had no answer, or whose answer it took after its last send: at most 32, in
+   order of their numbers. They are out like any others, but an answer that is not taken is dropped when its place is
+   needed. FEMEM_NOTHING_OUT from the end of the list on. */
+femem_error femem_recovered_at(const femem *client, unsigned index, femem_recovered *recovered);
+
+/* ---- what a client knows about itself ---- */
+
+/* The connection's descriptor, for poll and the like; -1 if not connected. It changes with each connection. */
+int femem_descriptor(const femem *client);
+
+/* How many requests are out, without an answer. */
+unsigned femem_out(const femem *client);
+
+/* How many answers have come and are not taken. */
+unsigned femem_ready(const femem *client);
+
+/* The session's number. */
+uint64_t femem_session(const femem *client);
+
+/* The number of the last request; 0 before the first. */
+uint64_t femem_number(const femem *client);
+
+/* The last floor that the server reported. */
+uint64_t femem_floor(const femem *client);
+
+/* How often the client has reconnected. */
+uint64_t femem_reconnects(const femem *client);
+
+/* The errno of the last FEMEM_SYSTEM, FEMEM_UNREACHABLE or FEMEM_FILE_FAULT. */
+int femem_errno(const femem *client);
+
+/* The error's name in plain words, never NULL. */
+const char *femem_error_text(femem_error error);
+
+/* The version of the running library; FEMEM_VERSION is that of this header. */
+const char *femem_version(void);
+
+#ifdef __GNUC__
+#pragma GCC visibility pop
+#endif
+
+#ifdef __cplusplus
+}
+#endif
+#endif
