@@ -10,32 +10,33 @@
 #define DEFAULT_STORE "/var/lib/femem/femem.store"
 
 /* Exit statuses. */
-enum { DONE, LATE, USAGE, REFUSED, NO_SERVER, FAULT, NOT_RUNNABLE = 126, NOT_FOUND = 127, BY_SIGNAL = 128 };
+enum { DONE, LATE, USAGE, REFUSED, NO_SERVER, FAULT, NO_RIGHT, NOT_RUNNABLE = 126, NOT_FOUND = 127, BY_SIGNAL = 128 };
 
 enum { LONGEST_NAME = 32, MOST_WORDS = 64 };
 
 /* What the command line says. Times are in milliseconds, and negative ones are no limit. */
 typedef struct options {
-  const char *socket, *store, *program, *file, *key;
+  const char *socket, *store, *program, *file, *key, *in;
   uint64_t session;
   bool adopted;                /* a temporary session that this process goes on with */
-  bool replaces;               /* it goes on for a process that was killed, and waits for a server */
-  bool has_session, no_wait, json, ends, owners, svg, once, help, version;
+  bool has_session, no_wait, quiet, json, ends, owners, svg, once, help, version;
   int64_t every, timeout, reconnect, takeover_after, away_after;
   int conflict;                /* the status of `lock` and `queue take` that are late */
-  uint32_t capacity, attempts;
+  uint32_t capacity, attempts; /* capacity: 0 if it is not given */
+  uint32_t parties;            /* of a barrier; permits of a semaphore; 0 if it is not given */
 } options;
 
 /* The program. A process that holds a lock for another one has its own. */
 typedef struct command_line {
   options given;
   femem *client;               /* NULL before the first request */
-  uint64_t shown;              /* the request that shows this client at `presence`, or 0 */
+  uint64_t left;               /* the temporary session of a client that was dropped, or 0 */
   int entry;                   /* the locked file that shows this temporary session, or -1 */
   char entry_path[200];
   int stop;                    /* a descriptor that becomes readable when it is time to give up, or -1 */
   bool stopped;
   unsigned line;               /* of standard input, or 0 */
+  bool prompts;                /* somebody types the lines */
 } command_line;
 
 /* ---- say.c ---- */
@@ -46,8 +47,10 @@ int say_value(command_line *cli, uint64_t value);
 int say_text(command_line *cli, const char *text);
 /* Ends a line of output. */
 int said(command_line *cli);
-/* Prints why the command ends, and returns the status. */
+/* Prints why the command ends, and returns the status. LATE is not printed if the options say so. */
 int fail(const command_line *cli, int status, const char *format, ...) __attribute__((format(printf, 3, 4)));
+/* What an error means, with the limit and the way out. Those of the server are in ../errors.txt, word for word. */
+const char *text_of(femem_error error);
 /* The status of an error, and the same with a text for it. `what` is the array, or NULL. */
 int status_of(femem_error error);
 int fail_for(const command_line *cli, femem_error error, const char *what);
@@ -66,10 +69,23 @@ int64_t left(int64_t end);
 /* Sleeps, until the descriptor is readable; -1 is none. Returns whether it is. */
 bool nap(int descriptor, int64_t milliseconds);
 
+/* ---- reach.c ---- */
+
+/* Whether to try again, after a pause: `why` is the errno of a server that may be away since `began`. */
+bool tries_again(command_line *cli, int why, int64_t began);
+/* Waits while the path is missing and may come. */
+void wait_for_path(command_line *cli);
+/* Prints why no server was reached; a status. */
+int fail_to_reach(const command_line *cli, int why);
+
 /* ---- session.c ---- */
 
-/* Opens the client, unless it is open. Returns a status, and says what was wrong. */
+/* Opens the client, unless it is open; at a prompt it comes back. Returns a status, and says what was wrong. */
 int open_client(command_line *cli);
+/* Comes back to a server that was away, and takes the answers that were due then. */
+femem_error come_back(command_line *cli);
+/* Closes a client that has requests out. The next one begins its session anew, which takes back what waits. */
+void drop_client(command_line *cli);
 /* Ends the session, if it is a temporary one, and closes the client. */
 void close_client(command_line *cli);
 /* Keeps a second process from using the session of the options. Waits for `timeout`. A status. */
@@ -77,15 +93,13 @@ int guard_session(command_line *cli);
 /* Notes that signals end this process; `cli->stop` is readable then. Returns the signal, or 0. */
 bool watch_signals(command_line *cli);
 int signal_seen(void);
+/* Whether the signal was Ctrl-C, at a prompt: it is over then, and signals are watched as before. */
+bool take_interrupt(command_line *cli);
 
 /* ---- requests.c ---- */
 
 /* Makes a request, as the options say: in time, without waiting, or under a key. */
 femem_error make_request(command_line *cli, femem_request request, femem_answer *answer);
-/* Makes a request that waits until a moment, or until it is time to give up, and is then taken back: FEMEM_WITHDRAWN. With
-   `part` before `end` it is a part of a longer wait: a server that is lost at its end is waited for until `end`. */
-femem_error make_request_until(command_line *cli, const femem_request *request, int64_t part, int64_t end,
-                               femem_answer *answer);
 /* The array of that name and length, which is made if it is missing. FEMEM_BAD_CALL if it has another length. */
 femem_error shared_array(command_line *cli, const char *name, uint32_t length, bool full, uint64_t *array);
 femem_request on_word(femem_operation operation, uint64_t array, uint32_t index, uint64_t operand, bool no_wait);
@@ -103,8 +117,9 @@ struct holding {
   int (*end)(holding *held, int status);
   struct { const char *name; uint64_t value; } told[3];
   bool goes_on;                        /* another process can go on with it in the same session */
-  uint64_t array, presence;            /* of a lock */
-  uint64_t broke;                      /* the session that lost the lock, or 0 */
+  bool shows;                          /* others look whether its client is there */
+  femem_lock *lock;
+  femem_semaphore *semaphore;
   femem_queue *queue;
   femem_job job;
 };
@@ -114,13 +129,11 @@ int run_holding(holding *held, char **command);
 
 /* ---- lock.c ---- */
 
-/* Makes a request that waits for as long as this client is there, where reports show it. */
-femem_error show_presence(holding *held);
 int do_lock(command_line *cli, char **words, int count);
 int do_owner(command_line *cli, char **words, int count);
 int do_break(command_line *cli, char **words, int count);
-/* Whether the session's client shows that it is there. */
-bool is_there(const char *report, uint64_t presence, uint64_t session);
+int do_semaphore(command_line *cli, char **words, int count);
+int do_barrier(command_line *cli, char **words, int count);
 
 /* ---- queues.c, words.c and looks.c ---- */
 
@@ -129,6 +142,7 @@ int do_create(command_line *cli, char **words, int count);
 int do_find(command_line *cli, char **words, int count);
 int do_remove(command_line *cli, char **words, int count);
 int do_word(command_line *cli, char **words, int count);
+int do_first(command_line *cli, char **words, int count);
 int do_counter(command_line *cli, char **words, int count);
 int do_channel(command_line *cli, char **words, int count);
 int do_forget(command_line *cli, char **words, int count);

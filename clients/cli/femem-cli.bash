@@ -3,15 +3,15 @@ _femem_cli_names() { femem-cli arrays 2> /dev/null | cut -d ' ' -f 1; }
 
 _femem_cli() {
   local word=${COMP_WORDS[COMP_CWORD]} before=${COMP_WORDS[COMP_CWORD - 1]} command='' first at
-  local options='--socket --timeout --nowait --reconnect-timeout --session --session-file --key -E --takeover-after
-    --capacity --attempts --away-after --json -e --store --program --owners --svg --once --every --help --version'
-  local commands='create find remove arrays readfe readff readxx writeef writeff writexf purge int_fetch_add counter
-    channel queue lock owner break forget sessions report graph top'
+  local options='--socket --timeout --nowait --quiet --reconnect-timeout --session --session-file --key -E --in --takeover-after
+    --capacity --attempts --away-after -n --json -e --store --program --owners --svg --once --every --help --version'
+  local commands='create find remove arrays readfe readff readxx writeef writeff writexf purge int_fetch_add first counter
+    channel queue lock owner break semaphore barrier forget sessions report graph top help'
   COMPREPLY=()
   for ((at = 1; at < COMP_CWORD; at++)); do
     case ${COMP_WORDS[at]} in
       --) declare -F _command_offset > /dev/null && _command_offset $((at + 1)); return ;;
-      --socket | -s | --session-file | --store | --program | --key | --timeout | -t | --session | -E | --capacity | \
+      --socket | -s | --session-file | --store | --program | --key | --in | --timeout | -t | --session | -E | --capacity | \
         --attempts | --every | --*-timeout | --*-after) ((at++)) ;;
       -*) ;;
       *) [ -n "$command" ] || { command=${COMP_WORDS[at]}; first=$at; } ;;
@@ -23,7 +23,10 @@ _femem_cli() {
   local place=$((COMP_CWORD - ${first:-COMP_CWORD})) choice=$commands
   [ -z "$command" ] || choice=
   case $command:$place in
-    report:* | graph:* | top:* | arrays:* | sessions:* | forget:* | create:1) ;;
+    semaphore:* | barrier:* | first:[2468]*) choice=$(_femem_cli_names) ;;
+    first:1) choice='readfe readff' ;;
+    first:*) choice= ;;
+    report:* | graph:* | top:* | help:* | arrays:* | sessions:* | forget:* | create:1) ;;
     ?*:1) choice=$(_femem_cli_names) ;;
     channel:2) choice='put take' ;;
     queue:2) choice='put take aside drop' ;;

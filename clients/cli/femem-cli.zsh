@@ -16,7 +16,9 @@ _femem_cli_words() {
     return
   fi
   case $command:$CURRENT in
-    (report|graph|top|arrays|sessions|forget):*|create:2) ;;
+    (report|graph|top|help|arrays|sessions|forget):*|create:2) ;;
+    first:2) compadd readfe readff ;;
+    first:*) ((CURRENT % 2)) && _femem_cli_names ;;
     *:2) _femem_cli_names ;;
     channel:3) compadd put take ;;
     queue:3) compadd put take aside drop ;;
@@ -28,17 +30,17 @@ _femem_cli_words() {
 _arguments -S \
   '(-s --socket)'{-s,--socket}'[the socket]:path:_files' \
   '(-t --timeout)'{-t,--timeout}'[how long it waits]:seconds:' \
-  '(-n --nowait)'{-n,--nowait}'[does not wait]' \
+  '(-n --nowait)'{-n,--nowait}'[does not wait]' '(-q --quiet)'{-q,--quiet}'[does not say that it was late]' \
   '--reconnect-timeout[how long a lost server is tried again]:seconds:' \
   '--session[the session]:number:' '--session-file[the session in a file]:file:_files' \
   '--key[once under this key]:key:' '-E[the status when late]:status:' \
-  '--takeover-after[takes the lock from an absent owner]:seconds:' \
+  '--in[the array of locks by key]:array:' '--takeover-after[takes the lock from an absent owner]:seconds:' \
   '--capacity[of a queue]:number:' '--attempts[of each job]:number:' '--away-after[of a taker]:seconds:' \
   '--json[answers as JSON]' '-e[ends a list at the first failure]' \
   '--store[the store]:file:_files' '--program[the program femem]:file:_files' \
   '--owners[with the holders of locks]' '--svg[as a picture]' \
   '--once[one view]' '--every[how often]:seconds:' \
   '(-h --help)'{-h,--help}'[a summary]' '(-V --version)'{-V,--version}'[the version]' \
-  '1:command:(create find remove arrays readfe readff readxx writeef writeff writexf purge int_fetch_add counter channel
-    queue lock owner break forget sessions report graph top)' \
+  '1:command:(create find remove arrays readfe readff readxx writeef writeff writexf purge int_fetch_add first counter channel
+    queue lock owner break semaphore barrier forget sessions report graph top help)' \
   '*::words:_femem_cli_words'

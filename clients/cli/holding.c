@@ -46,7 +46,7 @@ static void hold(holding *held, int pipe) {
     else if (both[1].revents) error = femem_next(client, &answer, 0);
     if (error == FEMEM_NOTHING_OUT) femem_settle(client);
     if (error == FEMEM_REFUSED_NOT_ATTACHED) femem_reconnect(client, 5000);
-    if (held->cli->shown && femem_out(client) == 0) show_presence(held);
+    if (held->shows && femem_out(client) == 0) femem_present(client);
     if (femem_descriptor(client) >= 0) femem_flush(client); /* what a new connection has still to send */
   }
 }
@@ -77,6 +77,7 @@ static void be_holder(holding *held, int pipe, int line) {
     if (recv(line, &status, sizeof status, MSG_DONTWAIT) != sizeof status) status = -1;
     cli->stop = -1;
     cli->stopped = false;
+    femem_stop_at(cli->client, -1);
     told.status = held->end(held, status);
     send_all(line, &told, sizeof told);
   }
@@ -170,7 +171,6 @@ static void replace_holder(running *run, uint64_t session) {
   given->has_session = !given->file;
   given->session = session;
   given->no_wait = true;
-  given->replaces = true;
   last = 0;
   if (!start_holder(run)) return;
   while (!hear(run->line, &told) && last) last = 0;

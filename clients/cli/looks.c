@@ -38,6 +38,14 @@ static char *receive_report(int line) {
   return NULL;
 }
 
+/* Connects to the server, if it is away until it is back. Its errno, or 0. */
+static int connect_to(command_line *cli, int line, const struct sockaddr_un *address) {
+  int64_t began = now();
+  while (connect(line, (const struct sockaddr *)address, sizeof *address) != 0)
+    if (!tries_again(cli, errno, began)) return errno;
+  return 0;
+}
+
 int get_report(command_line *cli, char **text) {
   const char *path = cli->given.socket;
   struct sockaddr_un address = {.sun_family = AF_UNIX};
@@ -47,13 +55,11 @@ int get_report(command_line *cli, char **text) {
   int64_t most = cli->given.reconnect > 0 ? cli->given.reconnect : 1000;
   struct timeval limit = {.tv_sec = (time_t)(most / 1000), .tv_usec = (suseconds_t)(most % 1000 * 1000)};
   *text = NULL;
-  int why = 0;
-  if (line < 0 || setsockopt(line, SOL_SOCKET, SO_RCVTIMEO, &limit, sizeof limit) ||
-      connect(line, (struct sockaddr *)&address, sizeof address))
-    why = errno;
-  else *text = receive_report(line);
+  bool is_made = line >= 0 && setsockopt(line, SOL_SOCKET, SO_RCVTIMEO, &limit, sizeof limit) == 0;
+  int why = is_made ? connect_to(cli, line, &address) : errno;
+  if (why == 0) *text = receive_report(line);
   if (line >= 0) close(line);
-  if (why) return fail(cli, NO_SERVER, "no server at %s: %s (--socket names another one)", path, strerror(why));
+  if (why) return fail_to_reach(cli, why);
   return *text ? DONE : fail(cli, NO_SERVER, "%s: no report came", path);
 }
 

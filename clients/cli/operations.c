@@ -80,6 +80,51 @@ int do_word(command_line *cli, char **words, int count) {
   return operations[at].reads ? say_value(cli, answer.value) : say_done(cli);
 }
 
+/* ---- the first of several words ---- */
+
+enum { MOST_OF_FIRST = 31 };
+
+/* Reads pairs of a name and an index; a status. */
+static int take_pairs(command_line *cli, char **words, size_t pairs, femem_operation operation, femem_request *asked) {
+  for (size_t i = 0; i < pairs; i++) {
+    uint64_t array, index;
+    uint32_t length;
+    const char *name = words[2 * i], *word = words[2 * i + 1];
+    if (!read_number(word, UINT32_MAX, &index)) return bad_number(cli, word, UINT32_MAX);
+    int status = find(cli, name, &array, &length);
+    if (status) return status;
+    if (index >= length) return fail(cli, REFUSED, "%s has the words 0 to %" PRIu32, name, length - 1);
+    asked[i] = on_word(operation, array, (uint32_t)index, 0, false);
+  }
+  return DONE;
+}
+
+/* Each word that was full: its name, index and value. Several may have been at once. */
+int do_first(command_line *cli, char **words, int count) {
+  femem_request asked[MOST_OF_FIRST];
+  femem_answer got[MOST_OF_FIRST];
+  bool empties = strcmp(words[1], "readfe") == 0;
+  size_t pairs = (size_t)(count - 2) / 2;
+  if (!(empties || strcmp(words[1], "readff") == 0) || count % 2 || pairs > MOST_OF_FIRST)
+    return fail(cli, USAGE, "first readfe|readff NAME INDEX [NAME INDEX ..], at most %d words", MOST_OF_FIRST);
+  int status = take_pairs(cli, words + 2, pairs, empties ? FEMEM_READFE : FEMEM_READFF, asked);
+  if (status) return status;
+  int64_t within = cli->given.no_wait ? 0 : cli->given.timeout < 0 ? FEMEM_FOREVER : cli->given.timeout;
+  femem_error error = femem_wait_any(cli->client, asked, pairs, within, got);
+  cli->stopped = error == FEMEM_WITHDRAWN && nap(cli->stop, 0);
+  if (error) return fail_for(cli, error, "first");
+  const char *line = cli->given.json ? "{\"name\": \"%s\", \"index\": %s, \"value\": %" PRIu64 "}" : "%s %s %" PRIu64;
+  for (size_t i = 0; i < pairs && status == DONE; i++) {
+    if (got[i].error == FEMEM_WITHDRAWN) continue;
+    if (got[i].error) return fail_for(cli, got[i].error, words[2 + 2 * i]);
+    printf(line, words[2 + 2 * i], words[3 + 2 * i], got[i].value);
+    status = said(cli);
+  }
+  return status;
+}
+
+/* ---- counters and channels ---- */
+
 /* Finds or makes an array of one word; a status. */
 static int one_word(command_line *cli, const char *name, bool full, const char *what, uint64_t *array) {
   if (!is_name(name)) return fail_for(cli, FEMEM_BAD_NAME, name);

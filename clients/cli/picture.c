@@ -49,30 +49,56 @@ int take_picture(command_line *cli, picture *taken) {
   taken->all_wait = strstr(taken->report, "\nall-wait yes\n") != NULL;
   const char *at = taken->report;
   for (waiter next; taken->waits < MOST_WAITS && next_waiter(&at, &next);) {
-    wait found = {.party = party_of(taken, next.session), .place = place_of(taken, next.array, next.index)};
+    wait found = {.party = party_of(taken, next.session), .place = place_of(taken, next.array, next.index),
+                  .number = next.number};
     memcpy(found.operation, next.operation, sizeof found.operation);
     if (found.party >= 0 && found.place >= 0) taken->wait[taken->waits++] = found;
   }
   return DONE;
 }
 
-void leave_out_presence(picture *taken) {
-  picture *all = malloc(sizeof *all);
-  if (!all || taken->presence == 0) {
-    free(all);
-    return;
-  }
-  *all = *taken;
-  taken->parties = taken->places = taken->waits = 0;
+/* Whether the report has this request too. */
+static bool waits_in(const char *report, const picture *taken, const wait *it) {
+  const place *at = &taken->place[it->place];
+  for (waiter next; next_waiter(&report, &next);)
+    if (next.array == at->array && next.index == at->index && next.number == it->number &&
+        next.session == taken->party[it->party].session)
+      return true;
+  return false;
+}
+
+/* Adds what `all` has to a picture that has nothing: locks with their owners, and what waits, also in the report if one is
+   given, but at no presence. */
+static void keep(picture *taken, const picture *all, const char *report) {
   for (int i = 0; i < all->waits; i++) {
     const place *at = &all->place[all->wait[i].place];
-    if (at->array == all->presence) continue;
+    if (at->array == all->presence || (report && !waits_in(report, all, &all->wait[i]))) continue;
     wait *found = &taken->wait[taken->waits++];
     *found = all->wait[i];
     found->party = party_of(taken, all->party[all->wait[i].party].session);
     found->place = place_of(taken, at->array, at->index);
   }
+  for (int i = 0; i < all->places; i++) {
+    if (all->place[i].owner < 0) continue;
+    int at = place_of(taken, all->place[i].array, all->place[i].index);
+    taken->place[at].owner = party_of(taken, all->party[all->place[i].owner].session);
+    taken->place[at].generation = all->place[i].generation;
+  }
+}
+
+/* Whether there was memory for it. */
+static bool keep_only(picture *taken, const char *report) {
+  picture *all = malloc(sizeof *all);
+  if (!all) return false;
+  *all = *taken;
+  taken->parties = taken->places = taken->waits = 0;
+  keep(taken, all, report);
   free(all);
+  return true;
+}
+
+void leave_out_presence(picture *taken) {
+  if (taken->presence) keep_only(taken, NULL);
 }
 
 static bool is_session(const look *seen, uint64_t value) {
@@ -111,6 +137,16 @@ static int find_others(command_line *cli, picture *taken) {
   return status;
 }
 
+/* Keeps what still waits. */
+static int look_again(command_line *cli, picture *taken) {
+  char *report;
+  int status = get_report(cli, &report);
+  if (status) return status;
+  bool done = keep_only(taken, report);
+  free(report);
+  return done ? DONE : fail_for(cli, FEMEM_MEMORY, NULL);
+}
+
 int find_owners(command_line *cli, picture *taken, bool all) {
   int status = open_client(cli);
   if (status) return status;
@@ -121,7 +157,8 @@ int find_owners(command_line *cli, picture *taken, bool all) {
   for (int i = 0; i < waited_for && status == DONE; i++)
     if (taken->place[i].index == 0 && is_waited_for(taken, i))
       status = read_lock(cli, taken, taken->place[i].array, true);
-  return status || !all ? status : find_others(cli, taken);
+  if (status == DONE && all) status = find_others(cli, taken);
+  return status == DONE ? look_again(cli, taken) : status;
 }
 
 /* ---- cycles ---- */

@@ -18,7 +18,7 @@ typedef struct place {
 } place;
 
 /* A request that waits. */
-typedef struct wait { int party, place; bool cycle; char operation[16]; } wait;
+typedef struct wait { int party, place; uint64_t number; bool cycle; char operation[16]; } wait;
 
 typedef struct picture {
   char *report;                 /* the caller frees it */
@@ -35,8 +35,9 @@ typedef struct picture {
 int take_picture(command_line *cli, picture *taken);
 /* Leaves out those that wait only to show that they are there. */
 void leave_out_presence(picture *taken);
-/* Finds who has the locks: those that are waited for, and with `all` also others that the store has. This needs a
-   session. A status. */
+/* Finds who has the locks: those that are waited for, and with `all` also others that the store has. Of what waits it keeps
+   only what waits both before and after that: a lock that is handed on meanwhile is no deadlock. This needs a session. A
+   status. */
 int find_owners(command_line *cli, picture *taken, bool all);
 /* Marks what is in a cycle. */
 void mark_cycles(picture *taken);

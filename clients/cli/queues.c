@@ -9,17 +9,19 @@
 
 enum { SLICE = 500 }; /* milliseconds, after which a waiting call looks whether it is time to give up */
 
+static uint32_t capacity_of(const command_line *cli) { return cli->given.capacity ? cli->given.capacity : 1000; }
+
 static int open_queue(command_line *cli, const char *name, femem_queue **queue) {
   if (!is_name(name) || strlen(name) > LONGEST_NAME - 2)
     return fail(cli, REFUSED, "%s: names of queues have a to z, 0 to 9 and _, and 1 to 30 of these", name);
   int status = open_client(cli);
   if (status) return status;
   int64_t away = cli->given.away_after;
-  femem_error error = femem_queue_open(queue, cli->client, name, cli->given.capacity, cli->given.attempts,
+  femem_error error = femem_queue_open(queue, cli->client, name, capacity_of(cli), cli->given.attempts,
                                        away < 0 ? 0 : away == 0 ? 1 : away);
   if (error == FEMEM_BAD_CALL)
     return fail(cli, REFUSED, "%s is no queue of %" PRIu32 " jobs with %" PRIu32 " attempts: --capacity and --attempts "
-                "are the same for all", name, cli->given.capacity, cli->given.attempts);
+                "are the same for all", name, capacity_of(cli), cli->given.attempts);
   return error ? fail_for(cli, error, name) : DONE;
 }
 
@@ -90,7 +92,7 @@ static int run_job(command_line *cli, char **words) {
 
 /* Jobs that are set aside: the number and the value of each. */
 static int list_aside(command_line *cli, femem_queue *queue, const char *name) {
-  size_t count, most = cli->given.capacity;
+  size_t count, most = capacity_of(cli);
   femem_job *jobs = calloc(most, sizeof *jobs);
   if (!jobs) return fail(cli, FAULT, "%s", strerror(errno));
   femem_error error = femem_queue_aside(queue, jobs, most, &count);

@@ -22,7 +22,7 @@ static bool is_passing(femem_error error) {
   return error == FEMEM_UNREACHABLE || error == FEMEM_TIMEOUT || error == FEMEM_DISCONNECTED;
 }
 
-static femem_error wait_for(command_line *cli, uint64_t number, int64_t part, int64_t end, femem_answer *answer) {
+static femem_error wait_for(command_line *cli, uint64_t number, int64_t end, femem_answer *answer) {
   int64_t lost = -1, listen = 0;
   for (int back = 0;;) {
     femem_error error = femem_wait(cli->client, number, answer, listen);
@@ -35,10 +35,10 @@ static femem_error wait_for(command_line *cli, uint64_t number, int64_t part, in
     bool is_lost = is_passing(error) && femem_descriptor(cli->client) < 0;
     if (error != FEMEM_TIMEOUT && !is_lost) return error ? error : answer->error;
     bool connected = femem_descriptor(cli->client) >= 0;
-    if (cli->stopped || left(connected ? part : end) == 0) break;
+    if (cli->stopped || left(end) == 0) break;
     if (connected) {
       lost = -1;
-      wait_for_bytes(cli, left(part));
+      wait_for_bytes(cli, left(end));
       continue;
     }
     if (lost < 0) lost = moment(cli->given.reconnect);
@@ -52,18 +52,13 @@ static femem_error wait_for(command_line *cli, uint64_t number, int64_t part, in
   return femem_descriptor(cli->client) >= 0 ? femem_cancel(cli->client, number, answer) : FEMEM_UNREACHABLE;
 }
 
-femem_error make_request_until(command_line *cli, const femem_request *request, int64_t part, int64_t end,
-                               femem_answer *answer) {
-  uint64_t number;
-  femem_error error = femem_send(cli->client, request, &number);
-  return error ? error : wait_for(cli, number, part, end, answer);
-}
-
 femem_error make_request(command_line *cli, femem_request request, femem_answer *answer) {
   if (cli->given.key) return femem_once_within(cli->client, cli->given.key, &request, cli->given.timeout, answer);
   request.no_wait = cli->given.no_wait && request.operation >= FEMEM_READFE;
   int64_t end = moment(cli->given.timeout);
-  return make_request_until(cli, &request, end, end, answer);
+  uint64_t number;
+  femem_error error = femem_send(cli->client, &request, &number);
+  return error ? error : wait_for(cli, number, end, answer);
 }
 
 femem_request on_word(femem_operation operation, uint64_t array, uint32_t index, uint64_t operand, bool no_wait) {

@@ -23,27 +23,50 @@ enum { TRY_AGAIN = 200 }; /* milliseconds */
 static volatile sig_atomic_t seen;
 static int signals[2] = {-1, -1};
 
+/* Ctrl-C begins another line at the prompt, so it takes the place of no signal that ends this. */
 static void note(int number) {
   int before = errno;
-  seen = number;
+  if (number != SIGINT || seen == 0) seen = number;
   if (write(signals[1], "", 1) < 0) errno = before;
   errno = before;
 }
 
 int signal_seen(void) { return seen; }
 
-/* A second signal ends the process at once. */
+/* A second signal of a kind ends the process at once. */
+static void watch(int number) {
+  struct sigaction before, action = {.sa_handler = note, .sa_flags = (int)SA_RESETHAND};
+  sigfillset(&action.sa_mask);
+  if (sigaction(number, NULL, &before) == 0 && before.sa_handler != SIG_IGN) sigaction(number, &action, NULL);
+}
+
+static const int watched[] = {SIGINT, SIGTERM, SIGHUP};
+enum { WATCHED = sizeof watched / sizeof *watched };
+
 bool watch_signals(command_line *cli) {
-  const int watched[] = {SIGINT, SIGTERM, SIGHUP};
   if (pipe(signals)) return false;
   for (int i = 0; i < 2; i++)
     if (fcntl(signals[i], F_SETFD, FD_CLOEXEC) || fcntl(signals[i], F_SETFL, O_NONBLOCK)) return false;
-  for (size_t i = 0; i < sizeof watched / sizeof *watched; i++) {
-    struct sigaction before, action = {.sa_handler = note, .sa_flags = (int)SA_RESETHAND};
-    if (sigaction(watched[i], NULL, &before) == 0 && before.sa_handler != SIG_IGN) sigaction(watched[i], &action, NULL);
-  }
+  for (int i = 0; i < WATCHED; i++) watch(watched[i]);
   cli->stop = signals[0];
   return true;
+}
+
+bool take_interrupt(command_line *cli) {
+  sigset_t held, before;
+  char noted[8];
+  sigemptyset(&held);
+  for (int i = 0; i < WATCHED; i++) sigaddset(&held, watched[i]);
+  sigprocmask(SIG_BLOCK, &held, &before); /* what comes now is noted after this */
+  bool interrupted = seen == SIGINT;
+  if (interrupted) {
+    while (read(signals[0], noted, sizeof noted) > 0) continue;
+    seen = 0;
+    cli->stopped = false;
+    watch(SIGINT);
+  }
+  sigprocmask(SIG_SETMASK, &before, NULL);
+  return interrupted;
 }
 
 /* ---- temporary sessions ---- */
@@ -126,7 +149,10 @@ int guard_session(command_line *cli) {
   socklen_t size;
   int64_t end = moment(cli->given.timeout);
   bool told = false;
-  if (!cli->given.has_session || !guard_name(cli, &name, &size)) return DONE;
+  if (!cli->given.has_session) return DONE;
+  wait_for_path(cli); /* the name is made of where the path leads */
+  if (cli->stopped) return NO_SERVER;
+  if (!guard_name(cli, &name, &size)) return DONE;
   int guard = socket(AF_UNIX, SOCK_STREAM, 0);
   if (guard < 0) return fail(cli, FAULT, "%s", strerror(errno));
   while (bind(guard, (struct sockaddr *)&name, size) != 0) {
@@ -157,35 +183,59 @@ static femem_error open_file(command_line *cli, const femem_settings *settings) 
   return error;
 }
 
+femem_error come_back(command_line *cli) {
+  femem_answer answer;
+  int64_t within = cli->given.reconnect;
+  femem_error error = femem_descriptor(cli->client) < 0 ? femem_reconnect(cli->client, within) : FEMEM_OK;
+  while (error == FEMEM_OK) error = femem_next(cli->client, &answer, within);
+  return error == FEMEM_NOTHING_OUT ? FEMEM_OK : error;
+}
+
+static bool is_temporary(const command_line *cli) {
+  return (!cli->given.has_session || cli->given.adopted) && !cli->given.file;
+}
+
 int open_client(command_line *cli) {
-  if (cli->client) return DONE;
+  if (cli->client) {
+    femem_error error = cli->prompts ? come_back(cli) : FEMEM_OK;
+    return error ? fail_for(cli, error, NULL) : DONE;
+  }
   int64_t most = cli->given.reconnect;
-  const femem_settings settings = {.wait = most > 0 ? most : 1000, .reconnect = most > 0 ? most : FEMEM_NEVER,
-                                   .wait_for_server = cli->given.replaces};
+  const femem_settings settings = {.wait = most > 0 ? most : 1000, .reconnect = most > 0 ? most : FEMEM_NEVER};
   uint64_t session = cli->given.session;
   femem_error error;
+  wait_for_path(cli);
+  if (cli->stopped) return NO_SERVER;
   if (cli->given.file) {
     error = open_file(cli, &settings);
   } else {
-    bool draws = !cli->given.has_session;
+    bool draws = !cli->given.has_session && !cli->left;
     if (draws) sweep(cli);
     if (draws && !draw_session(&session)) return fail(cli, FAULT, "/dev/urandom: %s", strerror(errno));
-    if (draws || cli->given.adopted) enter(cli, session);
+    if (cli->left) session = cli->left;
+    else if (is_temporary(cli)) enter(cli, session);
     error = femem_open(&cli->client, cli->given.socket, session, &settings);
+    if (error == FEMEM_OK) cli->left = 0;
   }
   int why = errno;
-  if (error == FEMEM_UNREACHABLE)
-    return fail(cli, NO_SERVER, "no server at %s: %s (--socket names another one)", cli->given.socket, strerror(why));
+  if (error == FEMEM_UNREACHABLE || error == FEMEM_NO_RIGHT) return fail_to_reach(cli, why);
   if (error == FEMEM_BAD_CALL) return fail(cli, USAGE, "%s is no path of a socket", cli->given.socket);
   if (error == FEMEM_FILE_FAULT) return fail(cli, FAULT, "%s: %s", cli->given.file, strerror(why));
+  if (error == FEMEM_OK) femem_stop_at(cli->client, cli->stop);
   return error ? fail_for(cli, error, NULL) : DONE;
 }
 
+void drop_client(command_line *cli) {
+  if (is_temporary(cli)) cli->left = femem_session(cli->client);
+  femem_close(cli->client);
+  cli->client = NULL;
+}
+
 void close_client(command_line *cli) {
-  bool temporary = (!cli->given.has_session || cli->given.adopted) && !cli->given.file, ended = !cli->client;
-  femem_answer answer;
-  if (cli->client && cli->shown && femem_descriptor(cli->client) >= 0) femem_cancel(cli->client, cli->shown, &answer);
-  if (cli->client && temporary) ended = femem_bye(cli->client) == FEMEM_OK;
+  const femem_settings brief = {.wait = 1000, .reconnect = FEMEM_NEVER};
+  bool ended = !cli->client && !cli->left;
+  if (!ended && !cli->client) femem_open(&cli->client, cli->given.socket, cli->left, &brief);
+  if (cli->client && is_temporary(cli)) ended = femem_bye(cli->client) == FEMEM_OK;
   femem_close(cli->client);
   cli->client = NULL;
   if (cli->entry < 0) return;

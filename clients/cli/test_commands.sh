@@ -4,23 +4,23 @@
 
 gives 0 "" create slot 2
 gives 3 "" create slot 1
-says "slot: there is an array of that name"
+says "slot: there is an array of that name: 'find' finds it"
 gives 3 "" create Job-queue 1
 says "Job-queue: names have a to z, 0 to 9 and _, and 1 to 32 of these"
 gives 3 "" create a_name_that_is_longer_than_thirty_two 1
 gives 3 "" create big 65537
 says "big: a length is 1 to 65536"
 gives 3 "" create big 65535
-says "big: the arrays would have more than 65536 words in all"
+says "big: the arrays would have more than 65536 words in all: 'remove' removes one"
 gives 2 "" create slots two
 gives 2 "" create slots 2 half
 gives 0 "array 1 length 2" find slot
 gives 3 "" find slots
-says "slots: there is no such array: 'create NAME LENGTH' makes one"
+says "slots: there is no such array: 'create' makes one"
 
 # The eight operations.
 gives 1 "" --nowait readfe slot 0
-says "slot: not now"
+says "slot: not now: without 'nowait' it waits"
 gives 1 "" --timeout 0.1 readff slot 0
 says "slot: not in time"
 gives 0 "" writeef slot 0 18446744073709551615
@@ -136,9 +136,7 @@ for round in 1 2 3; do
 done
 gives 0 "" remove slot
 gives 3 "" remove slot
-gives 4 "" --socket /nowhere counter hits
-says "no server at /nowhere: No such file or directory (--socket names another one)"
-gives 4 "" --socket /nowhere report
+gives 0 "" create slot 1
 gives 4 "" --socket / --reconnect-timeout 0 counter hits
 gives 2 "" jump
 says "there is no command jump ('femem-cli --help' lists them)"
@@ -148,11 +146,17 @@ gives 2 "" counter hits --timeout
 gives 2 "" --key k counter hits
 says "--key needs --session-file"
 gives 2 "" lock hits true
-is "the version" "$(x --version)" "femem-cli 1.0.0"
-is "what --help lists" "$(x --help | grep -c '^  [a-z]')" 23
+is "the version" "$(x --version)" "femem-cli $(sed -n 's/^#define FEMEM_VERSION "\(.*\)"/\1/p' "$here/../c/femem.h")"
+is "what --help lists" "$(x --help | grep -c '^  [a-z]')" 27
 x counter hits > /dev/full 2> said
 is "the status of a full disk" $? 5
 says "standard output: No space left on device"
+gives 1 "" -n -q readfe slot 0
+is "what a quiet command that is not in time says" "$(cat said)" ""
+gives 1 "" --quiet --timeout 0.1 readfe slot 0
+is "what a quiet command that is late says" "$(cat said)" ""
+gives 3 "" -q readfe slots 0
+says "slots: there is no such array: 'create' makes one"
 kill_server
 gives 4 "" --reconnect-timeout 0.2 counter hits
 done_testing

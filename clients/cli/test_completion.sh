@@ -55,5 +55,5 @@ fi
 if command -v man > /dev/null; then
   is "the manual page" "$(LC_ALL=C.UTF-8 MANWIDTH=120 man --warnings -l "$here/femem-cli.1" 2>&1 > /dev/null)" ""
 fi
-is "the page's version" "$(head -n 1 "$here/femem-cli.1" | grep -o 'femem [0-9.]*')" "$(x --version | sed s/-cli//)"
+is "the page's version" "$(head -n 1 "$here/femem-cli.1" | grep -o 'femem [0-9.]*[~0-9a-z.]*')" "$(x --version | sed s/-cli//)"
 done_testing

@@ -53,6 +53,7 @@ is "without the store" "$(FEMEM_STORE=nowhere x graph --svg --owners | grep -c '
 if command -v dot > /dev/null; then
   dot -Tsvg graph > drawn.svg
   is "Graphviz draws it" "$? $(grep -c 'class="edge"' drawn.svg)" "0 8"
+  checks=$((checks - 1)) # one more than the list of counts has, where there is Graphviz
 fi
 
 # The live view, once, also of a server that stands still for a while.
@@ -74,6 +75,26 @@ wait $holder
 kill $waiters 2> /dev/null
 wait $waiters 2> /dev/null
 
+# A lock that four shells hand on to each other is no deadlock, whatever is read between two looks.
+for it in 1 2 3 4; do
+  (until [ -e stop ]; do x lock nightly -- sh -c 'echo >> taken; sleep 0.05' || exit; done) & hands="${hands:-} $!"
+done
+until_so [ -s taken ]
+before=$(wc -l < taken) waits=0 red=0
+pictures=0
+was_busy() { [ $pictures -ge 10 ] && [ $waits -gt 0 ] && [ "$(wc -l < taken)" -gt $((before + 10)) ]; }
+until was_busy || [ $pictures -ge 100 ]; do
+  pictures=$((pictures + 1))
+  x top --once > top
+  waits=$((waits + $(grep -c 'nightly.*writeef' top)))
+  red=$((red + $(grep -c 'in a cycle' top) + $(x graph --owners | grep -c 'color=red')))
+done
+is "it was handed on" "$([ "$(wc -l < taken)" -gt $((before + 10)) ] && echo yes)" yes
+is "some waited" "$([ $waits -gt 0 ] && echo yes)" yes
+is "what is red of it" $red 0
+touch stop
+for it in $hands; do wait "$it"; is "who handed it on" $? 0; done
+
 # Again and again, also while the server is away; then with calls.
 "$cli" --program "$program" top --every 0.1 > live 2> errors_of_top & top=$!
 pictures() { grep -c '^[0-9:]*  /' live; }
@@ -84,7 +105,7 @@ start_server
 before=$(pictures)
 until_so sh -c "[ \"\$(grep -c '^[0-9:]*  /' live)\" -gt $((before + 2)) ]"
 yes 'counter hits +1' | head -n 3000 | x > /dev/null
-until_so grep -qE '^calls a second [0-9]{2,}, stored in [0-9.]+ ms, slowest [0-9.]+ ms, waiting 0$' live
+until_so grep -qE '^entries a second [0-9]{2,}, stored in [0-9.]+ ms, slowest [0-9.]+ ms, waiting 0$' live
 kill -TERM $top
 wait $top 2> /dev/null
 is "top's status after SIGTERM" $? 143

@@ -10,7 +10,7 @@ is "a list" "$(cat got)" "done
 done
 5
 2"
-is "what it said" "$(cat said)" "femem-cli: line 6: nothing: there is no such array: 'create NAME LENGTH' makes one
+is "what it said" "$(cat said)" "femem-cli: line 6: nothing: there is no such array: 'create' makes one
 femem-cli: line 7: there is no command jump ('femem-cli --help' lists them)"
 x remove slot
 x -e < list > got 2> said
@@ -22,7 +22,7 @@ printf 'counter hits\n' | x --json > got
 is "a list as JSON" "$? $(cat got)" '0 {"value": 2}'
 printf 'lock night -- true\nqueue jobs take -- true\n' | x 2> said
 is "the status of commands that run others" $? 2
-is "what they say" "$(sed -n 2p said)" "femem-cli: line 2: a list has no commands that run others"
+is "what they say" "$(sed -n 2p said)" "femem-cli: line 2: a list and the prompt have no commands that run others"
 x < /dev/null
 is "an empty list" $? 0
 gives 0 "" sessions

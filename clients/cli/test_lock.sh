@@ -45,7 +45,7 @@ hold lock night --session 900
 gives 0 "session 900" owner night
 gives 0 '{"owner": 900, "away": false}' owner night --json
 gives 1 "" lock night --nowait -- echo wrong
-says "night: not now"
+says "night: not now: without 'nowait' it waits"
 gives 1 "" lock night --timeout 0.2 -- echo wrong
 says "night: not in time"
 gives 75 "" -E 75 --timeout 0.2 lock night -- echo wrong

@@ -7,7 +7,7 @@ q() { status=$1 output=$2; shift 2; gives "$status" "$output" --attempts 3 --cap
 # The sessions of clients that are killed are ended by those that come next.
 mkdir "$FEMEM_SOCKET.clients"
 q 1 "" take -n
-says "jobs: not now"
+says "jobs: not now: without 'nowait' it waits"
 q 0 "" put 5
 q 0 "" put 18446744073709551614
 q 2 "" put 18446744073709551615

@@ -1,8 +1,9 @@
 # What the tests share: each is `test_X.sh FEMEM_CLI PROGRAM`, with a server and a folder of its own, and ends by itself.
 set -u
 [ $# = 2 ] || { echo "usage: $0 FEMEM_CLI PROGRAM" >&2; exit 2; }
+patience=${FEMEM_PATIENCE:-1} # how many times as long each wait may take, on a slow machine
 if [ -z "${FEMEM_BOUNDED:-}" ]; then
-  FEMEM_BOUNDED=1 exec timeout -k 10 "${SECONDS_AT_MOST:-120}" "$0" "$@"
+  FEMEM_BOUNDED=1 exec timeout -k 10 $((${SECONDS_AT_MOST:-120} * patience)) "$0" "$@"
 fi
 here=$(cd "$(dirname "$0")" && pwd) # shellcheck disable=SC2034
 cli=$(realpath "$1") program=$(realpath "$2")
@@ -18,7 +19,7 @@ until_so() {
   tries=0
   until "$@" > /dev/null 2>&1; do
     tries=$((tries + 1))
-    [ $tries -lt 600 ] || { echo "$0: never: $*" >&2; exit 1; }
+    [ $tries -lt $((600 * patience)) ] || { echo "$0: never: $*" >&2; exit 1; }
     sleep 0.05
   done
 }

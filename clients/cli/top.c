@@ -1,4 +1,4 @@
-/* `top`: who holds which lock, what waits on what, how many calls a second are stored, and how long that takes. */
+/* `top`: who holds which lock, what waits on what, how many entries a second are stored, and how long that takes. */
 #define _POSIX_C_SOURCE 200809L
 #include "picture.h"
 
@@ -31,7 +31,7 @@ static void show_pace(const command_line *cli, const picture *seen, pace *now) {
   printf("%s  %s\n", hour, cli->given.socket);
   int64_t at = microseconds(), passed = at - now->at;
   if (now->place && seen->seen.place >= now->place && passed > 0)
-    printf("calls a second %.0f, ", (double)(seen->seen.place - now->place) * 1e6 / (double)passed);
+    printf("entries a second %.0f, ", (double)(seen->seen.place - now->place) * 1e6 / (double)passed);
   printf("stored in %.1f ms, slowest %.1f ms, waiting %d%s\n", (double)now->took / 1000, (double)now->slowest / 1000,
          seen->waits, seen->all_wait ? ", every attached session waits" : "");
   now->place = seen->seen.place;
@@ -42,6 +42,13 @@ static int waiters_of(const picture *seen, int where) {
   int count = 0;
   for (int i = 0; i < seen->waits; i++) count += seen->wait[i].place == where;
   return count;
+}
+
+/* Whether the session's client shows that it is there. */
+static bool is_there(const char *report, uint64_t presence, uint64_t session) {
+  char line[80];
+  snprintf(line, sizeof line, "\nword %" PRIu64 " 0 session %" PRIu64 " number ", presence, session);
+  return strstr(report, line) != NULL;
 }
 
 static void show_locks(const picture *seen) {
@@ -68,15 +75,6 @@ static void show_waits(const picture *seen) {
     printf("%-38s %-20" PRIu64 " %s, %s%s\n", word, seen->party[it->party].session, needs(it->operation), it->operation,
            it->cycle ? "  in a cycle" : "");
   }
-}
-
-/* Comes back to a server that was away, and takes the answers that were due then. A live view says soon that it is away. */
-static femem_error come_back(command_line *cli) {
-  femem_answer answer;
-  int64_t within = cli->given.reconnect;
-  femem_error error = femem_descriptor(cli->client) < 0 ? femem_reconnect(cli->client, within) : FEMEM_OK;
-  while (error == FEMEM_OK) error = femem_next(cli->client, &answer, within);
-  return error == FEMEM_NOTHING_OUT ? FEMEM_OK : error;
 }
 
 /* One picture. The find of `presence`, a request that is stored, is what is timed. */
