@@ -21,7 +21,7 @@ ROOT = pathlib.Path(__file__).resolve().parent
 sys.path.insert(0, str(ROOT))
 
 import femem  # noqa: E402
-from femem import Client, Observer, frames, requests  # noqa: E402
+from femem import Client, _errors as errors, _frames as frames, requests  # noqa: E402
 from femem.patterns import Barrier, BoundedQueue, Channel, Counter, Election, Future, Lock, Once  # noqa: E402
 from femem.patterns import ReadWriteLock, Semaphore, WorkQueue, shared_array  # noqa: E402
 
@@ -306,14 +306,10 @@ def try_patterns(path, processes):
 
 
 def try_shell(path):
-    lines = "create words 2\nwriteef words 0 42\nreadfe words 0\nreadfe words 0 nowait\nreport\nremove words\n"
-    shell = subprocess.run(
-        [sys.executable, "-m", "femem", path], cwd=ROOT, input=lines, capture_output=True, text=True, timeout=30
-    )
-    out = shell.stdout.splitlines()
+    words = [sys.executable, "-m", "femem", path, "report"]
+    shell = subprocess.run(words, cwd=ROOT, stdin=subprocess.DEVNULL, capture_output=True, text=True, timeout=30)
     # The patterns' clients keep a request waiting that shows in reports.
-    expect("shell", (shell.returncode, out[1:3], out[-1]), (1, ["done", "value 42"], "done"))
-    expect("shell", (out[0][:6], out[3][:8], out[4]), ("array ", "not-now:", f"waiting {PROCESSES}"))
+    expect("shell", (shell.returncode, shell.stdout.splitlines()[:1]), (0, [f"waiting {PROCESSES}"]))
 
 
 def try_kills(server, processes):
@@ -361,7 +357,7 @@ def try_restarts(server):
 
 
 def try_late(server):
-    """A request that was taken back comes late, over an earlier connection. It waits, and holds up no other request."""
+    """A request that was taken back comes late, over an earlier connection. It does nothing, and holds up no other request."""
     with Client(server.path, session_file=server.path + ".late") as client, socket.socket(socket.AF_UNIX) as earlier:
         word, count = client.create("late", 1), client.create("beside", 1, full=True)
         taken_back = client.submit(requests.readfe(word, 0), timeout=0.01)
@@ -369,9 +365,11 @@ def try_late(server):
         number = taken_back.asked[1].number
         earlier.connect(server.path)
         earlier.sendall(frames.attach(client.session) + frames.access(number, frames.READFE, word.id, 0, 0, False))
-        with Observer(server.path) as observer:
-            while not observer.report().waiters:
-                time.sleep(0.01)
+        earlier.settimeout(60)
+        decoder, refused = frames.ReplyDecoder(), []
+        while not refused:
+            refused = [it for it in decoder.feed(earlier.recv(4096)) if isinstance(it, frames.Refusal)]
+        expect("what the late request is", errors.REFUSALS[refused[0].code], femem.BelowFloor)
         futures = [client.submit(requests.int_fetch_add(count, 0, 1)) for _ in range(100)]
         expect("what is asked beside it", [each.result(60) for each in futures], list(range(100)))
         expect("what waits then", client.report().waiters, [])
@@ -402,14 +400,14 @@ def check(program):
                 for pattern in try_patterns(server.path, processes):
                     print(f"{pattern}: {PROCESSES} processes", flush=True)
                 try_shell(server.path)
-                print("shell: its lines are answered", flush=True)
+                print("shell: it reports what waits", flush=True)
                 try_kills(server, processes)
                 print(f"kills: {KILLS}, and the counter's end is exact", flush=True)
             finally:
                 processes.close()
             print(f"restarts: {try_restarts(server)} kills of a client with a session file, and its count is exact", flush=True)
             try_late(server)
-            print("a late request: it holds up no other", flush=True)
+            print("a late request: it does nothing", flush=True)
             try_no_server(server)
             print("no server: it is told in time", flush=True)
         finally:

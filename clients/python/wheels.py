@@ -32,6 +32,22 @@ def _listed(name):
     return re.findall(r'"(.*?)"', found)
 
 
+def _table(name):
+    """The lines of a table in pyproject.toml that is one of its last."""
+    found = re.search(rf"^\[{name}\]\n(.*?)(?=^\[|\Z)", (ROOT / "pyproject.toml").read_text(), re.MULTILINE | re.DOTALL)
+    return found[1].split("\n") if found else []
+
+
+def _urls():
+    """The project's addresses, which a build may give."""
+    return [f"Project-URL: {name}, {url}" for name, url in re.findall(r'^(\w+) = "(.*)"$', "\n".join(_table("project.urls")), re.MULTILINE)]
+
+
+def _description():
+    """README.md without links into the repository, which lead nowhere from here."""
+    return re.sub(r"\[([^\]]*)\]\(\.\./[^)]*\)", r"\1", (ROOT / "README.md").read_text())
+
+
 def _license():
     """The licence: next to this file in the source archive, at the top in the repository."""
     beside = ROOT / "LICENSE"
@@ -39,7 +55,7 @@ def _license():
 
 
 def _modules():
-    return sorted((ROOT / "femem").glob("*.py")) + [ROOT / "femem" / "py.typed"]
+    return sorted((ROOT / "femem").rglob("*.py")) + [ROOT / "femem" / "py.typed"]
 
 
 def _stem():
@@ -56,22 +72,23 @@ def _metadata():
         "License: MIT",
         f"Keywords: {','.join(_listed('keywords'))}",
         *(f"Classifier: {each}" for each in _listed("classifiers")),
+        *_urls(),
         f"Requires-Python: {_field('requires-python')}",
         "Description-Content-Type: text/markdown",
         "License-File: LICENSE",
     ]
-    return ("\n".join(head) + "\n\n" + (ROOT / "README.md").read_text()).encode()
+    return ("\n".join(head) + "\n\n" + _description()).encode()
 
 
 def _scripts():
-    """The commands that an installation creates, from the last table of pyproject.toml."""
-    lines = (ROOT / "pyproject.toml").read_text().split("[project.scripts]\n")[1].splitlines()
-    return ("[console_scripts]\n" + "".join(line.replace('"', "") + "\n" for line in lines)).encode()
+    """The commands that an installation creates."""
+    lines = [line.replace('"', "") for line in _table("project.scripts") if line]
+    return ("[console_scripts]\n" + "".join(line + "\n" for line in lines)).encode()
 
 
 def build_wheel(wheel_directory, config_settings=None, metadata_directory=None):
     info = f"{_stem()}.dist-info"
-    files = {f"femem/{path.name}": path.read_bytes() for path in _modules()}
+    files = {str(path.relative_to(ROOT)): path.read_bytes() for path in _modules()}
     files[f"{info}/LICENSE"] = _license()
     files[f"{info}/METADATA"] = _metadata()
     files[f"{info}/entry_points.txt"] = _scripts()

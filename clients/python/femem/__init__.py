@@ -13,92 +13,26 @@
 import logging
 
 from . import requests
-from .client import Client, Recovered
-from .errors import (
-    AnswerError,
-    ArrayLimit,
-    BadIndex,
-    BadLength,
-    BadName,
-    BelowFloor,
-    BeyondWindow,
-    BrokenBarrier,
-    Closed,
-    Closing,
-    FememError,
-    NameTaken,
-    NoArray,
-    NoMemory,
-    NotAttached,
-    NotNow,
-    NotOwner,
-    NotWaiting,
-    NumberUsed,
-    OtherPattern,
-    ProtocolError,
-    Refused,
-    ServerUnreachable,
-    SessionFileError,
-    SessionInUse,
-    SessionLimit,
-    SessionLost,
-    Spent,
-    StillWaiting,
-    TakenOver,
-    TimedOut,
-    Withdrawn,
-    WordLimit,
-)
+from ._calls import Recovered
+from ._client import Client
+from ._errors import *
 from .observer import Observer
-from .reports import Report, Waiter
-from .pipeline import Pipeline
+from ._public import show_as
+from ._reports import Report, Waiter
+from ._pipeline import Pipeline
 from .requests import Array, Request
 
-__version__ = "1.0.0"
+__version__ = "1.1.0"
 
 logging.getLogger("femem").addHandler(logging.NullHandler())
 
 __all__ = [
-    "AnswerError",
-    "Array",
-    "ArrayLimit",
-    "BadIndex",
-    "BadLength",
-    "BadName",
-    "BelowFloor",
-    "BeyondWindow",
-    "BrokenBarrier",
-    "Client",
-    "Closed",
-    "Closing",
-    "FememError",
-    "NameTaken",
-    "NoArray",
-    "NoMemory",
-    "NotAttached",
-    "NotNow",
-    "NotOwner",
-    "NotWaiting",
-    "NumberUsed",
-    "Observer",
-    "OtherPattern",
-    "Pipeline",
-    "ProtocolError",
-    "Recovered",
-    "Refused",
-    "Report",
-    "Request",
-    "ServerUnreachable",
-    "SessionFileError",
-    "SessionInUse",
-    "SessionLimit",
-    "SessionLost",
-    "Spent",
-    "StillWaiting",
-    "TakenOver",
-    "TimedOut",
-    "Waiter",
-    "Withdrawn",
-    "WordLimit",
+    "AnswerError", "Array", "ArrayLimit", "BadIndex", "BadLength", "BadName", "BelowFloor", "BeyondWindow",
+    "BrokenBarrier", "Client", "Closed", "Closing", "FememError", "NameTaken", "NoArray", "NoMemory", "NoRight", "NotAttached",
+    "NotNow", "NotOwner", "NotWaiting", "NumberUsed", "Observer", "OtherPattern", "Pipeline", "ProtocolError",
+    "Recovered", "Refused", "Report", "Request", "ServerUnreachable", "SessionFileError", "SessionInUse",
+    "SessionLimit", "SessionLost", "Spent", "StillWaiting", "TakenOver", "TimedOut", "Waiter", "Withdrawn", "WordLimit",
     "requests",
-]
+]  # fmt: skip
+
+show_as(__name__, __all__)

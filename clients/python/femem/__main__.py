@@ -1,7 +1,7 @@
-"""`python3 -m femem [OPTION ..] [SOCKET] [COMMAND ..]`: a shell for a server."""
+"""`python3 -m femem [OPTION ..] [SOCKET] COMMAND ..`: what waits at a server."""
 
 import sys
 
-from .shell import main
+from ._shell import main
 
 sys.exit(main())

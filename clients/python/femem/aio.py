@@ -17,22 +17,20 @@ import atexit
 import os
 import warnings
 from functools import partial
-from types import TracebackType
-from typing import Any, Callable, List, Optional, Sequence, Type, TypeVar
+from typing import Any, Callable, Optional, Sequence, TypeVar
 
-from . import aioworker, errors, registry
-from .aioworker import AsyncWorker, now
-from .arguments import DEFAULT, Key, Path, Timeout, choose_session, pause_of, request_of, seconds_of
-from .calls import Asking, AwaitedCalls
-from .cancels import is_owed, is_seen, owe, owed
-from .client import Recovered, end_session
-from .core import Core
-from .events import OnEvent
-from .jobs import Job
+from . import _aioworker as aioworker, _errors as errors, _registry as registry
+from ._aioworker import AsyncWorker, now
+from ._arguments import DEFAULT, Choice, Key, Timeout, request_of
+from ._calls import Asking, AwaitedCalls
+from ._cancels import is_owed, is_seen, owe, owed
+from ._carrier import NOT_HERE
+from ._client import end_session
+from ._jobs import Job
+from ._public import show_as
 from .requests import Request
-from .sessionfile import SessionFile
-from .tickets import Ticket, nobody
-from .waitsessions import WaitSessions, numbers
+from ._sessionfile import SessionFile
+from ._tickets import Last, Ticket, nobody
 
 T = TypeVar("T")
 
@@ -43,36 +41,20 @@ class AsyncClient(AwaitedCalls):
     It connects at the start of `async with`, or by `await client.open()`.
     """
 
-    def __init__(
-        self,
-        path: Path,
-        session: Optional[int] = None,
-        *,
-        sessions: int = 1,
-        session_file: Optional[Path] = None,
-        timeout: Optional[float] = None,
-        reconnect_timeout: Optional[float] = 30.0,
-        probe_interval: float = 5.0,
-        wait_for_server: bool = False,
-        on_event: Optional[OnEvent] = None,
-    ) -> None:
-        self.timeout = seconds_of(timeout)
-        patience = seconds_of(reconnect_timeout, "reconnect_timeout")
-        pause = pause_of(probe_interval)
-        choice = choose_session(path, session, session_file, sessions)
-        self.path = choice.path
-        self.session = choice.session
-        self._patience = patience
-        self._pause = pause
-        self._on_event = on_event
-        self._count = choice.sessions
-        self._core = core = Core(
-            choice.session, patience, pause, choice.file, now, choice.sessions > 1, choice.is_temporary, on_event
-        )
-        self._worker = AsyncWorker(choice.path, core, choice.is_temporary, wait_for_server)
-        # The clients of its further sessions.
-        self._others: List[AsyncClient] = []
-        self.recovered: List[Recovered] = []
+    _worker: AsyncWorker
+
+    def _make(self, choice: Choice) -> None:
+        self._choice = choice
+        self._core = choice.core(now)
+        self._worker = AsyncWorker(choice.path, self._core, choice.is_temporary, choice.waits_for_server)
+        self._may_grow(choice)
+        self.recovered = []
+
+    @classmethod
+    def _grown(cls, choice: Choice) -> AsyncClient:
+        further = cls._of(choice)
+        asyncio.get_running_loop().create_task(further.open()).add_done_callback(is_seen)
+        return further
 
     def __del__(self) -> None:
         worker = getattr(self, "_worker", None)
@@ -87,7 +69,7 @@ class AsyncClient(AwaitedCalls):
             raise RuntimeError("the client was opened before")
         worker.prepare()
         file = self._core.file
-        if file is not None and file.is_ending:
+        if file is not None and file.state.is_ending:
             try:
                 await self._end_session(file)
             except BaseException:
@@ -96,19 +78,14 @@ class AsyncClient(AwaitedCalls):
         if worker.is_chosen:
             await self._enter()
         opening = self._future(self._core.open(now()))
-        self.recovered = [
-            Recovered(ticket.request.what, ticket.key, self._future(ticket))
-            for ticket in self._core.recovered
-            if ticket.request is not None
-        ]
+        self._recover()
         worker.start()
         try:
             await opening
-        except BaseException:
-            await self.close()
-            raise
-        try:
-            await self._open_wait_sessions()
+            for each in self._choice.all_further():
+                further = AsyncClient._of(each)
+                await further.open()
+                worker.wait_sessions.add(further)
         except BaseException:
             await self.close()
             raise
@@ -117,45 +94,22 @@ class AsyncClient(AwaitedCalls):
         loop = asyncio.get_running_loop()
         if os.path.isdir(registry.folder_of(self.path)):
             await loop.run_in_executor(None, registry.sweep, self.path, partial(end_session, self.path))
-            self._worker.entry = registry.enter(self.path, self.session, self._count)
+            self._worker.entry = registry.enter(self.path, self.session, self._choice.sessions)
 
     async def _end_session(self, file: SessionFile) -> None:
         """Ends the session, as the file's former process was about to. The file then begins with another one."""
-        async with AsyncClient(self.path, file.session, reconnect_timeout=self._patience) as former:
+        async with AsyncClient(self.path, self.session, reconnect_timeout=self._choice.patience) as former:
             await former.bye()
         file.start_over()
         self._core.begin_anew()
-        self.session = file.session
-
-    async def _open_wait_sessions(self) -> None:
-        for number in numbers(self.session, self._count):
-            further = AsyncClient(
-                self.path,
-                number,
-                reconnect_timeout=self._patience,
-                probe_interval=self._pause,
-                wait_for_server=True,
-                on_event=self._on_event,
-            )
-            await further.open()
-            further._worker.is_temporary = True
-            self._others.append(further)
-            self._worker.wait_sessions = WaitSessions([other._worker for other in self._others])
+        self.session = file.state.session
 
     async def __aenter__(self) -> AsyncClient:
         await self.open()
         return self
 
-    async def __aexit__(
-        self,
-        kind: Optional[Type[BaseException]],
-        error: Optional[BaseException],
-        trace: Optional[TracebackType],
-    ) -> None:
+    async def __aexit__(self, *failure: object) -> None:
         await self.close()
-
-    def _further(self) -> Sequence[AsyncClient]:
-        return self._others
 
     async def close(self) -> None:
         """As `Client.close`."""
@@ -163,9 +117,7 @@ class AsyncClient(AwaitedCalls):
 
     # More at a time.
 
-    def submit(
-        self, request: Request[T], *, timeout: Timeout = DEFAULT, key: Optional[Key] = None
-    ) -> asyncio.Future[T]:
+    def submit(self, request: Request[T], *, timeout: Timeout = DEFAULT, key: Optional[Key] = None) -> asyncio.Future[T]:
         """Asks without waiting for the answer. Cancelling the future takes its request back, without telling whether
         it had happened; a cancelled `await` of an operation by its own name does tell. With a key, as `once`."""
         ticket: Ticket[T] = Ticket(request_of(request)) if key is None else self._keyed(key, request)
@@ -177,7 +129,7 @@ class AsyncClient(AwaitedCalls):
         """Raises if the client can't be used, or if the task is to be cancelled here and this is no end of something."""
         connecting = self._worker.connecting
         if self._worker.process != os.getpid():
-            raise errors.Closed("a client is of the process that made it")
+            raise errors.Closed(NOT_HERE)
         if connecting is None:
             raise self.failure or RuntimeError("the client is not open: use `async with`, or await its `open`")
         if connecting.get_loop() is not asyncio.get_running_loop():
@@ -194,17 +146,18 @@ class AsyncClient(AwaitedCalls):
         return future
 
     def _ask(self, what: Callable[[float], object]) -> None:
-        what(now())
-        self._worker.move()
+        self._worker.ask(what)
 
     def _catch_up(self) -> None:
         pass  # it was done at once
 
     async def _perform(self, asking: Asking[T]) -> T:
         self._check_use(in_any_case=asking.ends_client)
-        done = asyncio.gather(*[self._future(ticket) for ticket in asking.tickets], return_exceptions=True)
-        self._ask(asking.ask)
-        await (self._told(asking.tickets, done) if asking.can_be_taken_back else done)
+        if asking.tickets:
+            done = asyncio.get_running_loop().create_future()
+            Last(asking.tickets, partial(_is_done, done))
+            self._ask(asking.ask)
+            await (self._told(asking.tickets, done) if asking.can_be_taken_back else done)
         result = asking.result()
         if asking.ends_client:
             await self.close()
@@ -250,6 +203,13 @@ class AsyncClient(AwaitedCalls):
             owe(asyncio.current_task())
             return future.result()
 
+    def _abandon(self, job: Job[Any]) -> None:
+        """As of threads. What drops a loop over jobs may be no task of this loop, as the collector of cycles."""
+        connecting = self._worker.connecting
+        if connecting is not None and not connecting.get_loop().is_closed():
+            # Later even here: the collector may drop a loop in the middle of the core's own work.
+            connecting.get_loop().call_soon_threadsafe(self._take_back, (job,), True)
+
     def _take_back(self, tickets: Sequence[Ticket[Any]], is_abandoned: bool) -> None:
         for ticket in tickets:
             if isinstance(ticket, Job):
@@ -279,38 +239,21 @@ class AsyncClient(AwaitedCalls):
         future.asked = (self._core, ticket)  # type: ignore[attr-defined]
         return future
 
+
+def _is_done(future: asyncio.Future[None]) -> None:
+    if not future.cancelled():
+        future.set_result(None)
+
+
 os.register_at_fork(after_in_child=aioworker.in_child)
 atexit.register(aioworker.at_exit)
 
-from ._aiopatterns import (  # noqa: E402
-    Barrier,
-    BoundedQueue,
-    Channel,
-    Counter,
-    Election,
-    Future,
-    Lock,
-    Once,
-    ReadWriteLock,
-    Semaphore,
-    WorkJob,
-    WorkQueue,
-    shared_array,
-)
+from ._aiopatterns import Barrier, BoundedQueue, Channel, Counter, Election, Future, JobLoop, KeyLock, Lock, Locks  # noqa: E402
+from ._aiopatterns import Once, ReadWriteLock, Semaphore, Turn, WorkJob, WorkQueue, shared_array  # noqa: E402
 
 __all__ = [
-    "AsyncClient",
-    "Barrier",
-    "BoundedQueue",
-    "Channel",
-    "Counter",
-    "Election",
-    "Future",
-    "Lock",
-    "Once",
-    "ReadWriteLock",
-    "Semaphore",
-    "WorkJob",
-    "WorkQueue",
-    "shared_array",
-]
+    "AsyncClient", "Barrier", "BoundedQueue", "Channel", "Counter", "Election", "Future", "JobLoop", "KeyLock", "Lock", "Locks",
+    "Once", "ReadWriteLock", "Semaphore", "Turn", "WorkJob", "WorkQueue", "shared_array",
+]  # fmt: skip
+
+show_as(__name__, __all__)

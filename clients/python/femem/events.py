@@ -16,7 +16,13 @@ import logging
 import time
 from typing import Callable
 
+__all__ = ["KINDS", "OnEvent"]
+
+# What a client calls: with the kind, its session and the seconds.
 OnEvent = Callable[[str, int, float], object]
+
+# Every kind, in the order of the table above.
+KINDS = ("attached", "lost", "sent_again", "moved", "answered", "failed")
 
 log = logging.getLogger("femem")
 

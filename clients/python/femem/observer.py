@@ -16,15 +16,16 @@ import threading
 import time
 from collections import Counter
 from dataclasses import dataclass, field, replace
-from types import TracebackType
-from typing import Dict, List, Optional, Tuple, Type
+from typing import Dict, List, Optional, Tuple
 
-from . import errors, frames, reports
-from .arguments import Path, seconds_of
-from .client import Client
-from .reports import Report, Waiter
-from .waitsessions import MOST, numbers
-from .operations import PRESENCE, end_of, left
+from . import _errors as errors, _frames as frames, _reports as reports
+from ._arguments import Path, seconds_of
+from ._client import Client
+from ._reports import Report, Waiter
+from ._waitsessions import MOST, numbers
+from ._operations import PRESENCE, end_of, left
+
+__all__ = ["Look", "Observer", "all_wait", "blocked", "graph", "metrics", "overview", "page", "parse_look", "svg"]
 
 # The longest time that a socket or a process can be waited for, in seconds.
 _LONGEST = 1e9
@@ -50,6 +51,7 @@ class Look:
 
 
 def parse_look(text: str) -> Look:
+    """What `femem look` has printed."""
     arrays = {int(m[1]): (m[2], int(m[3])) for m in map(_ARRAY.fullmatch, text.splitlines()) if m is not None}
     sessions = {int(m[1]): int(m[2]) for m in map(_SESSION.fullmatch, text.splitlines()) if m is not None}
     return Look(arrays, sessions)
@@ -57,7 +59,9 @@ def parse_look(text: str) -> Look:
 
 def _rest(end: Optional[float]) -> Optional[float]:
     """How many seconds are left. `TimeoutError` if none are."""
-    rest = left(end)
+    if end is None:
+        return None
+    rest = left(end, time.monotonic())
     if rest == 0.0:
         raise TimeoutError("timed out")
     return rest
@@ -70,9 +74,7 @@ class Observer:
     whole report.
     """
 
-    def __init__(
-        self, path: Path, *, store: Optional[Path] = None, program: str = "femem", timeout: Optional[float] = 30.0
-    ) -> None:
+    def __init__(self, path: Path, *, store: Optional[Path] = None, program: str = "femem", timeout: Optional[float] = 30.0) -> None:
         self.path = os.fsdecode(path)
         self._store = None if store is None else os.fsdecode(store)
         self._program = program
@@ -91,15 +93,11 @@ class Observer:
     def __enter__(self) -> Observer:
         return self
 
-    def __exit__(
-        self,
-        kind: Optional[Type[BaseException]],
-        error: Optional[BaseException],
-        trace: Optional[TracebackType],
-    ) -> None:
+    def __exit__(self, *failure: object) -> None:
         self.close()
 
     def close(self) -> None:
+        """Closes its connection. The next report makes another one."""
         with self._asking:
             self._disconnect()
 
@@ -111,7 +109,7 @@ class Observer:
     def report(self) -> Report:
         """What waits now. Errors: `ServerUnreachable`, also if it takes longer than the timeout; `NoMemory`."""
         with self._asking:
-            end = end_of(self._timeout)
+            end = end_of(self._timeout, time.monotonic())
             was_connected = self._socket is not None
             try:
                 try:
@@ -168,9 +166,7 @@ class Observer:
         if self._store is None:
             return Look()
         try:
-            done = subprocess.run(
-                [self._program, "look", "--store", self._store], capture_output=True, text=True, timeout=self._timeout
-            )
+            done = subprocess.run([self._program, "look", "--store", self._store], capture_output=True, text=True, timeout=self._timeout)
         except (OSError, subprocess.SubprocessError) as error:
             self.trouble = f"{self._program}: {error}"
             return Look()

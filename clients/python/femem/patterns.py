@@ -16,12 +16,15 @@ import functools
 import weakref
 from threading import get_ident
 from types import TracebackType
-from typing import Any, Callable, Dict, Optional, Type, TypeVar, overload
+from typing import TYPE_CHECKING, Any, Callable, Dict, Optional, Type, TypeVar, overload
 
-from . import locks, operations, queues, semaphore, words, work
-from .client import Client
-from .errors import FememError
-from .jobs import Job
+from . import _keylocks as keylocks, _locks as locks, _operations as operations, _queues as queues
+from . import _semaphore as semaphore, _words as words, _work as work
+from ._arguments import seconds_of
+from ._client import Client
+from ._errors import FememError, TimedOut
+from ._faces import ForThreads
+from ._jobs import Job, Steps
 from .requests import Array, number_of_bits
 
 C = TypeVar("C", bound="Held")
@@ -31,10 +34,12 @@ Error = Optional[BaseException]
 Trace = Optional[TracebackType]
 
 
-class Blocking(operations.Blocking):
+class Blocking(operations.Pattern, ForThreads):
     """The face for threads: an operation returns once it is done."""
 
-    def __init__(self, client: Client, name: str, *sizes: Any, **more: Any) -> None:
+    _operations: Dict[str, operations.operation[Any, Any]] = {}
+
+    def __init__(self, client: Client, name: Any, *sizes: Any, **more: Any) -> None:
         super().__init__(client, name, *sizes, **more)
 
     def _checked(self, client: Any) -> Client:
@@ -45,9 +50,11 @@ class Blocking(operations.Blocking):
     def __init_subclass__(cls) -> None:
         """Makes a function of each operation: when anything else has returned, Python looks for signals, too late to undo."""
         super().__init_subclass__()
+        cls._operations = {**cls._operations}
         for name in dir(cls):
             done = getattr(cls, name)
             if isinstance(done, operations.operation):
+                cls._operations[name] = done
                 setattr(cls, name, _performing(done))
 
 
@@ -57,9 +64,9 @@ def _performing(done: operations.operation[Any, Any]) -> Callable[..., Any]:
         one = getattr(self, done.call)(*args, **more) if done.call else None
         if one is not None:
             return self._client._call(*one)
-        job = Job(done.steps(self, *args, **more), getattr(self, done.undo) if done.undo else None, done.gives_back)
+        job = _job(self, done, *args, **more)
         try:
-            return self._client._run_job(job, done.is_light)
+            return self._client._run_job(job)
         except FememError:
             raise
         except BaseException:
@@ -67,6 +74,16 @@ def _performing(done: operations.operation[Any, Any]) -> Callable[..., Any]:
             raise
 
     return perform
+
+
+def _job(pattern: Blocking, done: operations.operation[Any, Any], *args: Any, **more: Any) -> Job[Any]:
+    job: Job[Any] = Job(done.steps(pattern, *args, **more), getattr(pattern, done.undo) if done.undo else None, done.gives_back)
+    if not done.undo and not done.gives_back:
+        job.is_light = done.is_light
+    elif done.is_light and pattern._can_mend() and not (done.gives_back and (args or more)):
+        job.is_light = True
+        job.mend = functools.partial(pattern._mend, pattern._array, done.gives_back)
+    return job
 
 
 class Opened(Blocking):
@@ -100,7 +117,7 @@ class Block:
 
     def job(self) -> Optional[Job[None]]:
         """The job, if it is still to be begun."""
-        return None if self._job is None or self._job.taken else self._job
+        return None if self._job is None or self._job.taken or self._job.is_here else self._job
 
     def _is_dropped(self, leave: object) -> None:
         job = self.job()
@@ -162,21 +179,14 @@ class Entered(Blocking):
 
 
 class Held(Entered):
-    """What a `with` holds."""
+    """What a `with` holds: its operations `acquire` and `release` begin and end the block."""
 
-    def __init__(self, client: Client, name: str, *sizes: Any, **more: Any) -> None:
+    def __init__(self, client: Client, name: Any, *sizes: Any, **more: Any) -> None:
         self._entering = {}
         super().__init__(client, name, *sizes, **more)
 
-    def _begin_with(self) -> Any:
-        raise NotImplementedError
-
-    def _end_with(self) -> Any:
-        raise NotImplementedError
-
     def __enter__(self: C) -> C:
-        begin = self._begin_with()
-        job = Job(begin.steps(self), getattr(self, begin.undo))
+        job = _job(self, self._operations["acquire"])
         leave = self._entry()
         try:
             self._client._run_job(job)
@@ -192,31 +202,43 @@ class Held(Entered):
             raise
 
     def _end_of(self, block: Optional[Block], is_done: bool) -> Job[None]:
-        return (None if block is None else block.job()) or Job(self._end_with().steps(self), None, True)
+        return (None if block is None else block.job()) or _job(self, self._operations["release"])
 
 
 class Lock(Opened, Held, locks.Lock):
     __doc__ = locks.Lock.__doc__
 
-    def _begin_with(self) -> Any:
-        return locks.Lock.acquire
 
-    def _end_with(self) -> Any:
-        return locks.Lock.release
+class KeyLock(Held, keylocks.KeyLock):
+    __doc__ = keylocks.KeyLock.__doc__
+
+
+class Locks(keylocks.Locks[KeyLock]):
+    __doc__ = keylocks.Locks.__doc__
+    LOCK = KeyLock
+
+    def __init__(self, client: Client, name: str, capacity: int = 4096) -> None:
+        super().__init__(client, name, capacity)
 
 
 class Semaphore(Opened, Held, semaphore.Semaphore):
     __doc__ = semaphore.Semaphore.__doc__
 
-    def _begin_with(self) -> Any:
-        return semaphore.Semaphore.acquire
 
-    def _end_with(self) -> Any:
-        return semaphore.Semaphore.release
+class Turn(Held, locks.Turn):
+    __doc__ = locks.Turn.__doc__
 
 
 class ReadWriteLock(Opened, locks.ReadWriteLock):
     __doc__ = locks.ReadWriteLock.__doc__
+
+    def read(self, timeout: Optional[float] = None, *, takeover_after: Optional[float] = None) -> Turn:
+        """`with lock.read():` reads in its block. `TimedOut` as the block begins if it may not in time."""
+        return Turn(self._client, self, False, timeout, takeover_after)
+
+    def write(self, timeout: Optional[float] = None, *, takeover_after: Optional[float] = None) -> Turn:
+        """`with lock.write():` writes in its block. `TimedOut` as the block begins if it may not in time."""
+        return Turn(self._client, self, True, timeout, takeover_after)
 
 
 class Election(Opened, locks.Election):
@@ -247,13 +269,16 @@ class Once(Blocking, words.Once):
     __doc__ = words.Once.__doc__
 
     def run(self, work: Callable[[], int], timeout: Optional[float] = None) -> int:
-        """The result of `work`, which one client calls. The others wait for it: `TimedOut` if it does not come in time."""
-        word, result = self._begin(timeout)
-        if word is None:
-            return result
-        result = number_of_bits(work(), 64, "result")
-        self._finish(word, result)
-        return result
+        """The result of `work`, which one client calls. The others wait for it: `TimedOut` if it does not come in time. If it
+        raises, this call does, and one of the others calls its own."""
+        array: Optional[Array] = None
+        try:
+            array, result = self._begin(timeout)
+            return result if array is None else self._finish(array, number_of_bits(work(), 64, "result"))
+        except BaseException:
+            if array is not None:
+                self._give_up(array)  # (once the result is set, nobody looks)
+            raise
 
 
 class WorkJob(Entered, work.WorkJob):
@@ -271,12 +296,84 @@ class WorkJob(Entered, work.WorkJob):
 
     def _end_of(self, block: Optional[Block], is_done: bool) -> Job[None]:
         """It fails where Python drops its `__exit__`. Once the job has ended, another end of it does nothing."""
+        if is_done and not self.has_ended:
+            return _job(self, self._operations["done"])
         return Job(work.WorkJob._leave.steps(self, is_done), None, True)
+
+
+class JobLoop:
+    """The jobs of a `for` loop, made by `WorkQueue.jobs`: each is ended before the next one is taken, and with the loop.
+
+    A body that comes to its end, by `continue` too, has done its job, unless it called `done`, `fail` or `move` itself. If an
+    exception, `break` or `return` leaves the body, the attempt has failed, and the job is given to another taker, or set aside
+    after its last attempt. So a job whose work is finished before a `break` needs its `done()` first. A program that keeps the
+    loop in a name, `jobs = queue.jobs()`, has its last job until that name is gone or the loop is used again. `NotOwner` comes out
+    of the loop where another attempt has ended the job. A job of a process that is killed is given to another one.
+    """
+
+    _job: Optional[WorkJob] = None  # that of the body
+
+    def __init__(self, queue: WorkQueue, timeout: Optional[float]) -> None:
+        self._queue = queue
+        self._timeout = timeout
+
+    def __iter__(self) -> JobLoop:
+        self._leave()  # an earlier loop left its body
+        return self
+
+    def __next__(self) -> WorkJob:
+        if self._job is not None:
+            self._job._leave(True)
+            self._job = None
+        take = Job(self._take(), self._queue._give_up_job)
+        try:
+            job: WorkJob = self._queue._client._run_job(take)
+            return job
+        except TimedOut:
+            raise StopIteration from None
+        except FememError:
+            raise
+        except BaseException:
+            self._queue._client._abandon(take)
+            raise
+
+    def _take(self) -> Steps[WorkJob]:
+        """The job is this loop's as soon as it is taken: no interruption comes in between."""
+        job: WorkJob = yield from work.WorkQueue.take.steps(self._queue, self._timeout)
+        self._job = job
+        return job
+
+    def __del__(self) -> None:
+        try:
+            self._leave()
+        except BaseException:
+            self._leave()  # a signal came; twice has the effect of once
+            raise
+
+    def _leave(self) -> None:
+        """The attempt of a body that was left has failed. The client says so without this thread."""
+        job = self._job
+        if job is not None and not job.has_ended and job._client.failure is None:
+            job._client._abandon(job._end_of(None, False))
+        self._job = None
 
 
 class WorkQueue(Blocking, work.WorkQueue):
     __doc__ = work.WorkQueue.__doc__
     JOB = WorkJob
+
+    def jobs(self, timeout: Optional[float] = None) -> JobLoop:
+        """`for job in queue.jobs(timeout=60):` takes job after job, until none comes for that many seconds."""
+        return JobLoop(self, seconds_of(timeout))
+
+    def __iter__(self) -> JobLoop:
+        """`for job in queue:` takes job after job, without end."""
+        return self.jobs()
+
+    if TYPE_CHECKING:
+
+        def take(self, timeout: Optional[float] = None) -> WorkJob:  # type: ignore[override]
+            ...
 
 
 def shared_array(client: Client, name: str, length: int, full: bool) -> Array:
@@ -285,17 +382,6 @@ def shared_array(client: Client, name: str, length: int, full: bool) -> Array:
 
 
 __all__ = [
-    "Barrier",
-    "BoundedQueue",
-    "Channel",
-    "Counter",
-    "Election",
-    "Future",
-    "Lock",
-    "Once",
-    "ReadWriteLock",
-    "Semaphore",
-    "WorkJob",
-    "WorkQueue",
-    "shared_array",
-]
+    "Barrier", "BoundedQueue", "Channel", "Counter", "Election", "Future", "JobLoop", "KeyLock", "Lock", "Locks", "Once",
+    "ReadWriteLock", "Semaphore", "Turn", "WorkJob", "WorkQueue", "shared_array",
+]  # fmt: skip

@@ -8,11 +8,17 @@ from __future__ import annotations
 import operator
 import struct
 from dataclasses import dataclass
+from functools import lru_cache
 from typing import Any, Callable, Dict, Generic, SupportsIndex, Tuple, TypeVar, Union
 
-from . import frames
-from .errors import ANSWER_ERRORS, BadLength, BadName, ProtocolError
-from .frames import ACCESS, NOWAIT, VALUE, pack_access
+from . import _frames as frames
+from ._errors import ProtocolError, answered
+from ._frames import ACCESS, NOWAIT, VALUE, pack_access
+
+__all__ = [
+    "Array", "ArrayLike", "Request", "create", "find", "int_fetch_add", "purge", "readfe", "readff", "readxx", "remove",
+    "writeef", "writeff", "writexf",
+]  # fmt: skip
 
 T_co = TypeVar("T_co", covariant=True)
 
@@ -25,10 +31,13 @@ class Array:
     length: int
 
 
+# An array, or its id.
 ArrayLike = Union[Array, int]
 
+
 class Request(Generic[T_co]):
-    """A request. `frame` is its frame under number 0, `read` makes the result of an answer that is not an error."""
+    """A request. `frame` is its frame under number 0. `read` makes the result of an answer that is not an error; it raises
+    `ProtocolError` if the answer can't be to this request."""
 
     __slots__ = ("frame", "read", "may_wait")
 
@@ -44,12 +53,6 @@ class Request(Generic[T_co]):
 
     def __repr__(self) -> str:
         return f"<femem request: {self.what}>"
-
-    def result(self, answer: frames.Answer) -> T_co:
-        """The result. Raises the answer's error, or `ProtocolError` if the answer can't be to this request."""
-        if answer.code in ANSWER_ERRORS:
-            raise ANSWER_ERRORS[answer.code](self.what)
-        return self.read(answer)
 
 
 def read_value(answer: frames.Answer) -> int:
@@ -75,7 +78,7 @@ def _name_bytes(name: Union[str, bytes]) -> bytes:
         raise TypeError(f"a name is a str or bytes: {name!r}")
     spelled = name.encode("utf-8") if isinstance(name, str) else name
     if len(spelled) > frames.LONGEST_NAME:
-        raise BadName(repr(name))
+        raise answered(frames.BAD_NAME, repr(name))
     return spelled
 
 
@@ -86,7 +89,7 @@ def number_of_bits(number: SupportsIndex, bits: int, what: str) -> int:
     except TypeError:
         raise TypeError(f"{what} is not a whole number: {number!r}") from None
     if not 0 <= found < 2**bits:
-        raise ValueError(f"{what} is not a number of {bits} bits: {found}")
+        raise ValueError(f"{what} is 0 to {2**bits - 1}, not {found}")
     return found
 
 
@@ -97,21 +100,24 @@ def _flag(flag: object, what: str) -> bool:
 
 
 def create(name: Union[str, bytes], length: int, full: bool = False) -> Request[Array]:
+    """Makes an array: its words are empty, or all full with value 0. `NameTaken`, `ArrayLimit`, `WordLimit`, `BadName`, `BadLength`."""
     spelled = _name_bytes(name)
     try:
         size = operator.index(length)
     except TypeError:
         raise TypeError(f"length is not a whole number: {length!r}") from None
     if not 0 <= size < 2**32:
-        raise BadLength(f"{size}")
+        raise answered(frames.BAD_LENGTH, f"{size}")
     return Request(frames.create(0, spelled, size, _flag(full, "full")), read_array)
 
 
 def find(name: Union[str, bytes]) -> Request[Array]:
+    """The array of that name. `NoArray`, `BadName`."""
     return Request(frames.find(0, _name_bytes(name)), read_array)
 
 
 def remove(array: ArrayLike) -> Request[None]:
+    """Removes an array. What waits on it ends with `NoArray`."""
     return Request(frames.remove(0, _id(array)), read_done)
 
 
@@ -119,21 +125,30 @@ def _id(array: ArrayLike) -> int:
     return number_of_bits(array.id if isinstance(array, Array) else array, 64, "array")
 
 
-def access(
-    code: int, array: ArrayLike, index: int, operand: int = 0, nowait: bool = False
-) -> Request[Any]:
+def access(code: int, array: ArrayLike, index: int, operand: int = 0, nowait: bool = False) -> Request[Any]:
     """The request of an operation, by its code (`frames`)."""
-    _, read, may_wait = OPERATIONS[code]
-    if nowait is not False:
-        nowait = _flag(nowait, "nowait")
     try:
-        id: Any = array.id if isinstance(array, Array) else array
-        frame = pack_access(30, NOWAIT if nowait else ACCESS, 0, code, id, index, operand)
+        id = array.id if isinstance(array, Array) else array
+        if operand == 0 or code == frames.INT_FETCH_ADD:
+            return _made_before(code, id, index, operand, nowait)  # patterns ask the same again and again
+        return _access(code, id, index, operand, nowait)
     except (struct.error, TypeError):
-        # One of them is wrong: this raises for which.
+        # One of them is wrong, or no plain `int`: this raises for which.
         at, value = number_of_bits(index, 32, "index"), number_of_bits(operand, 64, "value")
-        frame = frames.access(0, code, _id(array), at, value, nowait)
-    return Request(frame, read, may_wait and not nowait)
+        return _access(code, _id(array), at, value, _flag(nowait, "nowait"))
+
+
+def _access(code: int, id: int, index: int, operand: int, nowait: bool) -> Request[Any]:
+    """`struct.error` if an argument is not a whole number or has too many bits."""
+    _, read, may_wait = OPERATIONS[code]
+    if nowait is not False and nowait is not True:
+        nowait = _flag(nowait, "nowait")
+    return Request(pack_access(30, NOWAIT if nowait else ACCESS, 0, code, id, index, operand), read, may_wait and not nowait)
+
+
+@lru_cache(maxsize=256, typed=True)
+def _made_before(code: int, id: int, index: int, operand: int, nowait: bool) -> Request[Any]:
+    return _access(code, id, index, operand, nowait)
 
 
 # For each operation: its name, how its answer is read, and whether it may wait.
@@ -150,34 +165,42 @@ OPERATIONS: Dict[int, Tuple[str, Callable[[frames.Answer], Any], bool]] = {
 
 
 def readfe(array: ArrayLike, index: int, nowait: bool = False) -> Request[int]:
+    """Waits until the word is full, takes its value, and leaves it empty."""
     return access(frames.READFE, array, index, 0, nowait)
 
 
 def readff(array: ArrayLike, index: int, nowait: bool = False) -> Request[int]:
+    """Waits until the word is full, and reads its value."""
     return access(frames.READFF, array, index, 0, nowait)
 
 
 def readxx(array: ArrayLike, index: int) -> Request[int]:
+    """Reads the value, whether the word is full or empty."""
     return access(frames.READXX, array, index)
 
 
 def writeef(array: ArrayLike, index: int, value: int, nowait: bool = False) -> Request[None]:
+    """Waits until the word is empty, writes the value, and leaves it full."""
     return access(frames.WRITEEF, array, index, value, nowait)
 
 
 def writeff(array: ArrayLike, index: int, value: int, nowait: bool = False) -> Request[None]:
+    """Waits until the word is full, and writes the value."""
     return access(frames.WRITEFF, array, index, value, nowait)
 
 
 def writexf(array: ArrayLike, index: int, value: int) -> Request[None]:
+    """Writes the value, and leaves the word full, as it was or not."""
     return access(frames.WRITEXF, array, index, value)
 
 
 def purge(array: ArrayLike, index: int) -> Request[None]:
+    """Leaves the word empty, with value 0."""
     return access(frames.PURGE, array, index)
 
 
 def int_fetch_add(array: ArrayLike, index: int, value: int, nowait: bool = False) -> Request[int]:
+    """Waits until the word is full, adds the value modulo 2^64, and gives the value before."""
     return access(frames.INT_FETCH_ADD, array, index, value, nowait)
 
 
@@ -190,6 +213,7 @@ def of_frame(frame: bytes) -> Request[Any]:
     return Request(frame, read_done if kind == 4 else read_array)
 
 
+@lru_cache(maxsize=256)
 def _in_words(frame: bytes) -> str:
     kind = frame[4]
     if kind in (5, 11):

@@ -1,7 +1,6 @@
 """The model at a socket, in a thread; and servers that break the protocol."""
 
 import os
-import selectors
 import socket
 import tempfile
 import threading
@@ -9,91 +8,9 @@ import time
 import unittest
 
 import paths  # noqa: F401
-from model import BadFrame, Model, read_messages
 
 from femem import Client
-
-
-class ModelServer:
-    """A model that listens at a path. `kill` loses what was not posted; `start` continues with what was stored."""
-
-    def __init__(self, path, seed=0):
-        self.path = path
-        self.model = Model(seed)
-        self.posts = True  # whether pending entries are posted after each round
-        self._thread = None
-
-    def start(self):
-        self._listener = socket.socket(socket.AF_UNIX, socket.SOCK_STREAM)
-        self._listener.bind(self.path)
-        self._listener.listen(64)
-        self._stop, self._stopped = socket.socketpair()
-        self._thread = threading.Thread(target=self._run, daemon=True)
-        self._thread.start()
-        return self
-
-    def kill(self):
-        if self._thread is not None:
-            self._stop.shutdown(socket.SHUT_RDWR)  # a child may have it too
-            self._stop.close()
-            self._thread.join()
-            self._thread = None
-            self._stopped.close()
-            os.unlink(self.path)
-            self.model.stop()
-
-    def _run(self):
-        links = {}
-        conns = 0
-        with selectors.DefaultSelector() as selector:
-            selector.register(self._stopped, selectors.EVENT_READ)
-            selector.register(self._listener, selectors.EVENT_READ)
-            stands = True
-            while stands:
-                for key, _ in selector.select(0.01):
-                    if key.fileobj is self._stopped:
-                        stands = False
-                    elif key.fileobj is self._listener:
-                        link = self._listener.accept()[0]
-                        conns += 1
-                        links[link] = (conns, bytearray())
-                        self.model.connect(conns)
-                        selector.register(link, selectors.EVENT_READ)
-                    else:
-                        self._read(key.fileobj, links)
-                if stands and self.posts:
-                    self.model.post()
-                self._write(selector, links)
-        for link in [self._listener, *links]:
-            link.close()
-
-    def _read(self, link, links):
-        conn, stream = links[link]
-        try:
-            piece = link.recv(65536)
-        except OSError:
-            piece = b""
-        stream += piece
-        try:
-            for message in read_messages(stream):
-                self.model.take(conn, message)
-        except BadFrame:
-            piece = b""
-        if not piece:
-            self.model.gone(conn)
-
-    def _write(self, selector, links):
-        for link, (conn, _) in list(links.items()):
-            try:
-                if conn not in self.model.boxes:
-                    raise OSError("gone")
-                for reply in self.model.take_mail(conn):
-                    link.sendall(reply)
-            except OSError:
-                self.model.gone(conn)
-                selector.unregister(link)
-                link.close()
-                del links[link]
+from femem.testing import ModelServer
 
 
 class BadServer:

@@ -295,7 +295,7 @@ class Cancels(WithFolder):
             async with AsyncClient(self.path, 7) as client, AsyncClient(self.path, 8) as other:
                 word = await client.create("word", 1)
                 task = asyncio.ensure_future(work(client, word, got))
-                while not (await other.report()).waiters:
+                while not any(waiter.array == word.id for waiter in (await other.report()).waiters):
                     pass
                 cancel_when_answered(client, task)
                 await other.writeef(word, 0, 1)
@@ -348,6 +348,20 @@ class Cancels(WithFolder):
         self.assertEqual((task.cancelled(), got), (True, [1]))
         with Client(self.path, 9) as client:
             self.assertFalse(patterns.Lock(client, "lock").locked())
+
+    def test_what_was_done_once_has_its_result_before_it_arrives(self):
+        async def work(client, word, got):
+            async def read():
+                got.append(await client.readff(word, 0))
+                return 5
+
+            got.append(await aio.Once(client, "once").run(read))
+            await client.readff(word, 0)
+
+        task, got = self.run_and_cancel(work)
+        self.assertEqual((task.cancelled(), got), (True, [1, 5]))
+        with Client(self.path, 9) as client:
+            self.assertEqual(patterns.Once(client, "once").run(lambda: 6, timeout=10), 5)
 
     def run_beside_full_words(self, work):
         """Runs `work(take_on)`, which must end; `take_on` reads a full word without end."""

@@ -82,6 +82,8 @@ class Operations(WithFolder):
         with Client(self.path, 7) as client:
             word = client.create("word", 1)
             future = client.submit(requests.readfe(word, 0))
+            self.assertEqual((future.cancel(), future.cancelled(), client.readxx(word, 0)), (False, False, 0))
+            self.assertEqual(len(client.report().waiters), 1)  # it waits on
             client.withdraw(future)
             self.assertIsInstance(future.exception(30), femem.Withdrawn)
             client.writeef(word, 0, 5)
@@ -171,7 +173,7 @@ class Operations(WithFolder):
             self.assertEqual([(w.index, w.session, w.needs) for w in report.waiters], [(0, 7, "full"), (1, 8, "full")])
             self.assertEqual(report.sessions, {7: 1, 8: 1})
             self.assertTrue(report.all_wait)
-            self.assertIn('"s8" -> "w1_1"', femem.reports.graph(report))
+            self.assertIn('"s8" -> "w1_1"', femem.observer.graph(report))
             client.remove(words)
             for future in futures:
                 self.assertIsInstance(future.exception(30), femem.NoArray)

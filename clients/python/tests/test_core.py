@@ -6,13 +6,16 @@ those under way when a client ended at most once.
 
 import os
 import unittest
+from unittest import mock
 
 import paths  # noqa: F401
 from model import Model
 from world import World, run, run_beside
 
-from femem import errors, requests
-from femem.core import Phase
+from femem import _errors as errors, requests
+from femem._attachment import Phase
+from femem._lease import Lease
+from femem._tickets import Ticket
 
 
 class Schedules(unittest.TestCase):
@@ -320,6 +323,40 @@ class Endings(unittest.TestCase):
         ticket = core.submit(requests.int_fetch_add(array, 0, 1), world.now)
         world.settle_down([core])
         self.assertIsInstance(ticket.error, errors.SessionLost)
+
+    def test_what_callers_moved_over_a_connection_that_breaks(self):
+        """However much of it was sent: another connection takes the session over, or comes once the former one is gone."""
+        for takes_over in (False, True):
+            for most in range(98):
+                with self.subTest(takes_over=takes_over, sent=most):
+                    self.move_and_break(most, takes_over)
+
+    def move_and_break(self, most, takes_over):
+        world = World(most)
+        core, sent = world.core(7), bytearray()
+        word, presence = run(world, core, requests.create("word", 1, True)), run(world, core, requests.create("presence", 1))
+        core._show(presence, world.now)
+        run(world, core, requests.int_fetch_add(word, 0, 1))
+        first, _, floor, shown = core.lends()
+        lent = Lease(mock.Mock(send=lambda frames, _: sent.extend(frames[:most])), core.decoder, first, first, None, floor, shown)
+        ticket = Ticket(requests.int_fetch_add(word, 0, 1))
+        self.assertFalse(lent.call([ticket]))
+        core.takes_back(lent.tickets, lent.floor, lent.left, world.now)
+        core.take_on(ticket, None, lambda: None, world.now)
+        link = world.links.pop(core)
+        world.feed(link[0], sent, len(sent))
+        core.disconnected(world.now)
+        if takes_over:
+            world.connect(core)
+            for _ in range(20):
+                world.push(core)
+                world.model.post()
+                world.pull(core)
+        world.model.gone(link[0])
+        world.settle_down([core])
+        self.assertEqual((ticket.result, core.failure), (1, None))
+        self.assertEqual([run(world, core, requests.int_fetch_add(word, 0, 1)) for _ in range(60)], [*range(2, 62)])
+        self.assertEqual((world.model.report().count(f" {presence.id} 0"), core.is_present()), (1, True))
 
     def test_a_session_limit(self):
         world = World(1)

@@ -20,8 +20,8 @@ from test_malice import FIRST, attached
 from test_unspoilt import Stop, interrupted
 
 import femem
-from femem import Client, lease, requests, worker
-from femem.patterns import BoundedQueue, Lock, shared_array
+from femem import Client, _frames as frames, _lease as lease, requests, _worker as worker
+from femem.patterns import BoundedQueue, Lock, ReadWriteLock, Semaphore, WorkQueue, shared_array
 
 LONG = 60
 
@@ -99,6 +99,56 @@ class Direct(WithFolder):
             self.assertGreater(at, 100)
             self.assertGreater(lent, at // 2)
 
+    def test_a_floor_that_a_caller_raises_at_each_bytecode(self):
+        model = self.server().model
+        with Client(self.path, 7) as client, Client(self.path, 8) as other:
+            word = client.create("word", 1, full=True)
+            raised = 0
+            for at in itertools.count(1):
+                self.warm(client, word)
+                lent = client._worker.lease
+                if lent is not None and lent.floor:
+                    lent._end = lent.next_number()
+                    raised += 1
+                before = other.readff(word, 0)
+                was = interrupted(lambda: client.int_fetch_add(word, 0, 1), at)
+                client.int_fetch_add(word, 0, 1, timeout=LONG)
+                self.assertIsNone(client.failure)
+                self.assertIn(other.readff(word, 0) - before - 1, (0, 1) if was else (1,), at)
+                if not was:
+                    break
+            self.assertGreater(at, 100)
+            if Client is not Waiting:
+                self.assertGreater(raised, at // 2)
+            self.assertGreater(model.state.sessions[7][0], 100)
+
+    def test_callers_raise_the_floor(self):
+        """So that its numbers do not run out, the holder of a lease asks for floors."""
+        model, steps, raised = self.server().model, set(), []
+        enter, settle = model.enter, lease.Lease._settle
+
+        def note(entry):
+            if entry[:2] == ("settled", 107):
+                steps.add(entry[2] - model.state.sessions[107][0])
+            enter(entry)
+
+        def count(lent, number):
+            raised.append(number)
+            return settle(lent, number)
+
+        with Client(self.path, 107, probe_interval=100.0) as client, mock.patch.object(lease.Lease, "_settle", count):
+            model.enter = note
+            queue, value, end = BoundedQueue(client, "queue", 4), 0, time.monotonic() + LONG
+            while len(raised) < 20 and time.monotonic() < end or value < 200:
+                queue.put(value)
+                self.assertEqual(queue.get(), value)
+                value += 1
+                if Client is Waiting and value == 200:
+                    break  # what waits holds the floor
+            self.assertGreater(model.state.sessions[107][0], 1000)
+            self.assertLess(max(steps), 32)  # a whole window is another client's step
+            self.assertEqual(len(raised) >= 20, Client is not Waiting)
+
     def test_signals(self):
         self.server()
 
@@ -168,12 +218,13 @@ class Direct(WithFolder):
                 self.assertEqual(client.readfe(word, 1, timeout=LONG), turn)
                 giver.join()
 
+    @mock.patch("femem._lending.READ_TIME", LONG)
     def test_a_caller_that_waits_lets_others_call(self):
-        """It waits by itself, and leaves the connection to the thread when that has something to do."""
+        """It waits by itself, and leaves the connection to the thread when that has something to do, however late."""
         model = self.server().model
         connections, connect = [], model.connect
         model.connect = lambda conn: (connections.append(conn), connect(conn))
-        with Client(self.path, 7) as client:
+        with Client(self.path, 7, probe_interval=LONG) as client:
             word, begun = client.create("word", 2, full=True), len(connections)
             waited = 0
             for turn in range(20):
@@ -316,20 +367,26 @@ class Direct(WithFolder):
                 while True:
                     client.int_fetch_add(word, 0, 1)
 
-    def test_most_steps_of_a_queue_do_not_need_the_thread(self):
+    def test_most_steps_of_a_pattern_do_not_need_the_thread(self):
         self.server()
         with Client(self.path, 7, probe_interval=100.0) as client:
-            queue = BoundedQueue(client, "queue", 4)
-            queue.put(1)
-            self.assertEqual(queue.get(), 1)
-            asked = count_asks(client)
-            for value in range(200):
-                queue.put(value)
-                self.assertEqual(queue.get(), value)
-            # (each put and get has two steps)
-            self.assertLess(len(asked), 400)
-            del client._ask
-            client._ask = client._worker.ask
+            queue, lock, permits = BoundedQueue(client, "queue", 4), Lock(client, "lock"), Semaphore(client, "semaphore", 3)
+            book, jobs = ReadWriteLock(client, "book"), WorkQueue(client, "jobs", 1000)
+            for begin, end in (
+                (lambda: queue.put(5), lambda: self.assertEqual(queue.get(), 5)),
+                (lock.acquire, lock.release),
+                (permits.acquire, permits.release),
+                (book.acquire_write, book.release_write),
+                (lambda: jobs.put(5), lambda: jobs.take().done()),
+            ):
+                begin(), end()
+                asked = count_asks(client)
+                for _ in range(200):
+                    begin(), end()
+                # (each has two steps or more; a thread that is not scheduled for a while takes its numbers back)
+                self.assertLess(len(asked), 400)
+                del client._ask
+                client._ask = client._worker.ask
 
     def test_a_send_that_fails_is_made_up_for(self):
         """The connection stands, so no read fails: it is given up, and everything is sent again over the next one."""
@@ -441,6 +498,25 @@ class BesideOneThatWaits(Direct):
             self.addCleanup(patched.stop)
 
 
+class Shown(Client):
+    """A client that has used a lock, so that its presence waits."""
+
+    def __init__(self, *arguments, **more):
+        super().__init__(*arguments, **more)
+        with Lock(self, f"shown{self.session % 64}"):
+            pass
+
+
+class BesideAPresence(Direct):
+    """The same hazards, while what shows that the client is there waits: callers move it as they raise the floor."""
+
+    def setUp(self):
+        super().setUp()
+        patched = mock.patch.object(sys.modules[__name__], "Client", Shown)
+        patched.start()
+        self.addCleanup(patched.stop)
+
+
 class Replies(WithFolder):
     """What a server may send to a caller that reads by itself."""
 
@@ -498,29 +574,54 @@ class Replies(WithFolder):
                 self.assertIsInstance(client.failure, femem.ProtocolError)
                 client.close()
 
+    def lent(self, here, end=50):
+        return lease.Lease(here, frames.ReplyDecoder(), 40, end)
+
     def test_a_lease_hands_over_what_it_does_not_know(self):
         here, there = socket.socketpair()
         here.setsockopt(socket.SOL_SOCKET, socket.SO_RCVTIMEO, struct.pack("@ll", 0, 100_000))
+        answer = frame(66, 40, 1, 5, 0)
         with here, there:
-            for reply in (frame(66, 41, 1, 5, 0), frame(67, 40), frame(70, 40, 8), b"\0", frame(66, 40, 1, 5, 0)[:25]):
-                lent = lease.Lease(here, 40, 50)
-                ticket = femem.tickets.Ticket(requests.readff(1, 0))
+            for reply, known in (
+                (frame(66, 41, 1, 5, 0), frames.Answer(41, 1, 5)),
+                (frame(67, 40), frames.Withdrawn(40)),
+                (frame(70, 40, 8), frames.Refusal(40, 8)),
+                (b"\0", None),
+                (answer[:25], None),
+            ):
+                lent = self.lent(here)
+                ticket = femem._tickets.Ticket(requests.readff(1, 0))
                 there.sendall(reply)
-                self.assertFalse(lent.call(ticket))
-                self.assertEqual((bytes(lent.rest), lent.is_known), (reply, True))
-                self.assertIs(lent.unfinished(), ticket)
-                self.assertFalse(lent.call(ticket))
+                self.assertFalse(lent.call([ticket]))
+                self.assertEqual((lent.rest, lent.is_known), ([] if known is None else [known], True))
+                self.assertIs(lent.tickets[-1], ticket)
+                self.assertFalse(lent.call([ticket]))
                 self.assertEqual(len(lent.tickets), 1)
+                if known is None:
+                    there.sendall(answer[len(reply) :])  # the thread goes on with the same decoder
+                    self.assertEqual(lent.decoder.feed(here.recv(100)), [frames.Answer(40, 1, 5)])
                 there.recv(100)
-            lent = lease.Lease(here, 40, 41)
-            there.sendall(frame(68, 40) + frame(66, 40, 1, 5, 0))
-            ticket = femem.tickets.Ticket(requests.readff(1, 0))
-            self.assertTrue(lent.call(ticket))
-            self.assertEqual((ticket.result, bytes(lent.rest)), (5, frame(68, 40)))
-            lent = lease.Lease(here, 40, 50)
-            there.sendall(frame(66, 40, 1, 5, 0) + b"x")
-            self.assertTrue(lent.call(femem.tickets.Ticket(requests.readff(1, 0))))
-            self.assertEqual((bytes(lent.rest), lent.is_known), (b"x", True))
+
+    def test_a_lease_keeps_what_comes_with_its_answers(self):
+        """A floor may come any time. Anything else ends the lease, for the thread to take it."""
+        here, there = socket.socketpair()
+        answer, ticket = frame(66, 40, 1, 5, 0), femem._tickets.Ticket(requests.readff(1, 0))
+        with here, there:
+            lent = self.lent(here, 41)
+            there.sendall(frame(68, 40) + answer)
+            self.assertTrue(lent.call([ticket]))
+            self.assertEqual((ticket.result, lent.rest), (5, [frames.Settled(40)]))
+            for more, rest, failed in (
+                (frame(66, 39, 1, 6, 0), [frames.Answer(39, 1, 6)], False),
+                (frame(67, 39), [frames.Withdrawn(39)], False),
+                (b"wrong", [], True),
+            ):
+                lent, ticket = self.lent(here), femem._tickets.Ticket(requests.readff(1, 0))
+                there.sendall(answer + more)
+                self.assertFalse(lent.call([ticket]))
+                self.assertEqual((ticket.result, lent.rest), (None if failed else 5, rest))
+                self.assertEqual((lent.is_known, lent.is_over, lent.failure is not None), (True, True, failed))
+                self.assertFalse(lent.call([femem._tickets.Ticket(requests.readff(1, 0))]))
 
     @mock.patch.object(lease, "READ_TIME", LONG)
     def test_a_lease_takes_the_answers_of_a_batch(self):
@@ -528,22 +629,50 @@ class Replies(WithFolder):
         here, there = socket.socketpair(socket.AF_UNIX, socket.SOCK_SEQPACKET)
         here.setsockopt(socket.SOL_SOCKET, socket.SO_RCVTIMEO, struct.pack("@ll", 0, 100_000))
         answers = [frame(66, 40 + k, 1, k, 0) for k in range(3)]
-        for pieces, done in (
-            ([b"".join(answers)], 3),
-            ([answers[0] + frame(68, 40) + answers[1][:7], answers[1][7:] + answers[2] + b"y"], 3),
-            ([answers[0], answers[2] + answers[1]], 1),
-            ([answers[0] + answers[1]], 2),
+        for pieces, done, is_done in (
+            ([b"".join(answers)], 3, True),
+            ([answers[0] + frame(68, 40) + answers[1][:7], answers[1][7:] + answers[2] + b"\0"], 3, True),
+            ([answers[0], answers[2] + answers[1]], 2, False),
+            ([answers[0] + answers[1]], 2, False),
         ):
-            lent = lease.Lease(here, 40, 50)
-            tickets = [femem.tickets.Ticket(requests.readff(1, 0, nowait=True)) for _ in range(3)]
+            lent = self.lent(here)
+            tickets = [femem._tickets.Ticket(requests.readff(1, 0, nowait=True)) for _ in range(3)]
             for piece in pieces:
                 there.send(piece)
-            self.assertEqual(lent.call_all(tickets), done == 3)
+            self.assertEqual(lent.call(tickets), is_done)
             self.assertEqual([ticket.result for ticket in tickets], [*range(done), *[None] * (3 - done)])
             self.assertEqual(sum(ticket is not None for ticket in lent.tickets), 3 - done)
             self.assertTrue(lent.is_known)
         here.close()
         there.close()
+
+    def test_a_lease_moves_what_shows_its_client(self):
+        """It is asked again before it is taken back. Whatever becomes of its former number is of no account."""
+        here, there = socket.socketpair()
+        withdrawn, answered = frame(67, 35), frame(70, 35, 10) + frame(66, 35, 1, 0, 0)
+        settled, answer = frame(68, 40), frame(66, 41, 1, 5, 0)
+        with here, there:
+            for replies, left, rest, is_done in (
+                (withdrawn + settled + answer, 0, [], True),
+                (answered + settled + answer, 0, [], True),
+                (answer, 35, [], True),
+                (withdrawn + withdrawn + answer, 0, [frames.Withdrawn(35)], False),
+                (frame(70, 35, 1) + answer, 35, [frames.Refusal(35, 1)], False),
+                (frame(68, 35) + answer, 35, [frames.Settled(35)], True),
+                (frame(66, 40, 1, 0, 0) + answered + settled + answer, 0, [frames.Answer(40, 1)], False),
+            ):
+                shown, ticket = femem._tickets.Ticket(requests.readff(2, 0)), femem._tickets.Ticket(requests.readff(1, 0))
+                shown.number = 35
+                lent = lease.Lease(here, frames.ReplyDecoder(), 40, 40, None, 35, shown)
+                there.sendall(replies)
+                self.assertEqual(lent.call([ticket]), is_done)
+                self.assertEqual((lent.left, lent.rest, lent.tickets, lent.tickets.left), (left, rest, [shown, None], 35))
+                asked = (shown.request.frame, frames.cancel(35), frames.settle(40), frames.access(0, frames.READFF, 1, 0, 0, True))
+                sent = bytearray(b"".join(asked))
+                frames.pack_number(sent, 5, 40)
+                frames.pack_number(sent, len(sent) - 29, 41)
+                self.assertEqual(there.recv(1000), sent)
+
 
 if __name__ == "__main__":
     import unittest

@@ -3,20 +3,23 @@
 import asyncio
 import errno
 import gc
+import grp
 import os
 import pathlib
 import signal
 import subprocess
 import sys
+import tempfile
 import threading
 import time
+import unittest
 import warnings
 
 import paths
 from serving import WithFolder
 
 import femem
-from femem import Client, registry, requests
+from femem import Client, _registry as registry, requests
 from femem.aio import AsyncClient
 from femem.patterns import Lock
 
@@ -270,7 +273,7 @@ class Closes(WithFolder):
         folder = os.path.dirname(self.path)
         file = os.path.join(folder, "file")
         open(file, "w").close()
-        for path in (self.path, "/" + 300 * "x", os.path.join(file, "socket")):
+        for path in ("/none/of/these", "/" + 300 * "x", os.path.join(file, "socket"), folder, file):
             with self.subTest(path=path[-10:]):
                 error = self.ends(lambda: Client(path, reconnect_timeout=None))
                 self.assertIsInstance(error, femem.ServerUnreachable)
@@ -283,6 +286,80 @@ class Closes(WithFolder):
         error = self.ends(lambda: Client("/" + 300 * "x", reconnect_timeout=None, wait_for_server=True))
         self.assertIsInstance(error, femem.ServerUnreachable)
         self.assertFalse(registry._left.get(self.path))
+
+    def test_a_path_that_is_missing_is_a_server_that_is_away(self):
+        """Also with its folder, as systemd has it, which belongs to root for a moment when it is made again."""
+        away = os.path.join(os.path.dirname(self.path), "run", "socket")
+        for path in (away, self.path):
+            error = self.ends(lambda: Client(path, 7, reconnect_timeout=0.3))
+            self.assertIsInstance(error, femem.ServerUnreachable)
+            self.assertIn("No such file or directory", str(error))
+        made = []
+
+        async def main():
+            async with AsyncClient(self.path, 8) as client:
+                made.append(client.failure)
+
+        threads = [
+            threading.Thread(target=lambda: made.append(Client(self.path, 7))),
+            threading.Thread(target=lambda: asyncio.run(main())),
+        ]
+        for thread in threads:
+            thread.start()
+        time.sleep(0.3)
+        self.assertEqual(made, [])
+        self.server()
+        for thread in threads:
+            thread.join(LONG)
+        self.assertEqual(len(made), 2)
+        for client in made:
+            if client is not None:
+                client.close()
+
+    @unittest.skipUnless(os.geteuid() == 0, "only root can be a user who has no right")
+    def test_who_has_no_right_to_the_socket_is_told_who_has(self):
+        # (the folder of temporary files may be below one that only root may look into)
+        place = tempfile.TemporaryDirectory(dir="/tmp")
+        self.addCleanup(place.cleanup)
+        folder = place.name
+        self.path = os.path.join(folder, "s")
+        self.server()
+        group = grp.getgrgid(2).gr_name
+        mine = f"may not use {self.path}: members of its group {group} may ('adduser nobody {group}', and a new login)"
+        for at, mode, due in (
+            (folder, 0o750, mine),
+            (self.path, 0o770, mine),
+            (self.path, 0o700, f"may not use {self.path}: its owner root may"),
+        ):
+            os.chmod(folder, 0o755)
+            os.chown(at, 0, 2)
+            os.chmod(at, mode)
+            with self.subTest(at=at, mode=mode):
+                reading, writing = os.pipe()
+                child = os.fork()
+                if child == 0:
+                    try:
+                        os.setgroups([])
+                        os.setgid(65534)
+                        os.setuid(65534)
+                        for make in (lambda: Client(self.path, 7), self.asynchronous):
+                            try:
+                                make()
+                            except femem.NoRight as error:
+                                os.write(writing, str(error).encode() + b"\n")
+                    finally:
+                        os._exit(0)
+                os.close(writing)
+                with open(reading, encoding="utf-8") as told:
+                    self.assertEqual(told.read().splitlines(), [due, due])
+                os.waitpid(child, 0)
+
+    def asynchronous(self):
+        async def main():
+            async with AsyncClient(self.path, 8):
+                pass
+
+        asyncio.run(main())
 
     def test_a_client_may_wait_for_its_server_to_start(self):
         made = []

@@ -12,6 +12,7 @@ from test_ends import LONG, until
 import femem
 from femem import Client, Pipeline, requests
 from femem.aio import AsyncClient
+from femem.patterns import BoundedQueue, Counter
 
 
 class Told:
@@ -56,6 +57,28 @@ class Events(WithFolder):
             with self.assertRaises(femem.ServerUnreachable):
                 client.readff(word, 0)
             self.assertEqual(told.events[-1], ("failed", 7))
+
+    def test_each_answer_of_a_pattern_is_told_once(self):
+        model, asked = self.server().model, 0
+        take = model.take
+
+        def spy(conn, message):
+            nonlocal asked
+            asked += message[0] == "call"
+            take(conn, message)
+
+        model.take = spy
+        told = Told()
+        with Client(self.path, 7, on_event=told) as client:
+            counter, queue = Counter(client, "counter"), BoundedQueue(client, "queue", 4)
+            for value in range(50):
+                counter.add()
+                queue.put(value)
+                self.assertEqual(queue.get(), value)
+            self.assertEqual(counter.value(), 50)
+            client.report()
+            self.assertGreater(asked, 150)
+            self.assertEqual(told.counts(), {"attached": 1, "answered": asked})
 
     def test_further_sessions_and_asyncio(self):
         self.server()

@@ -4,8 +4,8 @@ import unittest
 
 import paths  # noqa: F401
 
-from femem import frames
-from femem.errors import ProtocolError
+from femem import _frames as frames
+from femem._errors import ProtocolError
 
 
 def spelled(text):

@@ -19,7 +19,7 @@ from test_unspoilt import Stop, interrupted
 import femem
 from femem import Client, patterns, requests
 from femem.aio import AsyncClient
-from femem.operations import operation
+from femem._operations import operation
 from femem.patterns import BoundedQueue, Channel, Lock, ReadWriteLock, Semaphore, WorkQueue
 
 LONG = 60
@@ -27,6 +27,10 @@ LONG = 60
 
 class Raising:
     __getitem__ = getattr(ctypes.CDLL(None), "raise")  # an index is no call, after which Python looks for signals
+
+
+# Of which bytecodes each run of the longest test tries one.
+STEP = 7
 
 
 def until(holds, seconds=LONG):
@@ -97,7 +101,7 @@ class Interrupted(WithFolder):
                 self.assertIsNotNone(caught.exception)
                 with self.assertRaises(femem.NotOwner):
                     job.done()
-                self.assertEqual(client._core.holdings.jobs, set())
+                self.assertEqual(client._core.holdings.jobs, {})
 
     def test_a_job_at_each_bytecode(self):
         """Of its block, which is left without an error: it is done, or given to another taker."""
@@ -119,6 +123,30 @@ class Interrupted(WithFolder):
                 if self.left(theirs, at) is None and not was:
                     break
             self.assertGreater(at, 50)
+            self.assertIsNone(client.failure)
+
+    def test_a_take_at_each_bytecode(self):
+        """The caller has the job, or it is given to another taker: also where the take waited for the job's signal."""
+        self.server()
+        with Client(self.path, 7) as client, Client(self.path, 8) as other:
+            mine, theirs = WorkQueue(client, "jobs", 8, attempts=16), WorkQueue(other, "jobs", 8, attempts=16)
+            for step, pause in ((1, None), (7, 0.005)):
+                mine.put(0), mine.take(timeout=LONG).done()
+                for at in itertools.count(1, step):
+                    taken = []
+                    putter = threading.Timer(pause or 0.0, theirs.put, (at,))
+                    putter.start()
+                    if pause is None:
+                        putter.join()
+                    was = interrupted(lambda: taken.append(mine.take(timeout=LONG)), at)
+                    putter.join()
+                    job = taken[0] if taken else theirs.take(timeout=LONG)
+                    self.assertEqual(job.value, at)
+                    job.done()
+                    self.assertTrue(until(lambda: not client._core.holdings.jobs), at)
+                    if not was:
+                        break
+                self.assertGreater(at, 200)
             self.assertIsNone(client.failure)
 
     def left(self, queue, value):
@@ -179,6 +207,54 @@ class Interrupted(WithFolder):
             other.writeef(word, 0, 5)
             self.assertEqual(channel.get(timeout=LONG), 5)
             self.assertIsNone(client.failure)
+
+    def test_what_is_held_over_lent_numbers_at_each_bytecode(self):
+        """Its caller runs the steps. Interrupted, an acquisition leaves nothing held, and a release nothing kept.
+
+        Each run tries every seventh bytecode, from another one on.
+        """
+        self.server()
+        with Client(self.path, 7) as client, Client(self.path, 8) as other:
+            here, whole, run_here = [], [], client._run_here
+            client._run_here = lambda job: here.append(job) or whole.append(run_here(job)) or whole[-1]
+            for kind, sizes in ((Lock, ()), (Semaphore, (2,))):
+                name = f"held{len(sizes) and sizes[0]}"
+                mine, theirs = (kind(each, name, *sizes) for each in (client, other))
+                mine.acquire()
+                mine.release()
+                word = client.find(name)
+                for ends in (False, True):
+                    here.clear()
+                    at = random.randint(1 - STEP, 0)
+                    while True:
+                        at += STEP
+                        whole.clear()
+                        if ends:
+                            self.assertTrue(mine.acquire(timeout=LONG), at)
+                        while not self.lends(client, word):
+                            pass
+                        begun = len(here)
+                        was = interrupted(mine.release if ends else mine.acquire, at)
+                        if not ends and not was or ends and was and len(here) == begun and not until(lambda: not self.held(mine), 0.1):
+                            mine.release()
+                        end = time.monotonic() + LONG
+                        while not self.lends(client, word) or self.held(theirs):
+                            self.assertLess(time.monotonic(), end, (name, ends, at))
+                        self.assertEqual((client._core.holdings.words, getattr(mine, "_held", [])), (set(), []), at)
+                        if not was and whole == [True]:
+                            break  # (otherwise the thread had taken its numbers back)
+                        at -= 0 if was else STEP
+                    self.assertGreater(at, 300)
+                    self.assertGreater(len(here), at // STEP // 3)
+            self.assertIsNone(client.failure)
+
+    def lends(self, client, word):
+        """Whether the client's thread lends numbers: it has nothing to do then."""
+        client.readxx(word, 0)
+        return client._worker.lease is not None
+
+    def held(self, pattern):
+        return pattern.locked() if isinstance(pattern, Lock) else pattern.holders()
 
     def test_each_operation_is_a_function(self):
         """When a call of anything else returns, Python runs signal handlers, and nobody knows any more what was acquired."""
@@ -256,6 +332,73 @@ class Interrupted(WithFolder):
                         interrupted += 1
                         self.assertTrue(theirs.acquire(timeout=LONG))
                     (mine if got else theirs).release()
+
+    def test_signals_within_reads_and_writes(self, stops=150):
+        """Of a lock for readers and writers: it returned, or nothing is held; and what is released is released."""
+        self.server()
+        self.stop_by_signals()
+        self.addCleanup(signal.setitimer, signal.ITIMER_REAL, 0)
+        chance = random.Random(6)
+
+        def is_interrupted(call):
+            returned = False
+            try:
+                signal.setitimer(signal.ITIMER_REAL, chance.random() * 1e-3 + 1e-6)
+                returned = call() is not False
+                signal.setitimer(signal.ITIMER_REAL, 0)
+            except Stop:
+                signal.setitimer(signal.ITIMER_REAL, 0)
+            return not returned
+
+        with Client(self.path, 7) as client, Client(self.path, 8) as other:
+            mine, theirs = ReadWriteLock(client, "rw", 4), ReadWriteLock(other, "rw", 4)
+            for acquire, release in ((mine.acquire_read, mine.release_read), (mine.acquire_write, mine.release_write)):
+                acquires = releases = not_begun = 0
+                while acquires < stops or releases < stops:
+                    if is_interrupted(acquire):
+                        acquires += 1
+                    elif is_interrupted(release):
+                        releases += 1
+                        try:
+                            release()
+                            not_begun += 1
+                        except femem.NotOwner:
+                            pass
+                    self.assertTrue(theirs.acquire_write(timeout=LONG))
+                    theirs.release_write()
+                self.assertLess(not_begun, releases // 2)
+            words = client.submit_many([requests.readff(client.find("rw"), k, nowait=True) for k in range(9)])
+            self.assertEqual([k for k, word in enumerate(words) if not isinstance(word, femem.NotNow)], [0, 2, 3])
+            self.assertEqual((words[3], client._core.holdings.reads._callers), (0, {}))
+            self.assertIsNone(client.failure)
+
+    def test_threads_that_read_and_write(self):
+        """They run the steps themselves, beside each other and another client."""
+        self.server()
+        inside, wrong, done = [], [], []
+
+        def work(lock, seed):
+            chance = random.Random(seed)
+            for _ in range(60):
+                writes = chance.random() < 0.3
+                acquire, release = (lock.acquire_write, lock.release_write) if writes else (lock.acquire_read, lock.release_read)
+                self.assertTrue(acquire(timeout=LONG))
+                inside.append(writes)
+                if writes and len(inside) > 1 or True in inside and not writes:
+                    wrong.append([*inside])
+                time.sleep(chance.random() * 5e-4)
+                inside.remove(writes)
+                release()
+            done.append(seed)
+
+        with Client(self.path, 7) as client, Client(self.path, 8) as other:
+            locks = [ReadWriteLock(each, "rw", 2) for each in (client, client, other)]
+            threads = [threading.Thread(target=work, args=(locks[k % 3], k)) for k in range(6)]
+            for thread in threads:
+                thread.start()
+            for thread in threads:
+                thread.join(LONG)
+            self.assertEqual((wrong, len(done), locks[0].owners()), ([], 6, (None, [])))
 
     def test_a_release_of_a_task_that_is_cancelled(self):
         self.server()

@@ -23,20 +23,21 @@ from femem.patterns import Counter, Lock
 
 ROOT = pathlib.Path(paths.__file__).resolve().parents[1]
 
-# `read` of standard input, half a second late.
-LATE_READ = """
+# A sleep of Python's, half a second late.
+LATE_SLEEP = """
 #define _GNU_SOURCE
 #include <dlfcn.h>
 #include <errno.h>
 #include <time.h>
-#include <unistd.h>
 
-ssize_t read(int file, void *to, size_t length) {
-  ssize_t (*read_now)(int, void *, size_t) = (ssize_t (*)(int, void *, size_t))dlsym(RTLD_NEXT, "read");
+typedef int (*sleeper)(clockid_t, int, const struct timespec *, struct timespec *);
+
+int clock_nanosleep(clockid_t clock, int flags, const struct timespec *end, struct timespec *rest) {
+  sleeper sleep_now = (sleeper)dlsym(RTLD_NEXT, "clock_nanosleep");
   struct timespec left = {0, 500000000};
-  while (file == 0 && nanosleep(&left, &left) != 0 && errno == EINTR) {
+  while (nanosleep(&left, &left) != 0 && errno == EINTR) {
   }
-  return read_now(file, to, length);
+  return sleep_now(clock, flags, end, rest);
 }
 """
 
@@ -160,8 +161,12 @@ class Spoilt(WithFolder):
             async with AsyncClient(self.path, 7, sessions=34) as client:
                 words = await client.create("words", 1000)
                 tasks = [asyncio.ensure_future(client.readff(words, index)) for index in range(1000)]
-                while len((await client.report()).waiters) < 1000:
+                # (a request may wait already, and still be about to move)
+                while True:
+                    heard.clear()
                     await asyncio.sleep(0.05)
+                    if len((await client.report()).waiters) == 1000 and {message[0] for message in heard} == {"report"}:
+                        break
                 heard.clear()
                 for index in range(20):
                     await client.readxx(words, index)
@@ -233,37 +238,29 @@ with Client(path, session_file=file, reconnect_timeout=100.0) as client:
         # Some of the kills left a request without an answer.
         self.assertTrue(pathlib.Path(files[2]).read_text())
 
-    def test_a_shell_that_is_ended_leaves_no_session(self):
+    def test_a_signal_ends_a_watch(self):
         for number in (signal.SIGTERM, signal.SIGHUP):
-            self.end_shell(number, os.environ)
+            self.end_watch(number, os.environ)
 
-    def test_a_signal_just_before_the_shell_blocks_ends_it(self):
-        """The shell's `read` of standard input is half a second late, and the signal comes in that time."""
+    def test_a_signal_just_before_a_watch_sleeps_ends_it(self):
+        """The sleep is half a second late, and the signal comes in that time."""
         late = self.path + "-late.so"
         compiler = ["cc", "-shared", "-fPIC", "-o", late, "-x", "c", "-"]
-        subprocess.run(compiler, input=LATE_READ.encode(), check=True)
+        subprocess.run(compiler, input=LATE_SLEEP.encode(), check=True)
         for number in (signal.SIGTERM, signal.SIGHUP):
-            self.end_shell(number, {**os.environ, "LD_PRELOAD": late}, pause=0.2)
+            self.end_watch(number, {**os.environ, "LD_PRELOAD": late}, pause=0.2)
 
-    def end_shell(self, number, environment, pause=0.0):
-        """Ends a shell that has a session and waits for a line."""
+    def end_watch(self, number, environment, pause=0.0):
+        """Ends a watch that sleeps for an hour."""
         server = self.server()
-        shell = subprocess.Popen(
-            [sys.executable, "-m", "femem", self.path],
-            cwd=ROOT,
-            env=environment,
-            stdin=subprocess.PIPE,
-            stdout=subprocess.PIPE,
-            stderr=subprocess.DEVNULL,
-        )
-        with shell:
-            shell.stdin.write(b"readfe 99 0\n")
-            shell.stdin.flush()
-            self.assertIn(b"no-array", shell.stdout.readline())
+        words = [sys.executable, "-m", "femem", self.path, "watch", "3600"]
+        with subprocess.Popen(words, cwd=ROOT, env=environment, stdout=subprocess.PIPE, stderr=subprocess.DEVNULL) as shell:
+            self.addCleanup(shell.kill)
+            line = shell.stdout.readline()
             time.sleep(pause)
             shell.send_signal(number)
             self.assertEqual(shell.wait(60), 128 + number)
-        self.assertEqual(server.model.stored.sessions, {})
+        self.assertIn(b"nobody waits", line)
         server.kill()
 
 
@@ -284,9 +281,8 @@ class Seen(WithFolder):
                 return locks.items() <= {each.array: each.session for each in one.report().waiters}.items()
 
             self.assertTrue(until(both_wait))
-            shell = subprocess.run(
-                [sys.executable, "-m", "femem", self.path], cwd=ROOT, input=b"report\n", stdout=subprocess.PIPE, timeout=60
-            )
+            words = [sys.executable, "-m", "femem", self.path, "report"]
+            shell = subprocess.run(words, cwd=ROOT, stdout=subprocess.PIPE, timeout=60)
             self.assertIn("all-wait yes", shell.stdout.decode())
         for thread in threads:
             thread.join(60)

@@ -1,16 +1,32 @@
 """Requests of an earlier process with the same session file that the server reads late, after they were taken back."""
 
 import os
+import tempfile
 import unittest
 
 import paths  # noqa: F401
 from serving import WithFolder
-from world import World, run
+from world import Core, World, run
 
-from femem import errors, frames, requests
-from femem.core import Core, Phase
-from femem.sessionfile import SessionFile
-from femem.sessionrecords import Asked
+from femem import _errors as errors, _frames as frames, requests
+from femem._attachment import Phase
+from femem._sessionfile import SessionFile
+from femem._sessionrecords import Asked
+from femem._tickets import Ticket
+
+
+class SessionFolder:
+    """Another folder for a part of a test."""
+
+    def __init__(self, test):
+        self.test = test
+
+    def __enter__(self):
+        self.folder = tempfile.TemporaryDirectory()
+        self.test.path = os.path.join(self.folder.name, "s")
+
+    def __exit__(self, *_):
+        self.folder.cleanup()
 
 
 class Late(WithFolder):
@@ -19,7 +35,7 @@ class Late(WithFolder):
     def opened(self, world, path):
         """A client with a session file."""
         file = SessionFile(path)
-        core = Core(file.session, None, 1.0, file)
+        core = Core(file.state.session, None, 1.0, file)
         core.open(world.now)
         return core
 
@@ -43,38 +59,123 @@ class Late(WithFolder):
         other = world.core(8)
         return run(world, other, requests.create("word", 1)), run(world, other, requests.create("count", 1, True))
 
-    def test_a_request_of_an_earlier_process_that_comes_late_blocks_nothing(self):
-        """The next process has taken it back. It waits, and no settle passes it until it is taken back once more."""
-        world = World(1)
-        word, count = self.words(world)
+    def step(self, world, core):
+        """Something goes each way."""
+        if core not in world.links:
+            world.connect(core)
+        world.now += 0.05
+        core.tick(world.now)
+        world.push(core)
+        world.model.post()
+        world.pull(core)
+
+    def left(self, world, request, key=None):
+        """What an earlier process left waiting: its number, and the next process's client."""
         earlier = self.opened(world, self.path)
         world.settle_down([earlier])
-        earlier.submit(requests.readfe(word, 0), world.now)
+        ticket = Ticket(request)
+        ticket.key = key
+        earlier.take((ticket,), None, world.now)
         world.push(earlier)
+        self.assertTrue(world.model.waiting)
         self.kill(world, earlier)
-        core = self.opened(world, self.path)
+        return ticket.number, self.opened(world, self.path)
+
+    def test_a_request_of_an_earlier_process_that_comes_late_does_nothing(self):
+        """Once the next process has said that it did not happen, the floor stands above its number."""
+        world = World(1)
+        word, count = self.words(world)
+        number, core = self.left(world, requests.readfe(word, 0))
         (ticket,) = core.recovered
         core.withdraw(ticket, world.now)
-        world.settle_down([core])
+        while not ticket.done:
+            self.step(world, core)
         self.assertIsInstance(ticket.error, errors.Withdrawn)
-        self.late(world, core, (ticket.number, word))
+        self.assertGreater(world.model.stored.sessions[core.session][0], number)
+        run(world, world.core(9), requests.writeef(word, 0, 77))
+        self.late(world, core, (number, word))
+        self.assertEqual(world.model.state.arrays[word.id][1][0], [77, True])
         tickets = [core.submit(requests.int_fetch_add(count, 0, 1), world.now) for _ in range(100)]
         world.settle_down([core])
         self.assertIsNone(core.failure)
         self.assertEqual([ticket.result for ticket in tickets], list(range(100)))
-        self.assertEqual((world.model.waiting, core._outbox._clearings), ({}, 1))
+        self.assertEqual((world.model.waiting, core._outbox._clearings), ({}, 0))
+
+    def test_a_request_of_an_earlier_process_that_comes_late_at_any_step(self):
+        """A value is there when it comes. It is the request's result, or is still there."""
+        ends = set()
+        for late_at in range(14):
+            for taken_at in (0, 2, 5, 99):
+                with self.subTest(late_at=late_at, taken_at=taken_at), SessionFolder(self):
+                    world = World(1)
+                    word, _ = self.words(world)
+                    number, core = self.left(world, requests.readfe(word, 0))
+                    other, (ticket,) = world.core(9), core.recovered
+                    world.settle_down([other])
+                    for at in range(14):
+                        if at == taken_at:
+                            core.withdraw(ticket, world.now)
+                        if at == late_at:
+                            run(world, other, requests.writeef(word, 0, 77))
+                            self.late(world, core, (number, word))
+                        self.step(world, core)
+                    core.withdraw(ticket, world.now)
+                    world.settle_down([core])
+                    got = 77 if world.model.state.arrays[word.id][1][0][1] else ticket.result
+                    self.assertEqual((got, ticket.done, core.failure), (77, True, None))
+                    ends.add(type(ticket.error))
+                    core.file.abandon()
+        self.assertEqual(ends, {type(None), errors.Withdrawn})
+
+    def test_a_put_under_a_key_is_done_once_whatever_comes_late(self):
+        """The second process takes it back, and is killed at any step, or not. The third one puts it again."""
+        put_by_the_second = 0
+        for killed_at in range(12):
+            for late_at in range(12):
+                with self.subTest(killed_at=killed_at, late_at=late_at), SessionFolder(self):
+                    put_by_the_second += self.put_twice(World(1), killed_at, late_at)
+        self.assertGreater(put_by_the_second, 0)
+
+    def put_twice(self, world, killed_at, late_at):
+        word, _ = self.words(world)
+        other = world.core(9)
+        run(world, other, requests.writeef(word, 0, 1))
+        put, got = requests.writeef(word, 0, 5), []
+        number, core = self.left(world, put, b"job")
+        (ticket,) = core.recovered
+        core.withdraw(ticket, world.now)
+        for at in range(12):
+            if at == late_at:
+                got.append(run(world, other, requests.readfe(word, 0)))
+                self.late(world, core)
+                world.model.take(world.conns, ("call", number, ("access", frames.WRITEEF, word.id, 0, 5, False)))
+            if at == killed_at:
+                core.file._limit = 0  # it is rewritten, unless that would lose something
+                self.kill(world, core)
+                core = self.opened(world, self.path)
+            self.step(world, core)
+        again = Ticket(put)
+        again.key = b"job"
+        core.take((again,), None, world.now)
+        for _ in range(12):
+            self.step(world, core)
+            if world.model.state.arrays[word.id][1][0][1]:
+                got.append(run(world, other, requests.readfe(word, 0)))
+        self.assertTrue(again.done and again.error is None, again.error)
+        self.assertEqual((got, core.failure), ([1, 5], None))
+        core.file.abandon()
+        return ticket.done and ticket.error is None
 
     def with_late(self, world):
-        """A client, whose request was taken back and then came late, and 20 answered requests, before their settle is sent."""
+        """A client that asks for the floor above a request that was taken back, which comes late just before that."""
         word, count = self.words(world)
         core = self.opened(world, self.path)
         world.settle_down([core])
         ticket = core.submit(requests.readfe(word, 0), world.now, 0.01)
         world.settle_down([core])
         self.late(world, core, (ticket.number, word))
-        for _ in range(14):
-            run(world, core, requests.int_fetch_add(count, 0, 1))
         self.assertEqual((len(world.model.waiting), core._outbox._clearings), (1, 0))
+        self.assertEqual(core._outbox.window.asked, ticket.number + 1)
         return core, count
 
     def test_a_server_that_takes_nothing_back_is_left(self):
@@ -95,16 +196,22 @@ class Late(WithFolder):
     def test_a_bye_behind_a_settle_that_is_refused(self):
         world = World(1)
         core, count = self.with_late(world)
-        ticket = core.submit(requests.int_fetch_add(count, 0, 1), world.now)
-        while not ticket.done:
-            world.push(core)
-            world.model.post()
-            world.pull(core)
-        self.assertNotEqual(core._outbox.window.asked, core._outbox.window.floor)
+        while core.phase is not Phase.ATTACHING:
+            self.step(world, core)
+        while core.phase is not Phase.READY:
+            self.step(world, core)
         leaving = core.leave(world.now)
         world.settle_down([core])
         self.assertTrue(leaving.done and leaving.error is None)
         self.assertEqual(core._outbox._clearings, 1)
+
+    def test_a_bye_that_is_refused_since_a_late_connection_has_the_session(self):
+        world = World(1)
+        core, count = self.with_late(world)
+        leaving = core.leave(world.now)
+        world.settle_down([core])
+        self.assertTrue(leaving.done and leaving.error is None)
+        self.assertNotIn(core.session, world.model.stored.sessions)
 
     def test_several_floors_that_an_earlier_process_asked_for(self):
         """As a client in C does. The first is refused because of the late request, and the second one because of the first."""

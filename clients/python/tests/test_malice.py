@@ -10,10 +10,10 @@ import tracemalloc
 import paths  # noqa: F401
 from model import frame, report_frame
 from serving import BadServer, WithFolder
+from world import Core
 
 import femem
-from femem import Client, frames, requests
-from femem.core import Core
+from femem import Client, _frames as frames, requests
 
 FIRST = 33  # the first number of a client whose session has floor 1
 

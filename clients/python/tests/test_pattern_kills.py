@@ -12,11 +12,11 @@ from serving import WithFolder
 
 import femem
 from femem import Client, requests
-from femem.jobs import Pause
-from femem.locks import GENERATIONS
+from femem._jobs import Pause
+from femem._locks import GENERATIONS
 from femem.patterns import Barrier, BoundedQueue, Channel, Counter, Election, Future, Lock, ReadWriteLock, Semaphore
 from femem.patterns import WorkQueue
-from femem.ring import Ring
+from femem._ring import Ring
 
 # How long what was begun may take to end, in seconds.
 BOUND = 60

@@ -12,7 +12,7 @@ import femem
 from femem import Client
 from femem.aio import AsyncClient
 from femem import requests
-from femem.jobs import Pause
+from femem._jobs import Pause
 from femem.patterns import Barrier, BoundedQueue, Channel, Counter, Election, Future, Lock, Once, ReadWriteLock, Semaphore
 from femem.patterns import WorkQueue
 
@@ -113,6 +113,14 @@ class Patterns(WithClients):
             BoundedQueue(client, "q", 2)
             with self.assertRaises(ValueError):
                 BoundedQueue(client, "q", 3)
+
+    def test_a_barrier_leaves_the_page_of_a_work_queue_alone(self):
+        self.server()
+        with Client(self.path, 1) as client:
+            WorkQueue(client, "same", 4).put(5)
+            with self.assertRaises(femem.OtherPattern):
+                Barrier(client, "same", 2)
+            self.assertEqual(WorkQueue(client, "same", 4).take(timeout=1).value, 5)
 
     def test_whose_a_lock_is(self):
         self.server()
@@ -363,7 +371,8 @@ class Patterns(WithClients):
             got = []
             thread = threading.Thread(target=lambda: got.append(second.acquire_read(timeout=60)))
             thread.start()
-            self.wait_for(lambda: third.owners() == (2, [1]))
+            self.wait_for(lambda: any(w.operation == "writeef" for w in three.report().waiters))
+            self.assertEqual(third.owners(), (None, [1]))  # it keeps nobody else from a turn
             third.break_()
             thread.join(60)
             self.assertEqual((got, third.owners()), ([True], (None, [2])))
@@ -383,7 +392,7 @@ class Patterns(WithClients):
                     got, is_taken, find = [], threading.Event(), type(mine)._find
                     thread = threading.Thread(target=lambda: got.append(wait(timeout=60)))
                     thread.start()
-                    self.wait_for(lambda: reader.owners() == (2, [1]))
+                    self.wait_for(lambda: any(w.session == 2 and w.operation != "readff" for w in one.report().waiters))
 
                     def find_late():
                         while not is_taken.is_set():
@@ -463,7 +472,7 @@ class Patterns(WithClients):
     def test_once_in_time(self):
         self.server()
         with Client(self.path, 1) as one, Client(self.path, 2) as two:
-            one.create("once", 1)
+            one.writeef(one.create("once", Once.LENGTH), Once.DOER, 99)
             with self.assertRaises(femem.TimedOut):
                 Once(two, "once").run(lambda: 5, timeout=0.1)
             Once(two, "once").done(7)

@@ -10,8 +10,39 @@ import paths  # noqa: F401
 from serving import WithClients
 
 import femem
-from femem import Client
+import stepping
+from femem import Client, _work as work
+from femem._jobs import Job
 from femem.patterns import BoundedQueue, Channel, Semaphore, WorkQueue
+from femem._tickets import result_of
+from femem._workpages import address
+
+
+class ClientOf:
+    """What patterns need of a client."""
+
+    def __init__(self, core):
+        self._core = core
+
+
+def alone(core, now, steps, asked=None):
+    """Runs the steps of a client that nobody disturbs, by a clock of its own. Counts what it sends, with each wait that it
+    takes back."""
+    job = Job(steps)
+    core.begin(stepping.Call(job, "", None, None))
+    while not job.done:
+        if core.unsent:
+            core.move()
+            if asked is not None:
+                asked[0] += 1
+        elif core.inbox:
+            core.hear()
+        else:
+            now[0] = max(now[0], core.next_time())
+            core.tick()
+            if asked is not None:
+                asked[0] += 1
+    return result_of(job)
 
 
 class Queues(WithClients):
@@ -194,7 +225,7 @@ class Queues(WithClients):
     def test_a_value_whose_taker_is_gone_wakes_one_client(self):
         """Of five that wait, one empties the signal and takes the value. The others ask for nothing."""
         server = self.server()
-        with mock.patch("femem.ring.FIRST_LOOK", 60.0), Client(self.path, 1, probe_interval=100.0) as client:
+        with mock.patch("femem._ring.FIRST_LOOK", 60.0), Client(self.path, 1, probe_interval=100.0) as client:
             others = [Client(self.path, 2 + k, probe_interval=100.0) for k in range(5)]
             queue, taken, asked = BoundedQueue(client, "queue", 8), [], []
             queue.qsize()
@@ -286,24 +317,27 @@ class Queues(WithClients):
                 semaphore.release()
             self.assertLess(len(taken), 200)
 
-    def test_permits_of_an_earlier_process_are_acquired_again(self):
+    def test_a_permit_of_an_earlier_process_is_adopted_and_the_others_are_given_back(self):
         self.server()
-        for _ in range(2):
-            pid = os.fork()
-            if pid == 0:
-                client = Client(self.path, 5)
-                Semaphore(client, "semaphore", 2).acquire()
-                os.kill(os.getpid(), signal.SIGKILL)
-            os.waitpid(pid, 0)
+        pid = os.fork()
+        if pid == 0:
+            semaphore = Semaphore(Client(self.path, 5), "semaphore", 3)
+            semaphore.acquire()
+            semaphore.acquire()
+            os.kill(os.getpid(), signal.SIGKILL)
+        os.waitpid(pid, 0)
         with Client(self.path, 5) as client:
-            semaphore = Semaphore(client, "semaphore", 2)
+            semaphore = Semaphore(client, "semaphore", 3)
             self.assertEqual(semaphore.holders(), [5, 5])
             self.assertTrue(semaphore.try_acquire())
             self.assertTrue(semaphore.adopted)
+            self.assertEqual(semaphore.holders(), [5])
+            self.assertTrue(semaphore.acquire(timeout=10))
+            self.assertFalse(semaphore.adopted)
             self.assertTrue(semaphore.acquire(timeout=10))
             self.assertFalse(semaphore.acquire(timeout=0.2))
-            semaphore.release()
-            semaphore.release()
+            for _ in range(3):
+                semaphore.release()
             self.assertEqual(semaphore.holders(), [])
 
     def test_jobs(self):
@@ -336,6 +370,258 @@ class Queues(WithClients):
             with self.assertRaises(femem.OtherPattern):
                 WorkQueue(one, "jobs", 8, attempts=3).put(1)
 
+    def test_a_put_waits_only_while_as_many_jobs_are_open_as_the_capacity_says(self):
+        """Whichever of them end, and however the pages are cut."""
+        self.server()
+        with Client(self.path, 1) as one, Client(self.path, 2) as two:
+            for capacity in (1, 3, 8, 64):
+                with self.subTest(capacity=capacity):
+                    mine, yours = (WorkQueue(client, f"jobs_{capacity}", capacity) for client in (one, two))
+                    for value in range(capacity):
+                        mine.put(value, timeout=0.0)
+                    taken = [yours.take(timeout=30) for _ in range(min(capacity, 5))]
+                    for _ in range(2 * capacity + 3):
+                        with self.assertRaises(femem.TimedOut):
+                            mine.put(9, timeout=0.0)
+                        taken.pop().done()
+                        mine.put(9, timeout=0.0)
+                        taken.append(yours.take(timeout=30))
+                    for job in taken:
+                        job.done()
+
+    def test_a_program_that_puts_a_job_for_each_that_it_takes_does_not_stop(self):
+        self.server()
+        with Client(self.path, 1) as client:
+            queue = WorkQueue(client, "jobs", 64)
+            for value in range(62):
+                queue.put(value, timeout=30)
+            for value in range(62, 262):
+                with queue.take(timeout=0.0) as job:
+                    self.assertEqual(job.value, value - 62)
+                queue.put(value, timeout=0.0)
+
+    def test_a_put_that_waits_goes_on_when_a_job_ends(self):
+        self.server()
+        with mock.patch("femem._work.FIRST_LOOK", 600.0), Client(self.path, 1) as one, Client(self.path, 2) as two:
+            mine, yours = WorkQueue(one, "jobs", 2), WorkQueue(two, "jobs", 2)
+            for value in range(2):
+                mine.put(value)
+            thread = threading.Thread(target=mine.put, args=(2, 60))
+            thread.start()
+            while not any((w.session, w.operation) == (1, "readff") for w in two.report().waiters):
+                time.sleep(0.005)
+            yours.take(timeout=30).done()
+            thread.join(30)
+            self.assertFalse(thread.is_alive())
+            self.assertEqual([yours.take(timeout=30).value for _ in range(2)], [1, 2])
+
+    def test_a_ticket_without_room_is_kept(self):
+        self.server()
+        with Client(self.path, 1) as client:
+            queue = WorkQueue(client, "jobs", 4)
+            for value in range(4):
+                queue.put(value)
+            for _ in range(3):
+                with self.assertRaises(femem.TimedOut):
+                    queue.put(4, timeout=0.0)
+            page = client.find("jobs_1")
+            self.assertEqual(client.readff(page, 0), 1)
+            queue.take().done()
+            queue.put(4, timeout=0.0)
+            self.assertEqual([queue.take(timeout=30).value for _ in range(4)], [1, 2, 3, 4])
+            self.assertEqual(client.readff(page, 0), 1)
+
+    def test_a_job_whose_end_was_not_counted_takes_no_room(self):
+        """Whoever ended it was killed in between."""
+        self.server()
+        with Client(self.path, 1) as client:
+            queue = WorkQueue(client, "jobs", 1)
+            for value in range(3):
+                queue.put(value, timeout=30)
+                with queue.take(timeout=30) as job:
+                    job.has_ended = True
+                    client.writeef(job.number >> 16, 4, 0)
+
+    def test_old_jobs_that_hold_up_all_pages_stop_a_put_for_as_long(self):
+        self.server()
+        with Client(self.path, 1) as client:
+            queue, old = WorkQueue(client, "jobs", 10, attempts=1), []
+            for page in range(8):
+                for slot in range(10):
+                    queue.put(slot, timeout=30)
+                    old.append(queue.take(timeout=30))
+                    if slot:
+                        old.pop().done()
+            with self.assertRaises(femem.TimedOut):
+                queue.put(9, timeout=0.1)
+            old.pop(3).done()
+            queue.put(9, timeout=30)
+
+    def test_a_server_without_words_for_a_page_says_so(self):
+        self.server()
+        with Client(self.path, 1) as client:
+            client.create("words", 60000)
+            with self.assertRaises(femem.WordLimit):
+                WorkQueue(client, "jobs", 60000).put(1)
+
+    def test_a_work_queue_of_another_layout_is_refused(self):
+        self.server()
+        with Client(self.path, 1) as client:
+            client.create("jobs", 4)
+            with self.assertRaises(femem.OtherPattern):
+                WorkQueue(client, "jobs", 4).put(1)
+
+    def test_a_job_moves_once_whoever_takes_it(self):
+        """Its former taker comes back after another one has taken it over, and moves it too."""
+        self.server()
+        with Client(self.path, 1) as one, Client(self.path, 2) as two:
+            first, second = ([WorkQueue(client, name, 3) for name in ("first", "next")] for client in (one, two))
+            first[0].put(7)
+            mine = first[0].take(timeout=1)
+            mine.fail()
+            yours = second[0].take(timeout=5)
+            self.assertEqual((mine.number, yours.attempt), (yours.number, 2))
+            mine.has_ended = False  # as if it had been away
+            second[1].put(70, for_job=yours)
+            for again in (lambda: yours.move(second[1], 71), lambda: second[1].put(72, for_job=yours), yours.done):
+                again()  # it has moved: nothing happens
+            with self.assertRaises(femem.NotOwner):
+                mine.move(first[1], 73)
+            with self.assertRaises(femem.NotOwner):
+                mine.done()
+            last = first[1].take(timeout=1)
+            self.assertEqual(last.value, 70)
+            last.done()
+            for queue in (first[0], first[1]):
+                with self.assertRaises(femem.TimedOut):
+                    queue.take(timeout=0.3)
+
+    def test_a_job_that_moved_stays_when_its_former_page_goes(self):
+        """Who moved it was killed before it counted. The former taker finds the job ended, and then all others of the page end."""
+        self.server()
+        with Client(self.path, 1) as one, Client(self.path, 2) as two:
+            first, second = WorkQueue(one, "first", 4), WorkQueue(two, "next", 4)
+            first.put(7)
+            mine = first.take(timeout=1)
+            self.assertEqual(second.aside(), [])  # (it is opened)
+            page, slot = two._run_job(Job(second._ticket(None)))
+            id, end, source = mine.number >> 16, first._end_at(mine.number & 0xFFFF), second._source_at(slot)
+            two.writeef(page.id, source, address(id, end))
+            two.writeef(page.id, second._value_at(slot), 70)
+            two.writeef(id, end, address(page.id, source))
+            with self.assertRaises(femem.NotOwner):
+                mine.done()
+            for _ in range(3):
+                first.put(8)
+                first.take(timeout=1).done()
+            self.assertTrue(one._run_job(Job(first._remove_any())))
+            with self.assertRaises(femem.NoArray):
+                one.readxx(id, 0)
+            self.assertEqual(second.take(timeout=1).value, 70)
+
+    def test_a_job_that_does_not_move_in_time_stays(self):
+        self.server()
+        with Client(self.path, 1) as one, Client(self.path, 2) as other:
+            first, full = WorkQueue(one, "first", 3), WorkQueue(one, "full", 1)
+            first.put(7)
+            full.put(1)
+            with first.take(timeout=1) as job:
+                with self.assertRaises(femem.TimedOut):
+                    job.move(full, 70, timeout=0.1)
+                self.assertFalse(job.has_moved)
+                with self.assertRaises(ValueError):
+                    WorkQueue(other, "full", 1).put(70, for_job=job)
+                with self.assertRaises(ValueError):
+                    full.put(70, key="k", for_job=job)
+                full.take(timeout=1).done()
+                job.move(full, 70, timeout=1)
+            self.assertEqual(full.take(timeout=1).value, 70)
+
+    def test_a_job_takes_at_most_thirteen_requests_whatever_the_backlog(self):
+        server = self.server()
+        with Client(self.path, 1) as one, Client(self.path, 2) as two:
+            for capacity in (64, 1500):
+                mine, yours = (WorkQueue(client, f"jobs_{capacity}", capacity) for client in (one, two))
+                for value in range(capacity):
+                    mine.put(value)
+                asked, take = [], server.model.take
+                server.model.take = lambda conn, message: (asked.append(message), take(conn, message))
+                for value in range(300):
+                    with yours.take(timeout=30):
+                        pass
+                    mine.put(value, timeout=30)
+                server.model.take = take
+                presence = two.find("presence").id
+                # (what shows that the client is there is sent again with each window of numbers)
+                calls = [m for m in asked if m[0] == "call" and (m[2][0] != "access" or m[2][2] != presence)]
+                self.assertLess(len(calls) / 300, 13.0)
+                self.assertGreater(len(calls) / 300, 9.0)
+
+    def test_a_taker_that_waits_asks_at_most_two_requests_a_second(self):
+        """Also after a backlog that it took, and beside the jobs that it had."""
+        for jobs in (0, 3, 700):
+            now = [0.0]
+            core = stepping.Core(stepping.Server(), 1, lambda now=now: now[0])
+            queue = stepping.stepped(work.WorkQueue)(ClientOf(core), "jobs", 700)
+            for value in range(jobs):
+                alone(core, now, work.WorkQueue.put.steps(queue, value))
+            for _ in range(jobs):
+                job = alone(core, now, work.WorkQueue.take.steps(queue, 1.0))
+                alone(core, now, work.WorkJob.done.steps(job))
+            asked, begin = [0], now[0]
+            with self.assertRaises(femem.TimedOut):
+                alone(core, now, work.WorkQueue.take.steps(queue, 120.0), asked)
+            self.assertAlmostEqual(now[0] - begin, 120.0)
+            self.assertLess(asked[0], 2 * 120)
+            self.assertGreater(asked[0], 20)
+
+    def test_a_job_of_an_absent_taker_is_found_among_many_that_others_have(self):
+        """A look reads two of the open slots here: each is read again when several looks are over."""
+        self.server()
+        with Client(self.path, 1) as one, Client(self.path, 2) as two, mock.patch.object(work, "LOOK_OPEN", 2):
+            gone = Client(self.path, 3)
+            queue, busy = (WorkQueue(client, "jobs", 20, away_after=0.2) for client in (one, two))
+            for value in range(16):
+                busy.put(value)
+            self.assertEqual(WorkQueue(gone, "jobs", 20, away_after=0.2).take(timeout=1).value, 0)
+            for _ in range(15):
+                busy.take(timeout=1)
+            gone.close()
+            self.assertEqual(queue.take(timeout=30).value, 0)
+
+    def test_two_short_absences_are_no_long_one(self):
+        self.server()
+        now = [0.0]
+        with Client(self.path, 1) as one, Client(self.path, 2) as two:
+            queue = WorkQueue(one, "jobs", 4, away_after=5.0)
+            queue._now = lambda: now[0]
+            queue.put(7)
+            yours = WorkQueue(two, "jobs", 4).take(timeout=1)
+            two.close()
+            for time_of_look in (0.0, 3.0, 1000.0, 1004.0, 1006.0):
+                now[0] = time_of_look
+                found = one._run_job(Job(queue._rescue(one.find("presence").id)))
+                self.assertEqual(found is not None, time_of_look == 1006.0, time_of_look)
+            self.assertEqual((found.number, found.attempt), (yours.number, 2))
+
+    def test_a_backlog_of_jobs_that_are_set_aside_is_not_looked_at_again(self):
+        server = self.server()
+        with Client(self.path, 1) as client:
+            queue = WorkQueue(client, "jobs", 100, attempts=1, away_after=0.4)
+            for value in range(60):
+                queue.put(value)
+            for _ in range(60):
+                queue.take(timeout=30).fail()
+            with self.assertRaises(femem.TimedOut):
+                queue.take(timeout=1.0)
+            asked, take = [], server.model.take
+            server.model.take = lambda conn, message: (asked.append(message), take(conn, message))
+            with self.assertRaises(femem.TimedOut):
+                queue.take(timeout=2.0)
+            server.model.take = take
+            self.assertLess(len(asked), 60)
+            self.assertEqual(len(queue.aside()), 60)
+
     def test_a_work_queue_has_room_again_as_jobs_are_done(self):
         self.server()
         with Client(self.path, 1) as client:
@@ -346,9 +632,10 @@ class Queues(WithClients):
                 queue.put(9, timeout=0.2)
             got = []
             for value in range(0, 20, 2):
-                for _ in range(2):  # (a quarter of the room comes back at a time)
+                for one in (value, value + 1):
                     with queue.take(timeout=30) as job:
                         got.append(job.value)
-                queue.put(100 + value, timeout=30)
-                queue.put(101 + value, timeout=30)
+                    queue.put(100 + one, timeout=30)
+                    with self.assertRaises(femem.TimedOut):
+                        queue.put(9, timeout=0.0)
             self.assertEqual(got, [*range(8), *range(100, 112)])

@@ -15,15 +15,15 @@ import paths  # noqa: F401
 from model import Model
 from serving import WithFolder
 from test_unspoilt import interrupted
+from world import Core
 
 import femem
-from femem import Client, aio, frames, requests, sessionfile
+from femem import Client, aio, _core as core, _frames as frames, requests, _sessionfile as sessionfile
 from femem.aio import AsyncClient
-from femem.arguments import key_bytes
-from femem.core import Core
-from femem.sessionfile import SessionFile
-from femem.sessionrecords import Asked
-from femem.worker import Worker
+from femem._arguments import key_bytes
+from femem._sessionfile import SessionFile
+from femem._sessionrecords import Asked
+from femem._worker import Worker
 
 POINTS = {
     "before the write": (SessionFile, "commit", "before"),
@@ -31,8 +31,8 @@ POINTS = {
     "after the write": (SessionFile, "commit", "after"),
     "before the send": (Worker, "_flush", "before"),
     "after the send": (Worker, "_flush", "after"),
-    "before the answer is taken": (Core, "received", "before"),
-    "after the answer is taken": (Core, "received", "after"),
+    "before the answer is taken": (core.Core, "received", "before"),
+    "after the answer is taken": (core.Core, "received", "after"),
     "before the compaction": (SessionFile, "compact", "before"),
     "before the new file's place": (SessionFile, "replace", "before"),
     "after the new file's place": (SessionFile, "replace", "after"),
@@ -314,6 +314,24 @@ class Files(WithFolder):
             self.assertEqual(found[:2], [("readfe 1 0", None, 10), ("readfe 1 1", b"second", 11)])
             self.assertEqual(client.once("second", requests.readfe(word, 1)), 11)
 
+    def test_what_is_recovered_is_awaited_with_asyncio(self):
+        self.server()
+        client = Client(self.path, session_file=self.file)
+        word = client.create("word", 1)
+        client.submit(requests.readfe(word, 0), key="one")
+        client.readxx(word, 0)
+        self.abandon(client)
+
+        async def main():
+            async with AsyncClient(self.path, session_file=self.file) as client:
+                one = client.recovered[0]
+                with self.assertRaises(asyncio.InvalidStateError):
+                    one.result()
+                await client.writeef(word, 0, 5)
+                self.assertEqual((await asyncio.wait_for(one.future, 30), one.result()), (5, 5))
+
+        asyncio.run(main())
+
     def test_what_was_taken_back_is_not_asked_again(self):
         self.server()
         client = Client(self.path, session_file=self.file)
@@ -403,9 +421,9 @@ class Files(WithFolder):
     def any_step(self, chance, file, out):
         """One random event of a session. `out` has the requests that have not ended."""
         drawn = chance.random()
-        if drawn < 0.35 and file.next < file.asked_floor + 32:
-            number, key = file.next, chance.choice([None, b"one", b"two", b"three"])
-            taken = {file.unanswered[each].key for each in out} | set(file.keys())
+        if drawn < 0.35 and file.state.next < file.state.asked_floor + 32:
+            number, key = file.state.next, chance.choice([None, b"one", b"two", b"three"])
+            taken = {file.state.unanswered[each].key for each in out} | set(file.keys())
             frame = requests.int_fetch_add(1, number, number).frame
             file.asked(number, Asked(frame, None if key in taken else key, drawn < 0.05))
             out.append(number)
@@ -415,10 +433,10 @@ class Files(WithFolder):
                 file.answered(frames.Answer(number, 1, chance.randrange(100), 0))
             else:
                 file.has_ended(number)
-        elif drawn < 0.7 and file.asked_floor == file.floor < min(out, default=file.next):
-            file.settling(min([*out, file.next, file.floor + 31]))
+        elif drawn < 0.7 and file.state.asked_floor == file.state.floor < min(out, default=file.state.next):
+            file.settling(min([*out, file.state.next, file.state.floor + 31]))
         elif drawn < 0.8:
-            file.settled(file.asked_floor)
+            file.settled(file.state.asked_floor)
         elif drawn < 0.9 and file.keys():
             file.forget(chance.choice(sorted(file.keys())))
         elif file.must_sync:
@@ -427,8 +445,8 @@ class Files(WithFolder):
     @staticmethod
     def says(file):
         keyed = {key: file.kept(key) for key in file.keys()}
-        numbers = (file.session, file.floor, file.asked_floor, file.next)
-        return numbers, file.unanswered, keyed
+        numbers = (file.state.session, file.state.floor, file.state.asked_floor, file.state.next)
+        return numbers, file.state.unanswered, keyed
 
     def test_what_is_read_is_what_was_kept(self):
         """Whatever happens to a session, and however often the file is rewritten, the next process reads it."""
@@ -524,9 +542,18 @@ class Files(WithFolder):
                 made[0].close()
                 break
             broken += 1
-            with self.subTest(bytecode=at), Client(self.path, session_file=self.file) as client:
+            with self.subTest(bytecode=at), self.next_one() as client:
                 self.assertEqual(list(server.model.stored.sessions), [client.session])
         self.assertGreater(broken, 20)
+
+    def next_one(self):
+        """The file's next client. One that was made, and dropped at the very end of its constructor, is closed by its thread."""
+        for _ in range(1000):
+            try:
+                return Client(self.path, session_file=self.file)
+            except femem.SessionInUse:
+                time.sleep(0.01)
+        raise AssertionError("the file is not free")
 
     def test_what_a_full_disk_kept_out_is_not_written_later(self):
         """A client whose request the disk refuses ends; the next process does not make that request."""
@@ -668,7 +695,7 @@ class Files(WithFolder):
         file.commit()
         file.abandon()
         file = SessionFile(self.file)
-        self.assertTrue(file.is_ending)
+        self.assertTrue(file.state.is_ending)
         file.remove()
 
     def test_a_bye_that_is_broken_off_is_said_again_in_asyncio(self):

@@ -16,9 +16,9 @@ from serving import WithFolder
 from test_ends import FOLDER, LONG
 
 import femem
-from femem import Client, frames, requests, sessionrecords
-from femem.sessionfile import SessionFile
-from femem.sessionrecords import Asked
+from femem import Client, _frames as frames, requests, _sessionrecords as sessionrecords
+from femem._sessionfile import SessionFile
+from femem._sessionrecords import Asked
 
 SESSION = 0x8000000000000007
 ADD = requests.int_fetch_add(1, 0, 1).frame
@@ -99,7 +99,8 @@ def find(name=b"word"):
 REFUSED = {
     "a short header": [header()[:-1]],
     "another magic": [b"femempy3" + header()[8:]],
-    "the C client's first version": [b"FEMEMSF1" + bytes(40)],
+    "another version of the format": [b"FEMEMSF1" + bytes(40)],
+    "another magic": [b"femempy1" + bytes(40)],
     "a header's sum": [header()[:-1] + b"\0"],
     "a block of another session": [block(), block(session=8), block()],
     "a kind": [block(b"\0", 33, 33, 33)],
@@ -183,9 +184,9 @@ class Format(WithFolder):
         self.assertEqual(len(EXAMPLE), 599)
         self.write(EXAMPLE)
         file = SessionFile(self.file)
-        self.assertEqual((file.session, file.floor, file.asked_floor, file.next), (SESSION, 34, 34, 40))
+        self.assertEqual((file.state.session, file.state.floor, file.state.asked_floor, file.state.next), (SESSION, 34, 34, 40))
         held = {35: Asked(READ, b"waits", False), 37: Asked(READ, None, False), 39: Asked(ADD, None, True)}
-        self.assertEqual(file.unanswered, held)
+        self.assertEqual(file.state.unanswered, held)
         self.assertEqual({key: file.kept(key)[1].value for key in file.keys()}, {b"first": 41})
         # Rewritten, it says the same.
         file.compact()
@@ -195,7 +196,7 @@ class Format(WithFolder):
         )
         self.assertEqual(self.read(), whole)
         again = SessionFile(self.file)
-        self.assertEqual((again.unanswered, again.next, again.keys()), (held, 40, [b"first"]))
+        self.assertEqual((again.state.unanswered, again.state.next, again.keys()), (held, 40, [b"first"]))
         again.abandon()
 
     def test_each_torn_end_of_the_example_is_cut_off(self):
@@ -297,41 +298,6 @@ class Format(WithFolder):
             file.abandon()
             self.assertLess(calls, (most + 0.5) * count)
 
-    def test_the_former_version_is_read(self):
-        """A file of `femempy1` goes on: its session, its keys and what it had asked."""
-        server = self.server()
-
-        def entries(*parts):
-            payload = b"".join(parts)
-            return struct.pack(">II", len(payload), zlib.crc32(payload)) + payload
-
-        with Client(self.path, 7) as client:
-            word = client.create("word", 1, full=True)
-            client.int_fetch_add(word, 0, 1)
-            floor = client._core._outbox.window.floor
-            next = floor + 20
-        number = struct.Struct(">Q").pack
-        add = requests.int_fetch_add(word, 0, 5).frame
-        frame_of = struct.pack(">H", len(add)) + add
-        content = b"femempy1" + entries(b"S" + number(7), b"B" + number(floor), b"N" + number(next)) + entries(
-            b"A" + number(next) + b"\2" + text(b"job") + frame_of,
-            b"K" + text(b"done") + frame_of + answer(1, 77),
-        )
-        self.write(content)
-        with Client(self.path, session_file=self.file) as client:
-            self.assertEqual(client.session, 7)
-            self.assertEqual([(each.key, each.result(LONG)) for each in client.recovered], [(b"job", 1)])
-            self.assertEqual(client.once("job", requests.int_fetch_add(word, 0, 5)), 1)
-            self.assertEqual(client.once("done", requests.int_fetch_add(word, 0, 5)), 77)
-            self.assertEqual(client.readff(word, 0), 6)
-        self.assertEqual(self.read()[:8], b"FEMEMSF2")
-        self.assertEqual(list(server.model.stored.sessions), [7])
-        for wrong in (content + entries(b"?"), content[:8] + entries(b"B" + number(1)), content[:8] + entries(b"S")):
-            self.write(wrong)
-            with self.assertRaises(femem.SessionFileError):
-                SessionFile(self.file)
-            self.assertEqual(self.read(), wrong)
-
     def test_a_link_at_the_new_file_is_not_followed(self):
         victim = self.path + ".victim"
         for make in (os.symlink, os.link):
@@ -370,8 +336,8 @@ class Format(WithFolder):
         with Client(self.path, 8) as other:
             word = other.create("word", 1, full=True)
         program = (
-            f"import sys; sys.path.insert(0, {FOLDER!r})\nfrom femem import Client, requests, sessionfile\n"
-            "sessionfile._SHORT, sessionfile._GROWTH = 600, 1\n"
+            f"import sys; sys.path.insert(0, {FOLDER!r})\nfrom femem import Client, _sessionfile, requests\n"
+            "_sessionfile._SHORT, _sessionfile._GROWTH = 600, 1\n"
             f"with Client({self.path!r}, session_file={self.file!r}) as client:\n"
             f"    for step in range(40): client.once('step %d' % step, requests.int_fetch_add({word.id}, 0, 1))\n"
         )

@@ -206,6 +206,139 @@ class Sessions(WithFolder):
                 thread.join(60)
 
 
+class Grown(WithFolder):
+    """A client whose session ends with it gets a further one once more than eight of its requests wait beside calls."""
+
+    def grow(self, client):
+        """31 requests wait, and calls are made until the further session has them."""
+        words = client.create("words", 32, True)
+        for index in range(31):
+            client.purge(words, index)
+        futures = [client.submit(requests.readfe(words, index)) for index in range(31)]
+        until(lambda: client.int_fetch_add(words, 31, 1) is not None and client._core.moves_waits)
+        until(lambda: not unanswered(client))
+        return words, futures
+
+    def test_calls_move_nothing_that_waits(self):
+        server = self.server()
+        os.mkdir(self.path + ".clients")
+        with Client(self.path) as client:
+            words, futures = self.grow(client)
+            until(lambda: len(list(server.model.waiting)) == 31)
+            own, further = client.sessions
+            self.assertEqual({session for session, _ in list(server.model.waiting)}, {further})
+            with open(f"{self.path}.clients/{own}") as entry:
+                self.assertEqual(entry.read(), "2\n")  # whoever finds that it was killed ends both
+            numbers = sorted(number for _, number in list(server.model.waiting))
+            for _ in range(200):
+                client.int_fetch_add(words, 31, 1)
+                self.assertEqual(unanswered(client), [])
+            self.assertEqual(sorted(number for _, number in list(server.model.waiting)), numbers)
+            for index in range(31):
+                client.writeef(words, index, index)
+            self.assertEqual([future.result(60) for future in futures], list(range(31)))
+        self.assertEqual(server.model.state.sessions, {})
+
+    def test_eight_have_no_session_of_their_own(self):
+        server = self.server()
+        with Client(self.path) as client:
+            words = client.create("words", 9)
+            client.writeef(words, 8, 0)
+            futures = [client.submit(requests.readfe(words, index)) for index in range(8)]
+            for _ in range(200):
+                client.int_fetch_add(words, 8, 1)
+            self.assertEqual(len(server.model.state.sessions), 1)
+            for index in range(8):
+                client.writeef(words, index, index)
+            self.assertEqual([future.result(60) for future in futures], list(range(8)))
+
+    def test_a_session_that_was_given_stays_alone(self):
+        self.server()
+        with Client(self.path, 7) as client:
+            words = client.create("words", 32)
+            client.writeef(words, 31, 0)
+            futures = [client.submit(requests.readfe(words, index)) for index in range(31)]
+            for _ in range(50):
+                client.int_fetch_add(words, 31, 1)
+            self.assertEqual(client.sessions, [7])
+            client.close()
+            self.assertTrue(all(isinstance(future.exception(60), femem.Closed) for future in futures))
+
+    def test_a_server_without_room(self):
+        """All that wait stay in the client's own session."""
+        server = self.server()
+        others = [Client(self.path, 1000 + k) for k in range(63)]
+        with Client(self.path) as client:
+            words = client.create("words", 32)
+            client.writeef(words, 31, 0)
+            futures = [client.submit(requests.readfe(words, index)) for index in range(31)]
+            for _ in range(50):
+                client.int_fetch_add(words, 31, 1)
+            until(lambda: client._worker.further is not None and not client._core.moves_waits and not client._core._elsewhere)
+            self.assertEqual((client.failure, client.sessions), (None, [client.session]))
+            for index in range(31):
+                others[0].writeef(words, index, index)
+            self.assertEqual([future.result(60) for future in futures], list(range(31)))
+        self.assertEqual(len(server.model.state.sessions), 63)
+        for other in others:
+            other.close()
+
+    def test_stops_while_it_grows(self):
+        server = self.server()
+        for stop in range(5):
+            with self.subTest(stop=stop), Client(self.path) as client:
+                words = client.create(f"words{stop}", 32)
+                client.writeef(words, 31, 0)
+                futures = [client.submit(requests.readfe(words, index)) for index in range(31)]
+                adds = [client.submit(requests.int_fetch_add(words, 31, 1)) for _ in range(50)]
+                time.sleep(0.002 * stop)
+                server.kill()
+                server.start()
+                for index in range(31):
+                    client.writeef(words, index, index)
+                self.assertEqual([future.result(60) for future in futures], list(range(31)))
+                self.assertEqual([future.result(60) for future in adds], list(range(50)))
+
+    def test_tasks(self):
+        server = self.server()
+
+        async def main():
+            async with AsyncClient(self.path) as client:
+                words = await client.create("words", 32)
+                await client.writeef(words, 31, 0)
+                futures = [client.submit(requests.readfe(words, index)) for index in range(31)]
+                while unanswered(client) or len(list(server.model.waiting)) < 31:
+                    await client.int_fetch_add(words, 31, 1)
+                self.assertEqual({session for session, _ in list(server.model.waiting)}, {client.sessions[1]})
+                for index in range(31):
+                    await client.writeef(words, index, index)
+                self.assertEqual(await asyncio.gather(*futures), list(range(31)))
+
+        asyncio.run(main())
+        self.assertEqual(server.model.state.sessions, {})
+
+    def test_tasks_at_a_server_without_room(self):
+        server = self.server()
+        others = [Client(self.path, 1000 + k) for k in range(63)]
+
+        async def main():
+            async with AsyncClient(self.path) as client:
+                words = await client.create("words", 32)
+                await client.writeef(words, 31, 0)
+                futures = [client.submit(requests.readfe(words, index)) for index in range(31)]
+                while not [*client._worker.wait_sessions] or client._core.moves_waits or client._core._elsewhere:
+                    await client.int_fetch_add(words, 31, 1)
+                self.assertEqual((client.failure, client.sessions), (None, [client.session]))
+                for index in range(31):
+                    await client.writeef(words, index, index)
+                self.assertEqual(await asyncio.gather(*futures), list(range(31)))
+
+        asyncio.run(main())
+        self.assertEqual(len(server.model.state.sessions), 63)
+        for other in others:
+            other.close()
+
+
 class Ends(WithFolder):
     def test_the_further_sessions_end_with_the_client(self):
         server = self.server()

@@ -1,9 +1,8 @@
-"""The shell: lines in, lines out, with the model at a socket."""
+"""What shows what waits, with the model at a socket."""
 
+import json
 import os
 import pathlib
-import pty
-import select
 import signal
 import struct
 import subprocess
@@ -22,148 +21,19 @@ from femem.patterns import Lock
 ROOT = pathlib.Path(paths.__file__).resolve().parents[1]
 
 
+def until(condition, seconds=60):
+    """Waits until the condition holds. Returns whether it did."""
+    end = time.monotonic() + seconds
+    while not condition():
+        if time.monotonic() > end:
+            return False
+        time.sleep(0.02)
+    return True
+
+
 class Shell(WithFolder):
-    def start(self, *more):
-        return subprocess.Popen(
-            [sys.executable, "-m", "femem", self.path, *more],
-            cwd=ROOT,
-            stdin=subprocess.PIPE,
-            stdout=subprocess.PIPE,
-            stderr=subprocess.PIPE,
-            text=True,
-            # It may be ignored if the tests run in the background.
-            preexec_fn=lambda: signal.signal(signal.SIGINT, signal.SIG_DFL),
-        )
-
-    def say(self, lines, *more):
-        shell = self.start(*more)
-        out, err = shell.communicate("".join(line + "\n" for line in lines), timeout=60)
-        return out.splitlines(), err, shell.returncode
-
-    def test_lines(self):
-        server = self.server()
-        out, err, status = self.say(
-            [
-                "create slot 2",
-                "writeef slot 0 42",
-                "readfe slot 0",
-                "readfe slot 0 nowait",
-                "readfe slot 1 timeout=0.1",
-                "create lock 1 full",
-                "int_fetch_add lock 0 5",
-                "readff 2 0",
-                "writeff lock 0 18446744073709551615",
-                "writexf lock 0 18446744073709551616",
-                "purge lock 0",
-                "readxx lock 0",
-                "report",
-                "jump",
-                "readfe slot",
-                "readfe slot x",
-                "create a b c d",
-                "watch x",
-                "find nothing",
-                "create Slot 1",
-                "",
-                "remove slot",
-                "readxx slot 0",
-                "quit",
-                "readxx lock 0",
-            ]
-        )
-        self.assertEqual(
-            out,
-            [
-                "array 1 length 2",
-                "done",
-                "value 42",
-                "not-now: readfe 1 0",
-                "timed-out: readfe 1 1",
-                "array 2 length 1",
-                "value 0",
-                "value 5",
-                "done",
-                "value-error: value is not a number of 64 bits: 18446744073709551616",
-                "done",
-                "value 0",
-                "waiting 0",
-                "? there is no jump ('help' lists what there is)",
-                "? readfe has 2 words behind it ('help' lists what there is)",
-                "? x is no number ('help' lists what there is)",
-                "? create has other words behind it ('help' lists what there is)",
-                "? x is no time ('help' lists what there is)",
-                "no-array: find 'nothing'",
-                "bad-name: create 'Slot' 1",
-                "done",
-                "no-array: find 'slot'",
-            ],
-        )
-        self.assertEqual((err, status), ("", 1))
-        self.assertEqual(server.model.stored.sessions, {})
-
-    def test_the_status_of_a_script(self):
-        self.server()
-        for lines, due in (
-            (["create one 1 full", "readxx one 0"], 0),
-            (["find nothing", "readxx one 0", "quit"], 1),
-            (["find nothing", "jump"], 2),
-        ):
-            self.assertEqual(self.say(lines)[2], due, lines)
-
-    def test_a_session_that_is_named_is_kept(self):
-        server = self.server()
-        self.say(["create slot 1"], "--session", "7")
-        self.assertEqual(list(server.model.stored.sessions), [7])
-
-    def test_who_waits(self):
-        self.server()
-        self.say(["create slot 1"])
-        waiter = self.start("--session", "8")
-        waiter.stdin.write("readfe 1 0\n")
-        waiter.stdin.flush()
-        for _ in range(100):
-            out = self.say(["report"])[0]
-            if out[0] != "waiting 0":
-                break
-            time.sleep(0.05)
-        self.assertEqual(out[1:], ["word 1 0 session 8 number 33 readfe", "session 8 waits 1", "all-wait yes"])
-        out = self.say(["graph"])[0]
-        self.assertIn('  "s8" -> "w1_0" [label="readfe, needs full"];', out)
-        out = self.say([f"graph {self.path}.dot"])[0]
-        self.assertEqual(out, [])
-        self.assertTrue(os.path.getsize(self.path + ".dot") > 0)
-
-        watch = self.start("--session", "9")
-        watch.stdin.write("watch 0.1\nreadxx 1 0\n")
-        watch.stdin.flush()
-        lines = [watch.stdout.readline() for _ in range(4)]
-        self.assertRegex(lines[0], "[0-9] every attached session waits")
-        self.assertEqual(lines[1], "  word 0 of array 1 is to become full for session 8 (readfe, number 33)\n")
-        watch.send_signal(signal.SIGINT)
-        self.assertEqual(watch.communicate(timeout=60)[0].splitlines()[-1], "value 0")
-
-        waiter.send_signal(signal.SIGINT)
-        out, _ = waiter.communicate("readxx 1 0\n", timeout=60)
-        self.assertEqual(out.splitlines(), ["withdrawn: readfe 1 0", "value 0"])
-
-    def test_no_server(self):
-        out, err, status = self.say(["report"], "--reconnect-timeout", "0.3")
-        self.assertEqual((out, status), ([], 4))
-        self.assertEqual(err, f"femem: server-unreachable: {self.path}: No such file or directory\n")
-
-    def test_a_server_that_goes(self):
-        server = self.server()
-        shell = self.start("--reconnect-timeout", "3")
-        shell.stdin.write("create slot 1\n")
-        shell.stdin.flush()
-        self.assertEqual(shell.stdout.readline(), "array 1 length 1\n")
-        server.kill()
-        out, err = shell.communicate("readxx 1 0\nreadxx 1 0\n", timeout=60)
-        self.assertEqual((out, shell.returncode), ("", 4))
-        self.assertTrue(err.startswith("femem: server-unreachable: "))
-
     def one(self, *words, env=None, status=0):
-        """Runs one command of the command line. Returns its output."""
+        """Runs one command of the command line. Returns its output and its errors."""
         done = subprocess.run(
             [sys.executable, "-m", "femem", *words],
             cwd=ROOT,
@@ -176,73 +46,74 @@ class Shell(WithFolder):
         self.assertEqual(done.returncode, status, done.stderr)
         return done.stdout + done.stderr
 
-    def test_one_command(self):
+    def test_who_waits(self):
         server = self.server()
-        self.assertEqual(self.one(self.path, "create", "jobs", "2"), "array 1 length 2\n")
-        self.assertEqual(self.one("writeef", "jobs", "0", "5", env={"FEMEM_SOCKET": self.path}), "done\n")
-        self.assertEqual(self.one(self.path, "--json", "readff", "jobs", "0"), '{"value": 5}\n')
-        self.assertEqual(self.one(self.path, "readfe", "jobs", "0", "nowait"), "value 5\n")
-        self.assertIn("not-now", self.one(self.path, "readfe", "jobs", "0", "nowait", status=1))
-        self.assertIn("timed-out", self.one(self.path, "--timeout", "0.1", "readfe", "jobs", "0", status=1))
-        self.assertIn("has 2 words", self.one(self.path, "readfe", "jobs", status=2))
+        with Client(self.path, 8) as client:
+            read = client.submit(femem.requests.readfe(client.create("slot", 1), 0))
+            self.assertTrue(until(lambda: client.report().waiters))
+            lines = ["waiting 1", "word 1 0 session 8 number 34 readfe", "session 8 waits 1", "all-wait yes"]
+            self.assertEqual(self.one(self.path, "report").splitlines(), lines)
+            waiter = {"array": 1, "index": 0, "session": 8, "number": 34, "operation": "readfe"}
+            self.assertEqual(json.loads(self.one(self.path, "--json", "report")), {"waiters": [waiter], "all_wait": True})
+            self.assertIn('  "s8" -> "w1_0" [label="readfe, needs full"];', self.one(self.path, "graph"))
+            self.assertEqual(self.one(self.path, "graph", self.path + ".dot"), "")
+            self.assertEqual(pathlib.Path(self.path + ".dot").read_text(), self.one(self.path, "graph", "--owners"))
+            self.assertIn("femem_waiting 1\n", self.one("metrics", env={"FEMEM_SOCKET": self.path}))
+            client.writexf(1, 0, 5)
+            self.assertEqual(read.result(60), 5)
+        self.assertEqual(list(server.model.stored.sessions), [8])
+
+    def test_watch(self):
+        self.server()
+        with Client(self.path, 8) as client:
+            client.submit(femem.requests.readfe(client.create("slot", 1), 0))
+            self.assertTrue(until(lambda: client.report().waiters))
+            words = [sys.executable, "-m", "femem", self.path, "watch", "0.1"]
+            # It may be ignored if the tests run in the background.
+            set_signal = lambda: signal.signal(signal.SIGINT, signal.SIG_DFL)
+            with subprocess.Popen(words, cwd=ROOT, stdout=subprocess.PIPE, text=True, preexec_fn=set_signal) as watch:
+                lines = [watch.stdout.readline() for _ in range(6)]
+                watch.send_signal(signal.SIGINT)
+                self.assertEqual(watch.wait(60), 128 + signal.SIGINT)
+        due = "  word 0 of array 1 is to become full for session 8 (readfe, number 34)\n"
+        self.assertEqual(lines[1::2], [due] * 3)
+        for line in lines[::2]:
+            self.assertRegex(line, "^[0-9:]+ every attached session waits$")
+
+    def test_a_watch_as_a_page(self):
+        self.server()
+        page = pathlib.Path(self.path + ".html")
+        words = [sys.executable, "-m", "femem", self.path, "watch", "--html", page, "2"]
+        with subprocess.Popen(words, cwd=ROOT) as watch:
+            is_there = until(page.exists, 30)
+            watch.send_signal(signal.SIGTERM)
+            self.assertEqual(watch.wait(60), 128 + signal.SIGTERM)
+        self.assertTrue(is_there)
+        self.assertIn('http-equiv="refresh" content="2"', page.read_text())
+
+    def test_no_server(self):
+        said = self.one(self.path, "report", "--reconnect-timeout", "0.3", status=4)
+        self.assertEqual(said, f"femem: server-unreachable: {self.path}: No such file or directory\n")
         self.assertIn("/nowhere", self.one("/nowhere", "report", status=4))
-        self.assertIn("there is no jump", self.one("jump", "jobs", status=2, env={"FEMEM_SOCKET": self.path}))
-        self.assertEqual(server.model.stored.sessions, {})
 
-    def test_queue(self):
+    def test_the_rest_is_left_to_femem_cli(self):
         server = self.server()
-        self.one(self.path, "queue", "put", "values", "3", "2")
-        self.one(self.path, "queue", "put", "values", "4")
-        self.assertIn("timed-out", self.one(self.path, "--timeout", "0.1", "queue", "put", "values", "5", status=1))
-        self.assertEqual(self.one(self.path, "queue", "get", "values"), "value 3\n")
-        self.assertEqual(server.model.stored.sessions, {})
-
-    def test_locks_are_left_to_femem_cli(self):
-        server = self.server()
-        for words in (("lock", "mine", "--", "touch", "run"), ("lock", "mine")):
-            self.assertIn("femem-cli lock NAME -- COMMAND", self.one(*words, status=2, env={"FEMEM_SOCKET": self.path}))
-        self.assertFalse(os.path.exists("run"))
+        operations = ["readfe", "readff", "readxx", "writeef", "writeff", "writexf", "purge", "int_fetch_add"]
+        for command in ["create", "find", "remove", *operations, "queue", "lock"]:
+            for words in ((self.path, "--session", "7", command, "slot", "1"), (self.path, command, "mine", "--", "touch", "run")):
+                self.assertEqual(self.one(*words, status=2), f"femem: femem-cli has {command}\n")
+            self.assertEqual(self.one(command, status=2, env={"FEMEM_SOCKET": self.path}), f"femem: femem-cli has {command}\n")
+        said = "femem: femem-cli has a prompt, and reads lists; here are report, watch, graph and metrics\n"
+        self.assertEqual(self.one(self.path, status=2), said)
         self.assertEqual(server.model.stored.arrays, {})
 
-    def test_a_prompt_has_history_and_completion(self):
-        server = self.server()
-        # (Tab completes; Ctrl-P is the line before, here that of the first process)
-        self.type(b"cre\tslot 2\n", b"array 1 length 2")
-        self.type(b"\x10\n", b"name-taken")
-        self.assertEqual(server.model.stored.sessions, {})
-
-    def type(self, keys, due):
-        """Types keys at a prompt on a terminal until it has shown what is due, and then Ctrl-D."""
-        ours, its = pty.openpty()
-        env = {**os.environ, "HOME": os.path.dirname(self.path), "TERM": "dumb", "INPUTRC": "/dev/null"}
-        words = [sys.executable, "-m", "femem", self.path]
-        shell = subprocess.Popen(words, cwd=ROOT, env=env, stdin=its, stdout=its, stderr=its, start_new_session=True)
-        os.close(its)
-        shown = b""
-        for text, answer in ((b"femem> ", keys), (due, b""), (b"femem> ", b"\x04")):
-            while text not in shown:
-                self.assertTrue(select.select([ours], [], [], 60)[0], shown)
-                shown += os.read(ours, 1000)
-            shown = shown.partition(text)[2]
-            os.write(ours, answer)
-        self.assertEqual(shell.wait(60), 0)
-        os.close(ours)
-
-    def test_a_shell_that_is_ended_ends_its_session(self):
-        server = self.server()
-        for number in (signal.SIGTERM, signal.SIGHUP):
-            shell = self.start()
-            shell.stdin.write("create w 1\n" if number == signal.SIGTERM else "find w\n")
-            shell.stdin.flush()
-            self.assertIn("array 1", shell.stdout.readline())
-            self.assertEqual(len(server.model.stored.sessions), 1)
-            shell.stdin.write("readfe w 0\n")
-            shell.stdin.flush()
-            time.sleep(0.1)
-            shell.send_signal(number)
-            shell.communicate(timeout=60)
-            self.assertEqual(shell.returncode, 128 + number)
-            self.assertEqual(server.model.stored.sessions, {})
+    def test_wrong_command_lines(self):
+        self.server()
+        self.assertEqual(self.one("jump", "slot", status=2, env={"FEMEM_SOCKET": self.path}), "femem: there is no jump\n")
+        self.assertEqual(self.one(self.path, "report", "slot", status=2), "femem: slot is a word too many\n")
+        self.assertEqual(self.one(self.path, "watch", "x", status=2), "femem: x is no time\n")
+        self.assertIn("there is no --session", self.one(self.path, "report", "--session", "7", status=2))
+        self.assertIn("no socket is given", self.one("report", status=2, env={"FEMEM_SOCKET": ""}))
 
 
 class Looking(WithFolder):

@@ -5,7 +5,7 @@ import unittest
 import paths  # noqa: F401
 from world import World, run
 
-from femem import errors, requests
+from femem import _errors as errors, requests
 
 
 class Strangers(unittest.TestCase):

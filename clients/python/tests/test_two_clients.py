@@ -48,9 +48,8 @@ class TwoClients(WithFolder):
         return WorkQueue(client, "jobs", 16, attempts=3, away_after=1.0)
 
     def test_both_refuse_the_same_session_files(self):
-        """But for files of version 1, which are each client's own."""
         file = self.path + ".session"
-        cases = [(name, blocks, True) for name, blocks in REFUSED.items() if "first version" not in name]
+        cases = [(name, blocks, True) for name, blocks in REFUSED.items()]
         cases += [(name, blocks, False) for name, blocks in TAKEN.items()]
         for name, blocks, is_refused in cases:
             with open(file, "wb") as out:

@@ -455,7 +455,7 @@ class Logging(WithFolder):
         self.assertEqual(repr(client), f"<femem client of session 7 at {self.path}: requests are sent>")
         client.close()
         self.assertIn("Closed", repr(client))
-        self.assertRegex(femem.__version__, r"^\d+\.\d+\.\d+$")
+        self.assertRegex(femem.__version__, r"^\d+\.\d+\.\d+(\.dev\d+(\+[0-9a-f]+)?)?$")
         self.assertEqual([t for t in threading.enumerate() if t.name == "femem session 7"], [])
 
     def test_a_session_that_nobody_named_ends_with_its_client(self):

@@ -4,7 +4,18 @@ import random
 
 from model import Model, read_messages
 
-from femem.core import Core
+from femem import _core as core
+from femem._tickets import Ticket
+
+
+class Core(core.Core):
+    """A core that takes a request as it is."""
+
+    def submit(self, request, now, timeout=None):
+        self._check()
+        ticket = Ticket(request)
+        self.take((ticket,), timeout, now)
+        return ticket
 
 
 class World:
@@ -18,8 +29,8 @@ class World:
         self.links = {}  # core: (conn, bytes to the server); the bytes to the client
         self.half_open = []  # connections that the client has given up and the server still has
 
-    def core(self, session, timeout=None):
-        core = Core(session, timeout, 1.0)
+    def core(self, session, timeout=None, probe_interval=1.0):
+        core = Core(session, timeout, probe_interval, clock=lambda: self.now)
         core.open(self.now)
         return core
 

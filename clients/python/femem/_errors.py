@@ -1,0 +1,232 @@
+"""The errors of the client: one for each way in which something can fail.
+
+What each error of the server means, with the limit and the way out, is in `clients/errors.txt`; femem-cli says the same.
+"""
+
+from __future__ import annotations
+
+
+class FememError(Exception):
+    """Any error of this package."""
+
+
+class AnswerError(FememError):
+    """The server carried the request out, and its answer is an error.
+
+    The answer is kept like any other. No word was changed.
+    """
+
+    _text = ""
+
+
+class NoArray(AnswerError):
+    """There is no such array. Also the answer to what waits on an array when it is removed."""
+
+    _text = "there is no such array: 'create' makes one"
+
+
+class BadIndex(AnswerError):
+    """The array has no word of that index."""
+
+    _text = "the array has fewer words; the first one has the index 0"
+
+
+class NameTaken(AnswerError):
+    """Another array has the name."""
+
+    _text = "there is an array of that name: 'find' finds it"
+
+
+class ArrayLimit(AnswerError):
+    """There are 64 arrays."""
+
+    _text = "the server has 64 arrays, which is the most: 'remove' removes one"
+
+
+class WordLimit(AnswerError):
+    """The arrays would have more than 65,536 words."""
+
+    _text = "the arrays would have more than 65536 words in all: 'remove' removes one"
+
+
+class BadName(AnswerError):
+    """A name is 1 to 32 bytes of a-z, 0-9 and `_`."""
+
+    _text = "names have a to z, 0 to 9 and _, and 1 to 32 of these"
+
+
+class BadLength(AnswerError):
+    """An array has 1 to 65,536 words."""
+
+    _text = "a length is 1 to 65536"
+
+
+class NotNow(AnswerError):
+    """The operation would have to wait, and `nowait` was given."""
+
+    _text = "not now: without 'nowait' it waits"
+
+
+class Refused(FememError):
+    """The server refused a message: nothing of it happened, and no answer is kept."""
+
+    _text = ""
+
+
+class NotAttached(Refused):
+    """The connection has no session. Calls of this client raise it as `TakenOver`."""
+
+    _text = "each client needs a session of its own, and another client has taken this one"
+
+
+class SessionLimit(Refused):
+    """The server keeps 64 sessions, and this one is not among them."""
+
+    _text = "the server has 64 sessions, which is the most: 'femem-cli sessions' lists them"
+
+
+class BelowFloor(Refused):
+    """The number is below the session's floor: another client uses the session."""
+
+    _text = "each client needs a session of its own, and another client uses this one"
+
+
+class BeyondWindow(Refused):
+    """The number is beyond the session's window: another client uses the session."""
+
+    _text = "each client needs a session of its own, and another client uses this one"
+
+
+class NumberUsed(Refused):
+    """Another request has the number: another client uses the session."""
+
+    _text = "each client needs a session of its own, and another client uses this one"
+
+
+class StillWaiting(Refused):
+    """A request has no answer yet."""
+
+    _text = "a request has no answer yet: wait for it, or take it back"
+
+
+class Closing(Refused):
+    """The session is being ended; this is not stored yet."""
+
+    _text = "the session is being ended: use another one"
+
+
+class NoMemory(Refused):
+    """The server has no memory for this now."""
+
+    _text = "the server has no memory for this now: try again later"
+
+
+class Spent(Refused):
+    """The server's store has no place for further entries, ever."""
+
+    _text = "the store has no place for further entries, ever: make a new one"
+
+
+class NotWaiting(Refused):
+    """Nothing waits under the number. This client handles it itself."""
+
+    _text = "nothing waits under that number"
+
+
+class TakenOver(NotAttached):
+    """Another connection attached the session. This client can't be used any more.
+
+    A request without an answer happened once or not at all.
+    """
+
+
+class SessionLost(FememError):
+    """The server does not keep the session any more: it was ended, or the store is another one.
+
+    A request without an answer happened once or not at all, and is not sent again.
+    """
+
+
+class ProtocolError(FememError):
+    """The server broke the protocol. This client can't be used any more."""
+
+
+class ServerUnreachable(FememError, ConnectionError):
+    """The server could not be reached, or was silent, for `reconnect_timeout` seconds.
+
+    This client can't be used any more. A request without an answer happened once or not at all.
+    """
+
+
+class NoRight(ServerUnreachable):
+    """This process may not use the socket: members of its group may, or its owner alone."""
+
+
+class Withdrawn(FememError):
+    """The request was taken back while it waited: nothing of it happened."""
+
+
+class TimedOut(Withdrawn, TimeoutError):
+    """The request was taken back because its time was over: nothing of it happened."""
+
+
+class SessionFileError(FememError):
+    """The session file can't be read or written, or is not a session file. Nothing was sent that it does not have."""
+
+
+class SessionInUse(SessionFileError):
+    """Another client has the session file open."""
+
+
+class NotOwner(FememError):
+    """The lock or permit is not held by the session that releases it, or is no longer."""
+
+
+class OtherPattern(FememError, ValueError):
+    """The array of that name is of another pattern, or of the same one with another size."""
+
+
+class BrokenBarrier(FememError):
+    """The barrier's round was broken, since a wait timed out or somebody broke it. `reset` begins a new one."""
+
+
+class Closed(FememError):
+    """The client is closed. A request without an answer happened once or not at all."""
+
+
+# By the codes of docs/formats.md.
+ANSWER_ERRORS: dict[int, type[AnswerError]] = {
+    4: NoArray,
+    5: BadIndex,
+    6: NameTaken,
+    7: ArrayLimit,
+    8: WordLimit,
+    9: BadName,
+    10: BadLength,
+    11: NotNow,
+}
+
+REFUSALS: dict[int, type[Refused]] = {
+    1: NotAttached,
+    2: SessionLimit,
+    3: BelowFloor,
+    4: BeyondWindow,
+    5: NumberUsed,
+    6: StillWaiting,
+    7: Closing,
+    8: NoMemory,
+    9: Spent,
+    10: NotWaiting,
+}
+
+
+def answered(code: int, what: str) -> AnswerError:
+    """The error of an answer to what was asked: what is wrong, the limit, the way out."""
+    found = ANSWER_ERRORS[code]
+    return found(f"{what}: {found._text}")
+
+
+def refused(code: int, what: str) -> Refused:
+    """The error of a refusal of what was asked."""
+    found = REFUSALS[code]
+    return found(f"{what}: {found._text}")

@@ -1,0 +1,118 @@
+"""Several requests that make one operation of a pattern, as the steps of a generator that the client itself runs.
+
+A generator yields what it wants and is sent the result. It runs where the client reads its replies, not in the thread or
+task that asked, so that one may be interrupted anywhere and nothing is left half done.
+"""
+
+from __future__ import annotations
+
+from dataclasses import dataclass
+from typing import Any, Callable, ClassVar, Dict, Generator, List, Optional, Sequence, TypeVar, Union
+
+from ._errors import Withdrawn
+from .requests import Array, Request
+from ._tickets import Ticket
+
+T = TypeVar("T")
+
+
+class Wait:
+    """A request that may wait, for `seconds` at most. Its result is sent to the generator, or its error raised there.
+
+    After a restart, the next process with the same session file takes it back. With a key, the file keeps its answer.
+    """
+
+    def __init__(self, request: Request[Any], seconds: Optional[float] = None, key: Optional[bytes] = None) -> None:
+        self.requests = (request,)
+        self.seconds = seconds
+        self.key = key
+
+
+@dataclass
+class Batch:
+    """Requests that are sent together, in this order. The outcome is a list of results and errors.
+
+    None of them may wait. The key is that of the first one.
+    """
+
+    requests: Sequence[Request[Any]]
+    key: Optional[bytes] = None
+    seconds: ClassVar[Optional[float]] = None
+
+
+@dataclass
+class First:
+    """Requests that may wait. Once one is answered, or after `seconds`, the others are taken back.
+
+    The outcome is a list as of a batch. Several of them may have happened. The key is that of the first one.
+    """
+
+    requests: Sequence[Request[Any]]
+    seconds: Optional[float] = None
+    key: Optional[bytes] = None
+
+
+@dataclass
+class Pause:
+    """Does nothing for that many seconds."""
+
+    seconds: float
+
+
+class Look:
+    """The outcome is a report of what waits."""
+
+
+class Hand:
+    """Does nothing. A caller that runs the steps by itself hands them over here: what follows is not mended."""
+
+    requests: ClassVar[Sequence[Request[Any]]] = ()
+
+
+@dataclass
+class Present:
+    """Keeps a request waiting at word 0 of the array from now on, so that reports show this client."""
+
+    array: Array
+
+
+Step = Union[Wait, Batch, First, Pause, Look, Hand, Present]
+Steps = Generator[Step, Any, T]
+
+
+def first_of(asked: Sequence[Request[Any]], seconds: Optional[float]) -> Steps[Dict[int, Any]]:
+    """Waits until one of them has happened, and takes the others back. The answers by their places among them.
+
+    `TimedOut` if none happens in time. If all end with errors, the first one's is raised.
+    """
+    outcomes: List[Any] = (yield First(asked, seconds)) if asked else []
+    found = {k: outcome for k, outcome in enumerate(outcomes) if not isinstance(outcome, BaseException)}
+    errors = [outcome for outcome in outcomes if isinstance(outcome, BaseException)]
+    if not found and errors:
+        raise next((error for error in errors if not isinstance(error, Withdrawn)), errors[0])
+    return found
+
+
+class Job(Ticket[T]):
+    """An operation of several steps."""
+
+    def __init__(self, steps: Steps[T], undo: Optional[Callable[[T], Steps[Any]]] = None, gives_back: bool = False) -> None:
+        super().__init__(None)
+        self.steps = steps
+        # Whether it gives something back: then it is done even for a task that is to be cancelled.
+        self.gives_back = gives_back
+        # The tickets of the current step.
+        self.asked: List[Ticket[Any]] = []
+        # The step that its caller has begun by itself, with its tickets, and when that is over.
+        self.begun: Optional[Step] = None
+        self.until: Optional[float] = None
+        # Whether its caller may run it by itself, and does. What that has asked; if it is interrupted within the steps, `mend`
+        # makes steps from this that undo what these requests did, or that end what was to be given back.
+        self.is_light = False
+        self.is_here = False
+        self.log: List[Ticket[Any]] = []
+        self.mend: Optional[Callable[[List[Ticket[Any]]], Steps[Any]]] = None
+        self.is_interrupted = False
+        # Whether its caller no longer waits; `undo` then makes steps that undo what was done.
+        self.is_abandoned = False
+        self.undo = undo

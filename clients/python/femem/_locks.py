@@ -1,0 +1,588 @@
+"""What is held: locks, locks for readers and writers, and the leadership of a group."""
+
+from __future__ import annotations
+
+from typing import Any, Dict, Iterable, List, Optional, Sequence, Tuple
+
+from . import _frames as frames, requests
+from ._arguments import Key, seconds_of
+from ._errors import FememError, NoArray, NotNow, NotOwner, TimedOut
+from ._jobs import Look, Steps, Wait
+from ._operations import FIRST_LOOK, LAST_LOOK, Absence, Pattern, Tries, batch, done_at, is_full, marked_array
+from ._operations import operation, operation_with, shared_array, size_of
+from .requests import Array, Request
+from ._tickets import Ticket
+
+# How many acquisitions the generation has room for, in each array of a lock.
+GENERATIONS = 2**40
+
+
+class Owned(Pattern):
+    """Word OWNER is empty while it is free, and otherwise has its owner's session. Word COUNT counts acquisitions."""
+
+    OWNER, COUNT = 0, 1
+    LENGTH = 2
+    # The words that are made full.
+    COUNTS: Tuple[int, ...] = (COUNT,)
+    REQUESTS = {"acquire": (9, 14), "campaign": (9, 14), "try_acquire": (9, 0), "release": (6, 0), "resign": (6, 0)}
+
+    def __init__(self, client: Any, name: str) -> None:
+        super().__init__(client, name)
+        self._generation: Optional[int] = None
+        self._broke: Optional[int] = None
+        self._adopted = False
+
+    @property
+    def generation(self) -> Optional[int]:
+        """The number of this client's last acquisition: greater than that of each acquisition before it."""
+        return self._generation
+
+    @property
+    def broke(self) -> Optional[int]:
+        """The session from which the last acquisition took it, as the one that broke it. Otherwise `None`."""
+        return self._broke
+
+    @property
+    def adopted(self) -> bool:
+        """Whether an earlier process of this session had left it held when this client acquired it."""
+        return self._adopted
+
+    def _find(self) -> Steps[Array]:
+        """A new array is free, and its counts are full."""
+        while self._array is None:
+            array = yield from self._make()
+            fills = [requests.writeef(array, word, 0, nowait=True) for word in self.COUNTS]
+            filled = yield from batch(fills, NotNow, NoArray)
+            if not any(isinstance(each, NoArray) for each in filled):  # nobody broke it in between
+                self._array = array
+        return self._array
+
+    def _make(self) -> Steps[Array]:
+        return (yield from shared_array(self._name, self.LENGTH, False))
+
+    def _begin(self) -> Steps[Array]:
+        """Finds it, and what an earlier process of this session left there."""
+        array = yield from self._find()
+        yield from self._core.holdings.left.look_up(array, self._session_words(), self._session)
+        return array
+
+    def _session_words(self) -> Sequence[int]:
+        """Those that may have this session."""
+        return (self.OWNER,)
+
+    def _one_try(self) -> Tries:
+        """Without a key."""
+        return Tries(self._core, None, frames.WRITEEF, self._session)
+
+    def _acquire(self, end: Optional[float], nowait: bool, patience: Optional[float], key: Optional[Key]) -> Steps[bool]:
+        """Returns whether it was acquired in time."""
+        self._broke, self._adopted = None, False
+        yield from self._show()
+        tries = Tries(self._core, key, frames.WRITEEF, self._session)
+        try:
+            done = yield from tries.begin()
+            if done is not None:
+                return (yield from self._take_again(int.from_bytes(done[14:22], "big")))
+            while True:
+                try:
+                    return (yield from self._own((yield from self._begin()), end, nowait, patience, tries))
+                except NoArray:
+                    self._array = None  # it was broken
+        finally:
+            tries.end()
+
+    def _hold(self, array: Array, count: int) -> None:
+        self._generation = array.id * GENERATIONS + count + 1
+        self._core.holdings.words.add((array.id, self.OWNER))
+
+    def _take_again(self, id: int) -> Steps[bool]:
+        """It was acquired under the key before: by this process, or by an earlier one that had not released it."""
+        array = yield from self._begin()
+        (owner,) = yield from batch([requests.readff(array, self.OWNER, nowait=True)], NotNow, NoArray)
+        if array.id != id or owner != self._session:
+            raise NotOwner(f"{self._name} was acquired under this key, and is not held any more")
+        self._adopted = self._core.holdings.left.take(array, self.OWNER)
+        if self._adopted:
+            # (the earlier process may have been killed before it counted)
+            (count,) = yield from batch([requests.int_fetch_add(array, self.COUNT, 1, nowait=True)], NoArray)
+            if not is_full(count):
+                raise NotOwner(f"{self._name} was acquired under this key, and was broken")
+            self._hold(array, int(count))
+        return True
+
+    def _own(self, array: Array, end: Optional[float], nowait: bool, patience: Optional[float], tries: Tries) -> Steps[bool]:
+        """Fills word OWNER. Whether in time."""
+        add = requests.int_fetch_add(array, self.COUNT, 1, nowait=True)
+        if (yield from self._adopt(array, tries)):
+            self._adopted = True
+            done, count = None, (yield from batch([add]))[0]
+        else:
+            mine = requests.writeef(array, self.OWNER, self._session, nowait=True)
+            done, count = yield from batch([mine, add], NotNow, key=tries.next())
+        if not is_full(done):
+            if nowait:
+                return False
+            if patience is None:
+                got = yield from self._wait(array, self._left(end), tries)
+            else:
+                got = yield from self._watch(array, end, patience, tries)
+            if not got:
+                return False
+            (count,) = yield from batch([add])
+        self._hold(array, int(count))
+        return True
+
+    def _adopt(self, array: Array, tries: Tries) -> Steps[bool]:
+        """Adopts what an earlier process left. A new key cannot have it: then it is emptied."""
+        if not self._core.holdings.left.take_unkeyed(array, (self.OWNER,), self._core.file):
+            return False
+        if tries.key is not None:
+            yield from batch([requests.readfe(array, self.OWNER, nowait=True)], NotNow)
+            return False
+        return (yield from self._owner_of(array)) == self._session
+
+    def _wait(self, array: Array, seconds: Optional[float], tries: Tries) -> Steps[bool]:
+        try:
+            yield Wait(requests.writeef(array, self.OWNER, self._session), seconds, tries.next())
+        except TimedOut:
+            return False
+        return True
+
+    def _watch(self, array: Array, end: Optional[float], patience: float, tries: Tries) -> Steps[bool]:
+        """Waits, and looks whether the owner is there. An owner that was absent for that long loses it."""
+        absence, pause = Absence(patience), self._pause(patience)
+        while True:
+            rest = self._left(end)
+            if (yield from self._wait(array, pause if rest is None else min(pause, rest), tries)):
+                return True
+            if rest is not None and rest <= pause:
+                return False
+            owner = yield from self._owner_of(array)
+            yield from self._break_if_away(array, [] if owner is None else [owner], absence)
+
+    @staticmethod
+    def _pause(patience: Optional[float]) -> float:
+        """How long one waits before it looks who is there."""
+        return LAST_LOOK if patience is None else max(0.01, patience / 4)
+
+    def _break_if_away(self, array: Array, sessions: Iterable[int], absence: Absence) -> Steps[None]:
+        """`NoArray` if one of them was absent for too long: then the lock is broken."""
+        presence = yield from self._show()
+        gone = absence.gone((yield Look()), presence, sessions, self._now())
+        if gone is not None:
+            if (yield from self._break(array)):
+                self._broke = gone
+            raise NoArray(self._name)
+
+    def _owner_of(self, array: Array) -> Steps[Optional[int]]:
+        (owner,) = yield from batch([requests.readff(array, self.OWNER, nowait=True)], NotNow)
+        return int(owner) if is_full(owner) else None
+
+    def _owner(self) -> Steps[Optional[int]]:
+        while True:
+            try:
+                return (yield from self._owner_of((yield from self._find())))
+            except NoArray:
+                self._array = None
+
+    def _release(self, of: Optional[Array] = None) -> Steps[None]:
+        """`NotOwner` if this session does not hold it. Only a session's own process empties a word with that session.
+
+        `of`: the array that was acquired. If it was broken, another thread of this client may have the next one.
+        """
+        holdings = self._core.holdings
+        try:
+            array = of or (yield from self._begin())
+            try:
+                holdings.words.remove((array.id, self.OWNER))  # one thread releases it
+            except KeyError:
+                if not holdings.left.take(array, self.OWNER):
+                    owner = yield from self._owner_of(array)
+                    whose = "free" if owner is None else f"session {owner}'s"
+                    raise NotOwner(f"{self._name} is {whose}") from None
+            yield from self._empty(array)
+        except (NoArray, NotNow):
+            self._array = None
+            raise NotOwner(f"{self._name} was taken over") from None
+
+    def _empty(self, array: Array) -> Steps[None]:
+        yield from batch([requests.readfe(array, self.OWNER, nowait=True)])
+
+    def _mend(self, array: Array, gives_back: bool, asked: Sequence[Ticket[Any]]) -> Steps[None]:
+        filled, emptied = (done_at(asked, code).count(self.OWNER) for code in (frames.WRITEEF, frames.READFE))
+        if emptied if gives_back else filled <= emptied:
+            return  # it is released, or was not acquired
+        try:
+            if (yield from self._owner_of(array)) == self._session:
+                self._core.holdings.words.discard((array.id, self.OWNER))
+                yield from batch([requests.readfe(array, self.OWNER, nowait=True)], NotNow)
+        except NoArray:
+            pass  # it was broken
+
+    def _release_if_got(self, got: object, of: Optional[Array] = None) -> Steps[None]:
+        """Releases it after an acquisition that no caller waits for any more."""
+        if got:
+            try:
+                yield from self._release(of)
+            except NotOwner:
+                pass
+
+    def _break(self, array: Optional[Array] = None) -> Steps[bool]:
+        """Removes the array, and with it whatever its owner may still do to it. Whether this client removed it.
+
+        Waiting clients go to the next array.
+        """
+        if array is None:
+            array = yield from self._find()
+        (done,) = yield from batch([requests.remove(array)], NoArray)
+        self._array = None
+        self._core.holdings.words.discard((array.id, self.OWNER))
+        return is_full(done)
+
+
+class Lock(Owned):
+    """Held by one client at a time. Its word has the session of its owner.
+
+    A client that is gone for good while it holds the lock leaves it held. `owner` says whose it is, `break_` frees it, and
+    `acquire(takeover_after=..)` does so if the owner is absent. An owner that was killed and is started again in its
+    session acquires it at once; `adopted` is then true.
+    """
+
+    @operation_with(undo="_release_if_got", light=True)
+    def acquire(self, timeout: Optional[float] = None, *, takeover_after: Optional[float] = None, key: Optional[Key] = None) -> Steps[bool]:
+        """Waits for the lock. Returns whether it was acquired in time.
+
+        With `takeover_after`, an owner that was absent for that long loses the lock. It may only be reconnecting, and
+        continue with what the lock protects: `generation` tells the two apart. With a key, which needs a session file,
+        this is one acquisition, however often it is called again: `NotOwner` if it is over.
+        """
+        patience = seconds_of(takeover_after, "takeover_after")
+        return (yield from self._acquire(self._deadline(timeout), False, patience, key))
+
+    @operation_with(undo="_release_if_got", light=True)
+    def try_acquire(self) -> Steps[bool]:
+        """Takes the lock if it is free now."""
+        return (yield from self._acquire(None, True, None, None))
+
+    @operation_with(gives_back=True, light=True)
+    def release(self) -> Steps[None]:
+        """Releases the lock. `NotOwner` at once if it is free, or held by another session."""
+        yield from self._release()
+
+    @operation
+    def owner(self) -> Steps[Optional[int]]:
+        """The session that holds the lock, or `None`. It may be this client's, held by an earlier process."""
+        return (yield from self._owner())
+
+    @operation
+    def locked(self) -> Steps[bool]:
+        """Whether some session holds the lock."""
+        return (yield from self._owner()) is not None
+
+    @operation
+    def break_(self) -> Steps[bool]:
+        """Frees the lock, whoever holds it, and returns whether this call did. The owner's `release` raises `NotOwner`."""
+        return (yield from self._break())
+
+
+class Election(Owned):
+    """One leader at a time. What the leader changes can refuse an earlier one by the number that `campaign` returns."""
+
+    @operation_with(undo="_release_if_got")
+    def campaign(self, timeout: Optional[float] = None, *, takeover_after: Optional[float] = 5.0) -> Steps[Optional[int]]:
+        """Waits until this client leads. Returns its number, greater than that of each leader before, or `None` in time.
+
+        A leader that was absent for `takeover_after` seconds loses its place. A client that is started again in the
+        session of the leader leads again, under a new number.
+        """
+        patience = seconds_of(takeover_after, "takeover_after")
+        got = yield from self._acquire(self._deadline(timeout), False, patience, None)
+        return self._generation if got else None
+
+    @operation_with(gives_back=True)
+    def resign(self) -> Steps[None]:
+        """Gives up the lead. `NotOwner` if this client does not lead, or no longer."""
+        yield from self._release()
+
+    @operation
+    def leader(self) -> Steps[Optional[int]]:
+        """The session of the leader, or `None`."""
+        return (yield from self._owner())
+
+
+class ReadWriteLock(Owned):
+    """Held by one writer, or by up to `readers` clients that read, at most 64. A writer that waits is next: nobody comes
+    before it, except a thread or task that reads and reads again.
+
+    Who reads fills a seat with its session, waits for the word OWNER, sets the seat's bit in the word READERS, and empties
+    OWNER. Who writes keeps OWNER, and waits until READERS is 0. Who reads and then wants to write waits for itself. Of what
+    an earlier process of this session left, a writer adopts OWNER; a seat, or OWNER where one reads, is given back.
+    """
+
+    MARK = b"fe_rwlk2"
+    OWNER, COUNT, READERS, DOOR, SEATS = range(1, 6)
+    COUNTS = (COUNT, READERS)
+
+    def __init__(self, client: Any, name: str, readers: int = 64) -> None:
+        """`readers` is the same for all who share it."""
+        super().__init__(client, name)
+        self._seats = range(self.SEATS, self.SEATS + min(size_of(readers, "readers"), 64))
+        self._next_seat = self._session
+        first = 26 + 2 * len(self._seats)
+        self.REQUESTS = {"acquire_read": (first, first), "release_read": (4, 0), "release_write": (1, 0)}
+        self.REQUESTS["acquire_write"] = (first - 1, first)
+        # Who reads by this handle, and in which array.
+        self._reads: List[Tuple[object, Array]] = []
+
+    def _make(self) -> Steps[Array]:
+        return (yield from marked_array(self._name, self._seats.stop, self.MARK))
+
+    def _session_words(self) -> Sequence[int]:
+        return (self.OWNER, *self._seats)
+
+    def _begin(self) -> Steps[Array]:
+        array = yield from super()._begin()
+        for seat in self._core.holdings.left.take_unkeyed(array, self._seats, None):
+            (bits,) = yield from batch([requests.readff(array, self.READERS, nowait=True)])
+            yield from self._stand_up(array, seat, bool(bits & self._bit(seat)))
+        return array
+
+    # Reading.
+
+    @operation_with(undo="_leave_if_got")
+    def acquire_read(self, timeout: Optional[float] = None, *, takeover_after: Optional[float] = None) -> Steps[bool]:
+        """Waits until this client may read. Returns whether it may, in time."""
+        return self._acquire_read(self._caller(), self._deadline(timeout), seconds_of(takeover_after, "takeover_after"))
+
+    def _acquire_read(self, caller: object, end: Optional[float], patience: Optional[float]) -> Steps[bool]:
+        self._broke, self._adopted = None, False
+        yield from self._show()
+        while True:
+            try:
+                array = yield from self._begin()
+                if self._core.holdings.left.take(array, self.OWNER):  # it may have to wait for a seat
+                    yield from batch([requests.readfe(array, self.OWNER, nowait=True)], NotNow)
+                again = self._core.holdings.reads.join(array.id, caller, again=True)
+                if not again and not (yield from self._enter(array, caller, end, patience)):
+                    return False
+                self._reads.append((caller, array))
+                return True
+            except NoArray:
+                self._array = None  # it was broken
+
+    def _enter(self, array: Array, caller: object, end: Optional[float], patience: Optional[float]) -> Steps[bool]:
+        """A seat, unless this client has one, and then a turn: no seat is waited for with the word OWNER."""
+        while True:
+            seat = None
+            if not self._core.holdings.reads.has(array.id):
+                seat = yield from self._sit(array, end, patience)
+                if seat is None:
+                    return False
+            if not (yield from self._turn(array, seat, end, patience)):
+                return False
+            if (yield from self._read(array, seat, caller)):
+                return True
+
+    def _sit(self, array: Array, end: Optional[float], patience: Optional[float]) -> Steps[Optional[int]]:
+        """Takes a seat. Where all are taken it waits at one after the other."""
+        absence, pause = None if patience is None else Absence(patience), FIRST_LOOK
+        while True:
+            seat = self._seats[self._next_seat % len(self._seats)]
+            mine = requests.writeef(array, seat, self._session, nowait=True)
+            if is_full((yield from batch([mine], NotNow))[0]):
+                return seat
+            holders = yield from self._holders(array, self._seats)
+            if len(holders) < len(self._seats):
+                self._next_seat = next(seat for seat in self._seats if seat not in holders) - self.SEATS
+                continue
+            if absence is not None:
+                yield from self._break_if_away(array, holders.values(), absence)
+            rest = self._left(end)
+            if rest == 0.0:
+                return None
+            try:
+                yield Wait(requests.writeef(array, seat, self._session), pause if rest is None else min(pause, rest))
+                return seat
+            except TimedOut:
+                self._next_seat, pause = self._next_seat + 1, min(2 * pause, self._pause(patience))
+
+    def _turn(self, array: Array, seat: Optional[int], end: Optional[float], patience: Optional[float]) -> Steps[bool]:
+        """Fills the word OWNER, or gives the seat back."""
+        try:
+            got = yield from self._own(array, end, False, patience, self._one_try())
+        except FememError:
+            yield from self._stand_up(array, seat, False)
+            raise
+        if not got:
+            yield from self._stand_up(array, seat, False)
+        return got
+
+    def _read(self, array: Array, seat: Optional[int], caller: object) -> Steps[bool]:
+        """Begins to read, with the word OWNER, and empties that. False if a seat is needed: the one who had it has left."""
+        reads = self._core.holdings.reads
+        asked: List[Request[Any]] = [requests.readfe(array, self.OWNER, nowait=True)]
+        joins = reads.join(array.id, caller, again=False)
+        if seat is not None:
+            begins = requests.int_fetch_add(array, self.READERS, self._bit(seat), nowait=True)
+            asked.insert(0, requests.readfe(array, seat, nowait=True) if joins else begins)
+        self._core.holdings.words.discard((array.id, self.OWNER))
+        yield from batch(asked)
+        if not joins and seat is not None:
+            reads.begin(array.id, seat, caller)
+        return joins or seat is not None
+
+    def _bit(self, seat: int) -> int:
+        return 1 << seat - self.SEATS
+
+    def _stand_up(self, array: Array, seat: Optional[int], reads: bool) -> Steps[bool]:
+        """Gives a seat back, and before it its bit. The last one that reads tells a writer. Whether the lock is there yet."""
+        if seat is None:
+            return True
+        bit, asked = self._bit(seat), [requests.readfe(array, seat, nowait=True)]
+        if reads:
+            asked.insert(0, requests.int_fetch_add(array, self.READERS, -bit % 2**64, nowait=True))
+            asked.append(requests.readff(array, self.OWNER, nowait=True))
+        outcomes = yield from batch(asked, NotNow, NoArray)
+        if reads and outcomes[0] == bit and is_full(outcomes[2]):
+            yield from batch([requests.writexf(array, self.DOOR, 0)], NoArray)
+        return not isinstance(outcomes[0], NoArray)
+
+    def _holders(self, array: Array, seats: Iterable[int]) -> Steps[Dict[int, int]]:
+        """The sessions of those seats that are taken."""
+        seats = list(seats)
+        found = yield from batch([requests.readff(array, seat, nowait=True) for seat in seats], NotNow)
+        return {seat: int(holder) for seat, holder in zip(seats, found) if is_full(holder)}
+
+    @operation_with(gives_back=True)
+    def release_read(self) -> Steps[None]:
+        """This thread or task reads no more, or another one of this handle if it does not read. `NotOwner` if none reads, or
+        somebody broke the lock."""
+        return self._leave(self._caller())
+
+    def _leave(self, caller: object) -> Steps[None]:
+        if not self._reads:
+            raise NotOwner(f"{self._name} is not held for reading")
+        read = next((each for each in reversed(self._reads) if each[0] == caller), self._reads[-1])
+        self._reads.remove(read)
+        array, seat = read[1], self._core.holdings.reads.leave(read[1].id, read[0])
+        if seat is None:  # others of this client read yet
+            is_there = is_full((yield from batch([requests.readff(array, self.READERS, nowait=True)], NoArray))[0])
+        else:
+            is_there = yield from self._stand_up(array, seat, True)
+        if not is_there:
+            raise NotOwner(f"{self._name} was broken")
+
+    def _leave_if_got(self, got: bool) -> Steps[None]:
+        if got:
+            yield from self._leave(None)
+
+    # Writing.
+
+    @operation_with(undo="_release_if_got", light=True)
+    def acquire_write(self, timeout: Optional[float] = None, *, takeover_after: Optional[float] = None) -> Steps[bool]:
+        """Waits until only this client may read and write. Returns whether it may, in time."""
+        end, patience = self._deadline(timeout), seconds_of(takeover_after, "takeover_after")
+        self._broke, self._adopted = None, False
+        yield from self._show()
+        while True:
+            try:
+                array = yield from self._begin()
+                if not (yield from self._own(array, end, False, patience, self._one_try())):
+                    return False
+                return (yield from self._be_alone(array, end, patience))
+            except NoArray:
+                self._array = None  # it was broken
+
+    def _be_alone(self, array: Array, end: Optional[float], patience: Optional[float]) -> Steps[bool]:
+        """Waits until nobody reads, with the word OWNER, or gives that back."""
+        try:
+            is_alone = yield from self._wait_for_readers(array, end, patience)
+        except FememError:
+            yield from self._release_if_got(True, array)
+            raise
+        if not is_alone:
+            yield from self._release_if_got(True, array)
+        return is_alone
+
+    def _wait_for_readers(self, array: Array, end: Optional[float], patience: Optional[float]) -> Steps[bool]:
+        """The last one that reads fills the word DOOR. With patience, one that is absent loses its seat with all."""
+        absence, pause = None if patience is None else Absence(patience), self._pause(patience)
+        while True:
+            looks = [requests.purge(array, self.DOOR), requests.readff(array, self.READERS, nowait=True)]
+            bits = (yield from batch(looks))[1]
+            if not bits:
+                return True
+            if absence is not None:
+                holders = yield from self._holders(array, self._reading(bits))
+                yield from self._break_if_away(array, holders.values(), absence)
+            rest = self._left(end)
+            if rest == 0.0:
+                return False
+            try:
+                yield Wait(requests.readfe(array, self.DOOR), pause if rest is None else min(pause, rest))
+            except TimedOut:
+                pass
+
+    def _reading(self, bits: int) -> List[int]:
+        return [seat for seat in self._seats if bits & self._bit(seat)]
+
+    @operation_with(gives_back=True, light=True)
+    def release_write(self) -> Steps[None]:
+        """`NotOwner` if this client does not hold it for writing, or no longer."""
+        yield from self._release()
+
+    @operation
+    def owners(self) -> Steps[Tuple[Optional[int], List[int]]]:
+        """The session of the writer, or `None`, and those of the clients that read."""
+        while True:
+            array = yield from self._find()
+            try:
+                writer = yield from self._owner_of(array)
+                (bits,) = yield from batch([requests.readff(array, self.READERS, nowait=True)])
+                return writer, [*(yield from self._holders(array, self._reading(bits))).values()]
+            except NoArray:
+                self._array = None  # it was broken
+
+    @operation
+    def break_(self) -> Steps[bool]:
+        """Frees the lock, whoever holds it. Those who hold it find out when they release it."""
+        return (yield from self._break())
+
+
+class Turn(Pattern):
+    """A `with` block that reads or writes, made by `ReadWriteLock.read` and `write`. `TimedOut` as it begins, and nothing is held,
+    if its time is over before its turn comes."""
+
+    def __init__(self, client: Any, lock: ReadWriteLock, writes: bool, timeout: Optional[float], takeover_after: Optional[float]) -> None:
+        super().__init__(client, lock._name)
+        self._lock = lock
+        self._writes = writes
+        self._timeout = seconds_of(timeout)
+        self._patience = seconds_of(takeover_after, "takeover_after")
+
+    @operation_with(undo="_release_if_got", light=True)
+    def acquire(self) -> Steps[bool]:
+        """Begins the block: its `with` calls this."""
+        kind = ReadWriteLock.acquire_write if self._writes else ReadWriteLock.acquire_read
+        return self._in_time(kind.steps(self._lock, self._timeout, takeover_after=self._patience))
+
+    def _in_time(self, steps: Steps[bool]) -> Steps[bool]:
+        if not (yield from steps):
+            raise TimedOut(f"{self._name} could not be {'written' if self._writes else 'read'} in time")
+        return True
+
+    @operation_with(gives_back=True, light=True)
+    def release(self) -> Steps[None]:
+        """Ends the block: its `with` calls this. `NotOwner` if somebody broke the lock."""
+        kind = ReadWriteLock.release_write if self._writes else ReadWriteLock.release_read
+        return kind.steps(self._lock)
+
+    def _release_if_got(self, got: bool) -> Steps[None]:
+        return self._lock._release_if_got(got) if self._writes else self._lock._leave_if_got(got)
+
+    def _can_mend(self) -> bool:
+        self._array = self._lock._array
+        return self._writes and self._lock._can_mend()
+
+    def _mend(self, array: Array, gives_back: bool, asked: Sequence[Ticket[Any]]) -> Steps[None]:
+        return self._lock._mend(array, gives_back, asked)

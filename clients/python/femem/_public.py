@@ -1,0 +1,14 @@
+"""Under which names the package's classes are shown."""
+
+from __future__ import annotations
+
+import sys
+from typing import Sequence
+
+
+def show_as(module: str, names: Sequence[str]) -> None:
+    """Tracebacks, `help` and pickles name the classes of private modules as programs do: `femem.NotOwner`."""
+    for name in names:
+        found = vars(sys.modules[module])[name]
+        if isinstance(found, type) and found.__module__.startswith("femem._"):
+            found.__module__ = module

@@ -1,0 +1,268 @@
+"""Words that hand on values, each put once and taken once: what queues and semaphores are made of.
+
+Two words count tickets, and ticket t means slot t modulo the number of slots. **A ticket says where to look. It obliges
+nobody.** A value goes in by one `writeef` and out by one `readfe`, so each value is put once and taken once whatever stops,
+and a wait can be taken back. A ticket that nobody uses costs time, not values:
+
+- A client keeps a ticket whose time ran out, and looks there first the next time.
+- Where the other side has the ticket and is late or gone, a client waits a moment and then looks at all slots.
+- A putter whose taker has the ticket and has not come fills the signal with its slot. Who waits for a value also waits for
+  the signal: one of them empties it, and looks at that slot. If the signal is full, the putter makes it say all slots. A
+  client that waits looks at all slots now and then even without a signal.
+
+So a value that lies there is found by whoever waits for one, and a free slot by whoever waits for room, whatever the tickets
+say: no client goes round without end. Each round of a loop waits, or takes or fills a slot, or was outrun by one that did.
+"""
+
+from __future__ import annotations
+
+from collections import deque
+from typing import Any, Callable, Deque, List, Optional, Sequence
+
+from . import requests
+from ._errors import NoArray, NotNow, TimedOut, Withdrawn
+from ._jobs import First, Steps, Wait
+from ._operations import FIRST_LOOK, LAST_LOOK, Tries, batch, is_full, left
+from .requests import Array, Request
+
+# How long a client waits for one that has a ticket and may be late, or gone, in seconds.
+SOON = 0.005
+
+# How long a client that does not wait trusts the tickets, in seconds, before it looks at all slots.
+TRUST = 1.0
+
+MARK, HEAD, TAIL, SIGNAL, SLOTS = range(5)
+
+# What the signal has if there may be values in several slots. Otherwise it has the word of one.
+ALL = 0
+
+
+class Clock:
+    """When a client that waits looks at all slots, and when it ends."""
+
+    def __init__(self, end: Optional[float], now: Callable[[], float]) -> None:
+        self._end = end
+        self._now = now
+        self._pause = FIRST_LOOK
+        self._look_at = now() + FIRST_LOOK
+
+    def pause(self, is_late: bool) -> float:
+        """How long it may wait now: a moment for one that is late, otherwise until the next look."""
+        now = self._now()
+        most = SOON if is_late else left(self._look_at, now)
+        return most if self._end is None else min(most, left(self._end, now))
+
+    def is_over(self) -> bool:
+        return self._end is not None and self._end <= self._now()
+
+    def is_due(self) -> bool:
+        """Whether a look is due. The next one is later."""
+        now = self._now()
+        if now < self._look_at:
+            return False
+        self._pause = min(2 * self._pause, LAST_LOOK)
+        self._look_at = now + self._pause
+        return True
+
+
+class Ring:
+    """The slots of an array from word 4 on, behind the words MARK, HEAD, TAIL and SIGNAL."""
+
+    def __init__(self, name: str, slots: int, now: Callable[[], float]) -> None:
+        """`now`: the client's clock."""
+        self.name = name
+        self.slots = slots
+        self._now = now
+        # Tickets that were not used.
+        self._puts: Deque[int] = deque()
+        self._gets: Deque[int] = deque()
+        self._looked_at = 0.0
+
+    def slot(self, ticket: int) -> int:
+        return SLOTS + ticket % self.slots
+
+    # Putting.
+
+    def put(self, words: Array, value: int, end: Optional[float], nowait: bool, tries: Tries) -> Steps[None]:
+        ticket = (yield from self._put_ticket(words)) if self._puts else (yield from self._new_ticket(words, TAIL))
+        clock: Optional[Clock] = None
+        while True:
+            if (yield from self._put_at(words, ticket, value, tries)):
+                return
+            clock = clock or Clock(end, self._now)
+            (head,) = yield from batch([requests.readff(words, HEAD, nowait=True)])
+            is_late = head > ticket - self.slots  # the taker of the value there has its ticket
+            if not nowait and (yield from self._wait_at(words, ticket, value, clock.pause(is_late), tries)):
+                return
+            is_over = nowait or clock.is_over()
+            if is_over or clock.is_due():
+                if (yield from self._put_anywhere(words, ticket, value, tries)):
+                    if not is_late:
+                        self._puts.append(ticket)
+                    return
+            if is_over:
+                self._puts.append(ticket)
+                raise NotNow(f"{self.name} is full") if nowait else TimedOut(f"put {self.name}")
+            if is_late:
+                # The value there is taken by the taker that gets this ticket's number.
+                ticket = yield from self._new_ticket(words, TAIL)
+
+    def _put_ticket(self, words: Array) -> Steps[int]:
+        """A ticket that was kept, if its taker has not gone on, or a new one."""
+        while self._puts:
+            ticket = self._puts.popleft()
+            (head,) = yield from batch([requests.readff(words, HEAD, nowait=True)])
+            if head <= ticket:
+                return ticket
+        return (yield from self._new_ticket(words, TAIL))
+
+    def _new_ticket(self, words: Array, counter: int) -> Steps[int]:
+        (ticket,) = yield from batch([requests.int_fetch_add(words, counter, 1, nowait=True)])
+        return int(ticket)
+
+    def _put_at(self, words: Array, ticket: int, value: int, tries: Tries) -> Steps[bool]:
+        """Puts the value into its slot, if that is empty."""
+        slot = self.slot(ticket)
+        asked: List[Request[object]] = [requests.writeef(words, slot, value, nowait=True), *self._looks(words, slot)]
+        done, *looks = yield from batch(asked, NotNow, key=tries.next())
+        if isinstance(done, NotNow):
+            return False
+        if looks[1] > ticket:
+            yield from self._tell_if_left(words, ticket, looks)
+        return True
+
+    def _wait_at(self, words: Array, ticket: int, value: int, seconds: float, tries: Tries) -> Steps[bool]:
+        """Waits until the slot is empty, and puts the value there."""
+        slot = self.slot(ticket)
+        try:
+            yield Wait(requests.writeef(words, slot, value), seconds, tries.next())
+        except TimedOut:
+            return False
+        yield from self._tell_if_left(words, ticket, (yield from batch(self._looks(words, slot), NotNow)))
+        return True
+
+    def _looks(self, words: Array, slot: int) -> List[Request[object]]:
+        """What a putter looks at once its value is in."""
+        return [requests.readff(words, word, nowait=True) for word in (slot, HEAD, SIGNAL)]
+
+    def _tell_if_left(self, words: Array, ticket: int, looks: Sequence[Any]) -> Steps[None]:
+        """Fills the signal if the value lies there, though its taker has the ticket, and whoever waits is not told of it."""
+        there, head, signal = looks
+        if head > ticket and is_full(there) and signal != ALL:
+            yield from self.tell(words, self.slot(ticket))
+
+    def _put_anywhere(self, words: Array, ticket: int, value: int, tries: Tries) -> Steps[bool]:
+        """Puts the value into an empty slot, one whose next ticket comes late. Whoever waits is told."""
+        for slot, there in (yield from self._look(words, ticket + self.slots // 2)):
+            if not is_full(there):
+                (done,) = yield from batch([requests.writeef(words, slot, value, nowait=True)], NotNow, key=tries.next())
+                if is_full(done):
+                    yield from self.tell(words, slot)
+                    return True
+        return False
+
+    def leave(self, words: Array, ticket: int, value: int) -> Steps[Any]:
+        """Puts the value into the ticket's slot, or drops it if that is full. One that waits is told if it has to look.
+
+        Returns what HEAD has then.
+        """
+        slot = self.slot(ticket)
+        asked: List[Request[object]] = [requests.writeef(words, slot, value, nowait=True), *self._looks(words, slot)]
+        done, *looks = yield from batch(asked, NotNow, NoArray)
+        if is_full(done):
+            yield from self._tell_if_left(words, ticket, looks)
+        elif isinstance(done, NotNow):
+            yield from self.tell(words, ALL)
+        return looks[1]
+
+    def tell(self, words: Array, slot: int) -> Steps[None]:
+        """Makes one that waits for a value look at this slot, or at all if another signal is there."""
+        (told,) = yield from batch([requests.writeef(words, SIGNAL, slot, nowait=True)], NotNow)
+        if not is_full(told):
+            yield from batch([requests.writexf(words, SIGNAL, ALL)])
+
+    # Taking.
+
+    def get(self, words: Array, end: Optional[float], nowait: bool, tries: Tries) -> Steps[int]:
+        is_kept = bool(self._gets)
+        ticket = self._gets.popleft() if is_kept else (yield from self._new_ticket(words, HEAD))
+        clock: Optional[Clock] = None
+        while True:
+            slot = self.slot(ticket)
+            asked = [requests.readfe(words, slot, nowait=True), requests.readff(words, TAIL, nowait=True)]
+            if nowait:
+                asked.append(requests.readff(words, SIGNAL, nowait=True))
+            value, tail, *signal = yield from batch(asked, NotNow, key=tries.next())
+            if is_full(value):
+                return int(value)
+            clock = clock or Clock(end, self._now)
+            is_late = tail > ticket  # the putter of its value has the ticket
+            if is_late and is_kept:
+                ticket, is_kept = (yield from self._new_ticket(words, HEAD)), False
+                continue
+            if not nowait:
+                value, *signal = yield from self._wait_for(words, slot, is_late, clock.pause(is_late), tries)
+                if is_full(value):
+                    return int(value)
+            elif is_full(*signal):
+                signal = yield from batch([requests.readfe(words, SIGNAL, nowait=True)], NotNow)
+            is_over = nowait or clock.is_over()
+            is_due = clock.is_over() or clock.is_due() or nowait and (is_late or self._now() - self._looked_at > TRUST)
+            found = yield from self._get_told(words, ticket, signal, is_due, tries)
+            if found is not None:
+                if not is_late:
+                    self._gets.append(ticket)
+                return found
+            if is_over:
+                self._gets.append(ticket)
+                raise NotNow(f"{self.name} is empty") if nowait else TimedOut(f"get {self.name}")
+            if is_late:
+                ticket = yield from self._new_ticket(words, HEAD)
+
+    def _wait_for(self, words: Array, slot: int, is_late: bool, seconds: float, tries: Tries) -> Steps[List[Any]]:
+        """Waits for the slot's value: for a putter that is late that alone, otherwise for the signal too."""
+        asked = [requests.readfe(words, slot)]
+        if not is_late:
+            asked.append(requests.readfe(words, SIGNAL))
+        value, *signal = yield First(asked, seconds, tries.next())
+        is_told = any(map(is_full, signal))
+        if is_full(value) and is_told:
+            yield from self.tell(words, signal[0])  # for another one that waits
+        if not is_full(value) and (not isinstance(value, Withdrawn) or not isinstance(value, TimedOut) and not is_told):
+            raise value  # the array is gone, or the caller is interrupted
+        return [value, *signal]
+
+    def _get_told(self, words: Array, ticket: int, signal: Sequence[Any], is_due: bool, tries: Tries) -> Steps[Optional[int]]:
+        """Takes the value that a signal tells of, if it is there, or any value if it tells of all slots or a look is due."""
+        told = [slot for slot in signal if is_full(slot)]
+        if told and told[0] != ALL:
+            (value,) = yield from batch([requests.readfe(words, told[0], nowait=True)], NotNow, key=tries.next())
+            if is_full(value):
+                return int(value)
+        return (yield from self._get_anywhere(words, ticket, tries)) if is_due or ALL in told else None
+
+    def _get_anywhere(self, words: Array, ticket: int, tries: Tries) -> Steps[Optional[int]]:
+        """Takes a value from any slot, that of the lowest ticket first."""
+        full = [slot for slot, there in (yield from self._look(words, ticket, purges=True)) if is_full(there)]
+        while full:
+            asked: List[Request[object]] = [requests.readfe(words, full.pop(0), nowait=True)]
+            if full:
+                asked.append(requests.writexf(words, SIGNAL, ALL))  # for another one that waits
+            value, *_ = yield from batch(asked, NotNow, key=tries.next())
+            if is_full(value):
+                return int(value)
+        return None
+
+    def _look(self, words: Array, ticket: int, purges: bool = False) -> Steps[List[tuple[int, object]]]:
+        """Each slot and what it has, that of the ticket first. Purges the signal before: what is put later fills it again."""
+        slots = [self.slot(ticket + k) for k in range(self.slots)]
+        asked: List[Request[object]] = [requests.purge(words, SIGNAL)] if purges else []
+        asked += [requests.readff(words, slot, nowait=True) for slot in slots]
+        found = yield from batch(asked, NotNow)
+        if purges:
+            self._looked_at = self._now()
+        return list(zip(slots, found[-self.slots :]))
+
+    def size(self, words: Array) -> Steps[int]:
+        found = yield from self._look(words, 0)
+        return sum(is_full(there) for _, there in found)
