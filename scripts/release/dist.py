@@ -1,10 +1,10 @@
 """Puts a release into one folder: the Debian packages, the Python client's wheel and source archive, the C library's archive, the
 proof's record, and the SHA-256 sums of all of them.
 
-Usage: scripts/dist PROGRAM RECORD FOLDER
+Usage: scripts/dist [--try] PROGRAM RECORD FOLDER
 
-It refuses a program whose record is not of the present sources. The same sources give the same files. It needs dpkg-deb, make
-and a C compiler, but no network.
+It refuses a program whose record is not of the present sources, and a text that is no release (scripts/release/versions.py), unless it
+is only tried. The same sources give the same files. It needs dpkg-deb, make and a C compiler, but no network.
 """
 
 import gzip
@@ -18,9 +18,8 @@ import tempfile
 import time
 import zipfile
 
-from . import builds, package, pages, record as records
+from . import builds, package, record as records, tree, versions
 
-TOP = pages.TOP
 
 def dated_wheel(path, epoch):
     """The wheel with the release's time on all of its files."""
@@ -56,11 +55,13 @@ def dated_source(path, epoch):
     packed(path, files, epoch)
 
 
-def c(folder, version, epoch):
+def c(clients, folder, epoch):
     """What `make install` of the C client puts into a prefix, as an archive to unpack there."""
-    name = f"femem-c-{version}-linux-amd64"
+    name = f"femem-c-{versions.version()}-linux-amd64"
     with tempfile.TemporaryDirectory() as room:
-        words = ["make", "-s", "-C", os.path.join(TOP, "clients", "c"), "install", "PREFIX=/usr/local", f"DESTDIR={room}"]
+        # (debugging information would have the path of this copy)
+        flags = [f"CFLAGS={builds.C_FLAGS}", f"LDFLAGS={builds.LINK_FLAGS}"]
+        words = ["make", "-s", "-C", os.path.join(clients, "c"), "install", "PREFIX=/usr/local", f"DESTDIR={room}", *flags]
         subprocess.run(words, check=True, stdout=subprocess.DEVNULL)
         top = os.path.join(room, "usr", "local")
         found = []
@@ -78,34 +79,52 @@ def c(folder, version, epoch):
         packed(os.path.join(folder, f"{name}.tar.gz"), files, epoch)
 
 
-def dist(program, record, folder):
+def refuses(program, record, is_try):
+    """Ends with status 1 if this program or this text must not be released."""
     fault = records.fault_of(program, record)
     if fault:
         sys.exit(f"femem: {fault}: 'make prove' proves these sources")
-    version, epoch = pages.version(), pages.epoch()
+    fault = None if is_try else versions.fault_of_release()
+    if not fault and not is_try and tree.maintainer() == tree.NOBODY:
+        fault = "nobody maintains it: FEMEM_MAINTAINER='NAME <ADDRESS>'"
+    if fault:
+        sys.exit(f"femem: {fault}: CONTRIBUTING.md says how a release is made")
+
+
+def of_clients(folder, epoch):
+    """Wheel, source archive and C library."""
+    with tempfile.TemporaryDirectory() as room:
+        clients = builds.sources(room)
+        builds.python(clients, folder)
+        for name in os.listdir(folder):
+            if name.endswith(".whl"):
+                dated_wheel(os.path.join(folder, name), epoch)
+            elif name.endswith(".tar.gz"):
+                dated_source(os.path.join(folder, name), epoch)
+        c(clients, folder, epoch)
+
+
+def dist(program, record, folder, is_try=False):
+    refuses(program, record, is_try)
     shutil.rmtree(folder, ignore_errors=True)
     os.makedirs(folder)
     with open(program, "rb") as first, open(record, "rb") as second:
         package.build(first.read(), folder, second.read())
-    builds.python(folder)
-    for name in os.listdir(folder):
-        if name.endswith(".whl"):
-            dated_wheel(os.path.join(folder, name), epoch)
-        elif name.endswith(".tar.gz"):
-            dated_source(os.path.join(folder, name), epoch)
-    c(folder, version, epoch)
+    of_clients(folder, versions.epoch())
     shutil.copyfile(record, os.path.join(folder, "proof"))
     names = sorted(os.listdir(folder))
     for name in names:
-        if name != "proof" and version not in name:
-            sys.exit(f"femem: {name} is not of version {version}")
+        if name != "proof" and not any(it in name for it in (versions.version(), versions.python())):
+            sys.exit(f"femem: {name} is not of version {versions.version()}")
     with open(os.path.join(folder, "SHA256SUMS"), "w", encoding="ascii") as file:
         file.write("".join(f"{records.sum_of(os.path.join(folder, name))}  {name}\n" for name in names))
     return [*names, "SHA256SUMS"]
 
 
 def main():
-    if len(sys.argv) != 4:
-        sys.exit("usage: scripts/dist PROGRAM RECORD FOLDER")
-    for name in dist(*sys.argv[1:]):
-        print(os.path.join(sys.argv[3], name))
+    is_try = sys.argv[1:2] == ["--try"]
+    words = sys.argv[2:] if is_try else sys.argv[1:]
+    if len(words) != 3:
+        sys.exit("usage: scripts/dist [--try] PROGRAM RECORD FOLDER")
+    for name in dist(*words, is_try):
+        print(os.path.join(words[2], name))

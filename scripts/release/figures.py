@@ -1,10 +1,11 @@
-"""Writes docs/figures.md: how large the repository is, and what the last run of the gate on this machine took.
+"""Writes bench/results/figures.md, how large the repository is and what the last run of the gate on this machine took, and the tables of
+docs/performance.md.
 
 Usage: scripts/figures [--before NAME COSTS.. --after COSTS..]
 
 The gate leaves its last line, its log and its costs in out/gate, and scripts/plant what it found in out/plant. Where they left nothing,
-as in a new clone, the page keeps what it has of them. A file of bench/results has what a bench of that name printed last, with when
-and where, and is written anew with each figure that changes. No figure of this page is written by hand. With --before and --after it compares the costs of another text, which it calls
+as in a new clone, the page keeps what it has of them. A text of bench/results has what a bench of that name printed last, with when
+and where, and is written anew with each figure that changes. No figure of these two is written by hand. With --before and --after it compares the costs of another text, which it calls
 NAME, with those of this one. A file of COSTS is as scripts/measure writes it, and counts for a crate where no later one has it.
 """
 
@@ -17,7 +18,8 @@ import subprocess
 from . import pages, planted, record
 
 TOP = pages.TOP
-PAGE = os.path.join(TOP, "docs", "figures.md")
+PAGE = os.path.join(TOP, "bench", "results", "figures.md")
+SPEED = os.path.join(TOP, "docs", "performance.md")
 GATE = os.path.join(TOP, "out", "gate")
 BENCHES = ("serve", "beside", "clients", "histories", "hall")
 
@@ -108,9 +110,9 @@ def chain(found):
     return max(dearest.values())
 
 
-def section(heading):
-    """The lines of a section of the page as it is, without its heading and the empty lines around them."""
-    with open(PAGE, encoding="utf-8") as file:
+def section(heading, path=PAGE):
+    """The lines of a section of a page as it is, without its heading and the empty lines around them."""
+    with open(path, encoding="utf-8") as file:
         found = re.search(rf"^## {heading}\n\n(.*?)\n*(?=^## |\Z)", file.read(), re.M | re.S)
     return found[1].split("\n") if found else []
 
@@ -206,12 +208,19 @@ def speed():
             yield from (*file.read().rstrip("\n").split("\n"), "")
 
 
+def performance():
+    """docs/performance.md with the tables of today, its last section."""
+    with open(SPEED, encoding="utf-8") as file:
+        before = file.read().partition("\n## Tables\n")[0]
+    return "\n".join([before, "## Tables", "", *speed()]).rstrip("\n") + "\n"
+
+
 def words():
     """The words of each document."""
     listed = subprocess.run(["git", "-C", TOP, "ls-files", "*.md"], capture_output=True, text=True, check=True).stdout.split()
     found = {}
     for name in listed:
-        if name != "docs/figures.md":
+        if name != os.path.relpath(PAGE, TOP):
             with open(os.path.join(TOP, name), encoding="utf-8") as file:
                 found[name] = len(file.read().split())
     yield row(("document", "words"))
@@ -231,7 +240,6 @@ def page(asked):
         "## Wrong bodies", "",
         "What `rt plant` tried and could judge. Tried bodies in no later column give, by the contract, the"
         " same as the right one. `scripts/planted.txt` says why the explained ones do no harm.", "", *wrong_bodies(), "",
-        "## Speed", "", *speed(),
         "## Documents", "", *words(),
     ]
     return "\n".join(parts) + "\n"
@@ -244,7 +252,9 @@ def main():
     asked = parser.parse_args()
     if bool(asked.before) != bool(asked.after) or asked.before and len(asked.before) < 2:
         parser.error("--before and --after belong together")
-    text = page(asked)
-    with open(PAGE, "w", encoding="utf-8") as file:
-        file.write(text)
-    print(os.path.relpath(PAGE, TOP))
+    # (the other page counts the words of this one)
+    for path, text in ((SPEED, performance), (PAGE, lambda: page(asked))):
+        made = text()
+        with open(path, "w", encoding="utf-8") as file:
+            file.write(made)
+        print(os.path.relpath(path, TOP))

@@ -10,18 +10,21 @@ belong to root. It needs dpkg-deb, make and a C compiler, but no network.
 """
 
 import os
+import re
 import shutil
 import stat
+import subprocess
 import sys
 import tempfile
 import zipfile
 
-from . import builds, pages, record as records
+from . import builds, pages, record as records, versions
 from .tree import TOP, Tree, read
 
-TOOLS = ("storefile.py", "femem-backup", "femem-restore", "femem-rescue", "femem-probe")
+# The names under which the commands of femem-store stood alone.
+FORMER = ("make-store", "femem-backup", "femem-restore", "femem-rescue", "femem-probe")
 MODULES = "usr/lib/python3/dist-packages"
-SHELL = b"#!/usr/bin/python3\nimport sys\n\nfrom femem.shell import main\n\nsys.exit(main())\n"
+SHELL = b"#!/usr/bin/python3\nimport sys\n\nfrom femem._shell import main\n\nsys.exit(main())\n"
 
 # The documents and examples, in folders as in the repository, so that each link leads to the same file.
 DOCUMENTS = "usr/share/doc/femem"
@@ -29,12 +32,23 @@ TITLES = ("README.md", "ARCHITECTURE.md", "CONTRIBUTING.md", "CHANGELOG.md")
 READMES = ("clients/c/README.md", "clients/python/README.md", "packaging/README.md", "bench/hall/README.md")
 
 
+def listed(*path):
+    """The files of a folder."""
+    return sorted(it for it in os.listdir(os.path.join(TOP, *path)) if it != "__pycache__")
+
+
 def server(tree, made):
     tree.put("usr/bin/femem", made.program, 0o755)
-    tree.put("usr/lib/femem/make-store", read("packaging", "make-store"), 0o755)
-    for name in TOOLS:
-        tree.put(f"usr/lib/femem/{name}", read("packaging", "tools", name), 0o644 if name.endswith(".py") else 0o755)
+    tree.put("usr/lib/femem/femem-store", read("packaging", "tools", "femem-store"), 0o755)
+    tree.link("usr/bin/femem-store", "../lib/femem/femem-store")
+    for name in FORMER:
+        tree.link(f"usr/lib/femem/{name}", "femem-store")
+    for name in listed("packaging", "tools", "femem_store"):
+        tree.put(f"usr/lib/femem/femem_store/{name}", read("packaging", "tools", "femem_store", name))
     tree.put("lib/systemd/system/femem.service", read("examples", "femem.service"))
+    tree.put("lib/systemd/system/femem@.service", instance(read("examples", "femem.service").decode()).encode())
+    for name in listed("packaging", "units"):
+        tree.put(f"lib/systemd/system/{name}", read("packaging", "units", name))
     tree.put("usr/lib/tmpfiles.d/femem.conf", read("packaging", "femem-tmpfiles.conf"))
     tree.put("etc/femem.toml", read("packaging", "femem.toml"))
     tree.folders("var/lib/femem")
@@ -42,6 +56,17 @@ def server(tree, made):
         manual(tree, *page)
     if made.record:
         tree.put("usr/share/doc/femem/proof", made.record)
+
+
+def instance(unit):
+    """The unit of a further server, femem@NAME, with paths of its own."""
+    for one, other in (
+        ("/etc/femem.toml", "/etc/femem-%i.toml"), ("/run/femem/", "/run/femem-%i/"), ("=femem\nRuntimeDirectoryMode", "=femem-%i\nRuntimeDirectoryMode"),
+        ("/var/lib/femem-clients", "/var/lib/femem-%i/clients"), ("/var/lib/femem ", "/var/lib/femem-%i "), ("/var/lib/femem\n", "/var/lib/femem-%i\n"),
+        ("Description=femem,", "Description=femem %i,"),
+    ):
+        unit = unit.replace(one, other)
+    return unit
 
 
 def manual(tree, name, number, *rest):
@@ -52,7 +77,9 @@ def take(tree, root, path, mode=0o644):
     """A file, or a link, from the folder where the C parts were installed. Manual pages are compressed."""
     there = os.path.join(root, path)
     if os.path.islink(there):
-        tree.link(path, os.readlink(there))
+        # (manual pages are compressed)
+        zipped = ".gz" if "/man/" in path else ""
+        tree.link(path + zipped, os.readlink(there) + zipped)
     elif "/man/" in path:
         tree.zipped(path, read(there))
     else:
@@ -67,13 +94,26 @@ def command(tree, made):
 
 
 def library(tree, made):
-    for name in (f"libfemem.so.{pages.version()}", "libfemem.so.1"):
+    for name in (f"libfemem.so.{versions.number()}", "libfemem.so.1"):
         take(tree, made.root, f"{builds.LIBRARIES[1:]}/{name}")
+    tree.put("DEBIAN/symbols", symbols(made.root + f"{builds.LIBRARIES}/libfemem.so.1").encode())
+
+
+def symbols(path):
+    """What dpkg-shlibdeps reads: for each name of the library and its version, the version of the package that a program needs. Names
+    have versions since 1.1.0, which calls those of 1.0.0 FEMEM_1.0."""
+    said = subprocess.check_output(["nm", "-D", "--defined-only", path], text=True)
+    lines = ["libfemem.so.1 libfemem1 #MINVER#"]
+    for name, node in sorted(re.findall(r" [TA] (\w[\w.]*)(?:@@?(\S+))?$", said, re.M)):
+        node = node or name
+        lines.append(f" {name}@{node} {'1.1.0' if node == 'FEMEM_1.0' else node.removeprefix('FEMEM_') + '.0'}~")
+    return "\n".join(lines) + "\n"
 
 
 def development(tree, made):
-    for path in ("usr/include/femem.h", "usr/share/man/man3/libfemem.3"):
-        take(tree, made.root, path)
+    take(tree, made.root, "usr/include/femem.h")
+    for name in sorted(os.listdir(os.path.join(made.root, "usr/share/man/man3"))):
+        take(tree, made.root, f"usr/share/man/man3/{name}")
     for name in ("libfemem.a", "libfemem.so", "pkgconfig/femem.pc"):
         take(tree, made.root, f"{builds.LIBRARIES[1:]}/{name}")
 
@@ -111,8 +151,9 @@ class Made:
         self.program, self.record = program, record
         self.wheels = os.path.join(room, "wheels")
         os.mkdir(self.wheels)
-        builds.python(self.wheels)
-        self.root = builds.c(room)
+        clients = builds.sources(room)
+        builds.python(clients, self.wheels)
+        self.root = builds.c(clients, room)
 
 
 def build(program, folder, record=None):

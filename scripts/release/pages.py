@@ -2,49 +2,57 @@
 
 Usage: scripts/man_pages FOLDER
 
-Each page is a list of sections of documents. A section that is given another title is taken up to its first list. A table with narrow columns stays a table; in other tables each row becomes a
+Each page is a list of sections of documents, whose links lead to other pages or to files of the package femem-doc. A table with narrow columns stays a table; in other tables each row becomes a
 paragraph under its first cell, in which the cells from the third on follow the heads of their columns. The date is that of
 SOURCE_DATE_EPOCH, or of the last commit.
 """
 
 import os
 import re
-import subprocess
 import sys
 import time
 
-TOP = os.path.normpath(os.path.join(os.path.dirname(os.path.realpath(__file__)), "..", ".."))
+from .versions import TOP, epoch, version
+
 WIDTH = 70  # columns of text on a terminal of 80
 LONG_PAGE = ".if n .pl 1000i"  # on a terminal: long enough that no table is split over two pages
-LINKS = {"settings.md": "femem.toml(5)", "formats.md": "femem-format(5)"}
+# The page that has a document, or a section of it; what is in none is in the package femem-doc.
+MANUALS = {
+    "docs/commands.md": "femem(1)", "docs/schedules.md": "femem-run(1)", "docs/settings.md": "femem.toml(5)", "docs/femem-store.md": "femem-store(1)",
+    "docs/cli.md": "femem-cli(1)", "docs/formats.md": "femem-store(5)", "docs/formats.md#frames": "femem-frames(5)", "docs/formats.md#codes": "femem-frames(5)",
+    "docs/operating.md#starting": "femem-serve(1)", "docs/operating.md#stopping": "femem-serve(1)", "docs/operating.md#what-a-server-says": "femem-serve(1)",
+    "docs/commands.md#operations": "femem-call(1)", "clients/python/README.md#shell": "femem-shell(1)",
+}
+DOCUMENTS = "/usr/share/doc/femem"
 
-# The page, its number, its description in a line, and its documents, each with the sections taken from it, or None for all. Where
-# they are a mapping, it has the title that a section gets here.
+# The page, its number, its description in a line, its documents, each with the sections taken from it, and the pages to see also.
+SERVE, CALL, LOOK, RUN = (f"### `femem {it}`" for it in ("serve --settings FILE", "call --socket PATH", "look --store PATH", "run"))
 PAGES = (
     (
         "femem", 1, "recoverable server of full/empty memory",
-        (("commands.md", None), ("../README.md", {"Use it": "Operations"}), ("operating.md", ("Starting", "Stopping", "What a server says")), ("schedules.md", None)),
-        ("femem.toml(5)", "femem-format(5)"),
+        (("commands.md", ("Synopsis", "Description", "Commands", "Exit status", "Files", "Example")),),
+        ("femem-serve(1)", "femem-call(1)", "femem-look(1)", "femem-run(1)", "femem-store(1)", "femem.toml(5)"),
     ),
-    ("femem.toml", 5, "settings of femem serve", (("settings.md", None),), ("femem(1)", "femem-format(5)")),
-    ("femem-format", 5, "frames and store of femem", (("formats.md", None),), ("femem(1)", "femem.toml(5)")),
+    (
+        "femem-serve", 1, "serve a store of femem at a socket",
+        (("commands.md", (SERVE,)), ("operating.md", ("Starting", "Stopping", "What a server says"))),
+        ("femem(1)", "femem-store(1)", "femem.toml(5)"),
+    ),
+    ("femem-call", 1, "send lines to a femem server", (("commands.md", (CALL, "Operations", "Example")),), ("femem(1)", "femem-run(1)", "femem-cli(1)")),
+    ("femem-look", 1, "show what is in a store of femem", (("commands.md", (LOOK,)),), ("femem(1)", "femem-serve(1)", "femem-store(1)")),
+    ("femem-run", 1, "run a schedule of many clients of femem", (("commands.md", (RUN,)), ("schedules.md", None)), ("femem(1)", "femem-call(1)")),
+    ("femem-store", 1, "make, copy, check and mend stores of femem", (("femem-store.md", None),), ("femem(1)", "femem-store(5)")),
+    ("femem.toml", 5, "settings of femem serve", (("settings.md", None),), ("femem(1)", "femem-serve(1)")),
+    (
+        "femem-store", 5, "format of a store of femem",
+        (("formats.md", ("Entry record", "Image", "Device", "Journal area")),), ("femem-store(1)", "femem-frames(5)"),
+    ),
+    ("femem-frames", 5, "frames between clients and a femem server", (("formats.md", ("Codes", "Frames")),), ("femem-serve(1)", "femem-store(5)")),
 )
-# The page of the Python client's shell, which is installed with that client.
+# The page of the Python client's command, which is installed with that client.
 SHELL = (
-    "femem-shell", 1, "shell for a femem server", (("../clients/python/README.md", ("Shell",)),), ("femem(1)", "femem-cli(1)"),
+    "femem-shell", 1, "show what waits at a femem server", (("../clients/python/README.md", ("Shell",)),), ("femem(1)", "femem-cli(1)"),
 )
-
-
-def epoch():
-    """The time of everything in a release."""
-    given = os.environ.get("SOURCE_DATE_EPOCH")
-    return int(given or subprocess.check_output(["git", "-C", TOP, "log", "-1", "--format=%ct"]))
-
-
-def version():
-    """The version of program, clients and package: the first in CHANGELOG.md."""
-    with open(os.path.join(TOP, "CHANGELOG.md"), encoding="utf-8") as file:
-        return re.search(r"^## ([0-9]+\.[0-9]+\.[0-9]+)$", file.read(), re.M)[1]
 
 
 def document(name):
@@ -53,19 +61,18 @@ def document(name):
 
 
 def sections_of(lines, wanted):
-    """The lines below the document's title, or those of the named sections."""
+    """The lines below the document's title, or those of the named sections. A section within another one, `### NAME`, comes without
+    its title."""
     body = lines[1:]
     if wanted is None:
         return body
     found = []
     for name in wanted:
-        begin = body.index(f"## {name}")
-        end = next((at for at in range(begin + 1, len(body)) if body[at].startswith("## ")), len(body))
-        section = body[begin:end]
-        if isinstance(wanted, dict):
-            first = next((at for at, line in enumerate(section) if line.startswith("- ")), len(section))
-            section = [f"## {wanted[name]}", *section[1:first]]
-        found += section
+        within = name.startswith("### ")
+        begin = body.index(name if within else f"## {name}")
+        ends = ("## ", "### ") if within else ("## ",)
+        end = next((at for at in range(begin + 1, len(body)) if body[at].startswith(ends)), len(body))
+        found += body[begin + within : end]
     return found
 
 
@@ -74,12 +81,47 @@ def escaped(text):
     return "".join(it if ord(it) < 128 else f"\\[u{ord(it):04X}]" for it in text)
 
 
-def linked(found):
-    text, target = found
-    page = LINKS.get(os.path.basename(target.split("#")[0]))
-    if page and text.strip("`") == os.path.basename(target):
-        return page
-    return f"{text} <{target}>" if target.startswith("http") else text
+def slug(heading):
+    """A heading as a link names it."""
+    return re.sub(r"[^\w\- ]", "", heading.strip().lower()).replace(" ", "-")
+
+
+def section_of(path, part):
+    """The section of a document, as a link names it, in which that heading is."""
+    section = part
+    for line in document(f"../{path}"):
+        if found := re.match(r"(##+) (.*)", line):
+            section = slug(found[2]) if len(found[1]) == 2 else section
+            if slug(found[2]) == part:
+                return section
+    return part
+
+
+class Links:
+    """Where the links of a document lead on a terminal: to a page of the manual, or to a file of femem-doc. One within the page is its
+    text alone."""
+
+    def __init__(self):
+        self.source, self.page = "docs/commands.md", None
+
+    def leads(self, target):
+        file, _, part = target.partition("#")
+        path = os.path.normpath(os.path.join(os.path.dirname(self.source), file)) if file else self.source
+        section = section_of(path, part) if part else ""
+        return MANUALS.get(f"{path}#{section}") or MANUALS.get(path) or f"{DOCUMENTS}/{path}"
+
+    def __call__(self, found):
+        text, target = found
+        if target.startswith("http"):
+            return f"{text} <{target}>"
+        leads = self.leads(target)
+        if leads == self.page:
+            return text
+        named = os.path.basename(target.partition("#")[0])
+        return leads if text.strip("`") in (named, named.removesuffix(".md")) else f"{text} [{leads}]"
+
+
+linked = Links()
 
 
 def inline(text):
@@ -115,7 +157,8 @@ def table(lines):
         return aligned(head, rows, ["l"] * len(head))
     widest = widths.index(max(widths))
     left = WIDTH - gaps - (sum(widths) - widths[widest])
-    if len(head) > 2 and left >= 22:
+    longest = max((len(word) for row in rows for word in plain(row[widest]).split()), default=0)
+    if len(head) > 2 and left >= max(22, longest):
         return aligned(head, rows, [f"lw({left}n)" if at == widest else "l" for at in range(len(head))], widest)
     return described(head, rows)
 
@@ -210,6 +253,7 @@ def page(name, number, line, parts, others):
     out = ["'\\\" t", f'.\\" Made by scripts/man_pages of {", ".join(os.path.normpath(f"docs/{it}") for it, _ in parts)}.']
     out += [".nr HY 0", f'.TH {name.upper()} {number} {date} "femem {version()}"', ".ad l", LONG_PAGE, ".SH NAME", f"{name} \\- {line}"]
     for at, (source, wanted) in enumerate(parts):
+        linked.source, linked.page = os.path.normpath(f"docs/{source}"), f"{name}({number})"
         lines = sections_of(document(source), wanted)
         first = next(it for it in lines if it.strip())
         if not first.startswith("## "):

@@ -14,7 +14,9 @@ import re
 import subprocess
 import sys
 
-TOP = os.path.normpath(os.path.join(os.path.dirname(os.path.realpath(__file__)), "..", ".."))
+from . import versions
+
+TOP = versions.TOP
 
 
 def sum_of(path):
@@ -37,8 +39,8 @@ def said(*words):
 
 
 def commit():
-    changed = said("git", "status", "--porcelain", "--untracked-files=no")
-    return said("git", "rev-parse", "HEAD") + (" and changes that are not committed" if changed else "")
+    name, _, changed = versions.commit()
+    return name + (" and changes that are not committed" if changed else "")
 
 
 def write(program, record, before, by):

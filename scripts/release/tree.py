@@ -7,16 +7,16 @@ import re
 import subprocess
 import sys
 import textwrap
-import time
 
-from . import pages
+from . import versions
 
-TOP = pages.TOP
+TOP = versions.TOP
 DEBIAN = os.path.join(TOP, "packaging", "debian")
 
 # The files for dpkg that a folder of packaging/debian may have, with their modes.
 FOR_DPKG = {
-    "conffiles": 0o644, "templates": 0o644, "triggers": 0o644, "shlibs": 0o644, "postinst": 0o755, "prerm": 0o755, "postrm": 0o755,
+    "conffiles": 0o644, "templates": 0o644, "triggers": 0o644, "shlibs": 0o644, "symbols": 0o644, "postinst": 0o755, "prerm": 0o755,
+    "postrm": 0o755,
 }
 
 
@@ -38,14 +38,33 @@ def entry(line):
     return f"  [ {line.removesuffix(':')} ]" if line else ""
 
 
-def changelog(maintainer):
-    """CHANGELOG.md's entries for this version, in Debian's format."""
-    version = pages.version()
-    text = read("CHANGELOG.md").decode()
-    entries = re.search(rf"^## {re.escape(version)}\n\n(.*?)(?=\n## |\Z)", text, re.M | re.S)[1].strip()
-    lines = "\n".join(entry(it) for it in entries.replace("`", "").splitlines())
-    date = time.strftime("%a, %d %b %Y %H:%M:%S +0000", time.gmtime(pages.epoch()))
-    return f"femem ({version}) unstable; urgency=medium\n\n{lines}\n\n -- {maintainer}  {date}\n".encode()
+# The maintainer of packages that somebody builds for himself. A release names one.
+NOBODY = "femem packager <packager@femem.example>"
+
+
+def maintainer():
+    """Who builds the packages: FEMEM_MAINTAINER, `NAME <ADDRESS>`, or what Debian's tools read."""
+    name, address = os.environ.get("DEBFULLNAME"), os.environ.get("DEBEMAIL")
+    return os.environ.get("FEMEM_MAINTAINER") or (f"{name} <{address}>" if name and address else NOBODY)
+
+
+def changelog():
+    """CHANGELOG.md in Debian's format. What is not released has the time of its commit."""
+    found = []
+    for number, date, text in versions.entries():
+        text = re.sub(r"\[([^\]]*)\]\([^)]*\)", r"\1", text).replace("`", "").replace("**", "")
+        lines = "\n".join(entry(it) for it in (text or "- Nothing is new yet.").splitlines())
+        head = f"femem ({number}) unstable" if date else f"femem ({versions.version()}) UNRELEASED"
+        found.append(f"{head}; urgency=medium\n\n{lines}\n\n -- {maintainer()}  {versions.rfc(date or versions.commit()[1])}\n")
+    return "\n".join(found).encode()
+
+
+def filled(control, **values):
+    """A control file with the values of its fields; one without a value, which `Homepage` may be, is left out."""
+    values = {"VERSION": versions.version(), "MAINTAINER": maintainer(), "HOMEPAGE": os.environ.get("FEMEM_HOMEPAGE", ""), **values}
+    for name, value in values.items():
+        control = control.replace(f"@{name}@", value)
+    return re.sub(r"^Homepage: \n", "", control, flags=re.M)
 
 
 def licence():
@@ -105,15 +124,13 @@ class Tree:
     def describe(self):
         """Adds what every package has: changelog, copyright, overrides, sums, and the files for dpkg."""
         control = read(DEBIAN, self.name, "control").decode()
-        maintainer = re.search(r"^Maintainer: (.*)$", control, re.M)[1]
-        self.zipped(f"usr/share/doc/{self.name}/changelog", changelog(maintainer))
+        self.zipped(f"usr/share/doc/{self.name}/changelog", changelog())
         self.put(f"usr/share/doc/{self.name}/copyright", read(DEBIAN, "copyright").replace(b"@LICENSE@", licence().encode()))
         if os.path.exists(os.path.join(DEBIAN, self.name, "lintian-overrides")):
             self.put(f"usr/share/lintian/overrides/{self.name}", read(DEBIAN, self.name, "lintian-overrides"))
         sums = "".join(f"{hashlib.md5(read(self.folder, it)).hexdigest()}  {it}\n" for it in self.files())
         self.put("DEBIAN/md5sums", sums.encode())
-        for value, name in ((pages.version(), "VERSION"), (str(self.kibibytes()), "SIZE"), (self.c_library(), "LIBC")):
-            control = control.replace(f"@{name}@", value)
+        control = filled(control, SIZE=str(self.kibibytes()), LIBC=self.c_library())
         self.put("DEBIAN/control", control.encode())
         for name, mode in FOR_DPKG.items():
             if os.path.exists(os.path.join(DEBIAN, self.name, name)):
@@ -123,9 +140,9 @@ class Tree:
     def packed(self, folder):
         """Makes the package in a folder. Returns its path."""
         architecture = self.describe()
-        made = os.path.join(folder, f"{self.name}_{pages.version()}_{architecture}.deb")
+        made = os.path.join(folder, f"{self.name}_{versions.version()}_{architecture}.deb")
         words = ["dpkg-deb", "--root-owner-group", "-Zxz", "-z9", "--threads-max=1", "--build", self.folder, made]
-        env = {**os.environ, "SOURCE_DATE_EPOCH": str(pages.epoch())}
+        env = {**os.environ, "SOURCE_DATE_EPOCH": str(versions.epoch())}
         if subprocess.run(words, stdout=subprocess.DEVNULL, env=env, check=False).returncode:
             sys.exit(f"femem: dpkg-deb made no package {self.name}")
         return made
