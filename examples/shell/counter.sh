@@ -4,9 +4,6 @@
 set -eu
 step=1
 while [ "$step" -le "$2" ]; do
-  until femem-cli --session-file "$1" --key "step $step" counter steps +1; do
-    [ $? = 4 ] || exit 1 # (4: there is no server now)
-    sleep 0.1
-  done
+  femem-cli --session-file "$1" --key "step $step" counter steps +1
   step=$((step + 1))
 done

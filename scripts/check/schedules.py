@@ -1,4 +1,4 @@
-"""The schedules of examples/ against a real server: with `femem call` if one client can send them, and over sockets."""
+"""The schedules of examples/ and of schedules/ against a real server: with `femem call` if one client can send them, and over sockets."""
 
 import os
 import re
@@ -7,18 +7,34 @@ import time
 from . import wire
 from .harness import Server, holds, same, within
 from .tables import number, rows
-from .texts import NAME, text_of
+from .texts import NAME, TOP, text_of
 
-EXAMPLES = os.path.join(os.path.dirname(os.path.realpath(__file__)), "..", "..", "examples")
+# Where the schedules are that documents show, and those that are only tests.
+FOLDERS = ("examples", "scripts/check/schedules")
+
+
+def paths():
+    """Each schedule's name, in order, and its path without `.txt`."""
+    found = [os.path.join(TOP, folder, it[: -len(".txt")]) for folder in FOLDERS for it in os.listdir(os.path.join(TOP, folder)) if it.endswith(".txt")]
+    names = {os.path.basename(it): it for it in found}
+    same(len(names), len(found), "schedules, each with a name of its own")
+    return dict(sorted(names.items()))
+
+
+def content_of(name, kind):
+    """A schedule, `txt`, what it prints, `out`, or its message, `err`, if it has one."""
+    path = f"{paths()[name]}.{kind}"
+    if kind == "err" and not os.path.exists(path):
+        return b""
+    with open(path, "rb") as file:
+        return file.read()
 
 
 def schedules():
     """Each schedule without a fault: its name, lines and output."""
-    for file in sorted(os.listdir(EXAMPLES)):
-        name = file[: -len(".txt")]
-        if file.endswith(".txt") and not os.path.exists(os.path.join(EXAMPLES, f"{name}.err")):
-            with open(os.path.join(EXAMPLES, file), "rb") as text, open(os.path.join(EXAMPLES, f"{name}.out"), "rb") as out:
-                yield name, text.read().splitlines(), out.read().splitlines()
+    for name in paths():
+        if not content_of(name, "err"):
+            yield name, content_of(name, "txt").splitlines(), content_of(name, "out").splitlines()
 
 
 def one_client_can_send(lines, output):
@@ -124,8 +140,7 @@ def in_patterns(place):
         if links := re.findall(r"\]\(\.\./examples/(\w+)\.txt\)", line):
             name = links[-1]
         if line == "| line | printed | |":
-            with open(os.path.join(EXAMPLES, f"{name}.txt"), "rb") as file:
-                lines = file.read().splitlines()
+            lines = content_of(name, "txt").splitlines()
             left, at = list(zip(lines, expected(place, lines))), 0
         elif left and line.startswith("| `c"):
             cells = [NAME.findall(cell) for cell in line.strip("|").split("|")]
