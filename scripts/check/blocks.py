@@ -8,14 +8,16 @@ import subprocess
 
 from .harness import Server, Skipped, compiler, holds, same, until, within
 from .store import JOURNAL
+from .storetool import TOOL
 from .texts import PAGES, TOP, block, split, text_of, told
 
 # Every block of the documents, by its first words: the checks that run it or compare it, or `not run:` and why none does.
 NOT_RUN = "not run: "
 EXAMPLES, STORE, FILE, PYTHON = "clients.tests_in_python", "docs/store.md", "docs/session-file.md", "clients/python/README.md"
 BLOCKS = {
-    "README.md": (("make run ", "unproved.first_lines"),),
+    "README.md": (("from femem import Client", "blocks.first_screen"), ("before: ", "blocks.first_screen")),  # and deb.first_screen, from the packages
     "CONTRIBUTING.md": (
+        ("make run ", "unproved.first_lines"),
         ("cd crates/fe_wire", NOT_RUN + "it proves a crate, which the gate does by other words; places.programs knows the folder"),
         ("# clause: Decoder::feed reads", "blocks.planted_edit"),
     ),
@@ -26,18 +28,21 @@ BLOCKS = {
         ("printf 'attach 7", "blocks.example_of_commands"),
         ("welcome 7 1", "blocks.example_of_commands"),
     ),
+    "docs/femem-store.md": (("femem-store make STORE", "manuals.of_the_tools"), ("place 6569", "rescues.shown")),
     "docs/formats.md": (("04 13 02 00", "facts.examples"), ("0000000000000003 ", "facts.examples")),
     "docs/operating.md": (
         ("femem serve --settings /etc/femem.toml", "blocks.unit_line"),
         ("apt install", "blocks.page_of_operating"),  # deb.py installs the packages, in a system of its own
+        ("femem-store check", "blocks.page_of_operating"),
+        ("name=test", "deb.leaves_nothing"),
         ("folder=/srv/femem", "deb_clients.elsewhere"),
         ("place 5", "blocks.page_of_operating"),
         ("systemctl is-active femem", "blocks.page_of_operating"),
-        ("  /usr/lib/femem/femem-backup", "blocks.page_of_operating"),
-        ("  systemctl stop femem", "blocks.page_of_operating"),
-        ("systemctl stop femem\n/usr/lib/femem/femem-restore", "blocks.page_of_operating"),
-        ("systemctl stop femem\n/usr/lib/femem/femem-rescue", "blocks.page_of_operating"),
-        ("for at in", "blocks.page_of_operating"),
+        ("systemctl enable --now femem-watch.timer", "year.year"),
+        ("  femem-store backup", "blocks.page_of_operating"),
+        ("  systemctl enable --now femem-backup.timer", "year.year"),
+        ("systemctl stop femem\nfemem-store restore", "blocks.page_of_operating"),
+        ("systemctl stop femem\nfemem-store rescue", "blocks.page_of_operating"),
         ("  printf 'attach 7", "blocks.page_of_operating"),
     ),
     "docs/patterns.md": (("femem run < examples/queue_of_one.txt", "runs.worked_schedules"),),
@@ -52,10 +57,16 @@ BLOCKS = {
         ("slot 0 ", "writes.layout"), ("at offset o", "writes.orders"), ("write   journal area", "writes.orders"), ("sync\nread ", "writes.orders"),
         ("format ", "writes.life"), ("write   both header gates", "writes.orders"), ("PATH.new ", "writes.life"), ("sync\n1 ", "writes.life"),
     ),
-    "clients/c/README.md": tuple((first, "blocks.page_of_c") for first in ("make ", "femem *client;", "femem_open_file(", "femem_queue_open(")),
+    "clients/c/README.md": (
+        ("make ", "blocks.page_of_c"), ("femem *client;", "blocks.page_of_c"),
+        ("femem_open_begin(", "examples.loop"),  # which runs examples/c/loop.c, a whole program of this form
+        *[(first, "blocks.page_of_c") for first in ("femem_open_file(", "femem_queue_open(", "femem_lock_open(")],
+    ),
     PYTHON: (
         ("python3 -m venv", "blocks.page_of_python"),
         *[(first, EXAMPLES) for first in ("from femem import", "import threading", *["from femem import"] * 3, "from collections", "import asyncio", "from femem")],
+        ("def test_a_restart", EXAMPLES),
+        ("import pytest", EXAMPLES),
         ("python3 -m femem [", "blocks.page_of_python"),
         ("python3 -m unittest", "clients.python"),  # and clients.tests_in_python; the last line takes ten minutes, and is not in the gate
     ),
@@ -110,22 +121,20 @@ def example_of_commands(place):
     same(shell(place, words), block("docs/commands.md", "welcome 7 1"))
 
 
-def lines_of_python(place):
-    """the README's lines of Python count, from 0 on"""
-    server = Server(place).start()
-    lines = re.findall(r"`((?:from femem|with Client)[^`]*)`", text_of("README.md"))
-    same(len(lines), 2, "lines of Python in the README")
-    place.write("count.py", "\n".join(lines).replace("/run/femem/femem.socket", server.socket).encode())
-    env = {"PYTHONPATH": os.path.join(TOP, "clients", "python"), "PYTHONDONTWRITEBYTECODE": "1"}
-    for was in ("0\n", "1\n"):
-        same(shell(place, f"python3 '{place.path('count.py')}'", env=env), was)
+def first_screen(place):
+    """the README's program prints what the README says, over a kill of its server"""
+    os.mkdir(place.path("bin"))
+    os.symlink(place.program, place.path("bin/femem"))
+    place.write("first.py", block("README.md", "from femem import Client").encode())
+    env = {"PYTHONPATH": os.path.join(TOP, "clients", "python"), "PYTHONDONTWRITEBYTECODE": "1", "TMPDIR": place.folder}
+    env["PATH"] = f"{place.path('bin')}:{os.environ['PATH']}"
+    same(shell(place, f"python3 '{place.path('first.py')}'", env=env), block("README.md", "before: "))
 
 
 FIRST_PATH = b"attach 7\n1 create cells 2 empty\n2 writeef 1 0 42\n3 readfe 1 0\n4 readxx 1 0\n"
 
 
 OPERATING = "docs/operating.md"
-TOOLS = os.path.join(TOP, "packaging", "tools")
 # What stands for systemd here: it starts and stops nothing. deb.py asks the real one.
 SYSTEMCTL = "#!/bin/sh\n[ \"$1\" = is-active ] && echo active || true\n"
 
@@ -135,17 +144,19 @@ def shell_of_operator(place, server):
     os.mkdir(place.path("bin"))
     os.symlink(place.program, place.path("bin/femem"))
     os.chmod(place.write("bin/systemctl", SYSTEMCTL.encode()), 0o755)
+    os.symlink(TOOL, place.path("bin/femem-store"))
     env = {
         "PATH": f"{place.path('bin')}:/usr/sbin:/sbin:{os.environ['PATH']}",
         "PYTHONPATH": os.path.join(TOP, "clients", "python"),
         "FEMEM": place.program,
+        "FEMEM_PLACES": place.path("places"),
         "PYTHONDONTWRITEBYTECODE": "1",
     }
     moved = {
         "/run/femem/femem.socket": server.socket,
         "/var/lib/femem/femem.store": server.store,
         "/backup/": place.path("copy."),
-        "/usr/lib/femem/": f"{TOOLS}/",
+        "/etc/femem.toml": place.path("femem.toml"),
     }
 
     def runs(words):
@@ -164,7 +175,8 @@ def page_of_operating(place):
     runs = shell_of_operator(place, server)
     same(runs(block(OPERATING, "apt install").splitlines()[-1]), "it serves\n")
     same(place.run("call", "--socket", server.socket, given=FIRST_PATH)[::2], (0, b""), "the first path")
-    same(runs(block(OPERATING, "  /usr/lib/femem/femem-backup")), "place 5\n", "a backup while it runs")
+    backup = runs(block(OPERATING, "  femem-store backup"))
+    holds(backup.startswith("place 5\nstate "), f"a backup while it runs: {backup}")
     with server.connect():
         words = block(OPERATING, "systemctl is-active")
         watched(runs(words))
@@ -173,11 +185,9 @@ def page_of_operating(place):
     server.stop()
     # (the probe has added two entries)
     wanted = [re.split("  +", it)[0] for it in block(OPERATING, "place 5").splitlines()]
-    shown = runs(block(OPERATING, "  systemctl stop femem"))
-    same(shown.splitlines(), ["place 7", *wanted[1:]], "look")
-    same(place.read("copy.femem.store"), place.read("femem.store"), "the copy")
-    magics = re.findall(">([^<]{8})[^<]{8}<", runs(block(OPERATING, "for at in")))
-    same(magics, ["FEMEMST2", "." * 8], "the slots' magics")
+    same(server.looks().splitlines(), ["place 7", *wanted[1:]], "look")
+    holds(runs(block(OPERATING, "  femem-store backup")).startswith("place 7\n"), "a backup of the stopped store")
+    before_each_start(place, runs, server)
     server.start()
     same(runs(block(OPERATING, "  printf 'attach 7")), "welcome 7 1\ngoodbye 7\n")
     server.stop()
@@ -188,20 +198,29 @@ def watched(said):
     """What the commands of "Watching a server" say of a server with one connection."""
     lines = said.splitlines()
     same(lines[:3], ["active", "waiting 0", "waiting 0"])
-    holds("femem_sessions 1" in lines, f"metrics: {said}")
     holds(lines[-2] in ("1", "2"), f"connections: {lines[-2]}")
-    holds(lines[-1].startswith("stored in 0."), lines[-1])
+    holds(lines[-1].startswith("stored in "), lines[-1])
+
+
+def before_each_start(place, runs, server):
+    """The page's lines for those without systemd: the check lets the server start, which here ends after one connection."""
+    with open(place.path("femem.toml"), "a", encoding="ascii") as file:
+        file.write("accepts = 1\n")
+    check, note = block(OPERATING, "femem-store check").splitlines()
+    asked = f"until [ -S {server.socket} ]; do sleep 0.05; done; femem call --socket {server.socket} < /dev/null; wait; rm {server.socket}"
+    said = runs(f"{check} > books & {asked}; {note}; cat {server.store}.place")
+    same(said, "place 7\n", "the last known place")
 
 
 def saves(place, server, runs):
     """A backup is restored, and a store that is damaged then is rescued."""
-    same(runs(block(OPERATING, "systemctl stop femem\n/usr/lib/femem/femem-restore")), "before: place 9\nnow: place 7\n")
+    same(runs(block(OPERATING, "systemctl stop femem\nfemem-store restore")), f"before: place 9, kept as {server.store}.before-restore\nnow: place 7\n")
     same(server.looks().splitlines()[0], "place 7")
     with open(server.store, "r+b") as file:
         file.seek(JOURNAL + 5)
         file.write(b"\x09")
-    told_of = runs(block(OPERATING, "systemctl stop femem\n/usr/lib/femem/femem-rescue"))
-    holds(told_of.startswith(f"damaged at {JOURNAL + 5}") and told_of.endswith("\nplace 0\n"), told_of)
+    told_of = runs(block(OPERATING, "systemctl stop femem\nfemem-store rescue"))
+    holds(told_of.startswith(f"damaged at byte {JOURNAL + 5}\n") and told_of.endswith("\nplace 0\n"), told_of)
 
 
 def timeline(place):
@@ -277,11 +296,36 @@ THIRD
   femem_bye(client);
   femem_close(client);
 }
+static uint64_t generation;
+static void write_with(uint64_t number) { generation = number; }
+static femem_error fourth(void) {
+  enum { count = 2 };
+  femem_answer answers[count];
+  femem *client;
+  femem_lock *lock;
+  femem_semaphore *semaphore;
+  femem_barrier *barrier;
+  femem_counter *counter;
+  uint64_t array;
+  femem_open(&client, "SOCKET", 10, NULL);
+  femem_create(client, "ready", 1, true, &array);
+  const femem_request requests[count] = {{.operation = FEMEM_WRITEEF, .array = array}, {.operation = FEMEM_READFF, .array = array}};
+FOURTH
+  femem_counter_close(counter);
+  femem_barrier_close(barrier);
+  femem_semaphore_close(semaphore);
+  femem_lock_close(lock);
+  femem_bye(client);
+  femem_close(client);
+  return answers[0].error == FEMEM_WITHDRAWN ? answers[1].error : answers[0].error;
+}
 int main(void) {
   uint64_t was = first();
   second();
   third();
-  printf("was %" PRIu64 ", then %" PRIu64 " more steps, %u tries\\n", was, noted - 590, worked);
+  femem_error error = fourth();
+  printf("was %" PRIu64 ", then %" PRIu64 " more steps, %u tries, ", was, noted - 590, worked);
+  printf("%s, %s\\n", generation ? "locked" : "not locked", femem_error_text(error));
 }
 """
 
@@ -298,14 +342,14 @@ def page_of_c(place):
     second = block("clients/c/README.md", "femem_open_file(").replace("/run/femem/femem.socket", server.socket)
     second = second.replace("/var/lib/worker/session", place.path("session"))
     third = block("clients/c/README.md", "femem_queue_open(")
-    program = PROGRAM.replace("FIRST", example).replace("SECOND", second).replace("THIRD", third)
+    program = PROGRAM.replace("FIRST", example).replace("SECOND", second).replace("THIRD", third).replace("FOURTH", block("clients/c/README.md", "femem_lock_open("))
     place.write("c/program.c", program.replace("SOCKET", server.socket).encode())
     make, install, cc = block("clients/c/README.md", "make ").splitlines()
     install = install.replace("/usr/local", place.path("usr"))
     cc = f"{cc} -o program && ./program"
     env = {"PKG_CONFIG_PATH": place.path("usr/lib/pkgconfig"), "LD_LIBRARY_PATH": place.path("usr/lib"), "MAKEFLAGS": "-j4"}
     said = shell(place, f"cd c\n{make}\n{install}\n{cc}\n", env=env)
-    same(said.splitlines()[-1], "was 0, then 10 more steps, 2 tries")
+    same(said.splitlines()[-1], "was 0, then 10 more steps, 2 tries, locked, ok")
     server.stop()
     holds("array 1 counter 1" in server.looks().splitlines(), "the example made its array")
 
@@ -325,7 +369,7 @@ def page_of_cli(place):
 
 @within(110)
 def page_of_python(place):
-    """the commands of the Python client's page install it; its shell does what the page shows, against a server"""
+    """the commands of the Python client's page install it; its shell reports what waits at a server"""
     words = block("clients/python/README.md", "python3 -m venv").strip()
     pip = ["python3", "-m", "ensurepip", "--version"]
     if subprocess.run(pip, stdin=subprocess.DEVNULL, capture_output=True, timeout=60, check=False).returncode:
@@ -336,11 +380,8 @@ def page_of_python(place):
     shell(place, words, env={"PIP_NO_INDEX": "1", "PIP_QUIET": "1", "PIP_DISABLE_PIP_VERSION_CHECK": "1"})
     server = Server(place).start()
     env = {"PATH": f"{place.path('femem-env/bin')}:{os.environ['PATH']}"}
-    lines = re.findall(r"`(create slot 2|writeef slot 0 42|readfe slot 0 nowait)`", text_of("clients/python/README.md"))
-    same(len(lines), 3, "lines of the shell on its page")
-    use = "python3 -m femem '{}' --session 7 {}"
-    said = [shell(place, use.format(server.socket, it), env=env) for it in lines]
-    same([it.split()[-1:] for it in said[2:]], [["42"]], "what the shell reads")
+    said = shell(place, f"python3 -m femem '{server.socket}' report", env=env)
+    same(said, "waiting 0\n", "what the shell reports")
 
 
-CHECKS = (blocks_known, unit_line, targets, example_of_commands, timeline, lines_of_python, page_of_operating, planted_edit, page_of_c, page_of_cli, page_of_python)
+CHECKS = (blocks_known, unit_line, targets, example_of_commands, timeline, first_screen, page_of_operating, planted_edit, page_of_c, page_of_cli, page_of_python)

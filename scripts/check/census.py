@@ -1,8 +1,10 @@
-"""The public contracts are those of docs/clauses.txt: a clause that is dropped, renamed or reworded shows as a line of the change itself.
+"""The public contracts are those of scripts/check/clauses.txt, and so are the definitions and constants that they rest on: what is dropped,
+renamed or reworded shows as a line of the change itself.
 
 `scripts/census` writes that file. It has a line for each public function and each method of a trait: its crate, the `impl` or `trait`
 that it stands in, its name, and each clause, as `e` (ensures) or `r` (requires), its name, and the first digits of a sum of its text.
-A second kind of line, `CRATE constant NAME VALUE`, has each public constant."""
+Other lines are `CRATE constant NAME VALUE` for each constant, also a private one; `CRATE ghost BLOCK NAME SUM` for each member of a
+type or trait that only clauses see, as an invariant; and `CRATE definition FILE NAME SUM` for each definition in specs/."""
 
 import glob
 import hashlib
@@ -12,11 +14,18 @@ import re
 from . import closure
 from .texts import TOP, text_of, told
 
-KEPT = "docs/clauses.txt"
+KEPT = "scripts/check/clauses.txt"
 BLOCK = re.compile(r"(?:pub )?(?:unsafe )?(impl|trait)\b.*")
 FUNCTION = re.compile(r"\s*(pub )?(?:const )?(?:unsafe )?fn (\w+)")
 CLAUSE = re.compile(r"\n\s*(?=(?:requires|ensures)\b)")
-CONSTANT = re.compile(r"^\s*pub const (\w+): [^=]+ = ([^;{]+);", re.M)
+CONSTANT = re.compile(r"^\s*(?:pub(?:\(crate\))? )?const ([A-Z]\w*): [^=]+ = ([^;]+);", re.M)
+GHOST = re.compile(r"\s*(?:pub )?ghost (?!use\b)(\w+)\s*[:=]")
+OWNER = re.compile(r"(?:pub(?:\(crate\))? )?(?:unsafe )?(?:struct|enum|impl|trait)\b.*")
+
+
+def sum_of(text):
+    """The first digits of a sum of a text, whatever its white space."""
+    return hashlib.sha256(" ".join(text.split()).encode()).hexdigest()[:6]
 
 
 def header(lines, at):
@@ -33,7 +42,30 @@ def clauses_of(text):
     for clause in CLAUSE.split(text)[1:]:
         kind, name = re.match(r"(requires|ensures)\*?\s*(\w*)", clause).groups()
         words = " ".join(re.sub(r"\n\s*\{\s*(?:\}.*)?$", "", clause.rstrip()).split())
-        yield f"{kind[0]}:{name or '-'}:{hashlib.sha256(words.encode()).hexdigest()[:6]}"
+        yield f"{kind[0]}:{name or '-'}:{sum_of(words)}"
+
+
+def ghosts_of(crate, lines):
+    """The lines of the members that only clauses see, each with the sum of its text, which ends where its braces close."""
+    inside = "-"
+    for at, line in enumerate(lines):
+        if OWNER.match(line):
+            inside = re.sub(r"\s+", "_", line.strip(" {"))
+        if found := GHOST.match(line):
+            end = at
+            text = line
+            while text.count("{") > text.count("}") or not text.rstrip().endswith((";", ",")):
+                end += 1
+                text += f"\n{lines[end]}"
+            yield f"{crate} ghost {inside} {found[1]} {sum_of(text)}"
+
+
+def definitions():
+    """The lines of all definitions in specs/."""
+    for module, known in sorted(closure.modules().items()):
+        crate, _, file = module.split(".", 2)
+        if not crate.startswith("test_"):
+            yield from (f"{crate} definition {file} {name} {sum_of(' '.join(lines))}" for name, lines in known.definitions.items())
 
 
 def rows_of(crate, text):
@@ -48,6 +80,7 @@ def rows_of(crate, text):
         found = FUNCTION.match(line)
         if found and (found[1] or is_trait):
             yield " ".join([crate, inside, found[2], *clauses_of(header(lines, at))])
+    yield from ghosts_of(crate, lines)
     yield from (f"{crate} constant {name} {' '.join(value.split())}" for name, value in CONSTANT.findall(text))
 
 
@@ -59,17 +92,17 @@ def rows():
         crate = name.split("/")[1]
         if not crate.startswith("test_"):
             found += rows_of(crate, text_of(name))
-    return found
+    return [*found, *definitions()]
 
 
 def kept(_place):
-    """each public contract and constant is the one that docs/clauses.txt has, line by line"""
+    """each public contract, constant and definition is the one that scripts/check/clauses.txt has, line by line"""
     wanted, found = text_of(KEPT).splitlines(), rows()
     missing = [f"gone or changed: {it}" for it in sorted(set(wanted) - set(found))]
     missing += [f"new or changed: {it}" for it in sorted(set(found) - set(wanted))]
     if len(missing) > 12:
         missing = [*missing[:12], f".. and {len(missing) - 12} more"]
-    return told([*missing, "`scripts/census` writes the file anew: look at each line that it changes"] if missing else [], len(found), 600, "functions and constants")
+    return told([*missing, "`scripts/census` writes the file anew: look at each line that it changes"] if missing else [], len(found), 2_000, "functions, constants and definitions")
 
 
 CHECKS = (kept, *closure.CHECKS)

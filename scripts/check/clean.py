@@ -92,7 +92,7 @@ class Clean:
         self.process.kill()
         self.process.wait()
         script = 'mount -t cgroup2 cgroup2 "$0" && until [ ! -d "$0/$1" ] || find "$0/$1" -depth -type d -exec rmdir {} +; do sleep 0.1; done'
-        subprocess.run(["unshare", "--mount", "sh", "-c", script, self.room, self.group], stderr=subprocess.DEVNULL, timeout=30)
+        subprocess.run(["unshare", "--mount", "sh", "-c", script, self.room, self.group], stderr=subprocess.DEVNULL, timeout=30 * wire.patience)
 
     def child(self):
         """The first process of the namespaces, once it has become systemd."""

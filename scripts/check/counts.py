@@ -12,6 +12,7 @@ import time
 
 from . import wire
 from .clients import output_of
+from .constants import INSTRUCTIONS_WITHIN, MOST_CALLS, MOST_FUTEX
 from .crowds import adding, made
 from .harness import HERE, Held, Server, Skipped, compiler, holds, preload, same, until, within
 from .texts import TOP, text_of
@@ -60,9 +61,9 @@ def a_window(place):
         conn.send(b"".join(wire.call(number, adding(1, 0, 1)) for number in range(1, 33)) + wire.report())
         # (the report comes once all calls are handled)
         same(conn.reply(), ("report", "waiting 0\n"))
-        # (one receive had begun before; now one may wait for what comes next)
+        # (the two readers' next ones may begin meanwhile, and the one that takes the calls may have begun before or after)
         received, before = counted.since(before)["receive"], counted.all()
-        holds(received <= 1, f"{received} receives more")
+        holds(received <= 3, f"{received} receives more")
         held.let_go()
         same([conn.reply() for _ in range(32)], [("answer", number, ("value", number - 1)) for number in range(1, 33)])
         same(other.reply(), ("welcome", 8, 1))
@@ -73,7 +74,6 @@ def a_window(place):
 
 
 LONE = 1000
-MOST_FUTEX, MOST_CALLS = 9, 18  # of a lone call
 
 
 def lone(conn, first, count):
@@ -281,11 +281,11 @@ def instructions(place):
             raise Skipped(f"there is no {tool}")
     written = re.findall(FIGURES, text_of("bench/hall/README.md"))
     same(len(written), 1, "the figures stand there once")
-    said = output_of(place, [os.path.join(TOP, "bench", "hall", "quick"), "1"], 280 * place.options.patience)
+    said = output_of(place, [os.path.join(TOP, "bench", "hall", "quick"), "1"], 280)
     found = dict(reversed(row) for row in re.findall(r"^(\d+) instructions a unit of (\S+)$", said, re.M))
     same(sorted(found), sorted(FUNCTIONS), said)
     for name, figure in zip(FUNCTIONS, map(int, written[0])):
-        holds(figure > 0 and abs(int(found[name]) - figure) <= 0.03 * figure, f"{name}: {found[name]} instructions, not {figure}")
+        holds(figure > 0 and abs(int(found[name]) - figure) * 100 <= INSTRUCTIONS_WITHIN * figure, f"{name}: {found[name]} instructions, not {figure}")
     return ", ".join(f"{name.split('::')[-1]} {found[name]}" for name in FUNCTIONS)
 
 

@@ -5,7 +5,7 @@ import threading
 import time
 
 from . import store, wire
-from .harness import Held, Server, holds, same, until, within
+from .harness import Held, Server, Wrong, holds, same, until, within
 
 
 def together(count, work):
@@ -124,7 +124,7 @@ def waits_for_room(place):
     """messages that wait for room, since 2,048 entries are pending while a sync is held, are handled once it ends"""
     held = Held(place, "fdatasync")
     server = Server(place).start(held.env)
-    conns = [server.attached(session) for session in range(CROWD)]
+    conns = attaches(server)
     held.next()
     conns[0].send(wire.attach(0))
     held.wait()
@@ -141,6 +141,35 @@ def waits_for_room(place):
     largest = max(len(payload) for _, payload in groups) // 80
     holds(largest >= MOST_PENDING, f"the largest group has {largest} entries, so nothing waited for room")
     return f"a group of {largest} entries"
+
+
+@within(90)
+def all_wait_for_room(place):
+    """of five connections whose messages wait for room and make no entry, each is answered once there is room"""
+    held = Held(place, "fdatasync")
+    server = Server(place).start(held.env)
+    conns = [server.attached(session) for session in range(32)]
+    others = [server.attached(session) for session in range(32, 37)]
+    for conn in others:
+        same(conn.ask(wire.call(1, ("find", b"none"))), ("answer", 1, ("no-array",)))
+    held.next()
+    conns[0].send(wire.attach(0))
+    held.wait()
+    for session, conn in enumerate(conns):
+        conn.send(wire.attach(session) * (MOST_PENDING // len(conns) + (session == 0)))
+    comes_to_rest(server)
+    for conn in others:
+        conn.send(wire.call(1, ("find", b"none")))
+    holds(not any(conn.is_quiet() is False for conn in others), "a message did not wait for room")
+    held.let_go()
+    for conn in others:
+        same(conn.reply(), ("answer", 1, ("no-array",)))
+    server.stop()
+
+
+def attaches(server):
+    """Connections of CROWD sessions, attached one after another, so that each makes a group of its own."""
+    return [server.attached(session) for session in range(CROWD)]
 
 
 def comes_to_rest(server):
@@ -317,21 +346,24 @@ def half_closed(place):
     holds("session 7 floor 1 kept 1\n" in server.looks(), "what was sent before the end of the stream was not done")
 
 
-@within(90)
+@within(180)
 def never_reads(place):
-    """a client that sends and never reads is dropped, while the others are served"""
+    """a client that sends and reads nothing for 30 seconds is dropped, while the others are served"""
     server = Server(place).start()
     made(server, (b"counter", 1, 1))
     piece = b"".join(wire.call(number, ("access", 18, 1, 0, 0, False)) for number in range(1, 33)) * 64
     dropped = None
     with server.attached(8) as other, server.attached(7) as conn:
-        conn.wait(30)
+        conn.wait(120 * wire.patience)
         for turn in range(1, 401):
+            began = time.monotonic()
             try:
                 conn.send(piece)
             except wire.Ended as why:
+                took, dropped = time.monotonic() - began, turn
                 holds("timed out" not in str(why), f"the server neither reads nor drops: {why}")
-                dropped = turn
+                # (the server may have stopped reading before, so it can be less than 30 seconds)
+                holds(took < 50, f"dropped after {took:.0f} seconds")
                 break
             if turn % 8 == 0:
                 same(other.ask(wire.report())[0], "report")
@@ -341,7 +373,7 @@ def never_reads(place):
         with server.attached(7) as again:
             same(again.ask(wire.call(1, ("access", 18, 1, 0, 0, False)))[:2], ("answer", 1))
     server.stop()
-    return f"dropped within {dropped * len(piece) // 1024} kB"
+    return f"dropped within {dropped * len(piece) // 1024} kB, after {took:.0f} s"
 
 
 def slow_reader(place):
@@ -392,7 +424,7 @@ def pipelines(place):
     made(server, (b"counter", 1, 1))
     for session, (name, messages) in enumerate(PIPELINES.items(), 1):
         with server.attached(session) as conn:
-            conn.wait(60)
+            conn.wait(60 * wire.patience)
             # (a call that is sent again before it is answered has no reply of its own, so the first one is answered before)
             start = 1
             if name == "answers that are sent again":
@@ -412,6 +444,28 @@ def pipelines(place):
             holds(conn.is_quiet(), f"{name}: more replies than messages")
     server.stop()
     return f"{len(PIPELINES)} kinds"
+
+
+@within(120)
+def reads_slowly(place):
+    """a client that sends without a pause, reads 20 KB a second, and then nothing for three seconds, gets each reply in order"""
+    server = Server(place).start()
+    made(server, (b"counter", 1, 1))
+    with server.attached(1) as conn:
+        conn.wait(60 * wire.patience)
+        sent = b"".join(message for number in range(1, PIPELINED + 1) for message in calls_and_settles(number))
+        sender = threading.Thread(target=conn.send, args=(sent,), daemon=True)
+        sender.start()
+        for _ in range(60):
+            conn.got += conn.socket.recv(1024)
+            time.sleep(0.05)
+        holds(sender.is_alive(), "the connection ended, or the pipeline is too short")
+        time.sleep(3)
+        for number in range(1, PIPELINED + 1):
+            same(conn.reply(), ("answer", number, ("value", number - 1)))
+            same(conn.reply(), ("settled", number + 1))
+        sender.join()
+    server.stop()
 
 
 BAD_FRAMES = (
@@ -446,6 +500,15 @@ def bad_frames(place):
                 holds("timed out" not in str(why) and "within" not in str(why), f"a frame {name}: {why}")
             wanted = [("welcome", session, 1), ("answer", 1, ("no-array",))]
             holds(got == wanted[: len(got)], f"a frame {name}: {got}")
+    for name, frame in BAD_FRAMES:
+        with server.connect() as conn:
+            conn.ask(wire.report())
+            time.sleep(0.05)  # so that its writing thread sleeps, and has to be woken
+            conn.send(frame)
+            try:
+                raise Wrong(f"a frame {name} after a report: {conn.reply()}")
+            except wire.Ended as why:
+                holds("timed out" not in str(why) and "within" not in str(why), f"a frame {name} after a report: {why}")
     # (a welcome is sent once everything before it is stored)
     server.attached(1000).close()
     until(lambda: threads_of(server) <= 2, 20, "the threads of connections that ended are gone")
@@ -516,6 +579,7 @@ CHECKS = (
     hand_overs,
     held_call_holds_one,
     waits_for_room,
+    all_wait_for_room,
     one_after_another,
     the_257th,
     few_connections,
@@ -523,6 +587,7 @@ CHECKS = (
     bytes_of_frames,
     half_closed,
     never_reads,
+    reads_slowly,
     slow_reader,
     pipelines,
     bad_frames,

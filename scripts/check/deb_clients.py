@@ -40,10 +40,17 @@ def compiled(place, clean):
     return "/srv/counter"
 
 
+def killed(clean, user, command, umask="022"):
+    """Kills a user's client while it waits: its session's file is there."""
+    waits = f'for it in $(seq 600); do test -z "$(ls {CLIENTS})" || break; sleep 0.1; done; sleep 2'
+    as_user(clean, user, f"{command} & client=$!; {waits}; kill -s KILL $client; wait $client || true", umask)
+
+
 def killed_leaves_nothing(clean):
     """A killed client of one user, whatever its umask, is ended by the next client, of another user."""
-    for user, command in (("alice", "femem-cli readfe box 0"), ("bob", f"python3 -m femem {SOCKET} readfe box 0")):
-        as_user(clean, user, f"timeout --signal=KILL 2 {command}", "077")
+    script = f"from femem import Client\nwith Client('{SOCKET}') as it: it.readfe(it.find('box'), 0)"
+    for user, command in (("alice", "femem-cli readfe box 0"), ("bob", f'python3 -c "{script}"')):
+        killed(clean, user, command, "077")
         left = clean.shell(f"ls {CLIENTS}").split()
         same(len(left), 1, f"files of sessions after the kill of {command}")
         same(clean.shell(f"stat -c '%U %G %a' {CLIENTS}/*"), f"{user} femem 660\n", "the file")
@@ -62,7 +69,8 @@ def clients(place):
         clean.shell("for it in alice bob; do adduser --quiet $it femem; done")
         did(as_user(clean, "alice", "femem-cli counter hits +1"), "1\n")
         status, _, said = as_user(clean, "carol", "femem-cli counter hits +1")
-        holds(status == 4 and "Permission denied" in said, f"a user outside the group: {status} {said}")
+        may = f"may not use {SOCKET}: members of its group femem may ('adduser carol femem', and a new login)"
+        holds(status == 6 and may in said, f"a user outside the group: {status} {said}")
         did(as_user(clean, "alice", "femem-cli create box 1; femem-cli owner none || test $? = 3; ls /run/femem/femem.socket.clients/")[:2] + ("",), "")
         did(as_user(clean, "bob", "femem-cli lock nightly -- sh -c 'test $FEMEM_GENERATION -gt 0 && echo inside'"), "inside\n")
         did(as_user(clean, "bob", f"{compiled(place, clean)} {SOCKET} 7 3"), "0\n1\n2\n")
@@ -70,11 +78,11 @@ def clients(place):
         holds("libfemem.so.1 " in clean.do("ldconfig", "-p"), "ldconfig does not know the library")
         script = f"from femem import Client\nwith Client('{SOCKET}') as it: print(it.readff(it.find('hits'), 0))"
         did(as_user(clean, "alice", f'python3 -c "{script}"'), "1\n")
-        holds("value 1" in as_user(clean, "bob", f"femem-shell {SOCKET} readff hits 0")[1], "femem-shell")
+        did(as_user(clean, "bob", f"femem-shell {SOCKET} report"), "waiting 0\n")
         holds(clean.shell("ls /usr/lib/python3/dist-packages/femem/__pycache__ | wc -l").strip() > "3", "nothing is compiled")
         killed_leaves_nothing(clean)
         # (what a stop of the unit leaves is ended as well)
-        as_user(clean, "alice", "timeout --signal=KILL 2 femem-cli readfe box 0")
+        killed(clean, "alice", "femem-cli readfe box 0")
         clean.do("systemctl", "stop", "femem")
         clean.do("systemctl", "start", "femem")
         unit.waits()

@@ -69,8 +69,8 @@ def operating(place):
 
 
 def watches(clean, unit):
-    """The commands that watch a server: all of them by root, and by the user all but the one that reads the store."""
-    active, report, shell, metrics, connections, probe = block(OPERATING, "systemctl is-active").splitlines()
+    """The commands that watch a server: all of them by root, and by the user."""
+    active, report, shell, connections, probe = block(OPERATING, "systemctl is-active").splitlines()
     with unit.connect():
         for name in ("root", USER):
             same(by(clean, name, f"{active}\n{report}\n{shell}"), "active\nwaiting 0\nwaiting 0\n", name)
@@ -79,9 +79,6 @@ def watches(clean, unit):
             status, said, _ = as_user(clean, name, probe)
             seconds = re.fullmatch(r"stored in ([\d.]+) s\n", said)
             same(status, 0 if seconds and float(seconds[1]) < 1 else 3, f"{name}: the probe says {said}")
-    for name in ("root", "femem"):
-        holds("femem_sessions 1" in by(clean, name, metrics).splitlines(), f"metrics by {name}")
-    holds("femem_sessions" not in as_user(clean, USER, metrics)[1], f"{USER} may read the store")
 
 
 def by_hand(clean, unit, serves):
@@ -100,37 +97,37 @@ def inline(clean):
         page = file.read()
     for command, status, wanted in (
         ("systemctl status femem", 0, "active (running)"),
-        ("systemctl is-failed femem", 1, "active"),
-        ("systemctl show --property=NRestarts femem", 0, "NRestarts=0"),
+        ("journalctl -u femem", 0, ""),
+        ("femem-store why STORE", 1, "has its lock"),
         ("systemctl show --property=MemoryCurrent femem", 0, "MemoryCurrent="),
         ("systemd-analyze security femem", 0, "Overall exposure level for femem.service: 0.2"),
         ("femem look --store PATH", 0, "array 1 cells 2"),
         ("femem --help", 0, "serve"),
-        ("/usr/lib/femem/make-store PATH", 3, "there is a file"),
+        ("femem-store make PATH", 1, "there is a file"),
     ):
         holds(f"`{command}`" in page, f"the page has no `{command}`")
-        got, said, errors = clean.ask("sh", "-c", command.replace("PATH", STORE))
+        got, said, errors = clean.ask("sh", "-c", re.sub("PATH|STORE", STORE, command))
         same((got, wanted in said + errors), (status, True), f"{command}: {(said + errors)[-500:]}")
 
 
 def saves(clean, unit):
     """Copies, a restored and a rescued store, the slots' formats, and the end of a session, by root."""
-    by(clean, "root", block(OPERATING, "  /usr/lib/femem/femem-backup"))
-    shown = by(clean, "root", block(OPERATING, "  systemctl stop femem"))
+    for _ in range(2):
+        by(clean, "root", block(OPERATING, "  femem-store backup"))
+    shown = by(clean, "root", "femem look --store /backup/femem.store")
     holds("array 1 cells 2\nsession 7 floor 1 kept 4\n" in shown, f"look: {shown}")
-    same(re.findall(">([^<]{8})[^<]{8}<", by(clean, "root", block(OPERATING, "for at in"), "/backup")), ["FEMEMST2", "." * 8], "the slots")
     unit.waits()
     same(by(clean, USER, block(OPERATING, "  printf 'attach 7")), "welcome 7 1\ngoodbye 7\n")
-    said = by(clean, "root", block(OPERATING, "systemctl stop femem\n/usr/lib/femem/femem-restore"))
-    holds(re.fullmatch(r"before: place \d+\nnow: place \d+\n", said), f"restore: {said}")
+    said = by(clean, "root", block(OPERATING, "systemctl stop femem\nfemem-store restore"))
+    holds(re.fullmatch(rf"before: place \d+, kept as {STORE}.before-restore\nnow: place \d+\n", said), f"restore: {said}")
     unit.waits()
     same(by(clean, USER, f"printf 'attach 7\\n5 readxx 1 0\\n' | femem call --socket {SOCKET}"), "welcome 7 1\n5 value 42\n", "what was restored")
     clean.do("systemctl", "stop", "femem")
     with open(unit.store, "r+b") as file:
         file.seek(JOURNAL + 5)
         file.write(b"\x09")
-    told_of = by(clean, "root", block(OPERATING, "systemctl stop femem\n/usr/lib/femem/femem-rescue"))
-    holds(told_of.startswith(f"damaged at {JOURNAL + 5}") and told_of.endswith("\nplace 0\n"), told_of)
+    told_of = by(clean, "root", block(OPERATING, "systemctl stop femem\nfemem-store rescue"))
+    holds(told_of.startswith(f"damaged at byte {JOURNAL + 5}") and told_of.endswith("\nplace 0\n"), told_of)
 
 
 def removes_arrays(clean):
@@ -140,7 +137,8 @@ def removes_arrays(clean):
 def of_the_clients(clean, python):
     """The pages' programs of C, of femem-cli and of Python, by the user and by root, at the socket that the pages name."""
     program = PROGRAM.replace("SOCKET", SOCKET)
-    for number, first in (("FIRST", "femem *client;"), ("SECOND", "femem_open_file("), ("THIRD", "femem_queue_open(")):
+    examples = {"FIRST": "femem *client;", "SECOND": "femem_open_file(", "THIRD": "femem_queue_open(", "FOURTH": "femem_lock_open("}
+    for number, first in examples.items():
         program = program.replace(number, block(C_PAGE, first).replace("/var/lib/worker/session", "session"))
     build = block(C_PAGE, "make ").splitlines()[2]
     for name in (USER, "root"):
@@ -148,13 +146,11 @@ def of_the_clients(clean, python):
         with open(clean.path(f"{room}/program.c"), "w", encoding="utf-8") as file:
             file.write(program)
         clean.do("chown", name, f"{room}/program.c")
-        same(by(clean, name, f"{build}\n./a.out", room), "was 0, then 10 more steps, 2 tries\n", f"{name}: the C page")
+        same(by(clean, name, f"{build}\n./a.out", room), "was 0, then 10 more steps, 2 tries, locked, ok\n", f"{name}: the C page")
         removes_arrays(clean)
         same(by(clean, name, block(CLI_PAGE, "femem-cli counter")), block(CLI_PAGE, "1\n42"), f"{name}: femem-cli's page")
         removes_arrays(clean)
-        shell = [f"{python} -m femem {SOCKET} {it}" for it in ("create slot 2", "writeef slot 0 42", "readfe slot 0 nowait")]
-        same(by(clean, name, "\n".join(shell)).split()[-1:], ["42"], f"{name}: the Python page")
-        removes_arrays(clean)
+        same(by(clean, name, f"{python} -m femem {SOCKET} report"), "waiting 0\n", f"{name}: the Python page")
 
 
 @within(240)

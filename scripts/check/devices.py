@@ -9,6 +9,7 @@ from . import store, wire
 from .crowds import adding
 from .faults import Client, answered, at_an_end_of_a_page
 from .harness import Held, Server, Skipped, holds, same
+from .storetool import ran
 
 CONTROL = "/sys/class/zram-control"
 
@@ -127,7 +128,7 @@ def restarted(place):
 
 
 def mapped(place):
-    """the same with the pages mapped by another program: they stay; mounted again before the start, as the page says, nothing is lost"""
+    """the same with the pages mapped by another program: they stay, and the check refuses the start; mounted again, as the page says, nothing is lost"""
     device, base = made(place)
     path = os.path.join(device.folder, "store")
     try:
@@ -136,14 +137,26 @@ def mapped(place):
             server = failed_sync(place, device, WORK)
             pages[:]
             shown = server.looks()
+            status, text, errors = ran(place, "check", path)
+            holds(status == 1 and f"from byte {at_gate(base)} on the system holds in memory what the device does not have" in errors, f"{text}{errors}")
+            same(ran(place, "note", path), (0, "", ""), "what the device does not have is not noted")
         holds(shown.startswith(f"place {store.read_store(base)[2].place + 1}\n"), f"the pages that were mapped are gone: {shown}")
         same(on_device(device, path).place, store.read_store(base)[2].place, "the place on the device")
+        same(ran(place, "check", path), (0, "", ""), "the check after a mount")
         wanted = answered(WORK, store.read_store(base)[2])
         serves_all(server, wanted)
         answers_kept(on_device(device, path), wanted)
     finally:
         place.end()
         device.remove()
+
+
+def at_gate(content):
+    """The gate at which the groups end."""
+    at = store.slots_of(content)[0].at + store.JOURNAL
+    while content[at] == 1:
+        at += 5 + int.from_bytes(content[at + 1 : at + 5], "big")
+    return at
 
 
 CHECKS = (restarted, mapped)

@@ -2,6 +2,7 @@
 dashboard and alert rules, compared with the metrics that there are."""
 
 import collections
+import fcntl
 import glob
 import json
 import os
@@ -9,12 +10,14 @@ import random
 import re
 import shutil
 import signal
+import struct
 import subprocess
 import sys
 import time
 
 from . import wire
 from .harness import Server, compiler, holds, same, until, within
+from .storetool import PATIENT, ran
 from .manuals import pages  # noqa: F401  (this sets the path of release)
 from .texts import TOP, text_of
 
@@ -29,8 +32,9 @@ def installed(place):
     compiler()
     root = os.path.join(os.path.dirname(place.folder), "built")
     if not os.path.isdir(root):
-        os.mkdir(place.path("room"))
-        shutil.move(builds.c(place.path("room")), root)
+        room = place.path("room")
+        os.mkdir(room)
+        shutil.move(builds.c(builds.sources(room), room), root)
     return root
 
 
@@ -96,12 +100,20 @@ def storm(crew, server, kills, every):
     return f"{crew.kills} kills, {stops} of the server"
 
 
+def words_of(server, env, name, count):
+    """The full words of an array, in their order."""
+    script = "import sys; from femem import Client\nwith Client(sys.argv[1]) as it:\n"
+    script += f"  at = it.find('{name}')\n  print([it.readff(at, word, nowait=True) for word in range({count})])"
+    words = [sys.executable, "-c", script, server.socket]
+    return json.loads(subprocess.run(words, env={**os.environ, **env}, capture_output=True, check=True, timeout=60).stdout)
+
+
 def short(_place):
     """each example is below 60 lines"""
     paths = [it for kind in ("python", "c", "shell") for it in glob.glob(os.path.join(EXAMPLES, kind, "*.*"))]
     for path in paths:
         holds(text_of(os.path.relpath(path, TOP)).count("\n") < 60, f"{path} is long")
-    holds(len(paths) >= 5, f"only {len(paths)} examples")
+    holds(len(paths) >= 9, f"only {len(paths)} examples")
     return f"{len(paths)} examples"
 
 
@@ -124,16 +136,140 @@ def work_queue(place):
         crew.kill(0)
     holds(crew.lives[0] > 1, "the producer was not killed while it put jobs")
     said = storm(crew, server, 30, 0.08)
-    script = "import sys; from femem import Client\nwith Client(sys.argv[1]) as it:\n"
-    script += f"  at = it.find('results')\n  print([it.readff(at, job, nowait=True) for job in range({jobs})])"
-    got = subprocess.run([sys.executable, "-c", script, server.socket], env={**os.environ, **env}, capture_output=True, check=True, timeout=60)
-    same(json.loads(got.stdout), [chain(job) for job in range(jobs)], "results")
+    same(words_of(server, env, "results", jobs), [chain(job) for job in range(jobs)], "results")
     numbers = collections.defaultdict(set)
     for line in crew.lines():
         number, value, _ = map(int, line.split())
         numbers[value].add(number)
     same([value for value, found in numbers.items() if len(found) > 1], [], "values that were put twice")
     return f"{jobs} jobs, {said}"
+
+
+@within(200)
+def pipeline(place):
+    """python/pipeline.py: each item is in each queue once, and its result is right, over kills of six processes and the server"""
+    items, stages = 80, ("parse", "square", "store")
+    server = Server(place).start()
+    env = environment(place, server)
+    program = os.path.join(EXAMPLES, "python", "pipeline.py")
+    roles = ["feed", *stages, *stages]
+    words = [[sys.executable, program, role, server.socket, place.path(f"session{who}"), str(items)] for who, role in enumerate(roles)]
+    crew = Crew(place, env, words)
+    said = storm(crew, server, 40, 0.08)
+    values = {"parse": range(items), "square": range(1, items + 1), "store": [item * item for item in range(1, items + 1)]}
+    for stage in stages:
+        found = collections.defaultdict(set)
+        for who, role in enumerate(roles):
+            for line in crew.lines(who) if role == stage else []:
+                number, value = map(int, line.split())
+                found[value].add(number)
+        same([value for value, numbers in found.items() if len(numbers) > 1], [], f"values that were in {stage} twice")
+        same(set(found) - set(values[stage]), set(), f"values of {stage}")
+    same(words_of(server, env, "stored", items), values["store"], "results")
+    return f"{items} items, {said}"
+
+
+def numbers(place, name):
+    return [tuple(map(int, line.split())) for line in place.read(name).decode().splitlines()]
+
+
+def in_order(place):
+    """Compares each row of the ledger with the one before: a new leader has the last entry first, then the next ones; no earlier leader
+    writes. Returns the last row."""
+    seen = (0, 0)
+    for number, entry in numbers(place, "ledger"):
+        same((number < seen[0], entry), (False, seen[1] + (number == seen[0])), f"{number} {entry} after {seen}")
+        seen = (number, entry)
+    return seen
+
+
+def newest_leader(crew):
+    """The greatest number under which one has led, and who."""
+    return max(((int(line), who) for who in range(len(crew.commands)) for line in crew.lines(who)), default=(0, 0))
+
+
+def stop_leader(crew, place, server, is_late):
+    """Stops the leader, and the server, so that another one leads; then the one that led goes on, at once or after entries of the other."""
+    entries_since = lambda first: len([it for it, _ in numbers(place, "ledger") if it >= first])
+    number, who = until(lambda: newest_leader(crew)[0] and newest_leader(crew), 60, "one leads")
+    until(lambda: entries_since(number) > 5, 60, "the leader writes")
+    process = crew.running[who]
+    with open(place.path("ledger"), "rb") as ledger:
+        while True:  # (not while it has the ledger's lock)
+            process.send_signal(signal.SIGSTOP)
+            os.waitid(os.P_PID, process.pid, os.WSTOPPED)
+            try:
+                fcntl.flock(ledger, fcntl.LOCK_EX | fcntl.LOCK_NB)
+                break
+            except BlockingIOError:
+                process.send_signal(signal.SIGCONT)
+        fcntl.flock(ledger, fcntl.LOCK_UN)
+    server.stop()
+    server.start()
+    until(lambda: newest_leader(crew)[0] > number, 60, "another one leads")
+    until(lambda: not is_late or entries_since(number + 1) > 5, 60, "the other one writes")
+    process.send_signal(signal.SIGCONT)
+    until(lambda: entries_since(number + 1) > 12, 60, "the other one goes on")
+    in_order(place)
+
+
+@within(200)
+def leader(place):
+    """python/leader.py: the ledger has each entry once, and refuses whoever led before: three processes and the server are killed, and
+    leaders are stopped until another one leads"""
+    entries = 400
+    server = Server(place).start()
+    env = environment(place, server)
+    words = [sys.executable, os.path.join(EXAMPLES, "python", "leader.py"), server.socket]
+    place.write("ledger", b"")  # (who leads says so before it makes the file)
+    crew = Crew(place, env, [[*words, place.path(f"session{who}"), place.path("ledger"), str(entries)] for who in range(3)])
+    for is_late in (False, True, False, True):
+        stop_leader(crew, place, server, is_late)
+    said = storm(crew, server, 30, 0.08)
+    same(in_order(place)[1], entries, "the last entry")
+    leaders = {number for number, _ in numbers(place, "ledger")}
+    return f"{entries} entries under {len(leaders)} numbers, {said}, 4 leaders stopped"
+
+
+@within(200)
+def written_once(place):
+    """python/written_once.py: each result is written once and everyone sees that one, over kills of five processes and the server"""
+    items = 150
+    server = Server(place).start()
+    env = environment(place, server)
+    program = os.path.join(EXAMPLES, "python", "written_once.py")
+    words = lambda what, who: [sys.executable, program, what, server.socket, place.path(f"session{who}"), str(items)]
+    crew = Crew(place, env, [*(words("compute", who) for who in range(3)), *(words("read", who) for who in range(3, 5))])
+    said = storm(crew, server, 30, 0.08)
+    results = words_of(server, env, "results", items)
+    found = collections.defaultdict(lambda: collections.defaultdict(set))
+    for line in crew.lines():
+        what, item, value = line.split()
+        found[what][int(item)].add(int(value))
+    same(found["sees"], {item: {value} for item, value in enumerate(results)}, "what each life saw")
+    same([item for item, value in enumerate(results) if value not in found["computed"][item]], [], "results that nobody computed")
+    again = [item for item in range(items) if len(found["computed"][item]) > 1]
+    holds(again, "no result was computed twice")
+    return f"{items} results, {len(again)} of them computed again, {said}"
+
+
+@within(200)
+def orders(place):
+    """python/orders.py: no line of an order is lost or there twice, over kills of four processes and the server"""
+    names, steps = "abcd", 200
+    server = Server(place).start()
+    env = environment(place, server)
+    os.mkdir(place.path("orders"))
+    words = [sys.executable, os.path.join(EXAMPLES, "python", "orders.py"), server.socket]
+    crew = Crew(place, env, [[*words, place.path(f"session{name}"), place.path("orders"), name, str(steps)] for name in names])
+    said = storm(crew, server, 30, 0.08)
+    for order in range(7):
+        lines = place.read(f"orders/order {order}").decode().splitlines()
+        for name in names:
+            mine = [line for line in lines if line.startswith(name)]
+            same(mine, [f"{name} {step}" for step in range(order, steps, 7)], f"{name}'s lines of order {order}")
+        same(len(lines), sum(len(range(order, steps, 7)) for _ in names), f"lines of order {order}")
+    return f"{len(names) * steps} lines, {said}"
 
 
 def alignment(first, second):
@@ -147,17 +283,56 @@ def alignment(first, second):
     return best
 
 
+def in_c(place, name):
+    """The program of an example in C, with the installed library."""
+    root, program = installed(place), place.path(name)
+    words = [compiler(), "-std=c11", "-Wall", "-Wextra", "-Werror", f"-I{root}/usr/include", "-o", program]
+    words += [os.path.join(EXAMPLES, "c", f"{name}.c"), f"-L{root}{builds.LIBRARIES}", "-lfemem"]
+    built = subprocess.run(words, capture_output=True, text=True, check=False)
+    same((built.returncode, built.stderr), (0, ""))
+    return program
+
+
+@within(200)
+def loop(place):
+    """c/loop.c: two of them add each number of their pipes once, while the server is killed; numbers that come meanwhile wait"""
+    server = Server(place).start()
+    env, program = environment(place, server), in_c(place, "loop")
+    given = [[random.randrange(1, 1 << 32) for _ in range(600)] for _ in range(2)]
+    start = lambda who: place.start([program, server.socket, str(7 + who)], f"loop{who}", env, stdin=subprocess.PIPE)
+    added = lambda who: [tuple(map(int, line.split())) for line in place.read(f"loop{who}.out").decode().split("\n")[:-1]]
+    running = [start(who) for who in range(2)]
+    for at in range(0, 600, 100):
+        if at:
+            server.stop()
+        for process, numbers_of in zip(running, given):
+            process.stdin.write(struct.pack("=100Q", *numbers_of[at : at + 100]))
+            process.stdin.flush()
+        if at:
+            time.sleep(random.uniform(0, 0.3))
+            same([process.poll() for process in running], [None] * 2, "they wait for the server")
+            server.start()
+        until(lambda: min(len(added(who)) for who in range(2)) >= at + 60, 60, "they go on")
+    for who, process in enumerate(running):
+        process.stdin.close()
+        same(process.wait(60 * place.options.patience), 0, place.read(f"loop{who}.err").decode()[-1000:])
+        same([number for number, _ in added(who)], given[who], "numbers")
+        lines = place.read(f"loop{who}.err").decode()
+        holds(lines.count(": the connection was lost: ") == lines.count(": back; ") == 5, lines)
+    total = 0
+    for number, before in sorted(added(0) + added(1), key=lambda it: it[1]):
+        same(before, total, "the sum before")
+        total += number
+    same(words_of(server, env, "sum", 1), [total], "the sum")
+    return f"{len(given) * len(given[0])} numbers, 5 kills of the server"
+
+
 @within(200)
 def wavefront(place):
     """c/wavefront.c: three of them find the score that the whole matrix gives, over kills of each and of the server"""
     server = Server(place).start()
     env = environment(place, server)
-    root, program = installed(place), place.path("wavefront")
-    words = [compiler(), "-std=c11", "-Wall", "-Wextra", "-Werror", f"-I{root}/usr/include", "-o", program]
-    built = subprocess.run(
-        [*words, os.path.join(EXAMPLES, "c", "wavefront.c"), f"-L{root}{builds.LIBRARIES}", "-lfemem"], capture_output=True, text=True, check=False
-    )
-    same((built.returncode, built.stderr), (0, ""))
+    program = in_c(place, "wavefront")
     first, second = ("".join(random.choice("ACGT") for _ in range(224)) for _ in range(2))
     second = second[:60] + first[40:150] + second[170:]
     crew = Crew(place, env, [[program, server.socket, place.path(f"session{who}"), first, second] for who in range(3)])
@@ -259,8 +434,10 @@ def monitoring(place):
         shell = [sys.executable, "-m", "femem", server.socket, "--store", server.store, "metrics"]
         until(lambda: b"femem_session_waiting{" in subprocess.check_output(shell, env=env), 30, "a request waits")
         said = subprocess.check_output(shell, env=env).decode()
-    probe = [sys.executable, os.path.join(TOP, "packaging", "tools", "femem-probe"), "--metrics", server.socket]
-    said += subprocess.check_output(probe, env=env).decode()
+    os.chmod(place.write("bin/systemctl", b"#!/bin/sh\necho 0\n"), 0o755)
+    status, more, errors = ran(place, "probe", *PATIENT, "--metrics", "--store", server.store, "--backup", server.store, server.socket, env=env)
+    same((status, errors), (0, ""), "a probe")
+    said += more
     exported = {line.split("{")[0].split(" ")[0] for line in said.splitlines() if not line.startswith("#")}
     rules = text_of("examples/monitoring/femem-alerts.yml")
     expressions = re.findall(r"^ +expr: (.*)$", rules, re.M)
@@ -276,4 +453,4 @@ def monitoring(place):
     return f"{len(exported)} metrics, {len(expressions)} rules" + ("" if tools else ", promtool is not installed here")
 
 
-CHECKS = (short, work_queue, wavefront, counter, rate_limit, nightly, monitoring)
+CHECKS = (short, work_queue, pipeline, leader, written_once, orders, wavefront, loop, counter, rate_limit, nightly, monitoring)

@@ -109,7 +109,7 @@ class Trial:
         until(lambda: os.path.exists(server.socket) or not server.is_running(), 30, "the server serves or ends")
         client = Client(server, self.work)
         if not server.is_running() or client.until_end():
-            server.process.wait(30)
+            server.process.wait(30 * wire.patience)
         found = calls_of(record) if os.path.exists(record) else []
         for file in (record, f"{record}.bytes"):
             os.unlink(file)

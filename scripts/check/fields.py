@@ -1,5 +1,5 @@
 """The tables of docs/formats.md that the checks' own reader and writer of frames and stores do not take: the fields of an image and of
-frames, codes and bounds, and which message gets which reply and refusal. And the README's table of operations, by runs."""
+frames, codes and bounds, and which message gets which reply and refusal. And the table of operations of docs/commands.md, by runs."""
 
 import os
 import re
@@ -217,7 +217,7 @@ VALUES = {"same": OLD, "operand": OPERAND, "0": 0, "(value + operand) mod 2^64":
 
 
 def operation_table(place):
-    """each operation does to a full and to an empty word what its row in the README's table says"""
+    """each operation does to a full and to an empty word what its row in the table of docs/commands.md says"""
     for name, (needs, value, tag_after, answer) in operations().items():
         for tag in ("full", "empty"):
             operand = f" {OPERAND}" if wire.OPS[name.encode()] in wire.WITH_OPERAND else ""
@@ -227,7 +227,7 @@ def operation_table(place):
             runs = needs in ("any", tag)
             after, left = (VALUES.get(value, value), tag if tag_after == "same" else tag_after) if runs else (OLD, tag)
             wanted = [("done" if answer == "done" else f"value {OLD}") if runs else "not-now", f"value {after}", f"value {after}" if left == "full" else "not-now"]
-            same(found, wanted, f"README.md: {name} on a word that is {tag}")
+            same(found, wanted, f"docs/commands.md: {name} on a word that is {tag}")
     return f"{len(operations())} operations"
 
 
@@ -291,10 +291,9 @@ def in_code(_place):
 
 
 def told_again(_place):
-    """the slot, the files beside a store, the kinds of entries and the number of operations are on other pages as docs/formats.md and the README have them"""
-    same(said("docs/operating.md", "for at in 0 N; do"), store.SLOT, "docs/operating.md: slot 1")
+    """the files beside a store, the kinds of entries and the number of operations are on other pages as docs/formats.md and the README have them"""
     beside = set(re.findall(r"`STORE(\.[\w-]+)`", text("docs/operating.md")))
-    sources = source_of("fe_store", "src") + text("packaging/tools/femem-restore")
+    sources = source_of("fe_store", "src") + text("packaging/tools/femem_store/restore.py") + text("packaging/tools/femem_store/places.py")
     same(sorted(it for it in beside if not re.search(rf"\{it}(?![\w-])", sources)), [], "files beside a store")
     holds(len(beside) >= 2, "docs/operating.md names the files beside a store")
     entries = re.findall(r"^\| \*(\w+)\* \|", text("docs/model.md"), re.M)

@@ -185,6 +185,77 @@ def overwritten(place):
     return f"{len(OVERWRITES)} ways"
 
 
+ATTACHED = ("attached", 7, 1)
+
+
+def stored(count, generation=1, slot=0, place=0):
+    """A store with that many groups of one entry, over an image with that place."""
+    state = State()
+    for _ in range(place):
+        state.apply(ATTACHED)
+    return bytes(store.device_of(TWO, state, [[ATTACHED]] * count, generation, slot))
+
+
+# What is served (None: a store that the server makes), and what is copied over it before the first group.
+EARLY = {
+    "another store over a new one": (None, (60,)),
+    "another store in slot 1 over a new one": (None, (60, 2, 1)),
+    "another image, and no groups": ((0,), (0, 1, 0, 5)),
+    "a backup that lacks groups": ((60,), (56,)),
+    "a backup that lacks a checkpoint": ((0, 3, 0, 60), (60, 2, 1)),
+}
+
+
+def overwritten_early(place):
+    """a store that is copied over a served one before the first group since the start: nobody is answered, and no byte of it is overwritten"""
+    for number, (name, (served, copied)) in enumerate(EARLY.items()):
+        path = place.write(f"e{number}.store", stored(*served)) if served else place.path(f"e{number}.store")
+        server = Server(place, f"e{number}", store=path, format=not served).start()
+        copied_over(path, place.write("copied", stored(*copied)))
+        client = Client(server, WORK[:1])
+        holds(client.until_end(), f"{name}: the server goes on, {client.answers}")
+        same(server.ended(), (3, "", "femem: store device\n"), name)
+        holds(place.read(os.path.basename(path)) == stored(*copied), f"{name}: what the file has")
+        os.unlink(server.socket)
+        server.start().stop()
+    return f"{len(EARLY)} copies"
+
+
+def equal_groups(place):
+    """a backup that has the bytes of the last groups at their place, left from an earlier life of the slot, is noticed if copied over the store"""
+    absent = [("find", b"none"), ("find", b"nothing")]
+    calls = [("finished", 7, number, request, ("no-array",)) for number, request in enumerate(absent, 1)]
+    # (a group of one entry is shorter than what is compared, and one of two is longer)
+    for name, life in (("one", [[ATTACHED]]), ("two", [[ATTACHED]] * 2), ("five", [[ATTACHED]] * 5), ("a longer one", [[ATTACHED], calls])):
+        before = [[ATTACHED]] * 6
+        backup = store.device_of(TWO, State(), before + life + [[ATTACHED]] * 5)
+        gates = [JOURNAL + sum(5 + TWO.record * len(group) for group in groups) for groups in (before, before + life)]
+        # (the groups behind the sixth are those of an earlier life, whose gate is closed first)
+        backup[gates[0]] = 0
+        for _ in range(50):
+            server = Server(place, name[:4], store=place.write("e.store", bytes(backup)), format=False).start()
+            for group in life:
+                if group == [ATTACHED]:
+                    conn = server.attached(7)
+                else:
+                    conn.send(b"".join(wire.call(number, request) for number, request in enumerate(absent, 1)))
+                    same([conn.reply() for _ in absent], [("answer", number, ("no-array",)) for number in (1, 2)])
+            conn.close()
+            served = place.read("e.store")
+            # (two calls that come together may be stored in two groups: then it is tried again)
+            if backup[gates[0] + 1 : gates[1]] == served[gates[0] + 1 : gates[1]]:
+                break
+            server.stop()
+        same([(backup[at], served[at]) for at in gates], [(0, 1), (1, 0)], f"{name}: the two gates of the backup and of the store")
+        same(backup[gates[0] + 1 : gates[1]] == served[gates[0] + 1 : gates[1]], True, f"{name}: the bytes between them are equal")
+        copied_over(server.store, place.write("copied", bytes(backup)))
+        client = Client(server, WORK[:1])
+        holds(client.until_end(), f"{name}: the server goes on, {client.answers}")
+        same(server.ended(), (3, "", "femem: store device\n"), name)
+        holds(place.read("e.store") == bytes(backup), f"{name}: what the file has")
+    return "after 1, 2 and 5 groups, and after one of two entries"
+
+
 def renamed_in_a_group(place):
     """a served file is renamed during a sync of a group, the first or the second: the file has the whole group, which is not answered"""
     for syncs in (1, 2):
@@ -336,4 +407,4 @@ def begun_at_once(place):
         same([file for file in os.listdir(place.folder) if file.startswith(f"store{turn}")], [f"store{turn}"])
 
 
-CHECKS = (changed_meanwhile, overwritten, while_it_starts, renamed_in_a_group, by_other_paths, kept_bytes, nothing_to_keep, modes, left_over, begun_at_once)
+CHECKS = (changed_meanwhile, overwritten, overwritten_early, equal_groups, while_it_starts, renamed_in_a_group, by_other_paths, kept_bytes, nothing_to_keep, modes, left_over, begun_at_once)

@@ -173,7 +173,7 @@ class Server:
     def stop(self, signal_number=signal.SIGKILL):
         """Kills the server, and removes its socket, as its operator must."""
         self.process.send_signal(signal_number)
-        self.process.wait(30)
+        self.process.wait(30 * wire.patience)
         if os.path.exists(self.socket):
             os.unlink(self.socket)
 

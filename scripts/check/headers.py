@@ -78,7 +78,7 @@ def of_python(_place):
         for name, arguments in re.findall(r"`(\w+)(\([^`]*\))?`", named):
             count += 1
             function = getattr(owner, name, None)
-            if name != "with" and function is None:
+            if name not in ("with", "for") and function is None:
                 missing.append(f"{PYTHON_PAGE}:{number}: {owner.__name__} has no {name}")
             elif arguments:
                 missing += [f"{PYTHON_PAGE}:{number}: {name} {it}" for it in takes(function, arguments[1:-1])]

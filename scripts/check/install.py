@@ -10,13 +10,14 @@ import zipfile
 from .clean import NAMES
 from .harness import Server, compiler, holds, same, within
 from .manuals import is_well_formed
+from .store import SIZE
 
 sys.path.insert(0, os.path.normpath(os.path.join(os.path.dirname(os.path.realpath(__file__)), "..")))
 
-from release import pages, record  # noqa: E402
+from release import pages, record, versions  # noqa: E402
 
 TOP = pages.TOP
-SOCKET, STORE = "/run/femem/femem.socket", "/var/lib/femem/femem.store"
+SOCKET, STORE, BACKUP = "/run/femem/femem.socket", "/var/lib/femem/femem.store", "/var/backups/femem/femem.store"
 
 
 def done(place, words, name="made", env=None, status=0):
@@ -30,13 +31,15 @@ def done(place, words, name="made", env=None, status=0):
 
 
 def program(place):
-    """`make install` puts the program, byte for byte, and its man pages into a prefix"""
+    """`make install` puts the program, byte for byte, and its man pages into a prefix, and a femem-store that makes stores by it"""
     # (-o: it is not proved again here, however old it is)
     words = ["make", "-s", "-C", TOP, "-o", place.program, f"PROVED={place.program}", "PREFIX=/usr", f"DESTDIR={place.path('root')}"]
     done(place, [*words, "install"])
     installed = place.path("root/usr/bin/femem")
     same(record.sum_of(installed), record.sum_of(place.program))
     same(os.stat(installed).st_mode & 0o7777, 0o755)
+    done(place, [place.path("root/usr/bin/femem-store"), "make", place.path("new")], "store", {"FEMEM": ""})
+    same(os.path.getsize(place.path("new")), SIZE, "a store that the installed tool makes")
     for name, number, *rest in pages.PAGES:
         with open(place.path(f"root/usr/share/man/man{number}/{name}.{number}"), encoding="ascii") as file:
             same(file.read(), pages.page(name, number, *rest), name)
@@ -61,7 +64,7 @@ def c(place):
     is_well_formed(os.path.join(root, "usr/share/man/man3/libfemem.3"))
     with open(os.path.join(root, "usr/lib/pkgconfig/femem.pc"), encoding="utf-8") as file:
         pc = file.read()
-    same(re.search(r"^Version: (.*)$", pc, re.M)[1], pages.version())
+    same(re.search(r"^Version: (.*)$", pc, re.M)[1], versions.of_sources()[0])
     source = [os.path.join(TOP, "clients", "c", "counter.c"), *flags(pc, "Cflags", root)]
     for name, libraries in (("shared", flags(pc, "Libs", root)), ("static", [f"{root}/usr/lib/libfemem.a"])):
         done(place, [compiler(), "-std=c11", "-D_POSIX_C_SOURCE=200809L", "-o", place.path(name), *source, *libraries])
@@ -93,17 +96,18 @@ def recorded(place, name="record", **changed):
 
 @within(180)
 def dist(place):
-    """`make dist` puts packages, wheel, C library, sums and record into one folder, the same ones twice; the wheel's client works"""
+    """`make dist` puts packages, wheel, C library, sums and record into one folder, the same ones twice; the wheel's client works, and has no
+    link into the repository"""
     folder = place.path("dist")
-    words = [os.path.join(TOP, "scripts", "dist"), place.program, recorded(place), folder]
-    # (a commit made meanwhile would change the time)
-    epoch = {"SOURCE_DATE_EPOCH": str(pages.epoch())}
+    words = [os.path.join(TOP, "scripts", "dist"), "--try", place.program, recorded(place), folder]
+    # (a commit made meanwhile would change time and version)
+    epoch = {**one_commit(), "FEMEM_HOMEPAGE": "https://femem.example"}
     done(place, words, env=epoch)
     with open(os.path.join(folder, "SHA256SUMS"), encoding="ascii") as file:
         sums = dict(reversed(line.split()) for line in file)
-    version = pages.version()
+    version = versions.version()
     packages = [f"{it}_{version}_{'all' if it in ('python3-femem', 'femem-doc') else 'amd64'}.deb" for it in NAMES]
-    wanted = {*packages, f"femem-{version}-py3-none-any.whl", f"femem-{version}.tar.gz", f"femem-c-{version}-linux-amd64.tar.gz", "proof"}
+    wanted = {*packages, f"femem-{versions.python()}-py3-none-any.whl", f"femem-{versions.python()}.tar.gz", f"femem-c-{version}-linux-amd64.tar.gz", "proof"}
     same(set(sums), wanted)
     same(set(os.listdir(folder)), wanted | {"SHA256SUMS"})
     for name, value in sums.items():
@@ -113,17 +117,20 @@ def dist(place):
         same(dict(reversed(line.split()) for line in file), sums, "made again")
     with zipfile.ZipFile(wheel(folder)) as archive:
         archive.extractall(place.path("site"))
+        about = archive.read(next(it for it in archive.namelist() if it.endswith("/METADATA"))).decode()
+    holds("\nProject-URL: Homepage, https://femem.example\n" in about, "the wheel names no homepage")
+    same(re.findall(r"\]\((?![a-z]+:|#)[^)]*\)", about), [], "links of the wheel's description that lead nowhere")
     server = Server(place).start()
-    script = "import sys; from femem import Client\nwith Client(sys.argv[1], session=7) as it: print(it.create('slot', 1))"
+    script = "import sys, femem\nwith femem.Client(sys.argv[1], session=7) as it: print(it.create('slot', 1).id, femem.__version__)"
     said = done(place, [sys.executable, "-c", script, server.socket], env={"PYTHONPATH": place.path("site"), "PYTHONDONTWRITEBYTECODE": "1"})
-    holds(re.search(r"\b1\b", said), f"the wheel's client says {said}")
+    same(said, f"1 {versions.python()}\n", "the wheel's client and version")
     return f"{len(sums)} files"
 
 
 def dist_refuses(place):
-    """`make dist` refuses a program without a record, with another program's record, and with a record of other sources"""
+    """`make dist` refuses a program without a record, with another program's record, and with a record of other sources, and what is no release"""
     folder = place.path("dist")
-    words = [os.path.join(TOP, "scripts", "dist"), place.program]
+    words = [os.path.join(TOP, "scripts", "dist"), "--try", place.program]
     for fault, path in (
         ("there is no record", place.path("none")),
         ("is of another program", recorded(place, "of_another", program="0" * 64)),
@@ -132,6 +139,10 @@ def dist_refuses(place):
         said = done(place, [*words, path, folder], status=1)
         holds(fault in said, f"{fault}: {said}")
         holds(not os.path.exists(folder), "something was released")
+    # (a clone has no tags, and nobody maintains what this makes)
+    said = done(place, [words[0], place.program, recorded(place), folder], env={"FEMEM_MAINTAINER": ""}, status=1)
+    fault = "CONTRIBUTING.md says how a release is made" if versions.is_released() else "CHANGELOG.md has an unreleased part"
+    holds(fault in said and not os.path.exists(folder), said)
     # one changed byte makes it another source
     copy = place.path("copy")
     for name in ("crates.txt", "HANDLES", "crates/fe_words"):
@@ -155,24 +166,96 @@ def tracked():
 
 
 def one_path(place):
-    """every text that names the system's socket or store has the same path for it"""
+    """every text that names the system's socket or store has the same path for it, also the second server that a page makes"""
     strays = []
     count = 0
     for name, text in tracked():
         for number, line in enumerate(text.splitlines(), 1):
             for found in re.findall(r"(?:/var)?/run/[\w./-]*sock\w*|/(?:var|srv)/[\w./-]*\.store\b", line):
                 count += 1
-                if found not in (SOCKET, STORE):
+                # (`femem@test` has folders of its own)
+                if found.replace("/femem-test/", "/femem/") not in (SOCKET, STORE, BACKUP):
                     strays.append(f"{name}:{number}: {found}")
     same(strays, [])
     holds(count > 5, f"only {count} paths were found")
     return f"{count} times"
 
 
-def one_version(place):
-    """the clients' version is that of CHANGELOG.md"""
-    with open(os.path.join(TOP, "clients", "python", "pyproject.toml"), encoding="utf-8") as file:
-        same(re.search(r'^version = "(.*)"$', file.read(), re.M)[1], pages.version(), "the Python client")
+def one_commit():
+    """What keeps a build to the present commit, whatever is committed meanwhile."""
+    name, seconds, changed = versions.commit()
+    return {"SOURCE_DATE_EPOCH": str(versions.epoch()), "FEMEM_COMMIT": f"{name} {seconds}{' changed' if changed else ''}"}
 
 
-CHECKS = (program, c, dist, dist_refuses, one_path, one_version)
+def one_version(_place):
+    """program, clients and man pages name the version of CHANGELOG.md's first heading; a release's date came with the last commit"""
+    same(versions.strays(), [])
+    holds(not versions.is_dated_before(), f"{versions.number()} was released before: CHANGELOG.md has to begin the next version (CONTRIBUTING.md)")
+    return versions.version()
+
+
+def text_with(place, name, changelog):
+    """A repository of the sources that name the version, with another CHANGELOG.md, committed. Returns its path, and what runs git."""
+    top = place.path(name)
+    for path in (*(it for it, _ in (*versions.SOURCES, *versions.PYTHON_SOURCES)), "scripts/version", "scripts/release/versions.py"):
+        os.makedirs(os.path.dirname(os.path.join(top, path)), exist_ok=True)
+        shutil.copy(os.path.join(TOP, path), os.path.join(top, path))
+    for path in ("__init__.py",):
+        shutil.copy(os.path.join(TOP, "scripts", "release", path), os.path.join(top, "scripts", "release", path))
+    with open(os.path.join(top, "CHANGELOG.md"), "w", encoding="utf-8") as file:
+        file.write(changelog)
+    names = {f"GIT_{who}_{what}": "femem@localhost" for who in ("AUTHOR", "COMMITTER") for what in ("NAME", "EMAIL")}
+
+    def git(*words, at="2026-12-01T10:00:00Z"):
+        how = ["git", "-C", top, "-c", "init.defaultBranch=main", *words]
+        return done(place, how, env={**names, "GIT_AUTHOR_DATE": at, "GIT_COMMITTER_DATE": at})
+
+    git("init", "-q")
+    return top, git
+
+
+def sorts(place, version, other):
+    """Whether Debian sorts a version before another."""
+    return subprocess.run(["dpkg", "--compare-versions", version, "lt", other], check=False).returncode == 0
+
+
+@within(60)
+def moves(place):
+    """each commit has a version above the last, below the release's, for Debian and Python; a release is a dated, tagged, unchanged text"""
+    before = "# Changes\n\n## 2.3.0, 2026-11-01\n\n- It is old.\n"
+    coming = before.replace("## 2.3.0", "## Unreleased: 2.4.0\n\n- It is new.\n\n## 2.3.0")
+    top, git = text_with(place, "text", coming)
+    says = lambda *words: done(place, [os.path.join(top, "scripts", "version"), *words]).strip()
+    says("write")
+    found = []
+    for at in ("2026-12-01T10:00:00Z", "2026-12-01T10:00:01Z", "2027-01-01T00:00:00Z"):
+        git("add", "--all")
+        git("commit", "-q", "--allow-empty", "-m", "one more", at=at)
+        found.append(says())
+    name = git("rev-parse", "HEAD").strip()
+    same((found[-1], says("python")), (f"2.4.0~git20270101000000.{name[:8]}", f"2.4.0.dev20270101000000+{name[:8]}"))
+    chain = ["2.3.0", *found, "2.4.0"]
+    same([(one, two) for one, two in zip(chain, chain[1:]) if not sorts(place, one, two)], [], "versions that do not rise")
+    same((says("sources"), versions.strays(top), says()), ("2.4.0~git", [], found[-1]))
+    fault = lambda: (versions.commit.cache_clear(), versions.fault_of_release(top))[1]
+    holds("unreleased" in fault(), fault())
+    with open(os.path.join(top, "CHANGELOG.md"), "w", encoding="utf-8") as file:
+        file.write(coming.replace("## Unreleased: 2.4.0", "## 2.4.0, 2026-12-02"))
+    holds("scripts/version write" in fault(), fault())
+    says("write")
+    holds("no commit" in fault(), fault())
+    git("commit", "-q", "-a", "-m", "Version 2.4.0")
+    holds("does not have the tag v2.4.0" in fault(), fault())
+    git("tag", "v2.4.0")
+    same((fault(), says(), says("python")), (None, "2.4.0", "2.4.0"))
+    with open(os.path.join(top, "CHANGELOG.md"), "a", encoding="utf-8") as file:
+        file.write("\n")
+    holds("no commit" in fault(), fault())
+    same(versions.is_dated_before(top), False)
+    git("commit", "-q", "-a", "-m", "It is not the release any more")
+    holds("does not have the tag v2.4.0" in fault() and versions.is_dated_before(top), fault())
+    versions.commit.cache_clear()
+    return f"{len(chain)} versions"
+
+
+CHECKS = (program, c, dist, dist_refuses, one_path, one_version, moves)

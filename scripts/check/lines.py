@@ -6,6 +6,7 @@ import threading
 
 from . import wire
 from .harness import Server, holds, same, until
+from .manuals import versions
 from .store import SIZE, TWO, device_of
 
 PATHS = 'socket = "x.socket"\nstore = "x.store"\n'
@@ -58,7 +59,7 @@ def help_and_version(place):
     shown = f"Shows what is in a store\n\nUsage: {os.path.basename(place.program)} look --store <PATH>\n\n"
     shown += "Options:\n      --store <PATH>  The file of the store\n  -h, --help          Print help\n"
     same(place.run("look", "--help"), (0, shown.encode(), b""))
-    same(place.run("--version"), (0, b"femem 1.0.0\n", b""))
+    same(place.run("--version"), (0, f"femem {versions.of_sources()[0]}\n".encode(), b""))
     with open("/dev/full", "wb") as full:
         same(place.run("--help", stdout=full)[::2], (2, b"femem: input\n"))
 

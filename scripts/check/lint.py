@@ -16,7 +16,7 @@ def lint(place):
         raise Skipped("there is no lintian, of Debian's package lintian")
     folder = built(place)
     words = ["lintian", "--fail-on", "error,warning", *(os.path.join(folder, it) for it in sorted(os.listdir(folder)))]
-    ran = subprocess.run(words, stdout=subprocess.PIPE, stderr=subprocess.STDOUT, text=True, timeout=290, check=False)
+    ran = subprocess.run(words, stdout=subprocess.PIPE, stderr=subprocess.STDOUT, text=True, timeout=290 * place.options.patience, check=False)
     same((ran.returncode, re.findall(r"^[EW]: .*$", ran.stdout, re.M)), (0, []), ran.stdout)
     return f"{len(os.listdir(folder))} packages"
 

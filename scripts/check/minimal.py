@@ -1,5 +1,5 @@
-"""A minimal Debian, as debootstrap makes it, with the toolchain and what the README names: what `make run` and `make test` say before
-that, the README's first commands by a user and by root, the packages, and the commands of the pages. `make test` proves nothing here.
+"""A minimal Debian, as debootstrap makes it, with the toolchain and what the pages name: what `make run` and `make test` say before
+that, CONTRIBUTING.md's first commands by a user and by root, the packages, and the commands of the pages. `make test` proves nothing here.
 
 Outside the gate: it needs root, debootstrap and Debian's archive. `make check-minimal` runs it. FEMEM_CLEAN_ROOT can name a root that
 debootstrap has made; it is copied.
@@ -13,7 +13,7 @@ import subprocess
 from . import deb_pages
 from .clean import NAMES
 from .harness import Skipped, holds, same, within
-from .targets import copy_of, packages_of_the_readme
+from .targets import copy_of, packages_of_the_pages
 from .texts import text_of
 
 SUITE, ARCHIVE = "bookworm", "http://deb.debian.org/debian"
@@ -92,13 +92,13 @@ def lacks(place):
 
 @within(1200)
 def first_commands(place):
-    """a minimal Debian with the packages that the README names for `make run`: its first commands, by a user and by root"""
+    """a minimal Debian with the packages that the README names for `make run`: the first commands of CONTRIBUTING.md, by a user and by root"""
     minimal = Minimal(place)
-    minimal.does("root", f"apt-get -q -y install {' '.join(packages_of_the_readme()[0])}")
+    minimal.does("root", f"apt-get -q -y install {' '.join(packages_of_the_pages()[0])}")
     os.symlink(f"{kit()}/bin/rt", f"{minimal.root}/usr/local/bin/rt")
-    found = re.search(r"^```sh\n(make run.*?)^```\n\n(.*?)\n\n", text_of("README.md"), re.M | re.S)
+    found = re.search(r"^```sh\n(make run.*?)^```\n\n(.*?)\n\n", text_of("CONTRIBUTING.md"), re.M | re.S)
     printed = re.findall(r"`(welcome [^`]*|[0-9]+ [^`]*)`", found[2])
-    holds(len(printed) == 6, f"the README says what six lines are: {printed}")
+    holds(len(printed) == 6, f"the page says what six lines are: {printed}")
     for user in (USER, "root"):
         said = minimal.does(user, f"set -eu\n{found[1]}", CLONE)
         same([it for it in said.splitlines() if re.match(r"welcome |[0-9]+ ", it)][-6:], printed, user)
@@ -111,26 +111,26 @@ TEST = f"git config --global --add safe.directory {CLONE}; PATH=/srv/stand-in:$P
 
 @within(600)
 def tests_lack(place):
-    """a minimal Debian with the packages that the README names for `make run`: `make test` names those that the README names for it"""
+    """a minimal Debian with the packages that the README names for `make run`: `make test` names those that CONTRIBUTING.md names for it"""
     # (git brings patch)
     named = {it[1] for it in LACKS.findall(Minimal(place).runs("root", TEST, CLONE)[1])}
-    same(named, set(packages_of_the_readme()[1]) - {"patch"})
+    same(named, set(packages_of_the_pages()[1]) - {"patch"})
 
 
 @within(600)
 def packs(place):
-    """a minimal Debian with what the README names for `make deb` besides: a user makes the six packages, without a network"""
+    """a minimal Debian with what packaging/README.md names for `make deb` besides: a user makes the six packages, without a network"""
     minimal = Minimal(place)
-    minimal.does("root", f"apt-get -q -y install {' '.join(packages_of_the_readme()[2])}")
+    minimal.does("root", f"apt-get -q -y install {' '.join(packages_of_the_pages()[2])}")
     said = minimal.does(USER, "scripts/make_deb --unproved out/unproved/femem-unproved out/dist", CLONE, network=False)
     same(sorted(os.path.basename(it).split("_")[0] for it in said.split()), sorted(NAMES))
 
 
 @within(600)
 def tests_have(place):
-    """a minimal Debian with all packages that the README names: `make test` names root alone to a user, and nothing to root"""
+    """a minimal Debian with all packages that the pages name: `make test` names root alone to a user, and nothing to root"""
     minimal = Minimal(place)
-    minimal.does("root", f"apt-get -q -y install {' '.join(packages_of_the_readme()[1])}")
+    minimal.does("root", f"apt-get -q -y install {' '.join(packages_of_the_pages()[1])}")
     for user, wanted in ((USER, [("root", "")]), ("root", [])):
         said = minimal.runs(user, TEST, CLONE)[1]
         same(LACKS.findall(said), wanted, f"{user}: {said[:1000]}")
@@ -142,7 +142,7 @@ def tests_have(place):
 def pages(place):
     """a minimal Debian with what the README names: the commands of the pages, as deb_pages.py runs them"""
     minimal = Minimal(place)
-    minimal.does("root", f"apt-get -q -y install systemd {' '.join(packages_of_the_readme()[1])}")
+    minimal.does("root", f"apt-get -q -y install systemd {' '.join(packages_of_the_pages()[1])}")
     before = os.environ.get("FEMEM_CLEAN_ROOT")
     os.environ["FEMEM_CLEAN_ROOT"] = minimal.root
     try:

@@ -1,4 +1,4 @@
-"""What the entries of a server's history do, from README.md's table and docs/model.md.
+"""What the entries of a server's history do, from the table of docs/commands.md and docs/model.md.
 
 An entry is ("attached", SESSION, FLOOR), ("closed", SESSION), ("settled", SESSION, FLOOR) or
 ("finished", SESSION, NUMBER, REQUEST, ANSWER), with requests and answers as in wire.py.
@@ -24,7 +24,7 @@ class Illegal(Exception):
 
 
 def table(op, operand, value, tag):
-    """The README's operation table: the value and tag after, and the answer; None where it waits."""
+    """The operation table of docs/commands.md: the value and tag after, and the answer; None where it waits."""
     needs, value_after, tag_after, answer = TABLE[op]
     if needs != "any" and tag != TAGS[needs]:
         return None

@@ -101,7 +101,7 @@ def model(_place):
 
 # Words in backticks that are of other programs, of the toolchain, or of an example that is not in the repository.
 OF_OTHERS = set(
-    "BLPOP Builder INCR StateDirectory blocklist ceph chrt dac dmesg docker fua lemma logic mdadm mypy nobarrier osd stonith ulimit writexe".split()
+    "BLPOP Builder INCR StateDirectory activating blocklist ceph chrt dac dmesg docker fua lemma logic mdadm mypy nobarrier noerror osd reflink rlwrap sparse stonith ulimit writexe".split()
 )
 LETTERS = re.compile("[A-Za-z]{3,}")
 

@@ -1,15 +1,12 @@
 """What runs outside the gate still works: the benches, on so little work that their figures mean nothing, and scripts/try_disks.
 And the gate runs all checks that there are."""
 
-import glob
-import importlib
-import inspect
 import json
 import os
 import re
 import shutil
 
-from . import wrong_disks
+from . import counted, wrong_disks
 from .clients import output_of
 from .harness import Server, Skipped, compiler, holds, same, within
 from .texts import text_of, told
@@ -71,28 +68,13 @@ def disk_edits(_place):
     return told([f"{path}: {old}" for path, old, _ in edits if text_of(path).count(old) != 1], len(edits), 15, "edits")
 
 
-def is_check(function):
-    """Whether a function is a check: it takes a place, and says what holds, without a full stop."""
-    names = list(inspect.signature(function).parameters)
-    return names in (["place"], ["_place"]) and function.__doc__ is not None and not function.__doc__.strip().endswith(".")
-
-
 def all_run(_place):
-    """each check in scripts/check is one of its part's, and each part is one that scripts/check_programs runs"""
-    programs = text_of("scripts/check_programs")
-    parts = re.findall(r'"(\w+)"', re.search(r"^PARTS = \((.*?)^\)", programs, re.M | re.S)[1] + re.search(r"^NAMED = \{(.*?)^\}", programs, re.M | re.S)[1])
-    run, there = set(), set()
-    for path in glob.glob(os.path.join(TOP, "scripts", "check", "*.py")):
-        name = os.path.basename(path).removesuffix(".py")
-        module = importlib.import_module(f"check.{name}")
-        own = {f"{name}.{it.__name__}" for _, it in inspect.getmembers(module, inspect.isfunction) if it.__module__ == module.__name__ and is_check(it)}
-        there |= own
-        if name in parts:
-            run |= {f"{it.__module__.removeprefix('check.')}.{it.__name__}" for it in module.CHECKS}
+    """each check in scripts/check is one of its part's, each part is one that scripts/check_programs runs, and they are as many as are counted"""
+    by_part, there = counted.checks()
+    run = {it for its in by_part.values() for it in its}
     same(sorted(there - run), [], "checks that no part runs")
     same(sorted(run - there), [], "parts of what is no check")
-    holds(len(run) >= 170, f"only {len(run)} checks")
-    return f"{len(run)} checks"
+    return f"{counted.compare('checks', {part: [len(its)] for part, its in by_part.items()})} checks"
 
 
 CHECKS = (loads, beside, competing_threads, disk_edits, all_run)

@@ -59,13 +59,14 @@ def packages(_place):
     folders = sorted(it for it in os.listdir(os.path.join(TOP, "packaging/debian")) if exists("packaging/debian", it, "control*"))
     named = [row[0] for row in rows("packaging/README.md", "| package | what it has |")]
     same((sorted(named), WORDS[re.search(r"makes (\w+) Debian packages", page)[1]]), (folders, len(folders)), "packages")
-    tools = {*package.TOOLS, "make-store"}
     missing, sources = [], text_of("scripts/release/package.py")
     for file, _ in rows("packaging/README.md", "| file | what it is |"):
         name = re.sub(r"\[.*\]\(\.\./(.*)\)", r"../\1", file)
         missing += [] if exists("packaging", name) else [f"packaging/README.md: no {file}"]
-    found = re.findall(r"/usr/lib/femem/([\w-]+)", page) + re.findall(r"`(femem-[\w-]+)`(?:,| and)", page[page.index("| `tools/`") :].split("\n")[0])
-    missing += [f"packaging/README.md: nothing installs {it}" for it in found if it not in tools]
+    found = re.findall(r"/usr/lib/femem/([\w-]+)", page) + re.findall(r"`(femem-[\w-]+)`", page[page.index("| `units/`") :].split("\n")[0])
+    missing += [f"packaging/README.md: nothing installs {it}" for it in found if not exists("packaging/tools", it) and not exists("packaging/units", f"{it}.timer")]
+    former = re.findall(r"`([\w-]+)`", text("docs/femem-store.md").split(" in `/usr/lib/femem` do the same")[0].split("\n\n")[-1])
+    missing += [] if former == list(package.FORMER) else [f"docs/femem-store.md: {former} are not the links that are installed"]
     for path in NAME.findall("".join(f"`{row[0]}`" for row in rows("docs/commands.md", "| path | what it is |"))):
         path = path.split(" ")[0]
         made = [sources, text_of("packaging/femem.toml"), text_of("packaging/femem-tmpfiles.conf"), text_of("examples/femem.service")]
@@ -76,40 +77,7 @@ def packages(_place):
     missing += [f"docs/commands.md: {path} is not the {key}" for key, path in set_to.items() if not re.match(rf"(?:the|its) {key}\b", what.get(path, ""))]
     manuals = re.findall(r"\b(lib\w+|femem[\w-]*)\((\d)\)", page)
     missing += [f"packaging/README.md: no {name}({section})" for name, section in manuals if not exists("clients", "*", f"{name}.{section}")]
-    return told(missing, len(found) + len(manuals), 6, "files")
-
-
-def stems(text):
-    return {it[:4] for it in re.findall(r"[a-z_]{4,}", text.lower())}
-
-
-def described(_place):
-    """what the table of docs/patterns.md says of a program has no fewer words of that program's file than of another row's"""
-    table = [(re.search(r"\]\(\.\./(.*)\)", name)[1], stems(what)) for name, what in rows("docs/patterns.md", "| program | what it does |")]
-    holds(len(dict(table)) == len(table), "docs/patterns.md: a program stands twice in its table")
-    shared = {name: {it: len(words & stems(text_of(it))) for it, _ in table} for name, words in table}
-    wrong = [f"docs/patterns.md: {name} has words of {max(found, key=found.get)}" for name, found in shared.items() if found[name] < max(found.values())]
-    return told(wrong, len(table), 5, "programs")
-
-
-def targets(_place):
-    """what a table says of a target of make is what `make help` says of it: the same minutes, and no other target's help has more of its words"""
-    of = dict(re.findall(r"^([a-z-]+):.*?## (.*)$", text_of("Makefile"), re.M))
-    missing, count = [], 0
-    for page in (*PAGES, *READMES):
-        for line in [it for _, it in split(text_of(page))[0] if it.startswith("|")]:
-            cells = [it.strip() for it in line.strip("|").split("|")]
-            for at, cell in enumerate(cells):
-                named = re.match(r"`make ([a-z-]+)`(?: in a clone)?$|`scripts/(check_programs) ", cell)
-                name = named and (named[1] or "check-programs")
-                if name in of:
-                    count += 1
-                    said = " ".join(cells[:at] + cells[at + 1 :])
-                    shared = {it: len(stems(said) & stems(of[it])) for it in of}
-                    missing += [f"{page}: {cell}: {said}"] if named[1] and shared[name] < max(shared.values()) else []
-                    minutes = set(re.findall(r"(\d+)(?= (?:to|minute|if))", said))
-                    missing += [f"{page}: {cell}: {it} minutes" for it in minutes if it not in re.findall(r"\d+", of[name])]
-    return told(missing, count, 7, "targets")
+    return told(missing, len(found) + len(former) + len(manuals), 6, "files")
 
 
 # What the recipe of two hosts sets: options of programs, fields of an image's description, and settings.
@@ -133,4 +101,4 @@ def recipe(_place):
     return told(missing + [f"hosts.py does not run {it}" for it in programs if it not in hosts], len(wanted), 7, "options")
 
 
-CHECKS = (layers, programs, described, targets, packages, recipe)
+CHECKS = (layers, programs, packages, recipe)

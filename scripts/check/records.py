@@ -54,37 +54,51 @@ def wrote(at, data):
 SYNC = [("fdatasync",)]
 FIRST_SYNC = SYNC + [("fadvise", 0, 0, os.POSIX_FADV_DONTNEED)]
 
-# Behind the sync of a short write, such as a gate, the server checks the file's size, its path, which says whether it has a name, and
-# what it synced before (`compared`).
+# Behind the sync of a short write, such as a gate, the server checks the file's size and its path, which says whether it has a name.
 WATCH = [("lseek",), ("readlink",)]
 
+# How many bytes of the image's beginning an opening relies on, how many bytes are compared at most, and how short a write is that is no
+# group's.
+IMAGE_HEAD, MOST, SHORT = 24, 96, 16
 
-# How many bytes of a long write are kept, and how short one is that is no group's.
-FIRST, SHORT = 31, 16
+NONE = (0, 0)
 
 
-def compared(calls):
-    """The same calls, with what follows each sync of a short write: the file is looked at, and what was synced before is read, the first bytes
-    of the last long write, with the byte in front of them if that was written alone. What was written over since is not read."""
-    written = synced = (0, 0)
+def last_of(at, size):
+    """Where the last bytes of a range are that are compared, and how many they are."""
+    count = min(size, MOST)
+    return at + size - count, count
+
+
+def relied(slot, length, used):
+    """What an opening relies on: the beginning of the image, and the end of the groups with the closed gate after them."""
+    at = slot * SLOT
+    return last_of(at + IMAGE, min(length, IMAGE_HEAD)), last_of(at + JOURNAL, used + 1)
+
+
+def compared(calls, samples=(NONE, NONE)):
+    """The same calls, with what goes with them. Before each long write is read what the file must have: the last bytes of the last long
+    write that was synced by itself, or at first what the opening relied on. What was written over since is not read. Behind each sync of a
+    short write the file is looked at."""
+    opened, kept = samples
+    written = kept
     is_short = False
     found = []
     for call, following in zip(calls, [*calls[1:], ()]):
-        found.append(call)
         if call[0] == "pwrite":
             at, size = call[1], len(call[2])
-            apart = [start + count <= at or at + size <= start for start, count in (written, synced)]
-            synced = synced if apart[1] else (0, 0)
             is_short = size < SHORT
-            if size >= SHORT:
-                written = (at, min(size, FIRST))
-            elif size == 1 and at + 1 == written[0] and written[1] <= FIRST:
-                written = (at, written[1] + 1)
-            elif not apart[0]:
-                written = (0, 0)
-        elif call[0] in ("fdatasync", "fadvise") and following != FIRST_SYNC[1] and is_short:
-            found += WATCH + ([("pread", *synced)] if synced[1] else [])
-            synced = written
+            if not is_short:
+                found += [("pread", *sample) for sample in (opened, kept) if sample != NONE]
+                opened = NONE
+            opened, kept, written = (
+                sample if sum(sample) <= at or at + size <= sample[0] else NONE for sample in (opened, kept, written)
+            )
+            written = written if is_short else last_of(at, size)
+        found.append(call)
+        if call[0] in ("fdatasync", "fadvise") and following != FIRST_SYNC[1]:
+            found += WATCH if is_short else []
+            kept = kept if is_short else written
     return found
 
 
@@ -482,7 +496,7 @@ def appended(place):
     wanted += old.group(entries[5]) + finishing(0, new, entries[2:6])
     for entry in entries[6:]:
         wanted += new.group(entry)
-    as_said(of_file(calls, "s.store"), compared(wanted))
+    as_said(of_file(calls, "s.store"), compared(wanted, relied(1, len(image_of(state, TWO)), 2 * (5 + 3276 * 80))))
     asked = {(7, number): request for number, request in enumerate(work, 1)}
     same(left_in_time(calls, "s.store", base, asked), 9, "replies")
     replies = [at for at, call in enumerate(calls) if call.kind == "send"]
@@ -508,7 +522,7 @@ def migrated(place):
     for entry, piece in zip(entries[2:5], slices(0, image)):
         wanted += old.group(entry) + piece
     wanted += old.group(entries[5]) + finishing(0, new, entries[2:6]) + new.group(entries[6])
-    as_said(of_file(calls, "s.store"), compared(wanted))
+    as_said(of_file(calls, "s.store"), compared(wanted, relied(1, len(image_of(state, ONE)), 2 * (5 + 4095 * 64))))
 
 
 def migrated_by_a_name(place):
@@ -527,7 +541,7 @@ def migrated_by_a_name(place):
     wanted += sum(slices(1, image), []) + finishing(1, new, [])
     wanted += new.group(entries[1]) + new.group(entries[2])
     same(len(slices(1, image)), 2)
-    as_said(of_file(calls, "s.store"), compared(wanted))
+    as_said(of_file(calls, "s.store"), compared(wanted, relied(0, len(image_of(state, ONE)), 5 + 64)))
 
 
 class Asker(threading.Thread):

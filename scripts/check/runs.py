@@ -1,4 +1,4 @@
-"""`femem run`: the schedules of examples/, the syntax of lines, and streams that pass few bytes, fail or are closed."""
+"""`femem run`: the schedules of examples/ and of schedules/, the syntax of lines, and streams that pass few bytes, fail or are closed."""
 
 import os
 import re
@@ -7,7 +7,7 @@ import subprocess
 from . import schedules
 from .harness import holds, preload, same, within
 
-# The worked schedules, each as a file of examples/.
+# The worked schedules, each as a file of one of the two folders.
 WORKED = (
     "empty_input first_path broadcast turns_of_writers arithmetic_wraps purge_wakes_writer bad_index_is_kept kept_over_stop "
     "kept_over_checkpoint waiter_gone_after_stop number_used window_edges remove_answers_waiters unsynced_is_lost "
@@ -90,22 +90,14 @@ def in_syntax(line):
 
 
 def worked_schedules(place):
-    """each schedule of examples/ through `femem run`: its output, its message on standard error and its status"""
-    names = [file[: -len(".txt")] for file in sorted(os.listdir(schedules.EXAMPLES)) if file.endswith(".txt")]
+    """each schedule of examples/ and of scripts/check/schedules/ through `femem run`: its output, its message on standard error and its status"""
+    names = schedules.paths()
     for name in WORKED:
         holds(name in names, f"no schedule {name}")
     for name in names:
-        given, output, errors = (content_of(f"{name}.{kind}") for kind in ("txt", "out", "err"))
+        given, output, errors = (schedules.content_of(name, kind) for kind in ("txt", "out", "err"))
         same(place.run("run", given=given), (2 if errors else 0, output, errors), name)
     return f"{len(names)} schedules"
-
-
-def content_of(file):
-    path = os.path.join(schedules.EXAMPLES, file)
-    if not os.path.exists(path):
-        return b""
-    with open(path, "rb") as found:
-        return found.read()
 
 
 def full_cascade(place):
@@ -356,7 +348,7 @@ def refuse_each(place):
     mark = place.path("refused")
     told = []
     for name in ("first_path", "broadcast", "remove_answers_waiters", "asked_again"):
-        given, output = content_of(f"{name}.txt"), content_of(f"{name}.out")
+        given, output = (schedules.content_of(name, kind) for kind in ("txt", "out"))
         number = named = 0
         while True:
             number += 1
@@ -411,7 +403,7 @@ def streams_closed(place):
 def ended(place, words):
     """Runs a process without input: its status, output and errors."""
     process = place.start(words, "shell")
-    status = process.wait(30)
+    status = process.wait(30 * place.options.patience)
     return status, place.read("shell.out"), place.read("shell.err")
 
 

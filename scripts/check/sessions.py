@@ -12,7 +12,7 @@ from .texts import TOP, split, text_of
 
 sys.path.insert(0, os.path.join(TOP, "clients", "python"))
 
-from femem import sessionblocks, sessionrecords  # noqa: E402
+from femem import _sessionblocks as sessionblocks, _sessionrecords as sessionrecords  # noqa: E402
 
 PAGE = "docs/session-file.md"
 SIZED = re.compile(r"([a-z][a-z' ]*?) (\d+)(?:,|$)")

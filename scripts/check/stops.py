@@ -92,7 +92,7 @@ class Trial:
         client = Client(server, self.work)
         if server.is_running():
             holds(not client.attempt(), f"the server lives on behind call {number}")
-        server.process.wait(30)
+        server.process.wait(30 * wire.patience)
         same(server.process.returncode, -9, f"killed {how} call {number}")
         self.goes_on(server, client, f"killed {how} call {number}")
 
@@ -105,7 +105,7 @@ class Trial:
         worker.start()
         time.sleep(seconds)
         server.process.kill()
-        server.process.wait(30)
+        server.process.wait(30 * wire.patience)
         worker.join(60)
         holds(not worker.is_alive(), "a client does not come to an end")
         client.seconds = 10

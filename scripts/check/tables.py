@@ -123,8 +123,8 @@ def limits():
 
 
 def operations():
-    """The operation table of the README: from a name to what it needs, its value after, its tag after, and its answer."""
-    return {row[0]: tuple(row[1:]) for row in rows("README.md", "| operation | needs |")}
+    """The operation table of docs/commands.md: from a name to what it needs, its value after, its tag after, and its answer."""
+    return {row[0]: tuple(row[1:]) for row in rows("docs/commands.md", "| operation | needs |")}
 
 
 def statuses():

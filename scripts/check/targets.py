@@ -7,12 +7,13 @@ import shutil
 import signal
 import subprocess
 
-from . import wire
+from . import must_fail, wire
 from .clean import NAMES
 from .clients import output_of
 from .harness import Skipped, compiler, holds, same, until, within
 from .install import done, recorded
-from .manuals import pages
+from .manuals import versions
+from .schedules import paths
 from .texts import TOP, text_of
 
 from release import record  # noqa: E402  (the path is set by manuals)
@@ -85,14 +86,15 @@ def prove(place):
 
 
 # In place of scripts/check_programs.
-PROGRAMS = """#!/bin/sh
-echo "${SAYS-3 passed, 0 failed}"
+PROGRAMS = f"""#!/bin/sh
+case "$*" in *must_fail) echo "${{FAILS-{must_fail.LAST}}}"; exit 1 ;; esac
+echo "${{SAYS-3 passed, 0 failed}}"
 """
 
 
 @within(120)
 def adds_up(place):
-    """`make test` adds up what its three parts say; one that ends with an error, or says nothing, has failed; only a run in which none has failed is recorded"""
+    """`make test` adds up what its four parts say; one that ends with an error, or says nothing, has failed; only a run in which none has failed is recorded"""
     top = copy_of(place)
     os.makedirs(place.path("bin"))
     os.chmod(place.write("bin/rt", TOOLCHAIN.encode()), 0o755)
@@ -100,8 +102,9 @@ def adds_up(place):
     env = {"PATH": f"{place.path('bin')}:{os.environ['PATH']}", "SEEN": place.path("seen")}
     made = os.path.join(top, "out/proved/record")
     runs = (
-        ({"STATUS": "1"}, "11 passed, 1 failed"), ({"FAULT": "4 passed, 1 failed"}, "10 passed, 1 failed"), ({"SAYS": ""}, "5 passed, 2 failed"),
-        ({"SAYS": "3 passed, 1 failed (not run here: deb)"}, "11 passed, 2 failed (not run here: deb)"), ({}, "11 passed, 0 failed"),
+        ({"STATUS": "1"}, "12 passed, 1 failed"), ({"FAULT": "4 passed, 1 failed"}, "11 passed, 1 failed"), ({"SAYS": ""}, "6 passed, 2 failed"),
+        ({"SAYS": "3 passed, 1 failed (not run here: deb)"}, "12 passed, 2 failed (not run here: deb)"),
+        ({"FAILS": f"1 passed, {len(must_fail.CHECKS) - 1} failed"}, "11 passed, 1 failed"), ({}, "12 passed, 0 failed"),
     )
     for how, last in runs:
         done(place, ["make", "-s", "-C", top, "test"], env={**env, **how}, status=2 if how else 0)
@@ -110,7 +113,7 @@ def adds_up(place):
         same(os.path.exists(made), not how, "a record")
     with open(os.path.join(top, "out/gate/spent"), encoding="ascii") as file:
         spent = [line.rstrip("\n").split(" ", 1) for line in file]
-    same([name for _, name in spent], ["rt ci", "programs", "proofs"], "parts whose processor time is noted")
+    same([name for _, name in spent], ["rt ci", "programs", "proofs", "harness"], "parts whose processor time is noted")
     same(sorted(spent, key=lambda it: float(it[0])), spent, "processor time so far")
     return f"{len(runs)} runs"
 
@@ -118,7 +121,7 @@ def adds_up(place):
 # What the gate names if a machine lacks it, and Debian's package of each. Every Debian has those of EACH_HAS.
 NEEDS = {
     "gcc": "gcc", "nm": "binutils", "patch": "patch", "man": "man-db", "dpkg-deb": "dpkg", "pkg-config": "pkgconf", "unshare": "util-linux",
-    "ss": "iproute2", "ps": "procps", "strace": "strace", "valgrind": "valgrind", "lintian": "lintian",
+    "ss": "iproute2", "ps": "procps", "strace": "strace", "valgrind": "valgrind", "lintian": "lintian", "mypy": "mypy",
 }
 EACH_HAS = {"dpkg", "util-linux"}
 # In place of a toolchain that fails: it notes what it is asked, and says why.
@@ -146,16 +149,16 @@ def machine(place, without, *scripts):
     return made
 
 
-def packages_of_the_readme():
-    """Debian's packages that the README names for `make run`, and those that it names for `make test` and for `make deb` besides."""
+def packages_of_the_pages():
+    """Debian's packages that the README names for `make run`, CONTRIBUTING.md for `make test`, and packaging/README.md for `make deb`."""
     found = [
-        re.findall(form, text_of("README.md"), re.M)
-        for form in (
-            r"^.*On Debian: `apt install ([\w ]+)`", r"^\| `make test` \|.*`apt install ([\w. -]+)`",
-            r"with `make prove` and `make deb` \(`apt install ([\w ]+)`\)",
+        re.findall(form, text_of(page), re.M)
+        for page, form in (
+            ("README.md", r"^.*On Debian: `apt install ([\w ]+)`"), ("CONTRIBUTING.md", r"^`make test` needs root, and `apt install ([\w. -]+)`"),
+            ("packaging/README.md", r"with `make prove` and `make deb` \(`apt install ([\w ]+)`\)"),
         )
     ]
-    same([len(it) for it in found], [1, 1, 1], "the README says what to install, once for each")
+    same([len(it) for it in found], [1, 1, 1], "the pages say what to install, once for each")
     return [it[0].split() for it in found]
 
 
@@ -174,7 +177,7 @@ def lacks(place):
     before, _, after = place.read("test.out").decode().partition("rt: a fault of the toolchain")
     named = re.findall(r"^femem: this machine lacks (\S+) \(on Debian: apt install (\S+)\): checks that need it will count as failed$", before, re.M)
     same(dict(named), NEEDS, before)
-    same(sorted(packages_of_the_readme()[1]), sorted({"python3-venv", *NEEDS.values()} - EACH_HAS), "what the README names for `make test`")
+    same(sorted(packages_of_the_pages()[1]), sorted({"python3-venv", *NEEDS.values()} - EACH_HAS), "what CONTRIBUTING.md names for `make test`")
     holds("femem: this machine lacks root, " in before and after and process.returncode == 2, f"{before} .. {after}")
     # a fault of the toolchain is passed on, and nothing is proved
     os.unlink(place.path("seen"))
@@ -199,7 +202,7 @@ def deb(place):
     holds("is of another program" in said and not os.path.exists(place.path("dist")), said)
     said = done(place, [*words, f"RECORD={recorded(place)}"])
     made, *others = said.split()
-    same(os.path.basename(made), f"femem_{pages.version()}_amd64.deb")
+    same(os.path.basename(made), f"femem_{versions.version()}_amd64.deb")
     same(len(others), len(NAMES) - 1, f"other packages: {others}")
     done(place, ["dpkg-deb", "--extract", made, place.path("tree")])
     same(record.sum_of(place.path("tree/usr/bin/femem")), record.sum_of(place.program), "the packed program")
@@ -244,7 +247,7 @@ def serve(place):
 def refuse_each(place):
     """scripts/refuse_each finds no wrong end of three schedules, with each allocation refused in turn: of all by turns of commits"""
     compiler()
-    schedules = sorted(it for it in os.listdir(os.path.join(TOP, "examples")) if it.endswith(".txt"))
+    schedules = [f"{os.path.relpath(it, TOP)}.txt" for it in paths().values()]
     count = subprocess.run(["git", "-C", TOP, "rev-list", "--count", "HEAD"], capture_output=True, text=True, check=False).stdout
     first = int(count or 0) * 3
     chosen = [schedules[(first + it) % len(schedules)] for it in range(3)]

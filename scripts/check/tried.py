@@ -4,9 +4,8 @@ the server's sockets."""
 import glob
 import os
 import re
-import runpy
 
-from . import cases, files, histories, looks, stops
+from . import canary, cases, constants, files, histories, looks, stops
 from .harness import same
 from .sources import source_of
 from .tables import rows, said
@@ -73,21 +72,21 @@ def parts(_place):
     changes = [it for where, it in rows_in_order() if where == "files"]
     found_of = [changes[0].split(" changes")[0], changes[1].split(" ways")[0]]
     same(found_of, [str(len(files.CHANGES)), str(len(files.OVERWRITES))], "changes of files")
-    usual = int(re.search(r'"--stops", type=int, default=(\d+)', text_of("scripts/check_programs"))[1])
-    same((stops.COVERED // usual, found["scripts/check, stops"].split(" of ")[0]), (9, "a ninth"), "the share of the points")
+    same((stops.COVERED // constants.STOPS, found["scripts/check, stops"].split(" of ")[0]), (9, "a ninth"), "the share of the points")
     every = int(re.search(r"`--stops (\d+)` all", text_of(PAGE))[1])
     same(stops.share_of(list(range(1000)), every, 5), list(range(1000)), "all points")
     return told(missing, count, 25, "names")
 
 
 def wrong_disks(_place):
-    """docs/proved.md says how many wrong bodies scripts/try_disks has, and how many checks have to notice each"""
-    wrong = runpy.run_path(os.path.join(TOP, "scripts", "try_disks"))["WRONG"]
-    same(said(PAGE, "builds one program with N wrong bodies"), len(wrong))
-    few, most = re.search(r"All are noticed, by (\w+) to (\w+) checks each\.", text_of(PAGE)).groups()
-    counts = [len(checks) for checks in wrong.values()]
+    """docs/proved.md says how many wrong bodies and lines the canary has, how many of them no check notices, and how many checks notice each"""
+    same(said(PAGE, "builds one program with N wrong bodies"), len(canary.DISKS))
+    found = [said(PAGE, it) for it in ("and N of the server's edge", "has a check try each of N;", "N more of the edge are noticed by none", "puts N wrong lines")]
+    same(found, [len(it) for it in (canary.EDGES, canary.GATE, canary.UNNOTICED, canary.LINES)], "of the edge, in the gate, unnoticed, lines")
+    few, most = re.search(r"are noticed by (\w+) to (\w+) checks each\.", text_of(PAGE)).groups()
+    counts = [len(checks) for checks in canary.DISKS.values()]
     same([WORDS.index(few), WORDS.index(most)], [min(counts), max(counts)], "checks that notice a wrong body")
-    return f"{len(wrong)} wrong bodies"
+    return f"{len(canary.WRONG)} wrong bodies"
 
 
 def sockets(_place):

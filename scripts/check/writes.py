@@ -52,16 +52,16 @@ def layout(_place):
     same({name: (number(at), number(size)) for at, size, name in found}, store.AREAS)
 
 
-# How the page writes the calls that make a store's file, and the steps in which femem-backup reads a slot with what does each there.
+# How the page writes the calls that make a store's file, and the steps in which a backup reads a slot with what does each there.
 CALLED = {"open": "made", "flock": "locked", "write": "filled", "fsync": "synced", "link": "a second name", "unlink": "removed"}
 STEPS = (
-    ("the header's fields, and then its gate", "storefile.counting(read)"), ("its image", "read(base + IMAGE"), ("its groups", "storefile.groups(read"),
+    ("the header's fields, and then its gate", "layout.counting(read)"), ("its image", "read(base + IMAGE"), ("its groups", "layout.groups(read"),
     ("its journal area, whole", "read(base + JOURNAL"), ("its header's fields once more", "Header(read, header.slot).fields !="),
 )
 
 
 def life(_place):
-    """docs/store.md makes a store's file by the calls that a server's are compared with, has the keeper's calls, and copies as femem-backup reads"""
+    """docs/store.md makes a store's file by the calls that a server's are compared with, has the keeper's calls, and copies as a backup reads"""
     said = re.findall("|".join(CALLED.values()), block(PAGE, "PATH.new "))
     # (of the opens only that of the file is a step, not those of its folder)
     calls = [it.split() for it in (*records.new_file("PATH.new"), *records.renamed("PATH.new", "PATH"))]
@@ -74,9 +74,9 @@ def life(_place):
     same([it for it in names if it not in there], [], "calls that the keeper lacks")
     shown = re.findall(r"^\d +(?:of each slot +)?(.*?)(?: {2,}.*)?$", block(PAGE, "sync\n1 "), re.M)
     same([it.startswith(words) for it, (words, _) in zip(shown, STEPS, strict=True)], [True] * len(STEPS), shown)
-    tool = text("packaging/tools/femem-backup")
+    tool = text("packaging/tools/femem_store/backup.py")
     places = [tool.index(code) for _, code in STEPS]
-    same(places, sorted(places), "the order in which femem-backup reads")
+    same(places, sorted(places), "the order in which a backup reads")
     return f"{len(said) + len(names) + len(shown)} steps"
 
 
