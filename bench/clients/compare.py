@@ -31,6 +31,20 @@ PATTERNS = {
 
 LOADS = {"call": "a call that waits for its answer", "batch 32": "32 in a batch", "batch 1000": "1,000 in a batch"}
 
+# Of the Python client alone, beside redis-py's calls, Lock, LPUSH and BRPOP, or XADD, XREADGROUP and XACK.
+COSTS = {
+    "lock": "Lock, acquired and released",
+    "read": "ReadWriteLock, a read, beside Lock",
+    "write": "ReadWriteLock, a write, beside Lock",
+    "semaphore": "Semaphore of 10 permits, beside Lock",
+    "queue": "BoundedQueue, a value put and got",
+    "channel": "Channel, a value put and got",
+    "work queue": "WorkQueue, a job put, taken and done",
+    "31 wait": "a call while 31 requests wait, beside a call",
+    "asyncio call": "asyncio, a call",
+    "asyncio batch": "asyncio, 1,000 in a batch",
+}
+
 
 def started(words, socket):
     """Starts a server, and waits for its socket."""
@@ -65,8 +79,8 @@ def rounds_of(words):
     return {name: json.loads(rounds) for name, rounds in (line.split("\t") for line in said.splitlines())}
 
 
-def print_rows(rounds, language):
-    for name, text in LOADS.items():
+def print_rows(rounds, language, loads):
+    for name, text in loads.items():
         pairs = rounds[name]
         ratios = sorted(mine / other for mine, other in pairs)
         mine, other = (statistics.median(pair[k] for pair in pairs) for k in (0, 1))
@@ -105,6 +119,7 @@ def main():
         try:
             told = [femem, redis, str(asked.rounds)]
             python = rounds_of([python_with_redis(), HERE / "calls.py", *told])
+            costs = rounds_of([python_with_redis(), HERE / "costs.py", *told])
             c = rounds_of([c_program(folder), *told])
             patterns = rounds_of([python_with_redis(), HERE / "patterns.py", femem, redis, str(max(1, asked.rounds // 5))])
         finally:
@@ -114,8 +129,9 @@ def main():
     print(f"### The clients beside redis-py and hiredis\n\n{time.strftime('%Y-%m-%d')}, {os.cpu_count()} processors.\n")
     print("| load | femem | Redis | ratio |")
     print("|---|---|---|---|")
-    print_rows(python, "Python")
-    print_rows(c, "C")
+    print_rows(python, "Python", LOADS)
+    print_rows(costs, "Python", COSTS)
+    print_rows(c, "C", LOADS)
     print()
     print_patterns(patterns)
 
