@@ -1,5 +1,5 @@
 # `make help` lists the targets, with what each takes on four processors.
-.PHONY: help run test figures plant prove install deb dist check-deb check-minimal check-hosts lint-deb man serve examples faults check-programs client bench \
+.PHONY: help run test figures plant prove install deb deb-source dist check-deb check-minimal check-hosts lint-deb man serve schedules faults check-programs client bench \
   bench-serve toolchain
 
 SCHEDULE := examples/first_path.txt
@@ -24,10 +24,10 @@ run: toolchain ## try it: builds femem without proving it, and runs the schedule
 	@echo "its answers:"
 	@$(UNPROVED) run < $(SCHEDULE)
 
-test: toolchain ## test it: the gate, with every proof, must-fail edit and test, and real processes (45 to 80 minutes; 4 to 6 if nothing changed)
+test: toolchain ## test it: the gate, with every proof, must-fail edit and test, and real processes (45 to 80 minutes)
 	@scripts/gate
 
-figures: ## writes docs/figures.md: sizes, what the benches printed last, and what the last `make test` took
+figures: ## writes bench/results/figures.md, with sizes and what the last `make test` took, and the tables of docs/performance.md
 	@scripts/figures
 
 plant: toolchain ## has `rt plant` try wrong bodies in every crate, and compares what it proves with scripts/planted.txt (hours)
@@ -36,14 +36,21 @@ plant: toolchain ## has `rt plant` try wrong bodies in every crate, and compares
 prove: $(PROVED) ## prove it: proves the program's crates, and builds the proved program (30 minutes)
 	@echo "$(PROVED) is proved"
 
-install: $(PROVED) ## install it: puts the proved program and its man pages below PREFIX (default /usr/local)
+install: $(PROVED) ## install it: puts the proved program, femem-store and the man pages below PREFIX (default /usr/local)
 	@install -D -m 755 $(PROVED) $(DESTDIR)$(PREFIX)/bin/femem
+	@install -D -m 755 packaging/tools/femem-store $(DESTDIR)$(PREFIX)/lib/femem/femem-store
+	@install -D -m 644 -t $(DESTDIR)$(PREFIX)/lib/femem/femem_store packaging/tools/femem_store/*.py
+	@ln -sf ../lib/femem/femem-store $(DESTDIR)$(PREFIX)/bin/femem-store
 	@scripts/man_pages out/man
 	@for page in out/man/*; do install -D -m 644 $$page $(DESTDIR)$(PREFIX)/share/man/man$${page##*.}/$${page##*/}; done
 	@echo "$(DESTDIR)$(PREFIX)/bin/femem"
 
 deb: ## packages it: six Debian packages in out/dist, with the proved program and the clients; refuses what is not proved
 	@scripts/make_deb $(PROVED) $(DIST) $(RECORD)
+
+deb-source: ## makes Debian's source package of this commit in out/source; it builds the same packages where a proved program is given
+	@rm -rf out/source
+	@scripts/deb_source out/source
 
 dist: ## releases it: packages, wheel, C library, checksums and the proof's record in out/dist; refuses what is not proved
 	@scripts/dist $(PROVED) $(RECORD) $(DIST)
@@ -64,13 +71,13 @@ $(PROVED): $(SOURCES)
 serve: $(PROGRAM) ## starts a server with the settings of examples/femem.toml, and its socket and store in femem-data/
 	@mkdir -p $(DATA)
 	@[ -e $(DATA)/femem.toml ] || sed 's|/tmp/femem|$(DATA)/femem|; /^format/d' examples/femem.toml > $(DATA)/femem.toml
-	@[ -e $(DATA)/femem.store ] || FEMEM=$(PROGRAM) packaging/make-store $(abspath $(DATA)/femem.store)
+	@[ -e $(DATA)/femem.store ] || FEMEM=$(abspath $(PROGRAM)) packaging/tools/femem-store make $(DATA)/femem.store
 	@$(PROGRAM) call --socket $(DATA)/femem.socket < /dev/null 2> /dev/null || rm -f $(DATA)/femem.socket
 	@echo "$(PROGRAM) serves at $(DATA)/femem.socket, until it is stopped"
 	@exec $(PROGRAM) serve --settings $(DATA)/femem.toml
 
-examples: $(PROGRAM) ## runs every schedule of examples/, and compares its output
-	@scripts/run_examples $(PROGRAM)
+schedules: $(PROGRAM) ## runs every schedule of examples/ and scripts/check/schedules/, and compares its output
+	@scripts/run_schedules $(PROGRAM)
 
 faults: $(PROGRAM) ## runs every schedule with each allocation refused in turn, and the tests of refused memory
 	@scripts/refuse_each $(PROGRAM)
