@@ -39,8 +39,8 @@ class Client:
                 self.come()
             self.act()
             self.listen(self.random.choice((0.001, 0.003, 0.02)))
-        # what is under way ends, except what waits
-        while self.listen(0.3):
+        # what is under way ends, except what waits (on a slow disk an answer takes a second)
+        while self.listen(0.5 * wire.patience):
             pass
 
     def come(self):

@@ -194,7 +194,7 @@ def runs_of(server):
     return found
 
 
-@within(90)
+@within(300)
 def one_after_another(place):
     """a thousand connections, one after another, each with a session that continues where it was; they leave no memory behind"""
     server = Server(place, connections=256).start()

@@ -2,6 +2,7 @@
 
 import fcntl
 import os
+import pathlib
 import re
 import subprocess
 
@@ -175,8 +176,15 @@ def causes(place):
     same(ran(place, "why", "--user", "no such user", it.path), (1, "", "femem-store: there is no user no such user\n"))
     if os.geteuid() == 0:
         os.chmod(it.path, 0o600)
+        own = os.path.dirname(os.path.realpath(place.folder))
+        # (a machine's folder for temporary files may be another user's or root's alone)
+        shut = [it for it in (*map(str, reversed(pathlib.Path(own).parents)), own) if not os.stat(it).st_mode & 1]
         ended = ran(place, "why", "--user", "nobody", it.path)
-        holds(ended[0] == 1 and "user 65534 may not read and write it (mode 0600, root:root)" in ended[1], f"{ended}")
+        holds(ended[0] == 1 and f"user 65534 may not use the folder {shut[0]} (mode " in ended[1], f"{ended}")
+        os.chmod(own, 0o711)
+        ended = ran(place, "why", "--user", "nobody", it.path)
+        wanted = "read and write it (mode 0600, root:root)" if shut == [own] else f"use the folder {shut[0]} (mode "
+        holds(ended[0] == 1 and f"user 65534 may not {wanted}" in ended[1], f"{ended}")
 
 
 def by_settings(place):

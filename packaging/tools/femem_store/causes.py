@@ -5,9 +5,10 @@ from __future__ import annotations
 import fcntl
 import grp
 import os
+import pathlib
 import pwd
 import stat
-from typing import Iterator, Optional
+from typing import Iterator, List, Optional
 
 from . import device, places, program
 from .files import Fault, holder, unreadable, whole
@@ -45,6 +46,12 @@ def owner_of(path: str) -> str:
     return f"mode {stat.S_IMODE(found.st_mode):04o}, {user}:{group}"
 
 
+def folders_to(folder: str) -> List[str]:
+    """The folder, and those above it, the topmost first."""
+    last = pathlib.Path(os.path.realpath(folder))
+    return [str(it) for it in reversed([last, *last.parents])]
+
+
 def of_path(store: str, who: Who) -> Iterator[str]:
     """What keeps a server from the file: a folder, a link, a kind or a size that is wrong, and rights."""
     folder = os.path.dirname(os.path.abspath(store))
@@ -53,8 +60,9 @@ def of_path(store: str, who: Who) -> Iterator[str]:
     except OSError as error:
         yield f"its folder {folder}: {error.strerror}"
         return
-    if not who.may(folder, 1):
-        yield f"user {who.uid} may not use the folder {folder} ({owner_of(folder)})"
+    closed = next((it for it in folders_to(folder) if not who.may(it, 1)), None)
+    if closed is not None:
+        yield f"user {who.uid} may not use the folder {closed} ({owner_of(closed)})"
     elif not os.path.lexists(store):
         yield "no file is there"
     elif not os.path.exists(store):
