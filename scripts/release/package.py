@@ -128,12 +128,17 @@ def modules(tree, made):
     manual(tree, *pages.SHELL)
 
 
+def files_below(folder):
+    """The paths of a folder's files: those that git has, or all in a text without git, such as a source package."""
+    said = subprocess.run(["git", "-C", TOP, "ls-files", "-z", folder], capture_output=True, text=True, check=False).stdout
+    names = said.split("\0")
+    known = [it for it in names if it and os.path.exists(os.path.join(TOP, it))]
+    walked = [os.path.join(at, it) for at, _, inside in os.walk(os.path.join(TOP, folder)) for it in inside]
+    return known or [os.path.relpath(it, TOP) for it in walked if "/out/" not in it and not it.endswith(".pyc")]
+
+
 def documents(tree, _made):
-    paths = [*TITLES, *READMES]
-    for folder in ("docs", "examples"):
-        for at, _, names in os.walk(os.path.join(TOP, folder)):
-            paths += [os.path.relpath(os.path.join(at, it), TOP) for it in names if "/out" not in at and not it.endswith(".pyc")]
-    for path in sorted(paths):
+    for path in sorted([*TITLES, *READMES, *files_below("docs"), *files_below("examples")]):
         runs = os.stat(os.path.join(TOP, path)).st_mode & stat.S_IXUSR
         tree.put(f"{DOCUMENTS}/{path}", read(path), 0o755 if runs else 0o644)
 
