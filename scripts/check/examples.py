@@ -95,7 +95,8 @@ def storm(crew, server, kills, every):
             stops += 1
             server.stop()
             server.start()
-    until(crew.have_ended, 100, "all have ended")
+    # (where a sync takes 60 ms, what takes a second here takes minutes)
+    until(crew.have_ended, 200, "all have ended")
     holds(crew.kills >= 10 and stops > 0, f"only {crew.kills} kills, and {stops} of the server")
     return f"{crew.kills} kills, {stops} of the server"
 
@@ -327,7 +328,7 @@ def loop(place):
     return f"{len(given) * len(given[0])} numbers, 5 kills of the server"
 
 
-@within(200)
+@within(300)
 def wavefront(place):
     """c/wavefront.c: three of them find the score that the whole matrix gives, over kills of each and of the server"""
     server = Server(place).start()
