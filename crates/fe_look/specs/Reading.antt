@@ -24,6 +24,14 @@ pub record IsCopyOf (image copy : List ℕ) : Type 0 where
 abbrev pub HasRead : ℕ → Calls → Calls → Type 0
 HasRead count before now = before.reads + count ≤ now.reads
 
+-- exactly this many more reads were counted
+abbrev pub ReadsJust : ℕ → Calls → Calls → Type 0
+ReadsJust count before now = now.reads ≡ before.reads + count
+
+-- exactly this many more syncs were counted
+abbrev pub SyncsJust : ℕ → Calls → Calls → Type 0
+SyncsJust count before now = now.syncs ≡ before.syncs + count
+
 -- No write of the disk was counted. It has its size, and is honest exactly if it was. If so, it was only read or synced.
 pub record KeepsDisk {D : Type 0} (model : Ghosts D) (old new : D) : Type 0 where
   pub unwritten : (model.calls new).writes ≡ (model.calls old).writes
@@ -32,17 +40,25 @@ pub record KeepsDisk {D : Type 0} (model : Ghosts D) (old new : D) : Type 0 wher
   pub same_size : model.size new ≡ model.size old
   pub reads : model.honest old → OnlyReads model old new
 
--- The same of a call that fails exactly if the count of faults rose, and leaves that count as it was if it succeeds.
+-- The same of a call that fails exactly if the count of faults rose, and leaves that count as it was if it succeeds. It makes no sync.
 pub record OnlyAsks {D T E : Type 0} (model : Ghosts D) (result : Result T E) (old new : D) : Type 0 where
   pub fault : IsErr result ↔ Rises (model.failures old) (model.failures new)
   pub still : OnOk result (model.failures new ≡ model.failures old)
+  pub unsynced : SyncsJust 0 (model.calls old) (model.calls new)
   pub kept : KeepsDisk model old new
 
+-- What a reading read: if no slot counts, just both headers and their gates; else also, in five reads or more, the image, a gate, the journal
+-- area, and the header and its gate again.
+abbrev pub ReadsFor : Reading → Calls → Calls → Type 0
+ReadsFor Unformatted before now = ReadsJust 4 before now
+ReadsFor Overtaken before now = HasRead 9 before now
+ReadsFor (Whole bytes) before now = HasRead 9 before now
+
 -- A store is given up, without a fault of its disk and with the size of a store, only after a hundred readings, each of which makes four
--- reads at least, of both headers and their gates.
+-- reads at least, of both headers and their gates. It is `Unformatted` only if none made more, and `Device` only if one made five more.
 pub record GivesUpLate {D T : Type 0} (model : Ghosts D) (result : Result T OpenFault) (old new : D) : Type 0 where
-  pub device : IsErrOf result fault.Device → Rises (model.failures old) (model.failures new) ⊎ HasRead 400 (model.calls old) (model.calls new)
-  pub unformatted : IsErrOf result fault.Unformatted → (model.size old ≢ device_bytes) ⊎ HasRead 400 (model.calls old) (model.calls new)
+  pub device : IsErrOf result fault.Device → Rises (model.failures old) (model.failures new) ⊎ HasRead 405 (model.calls old) (model.calls new)
+  pub unformatted : IsErrOf result fault.Unformatted → (model.size old ≢ device_bytes) ⊎ ReadsJust 400 (model.calls old) (model.calls new)
 
 -- What a reading found is true of the image, and no checkpoint began meanwhile.
 abbrev pub TellsReading : List ℕ → Reading → Type 0

@@ -2,7 +2,7 @@
 
 ghost use Rattle.std.specs.Prelude.{◌≡◌, ◌<◌, IfOk, IfSome, OnOk};
 ghost use Rattle.fe_journal.specs.Layout.{device_bytes, number_at};
-ghost use Rattle.fe_look.specs.Reading.{HasRead, OnlyAsks};
+ghost use Rattle.fe_look.specs.Reading.{OnlyAsks, ReadsJust};
 ghost use Rattle.fe_look.specs.Slot.{IsFormatIn, IsHeaderOf, Counts, IsChosen};
 
 use crate::parts::read_byte;
@@ -52,7 +52,7 @@ pub(crate) fn read_counting<D: Disk>(
     requires device { D.size disk.old ≡ device_bytes }
     ensures counts { D.honest disk.old → IfOk result (Counts (D.seen disk.old)) }
     ensures is_slot { IfOk result (λ found. IfSome found (λ s. s.0 < 2)) }
-    ensures reads { OnOk result (HasRead 4 (D.calls disk.old) (D.calls disk.new)) }
+    ensures reads { OnOk result (ReadsJust 4 (D.calls disk.old) (D.calls disk.new)) }
     ensures device { OnlyAsks D.Disk result disk.old disk.new }
 {
     let first = read_header(disk, 0)?;
@@ -83,7 +83,7 @@ pub(crate) fn read_header<D: Disk>(disk: &mut D, slot: usize) -> Result<HeaderBy
     requires is_slot { slot < 2 }
     requires device { D.size disk.old ≡ device_bytes }
     ensures header { D.honest disk.old → IfOk result (IsHeaderOf (D.seen disk.old) slot) }
-    ensures reads { OnOk result (HasRead 2 (D.calls disk.old) (D.calls disk.new)) }
+    ensures reads { OnOk result (ReadsJust 2 (D.calls disk.old) (D.calls disk.new)) }
     ensures device { OnlyAsks D.Disk result disk.old disk.new }
 {
     let mut fields = [0; FIELDS];

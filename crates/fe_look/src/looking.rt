@@ -12,7 +12,7 @@ ghost use Rattle.fe_store.specs.Opening.{IsReason};
 ghost use Rattle.fe_store.specs.declared.fault.OpenFault.{OpenFault};
 ghost use Rattle.fe_store.specs.declared.fault.OpenFault.TheVariants as store;
 ghost use Rattle.fe_text.specs.declared.fault.StreamFault.{StreamFault};
-ghost use Rattle.fe_look.specs.Reading.{KeepsDisk};
+ghost use Rattle.fe_look.specs.Reading.{HasRead, KeepsDisk, SyncsJust};
 ghost use Rattle.fe_look.specs.Look.{Shows, ShowsSome, ShowsFront, state_text};
 ghost use Rattle.fe_look.specs.declared.fault.LookFault.TheVariants as fault;
 
@@ -111,6 +111,9 @@ pub fn look_copy<D: Disk, W: Sink>(
     ensures kept { KeepsDisk D.Disk disk.old disk.new }
     // On any disk: each fault of the disk is reported.
     ensures failed { Rises (D.failures disk.old) (D.failures disk.new) → IsErrOf result (fault.Store store.Device) }
+    // Before it shows a state, it read the slot's header again behind the slot, and synced the disk before the readings and after them.
+    ensures again { OnOk result (HasRead 9 (D.calls disk.old) (D.calls disk.new)) }
+    ensures synced { OnOk result (SyncsJust 2 (D.calls disk.old) (D.calls disk.new)) }
     // What is written is the text of a state, or after a fault the start of one. Without a store, nothing is.
     ensures written { OnOk result (ShowsSome (W.contents writer.old) (W.contents writer.new)) }
     ensures front { ShowsFront (W.contents writer.old) (W.contents writer.new) }

@@ -4,7 +4,7 @@
 ghost use Rattle.std.specs.Prelude.{◌≡◌, ◌+◌, ◌≤◌, length, slice_index, IfOk, OnOk};
 ghost use Rattle.fe_disk.specs.Disk.{bytes_at, after_write};
 ghost use Rattle.fe_journal.specs.Layout.{number_at};
-ghost use Rattle.fe_look.specs.Reading.{HasRead, OnlyAsks};
+ghost use Rattle.fe_look.specs.Reading.{OnlyAsks, ReadsJust};
 
 use byteorder::{BigEndian, ByteOrder};
 use fe_disk::{DeviceFault, Disk};
@@ -13,7 +13,7 @@ use fe_disk::{DeviceFault, Disk};
 pub(crate) fn read_byte<D: Disk>(disk: &mut D, at: usize) -> Result<u8, DeviceFault>
     requires within { at + 1 ≤ D.size disk.old }
     ensures byte { D.honest disk.old → IfOk result (λ byte. byte ≡ slice_index (D.seen disk.old) at) }
-    ensures counts { OnOk result (HasRead 1 (D.calls disk.old) (D.calls disk.new)) }
+    ensures counts { OnOk result (ReadsJust 1 (D.calls disk.old) (D.calls disk.new)) }
     ensures device { OnlyAsks D.Disk result disk.old disk.new }
 {
     let mut byte = [0];
@@ -25,6 +25,7 @@ pub(crate) fn read_byte<D: Disk>(disk: &mut D, at: usize) -> Result<u8, DeviceFa
 pub(crate) fn read_number<D: Disk>(disk: &mut D, at: usize) -> Result<u32, DeviceFault>
     requires within { at + 4 ≤ D.size disk.old }
     ensures number { D.honest disk.old → IfOk result (λ number. number ≡ number_at (D.seen disk.old) at 4) }
+    ensures counts { OnOk result (ReadsJust 1 (D.calls disk.old) (D.calls disk.new)) }
     ensures device { OnlyAsks D.Disk result disk.old disk.new }
 {
     let mut bytes = [0; 4];
@@ -44,6 +45,7 @@ pub(crate) fn read_part<D: Disk>(
     ensures part { D.honest disk.old
         → OnOk result (bytes.new ≡ after_write bytes.old at (bytes_at (D.seen disk.old) at count)) }
     ensures same { length bytes.new ≡ length bytes.old }
+    ensures counts { OnOk result (ReadsJust 1 (D.calls disk.old) (D.calls disk.new)) }
     ensures device { OnlyAsks D.Disk result disk.old disk.new }
 {
     disk.read_at(at, &mut bytes[at..at + count])

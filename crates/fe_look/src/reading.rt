@@ -6,7 +6,7 @@ ghost use Rattle.fe_disk.specs.Memory.{IsHonest};
 ghost use Rattle.fe_journal.specs.Layout.{device_bytes};
 ghost use Rattle.fe_store.specs.Opening.{IsReason};
 ghost use Rattle.fe_store.specs.declared.fault.OpenFault.TheVariants as fault;
-ghost use Rattle.fe_look.specs.Reading.{GivesUpLate, HasRead, KeepsDisk, IsCopyOf, TellsReading, IsDeviceOrMemory};
+ghost use Rattle.fe_look.specs.Reading.{GivesUpLate, HasRead, KeepsDisk, IsCopyOf, ReadsFor, SyncsJust, TellsReading, IsDeviceOrMemory};
 
 use crate::header::read_counting;
 use crate::slot::read_slot;
@@ -44,6 +44,9 @@ pub(crate) fn copy_of<D: Disk>(alloc: Global, disk: &mut D) -> Result<MemoryDisk
     ensures failed { Rises (D.failures disk.old) (D.failures disk.new) → IsErrOf result fault.Device }
     // On any disk: it gives up only after the hundredth reading.
     ensures tried { GivesUpLate D.Disk result disk.old disk.new }
+    // On any disk: the slot's header is read again behind the slot, and the disk is synced before the readings and after them.
+    ensures again { OnOk result (HasRead 9 (D.calls disk.old) (D.calls disk.new)) }
+    ensures synced { OnOk result (SyncsJust 2 (D.calls disk.old) (D.calls disk.new)) }
     // It writes nothing. A crash leaves nothing that it couldn't leave before, and reads give the same bytes.
     ensures kept { KeepsDisk D.Disk disk.old disk.new }
     ensures sized { (found : ℕ) → IsErrOf result (fault.Size found) → ⊥ }
@@ -66,6 +69,8 @@ fn read_bytes<D: Disk>(alloc: Global, disk: &mut D) -> Result<Vec<u8>, OpenFault
         → IsErrOf result fault.Device → Rises (D.failures disk.old) (D.failures disk.new) }
     ensures still { (IsErrOf result fault.Device → ⊥) → D.failures disk.new ≡ D.failures disk.old }
     ensures tried { GivesUpLate D.Disk result disk.old disk.new }
+    ensures again { OnOk result (HasRead 9 (D.calls disk.old) (D.calls disk.new)) }
+    ensures unsynced { SyncsJust 0 (D.calls disk.old) (D.calls disk.new) }
     ensures sized { (found : ℕ) → IsErrOf result (fault.Size found) → ⊥ }
     ensures kept { KeepsDisk D.Disk disk.old disk.new }
 {
@@ -89,7 +94,8 @@ fn read_once<D: Disk>(alloc: Global, disk: &mut D) -> Result<Reading, OpenFault>
     requires device { D.size disk.old ≡ device_bytes }
     ensures tells { D.honest disk.old → IfOk result (TellsReading (D.seen disk.old)) }
     ensures faults { IfErr result IsDeviceOrMemory }
-    ensures reads { OnOk result (HasRead 4 (D.calls disk.old) (D.calls disk.new)) }
+    ensures reads { IfOk result (λ found. ReadsFor found (D.calls disk.old) (D.calls disk.new)) }
+    ensures unsynced { SyncsJust 0 (D.calls disk.old) (D.calls disk.new) }
     ensures fault { IsErrOf result fault.Device → Rises (D.failures disk.old) (D.failures disk.new) }
     ensures still { (IsErrOf result fault.Device → ⊥) → D.failures disk.new ≡ D.failures disk.old }
     ensures kept { KeepsDisk D.Disk disk.old disk.new }

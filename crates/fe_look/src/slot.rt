@@ -3,7 +3,7 @@
 ghost use Rattle.std.specs.Prelude.{◌≡◌, ◌+◌, ◌<◌, ◌≤◌, IsTrue, length, IfOk, IfSome, OnOk};
 ghost use Rattle.fe_disk.specs.Disk.{after_write};
 ghost use Rattle.fe_journal.specs.Layout.{area_bytes, device_bytes};
-ghost use Rattle.fe_look.specs.Reading.{OnlyAsks};
+ghost use Rattle.fe_look.specs.Reading.{HasRead, OnlyAsks};
 ghost use Rattle.fe_look.specs.Slot.{EndsAt, HasParts, IsSlotCopy, IsHeaderOf};
 
 use crate::header::{HeaderBytes, read_header};
@@ -26,6 +26,8 @@ pub(crate) fn read_slot<D: Disk>(
         → OnOk result (IsSlotCopy (D.seen disk.old) slot header.now.fields bytes.old bytes.new) }
     ensures whole { D.honest disk.old → IsHeaderOf (D.seen disk.old) slot header.now
         → IfOk result (λ same. IsTrue same) }
+    // The image, a gate, the journal area, and the header and its gate again are read.
+    ensures again { OnOk result (HasRead 5 (D.calls disk.old) (D.calls disk.new)) }
     ensures same { length bytes.new ≡ length bytes.old }
     ensures device { OnlyAsks D.Disk result disk.old disk.new }
 {
@@ -43,6 +45,7 @@ fn read_parts<D: Disk>(disk: &mut D, bytes: &mut [u8], slot: usize) -> Result<()
     requires device { D.size disk.old ≡ device_bytes }
     requires room { length bytes.old ≡ device_bytes }
     ensures parts { D.honest disk.old → OnOk result (HasParts (D.seen disk.old) slot bytes.old bytes.new) }
+    ensures reads { OnOk result (HasRead 3 (D.calls disk.old) (D.calls disk.new)) }
     ensures same { length bytes.new ≡ length bytes.old }
     ensures device { OnlyAsks D.Disk result disk.old disk.new }
 {
@@ -71,6 +74,7 @@ fn end_of_groups<D: Disk>(disk: &mut D, area: usize) -> Result<Option<usize>, De
     requires device { D.size disk.old ≡ device_bytes }
     ensures ends { D.honest disk.old → IfOk result (λ found. IfSome found (EndsAt (D.seen disk.old) area)) }
     ensures within { IfOk result (λ found. IfSome found (λ end. end < area_bytes)) }
+    ensures reads { OnOk result (HasRead 1 (D.calls disk.old) (D.calls disk.new)) }
     ensures device { OnlyAsks D.Disk result disk.old disk.new }
 {
     let mut at = 0;

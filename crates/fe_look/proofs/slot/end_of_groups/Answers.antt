@@ -1,4 +1,4 @@
-use Rattle.std.proofs.Common.{rules, ◌≡◌, ◌+◌, ℕ, List, [], ◌∷◌, sym, ◌∙◌, subst, refl}
+use Rattle.std.proofs.Common.{rules, ◌≡◌, ◌+◌, ℕ, List, [], ◌∷◌, sym, ◌∙◌, subst, refl, arith}
 use Rattle.std.specs.Prelude.{slice_index}
 use Rattle.fe_journal.specs.Layout.{number_at, IsGateShut}
 use Rattle.fe_look.proofs.slot.end_of_groups.Goals as goal
@@ -29,5 +29,7 @@ loop-at-preserved g c = record {
       let byte = c.in_ok-read_byte.ensures.device.fault in
       let number = c.in_ok-at.ensures.device.fault in
       absurd (search rules);
+  read = λ later. omega (arith, c.loop-at.invariant.kept.counts, c.in_ok-read_byte.ensures.counts, c.in_ok-at.ensures.counts);
+  unsynced = omega (arith, c.loop-at.invariant.unsynced, c.in_ok-read_byte.ensures.device.unsynced, c.in_ok-at.ensures.device.unsynced);
   kept = search rules;
 }
