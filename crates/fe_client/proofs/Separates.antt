@@ -9,7 +9,7 @@ use Rattle.fe_client.specs.Events.{Event, sent, received, written, read_of, read
 use Rattle.fe_text.specs.declared.fault.StreamFault.{StreamFault}
 use Rattle.fe_client.specs.declared.fault.CallFault.{CallFault}
 use Rattle.fe_client.specs.Ends.{causes, TalksUntil}
-use Rattle.fe_client.specs.Streams.{Known, known, Flows, HandsOn, HasEnded, ReadLeast, KeepsReads}
+use Rattle.fe_client.specs.Streams.{Known, known, Flows, FlowsTo, HandsOn, HasEnded, ReadLeast, KeepsReads}
 use Rattle.fe_client.proofs.Leads.{none_of, same_of}
 
 pub and_names : {A E : Type 0} (r : Result A E) (P Q : A → Type 0) {X Y Z R : Type 0} → ((a : A) → Q a) → X → Y → Z → R → IfOk r P → IfOk r (λ a. P a × Q a × X × Y × Z × R)
@@ -152,17 +152,17 @@ on_err (Err e) p = p
 -- the ones that are given back.
 pub until_known : {R C W S : Type 0} (remaining : R → Option (List ℕ)) (sent received : C → Option (List ℕ)) (contents : W → Option (List ℕ))
     (over : C → Type 0) (input : R → StreamFault → Type 0) (output : W → StreamFault → Type 0) (was_read : R → ℕ → Type 0)
-    (r : R) (k : C) (w : W) (leads : S → List Event → S → Type 0) (s t : S) (before : Known) (reader : R) (connection : C) (writer : W)
+    (flushed : W → Type 0) (was : Type 0) (r : R) (k : C) (w : W) (leads : S → List Event → S → Type 0) (s t : S) (before : Known) (reader : R) (connection : C) (writer : W)
     (result : Result Unit CallFault)
     → IfErr result (λ end. TalksUntil leads end (causes (over k) (input r) (output w) (was_read r)) s t)
-    → ((events : List Event) → leads s events t → Flows before events (known (remaining r) (sent k) (received k) (contents w)) × (reader ≡ r) × (connection ≡ k) × (writer ≡ w))
-    → IfErr result (λ end. TalksUntil Flows end (causes (over connection) (input reader) (output writer) (was_read reader)) before
+    → ((events : List Event) → leads s events t → Flows before events (known (remaining r) (sent k) (received k) (contents w)) × HandsOn was events (flushed w) × (reader ≡ r) × (connection ≡ k) × (writer ≡ w))
+    → IfErr result (λ end. TalksUntil (FlowsTo was (flushed writer)) end (causes (over connection) (input reader) (output writer) (was_read reader)) before
     (known (remaining reader) (sent connection) (received connection) (contents writer)))
-until_known remaining sent received contents over input output was_read r k w leads s t before reader connection writer (Ok done) h f = tt
-until_known {R} {C} {W} {S} remaining sent received contents over input output was_read r k w leads s t before reader connection writer (Err end) h f =
+until_known remaining sent received contents over input output was_read flushed was r k w leads s t before reader connection writer (Ok done) h f = tt
+until_known {R} {C} {W} {S} remaining sent received contents over input output was_read flushed was r k w leads s t before reader connection writer (Err end) h f =
     let e = f (h.so ++ h.part) h.happened in
-    let seen : TalksUntil Flows end (causes (over k) (input r) (output w) (was_read r)) before (known (remaining r) (sent k) (received k) (contents w)) =
-    record { lines = h.lines; so = h.so; left = h.left; talk = h.talk; part = h.part; breaks = h.breaks; happened = e.0 } in
-    subst (λ (x : R). TalksUntil Flows end (causes (over connection) (input x) (output writer) (was_read x)) before (known (remaining x) (sent connection) (received connection) (contents writer))) (sym e.1)
-    (subst (λ (y : C). TalksUntil Flows end (causes (over y) (input r) (output writer) (was_read r)) before (known (remaining r) (sent y) (received y) (contents writer))) (sym e.2)
-    (subst (λ (z : W). TalksUntil Flows end (causes (over k) (input r) (output z) (was_read r)) before (known (remaining r) (sent k) (received k) (contents z))) (sym e.3) seen))
+    let seen : TalksUntil (FlowsTo was (flushed w)) end (causes (over k) (input r) (output w) (was_read r)) before (known (remaining r) (sent k) (received k) (contents w)) =
+    record { lines = h.lines; so = h.so; left = h.left; talk = h.talk; part = h.part; breaks = h.breaks; happened = (e.0, e.1) } in
+    subst (λ (x : R). TalksUntil (FlowsTo was (flushed writer)) end (causes (over connection) (input x) (output writer) (was_read x)) before (known (remaining x) (sent connection) (received connection) (contents writer))) (sym e.2)
+    (subst (λ (y : C). TalksUntil (FlowsTo was (flushed writer)) end (causes (over y) (input r) (output writer) (was_read r)) before (known (remaining r) (sent y) (received y) (contents writer))) (sym e.3)
+    (subst (λ (z : W). TalksUntil (FlowsTo was (flushed z)) end (causes (over k) (input r) (output z) (was_read r)) before (known (remaining r) (sent k) (received k) (contents z))) (sym e.4) seen))

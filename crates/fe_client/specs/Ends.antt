@@ -10,7 +10,7 @@ use Rattle.fe_wire.specs.declared.server_message.ServerMessage.{ServerMessage}
 use Rattle.fe_text.specs.Line.{HasNoFeed}
 use Rattle.fe_client.specs.Conversation.{asked, Conversation}
 use Rattle.fe_client.specs.Events.{Event, sent, received, written, reply_text, received_in}
-use Rattle.fe_client.specs.Streams.{Known, known, Flows, ReadLeast}
+use Rattle.fe_client.specs.Streams.{Known, known, ReadLeast}
 
 -- the fault of a call for a fault of a stream
 abbrev pub of_stream : StreamFault → CallFault
@@ -138,6 +138,6 @@ abbrev pub over_socket : Option (List ℕ) → Option (List ℕ) → Known
 over_socket left written = known left None None written
 
 -- There is no server at the socket, or a conversation with it breaks off. A socket may be over at any time.
-pub data CallsUntil (end : CallFault) (because : Cause → Type 0) (before after : Known) : Type 0 where
-  Unconnected : end ≡ fault.Socket → Flows before [] after → CallsUntil end because before after
-  BrokeOff : TalksUntil Flows end because before after → CallsUntil end because before after
+pub data CallsUntil (leads : Known → List Event → Known → Type 0) (end : CallFault) (because : Cause → Type 0) (before after : Known) : Type 0 where
+  Unconnected : end ≡ fault.Socket → leads before [] after → CallsUntil leads end because before after
+  BrokeOff : TalksUntil leads end because before after → CallsUntil leads end because before after

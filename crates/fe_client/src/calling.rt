@@ -1,7 +1,7 @@
 //! Calling a server: a conversation over its socket (`docs/commands.md`, "Commands").
 
 ghost use Rattle.std.specs.Prelude.{⊤, IfErr, OnOk};
-ghost use Rattle.fe_client.specs.Streams.{known, Flows, FlowsTo};
+ghost use Rattle.fe_client.specs.Streams.{known, FlowsTo};
 ghost use Rattle.fe_client.specs.Conversation.{TalksAll};
 ghost use Rattle.fe_client.specs.Ends.{causes, over_socket, CallsUntil, TalksUntil};
 
@@ -36,8 +36,9 @@ pub fn call<N: Net, R: Source, W: Sink>(
         (over_socket (R.remaining reader.old) (W.contents writer.old))
         (over_socket (R.remaining reader.new) (W.contents writer.new))) }
     // At a fault, there was no server, or the lines before the one at fault have had their exchanges. A socket may be over at any time. The
-    // reader and the writer failed only if a call of them did.
-    ensures fault { IfErr result (λ end. CallsUntil end
+    // reader and the writer failed only if a call of them did. The replies that were printed whole are flushed.
+    ensures fault { IfErr result (λ end. CallsUntil
+        (FlowsTo (W.is_handed_on writer.old) (W.is_handed_on writer.new)) end
         (causes ⊤ (R.has_failed reader.new) (W.has_failed writer.new) (R.was_read reader.new))
         (over_socket (R.remaining reader.old) (W.contents writer.old))
         (over_socket (R.remaining reader.new) (W.contents writer.new))) }
@@ -62,7 +63,8 @@ pub fn call_over<C: Connection, R: Source, W: Sink>(
     ensures ok { OnOk result (TalksAll (FlowsTo (W.is_handed_on writer.old) (W.is_handed_on writer.new))
         (known (R.remaining reader.old) (C.sent connection.old) (C.received connection.old) (W.contents writer.old))
         (known (R.remaining reader.new) (C.sent connection.new) (C.received connection.new) (W.contents writer.new))) }
-    ensures fault { IfErr result (λ end. TalksUntil Flows end
+    ensures fault { IfErr result (λ end. TalksUntil
+        (FlowsTo (W.is_handed_on writer.old) (W.is_handed_on writer.new)) end
         (causes (C.is_over connection.new) (R.has_failed reader.new) (W.has_failed writer.new) (R.was_read reader.new))
         (known (R.remaining reader.old) (C.sent connection.old) (C.received connection.old) (W.contents writer.old))
         (known (R.remaining reader.new) (C.sent connection.new) (C.received connection.new) (W.contents writer.new))) }
