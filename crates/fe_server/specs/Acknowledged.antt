@@ -114,8 +114,7 @@ account_in (Err failed) = failed.account
 
 -- A keeper whose disk works and that has no checkpoint under way, as one just opened, was served. It is returned with what was stored
 -- since; the answer is one that the committing side's end allows (`IsAnswerAt`); and `IsAcknowledged` holds of the account.
-pub record WasServed {D : Type 0} (model : Ghosts D) (answer : Result (Served D) (Failed D)) : Type 0 where
-  pub opened : KeeperState D
+pub record WasServed {D : Type 0} (model : Ghosts D) (opened : KeeperState D) (answer : Result (Served D) (Failed D)) : Type 0 where
   pub works : opened.store.has_failed ≡ false
   pub none_under_way : opened.store.checkpoint ≡ None
   pub committed : (end : CommitEnd) × HasCommitted model opened (keeper_in answer) end × IsAnswerAt end (fault_in answer)

@@ -25,7 +25,7 @@ mod stream;
 
 pub use books::books_text;
 pub use failed::Failed;
-pub use opening::{Unopened, serve};
+pub use opening::serve;
 pub use serve_fault::ServeFault;
 pub use served::Served;
 pub use server::serve_store;

@@ -4,10 +4,11 @@ ghost use Rattle.std.specs.Prelude.{◌≡◌};
 ghost use Rattle.femem.specs.within.Faults.{status_of};
 
 use fe_client::CallFault;
+use fe_disk::Disk;
 use fe_look::LookFault;
 use fe_options::{Key, SettingsFault};
 use fe_schedules::ScheduleFault;
-use fe_server::{ServeFault, StopFault, Unopened};
+use fe_server::{ServeFault, StopFault};
 use fe_store::OpenFault;
 use fe_text::StreamFault;
 use thiserror::Error;
@@ -171,28 +172,20 @@ impl From<StopFault> for Fault {
     }
 }
 
-impl From<ServeFault> for Fault {
+impl<D: Disk + Drop> From<ServeFault<D>> for Fault {
     ghost use Rattle.std.specs.Prelude.{◌≡◌};
     ghost use Rattle.femem.specs.within.Faults.{of_serve};
 
     ghost from_gives = { λ before fault. fault ≡ of_serve before };
 
-    fn from(before: ServeFault) -> Fault {
+    fn from(before: ServeFault<D>) -> Fault {
         match before {
             ServeFault::Store(fault) => Fault::from(fault),
-            ServeFault::Socket => Fault::Socket,
+            ServeFault::Socket(keeper) => {
+                drop(keeper);
+                Fault::Socket
+            }
         }
-    }
-}
-
-impl From<Unopened> for Fault {
-    ghost use Rattle.std.specs.Prelude.{◌≡◌};
-    ghost use Rattle.femem.specs.within.Faults.{of_serve};
-
-    ghost from_gives = { λ before fault. fault ≡ of_serve before };
-
-    fn from(before: Unopened) -> Fault {
-        Fault::from(before.fault())
     }
 }
 

@@ -83,9 +83,9 @@ of_stop stop.Memory = fault.Memory
 of_stop stop.Strange = fault.Strange
 
 -- the fault if a store was not served
-abbrev pub of_serve : ServeFault → Fault
+abbrev pub of_serve : {D : Type 0} → ServeFault D → Fault
 of_serve (serve.Store why) = of_store why
-of_serve serve.Socket = fault.Socket
+of_serve (serve.Socket keeper) = fault.Socket
 
 -- the fault if `femem call` did not do all that its input asks
 abbrev pub of_call : CallFault → Fault
