@@ -9,7 +9,7 @@ ghost use Rattle.fe_disk.specs.Memory.{MemoryState};
 ghost use Rattle.fe_schedules.specs.Schedule.{RunsAll, RunsUntil, ReaderFails};
 ghost use Rattle.fe_schedules.specs.declared.fault.ScheduleFault.{ScheduleFault};
 ghost use Rattle.fe_server.specs.BooksText.{books_text};
-ghost use Rattle.femem.specs.within.Faults.{status_of, of_schedule, AreSettings, RefusesFile, WritesBooks, command_status, words_status, shown_status, IsWordsStatus};
+ghost use Rattle.femem.specs.within.Faults.{status_of, of_schedule, AreSettings, RefusesFile, WritesBooks, WritesBooksOf, IsFaultOf, FailsServing, command_status, words_status, shown_status, IsWordsStatus};
 
 mod fault;
 
@@ -17,13 +17,13 @@ use crate::fault::Fault;
 use clap::Error;
 use clap::error::ErrorKind;
 use fe_client::call;
-use fe_disk::{MemoryDisk, SystemFile};
+use fe_disk::{Disk, FileDisk, MemoryDisk, StoreFile, SystemFile};
 use fe_front::Books;
 use fe_hall::Open;
 use fe_look::look;
 use fe_options::{Invocation, Settings, arguments, not_text, read_settings};
 use fe_schedules::{DEVICE_BYTES, run_schedule};
-use fe_server::{Served, books_text, serve};
+use fe_server::{Failed, ServeFault, Served, books_text, serve};
 use fe_text::{CountedReader, CountedWriter, Sink, Source, StreamFault};
 use libc::net as c;
 use std::alloc::Global;
@@ -83,7 +83,7 @@ fn start<R: Runtime + Files<File = File> + Net + Threads + Wait + Sync + AllocGl
         }
         Invocation::Serve { settings } => {
             let mut writer = CountedWriter::new(io::writer(rt));
-            serve_by(rt, settings, &mut writer)?;
+            serve_by::<SystemFile, R, _>(rt, settings, &mut writer)?;
         }
         Invocation::Call { socket } => {
             let mut reader = CountedReader::new(rt.reader());
@@ -116,22 +116,43 @@ fn run_by<R: Source, W: Sink>(alloc: Global, reader: &mut R, writer: &mut W) -> 
 }
 
 /// Serves with the settings in a file, and writes the books, the counts of calls and mails, once the server has ended without a fault.
-fn serve_by<R: Files<File = File> + Net + Clock + Threads + Wait + Sync + AllocGlobal, W: Sink>(
-    rt: &R,
-    path: &str,
-    writer: &mut W,
-) -> Result<(), Fault>
-    ensures { OnOk result (WritesBooks (W.contents writer.old) (W.contents writer.new)) }
+fn serve_by<
+    F: StoreFile + Drop + Send,
+    R: Files<File = File> + Net + Clock + Threads + Wait + Sync + AllocGlobal,
+    W: Sink,
+>(rt: &R, path: &str, writer: &mut W) -> Result<(), Fault>
+    ensures books { OnOk result (WritesBooks ⟦<FileDisk<F> as Disk>⟧ F.is_at
+        (W.contents writer.old) (W.contents writer.new)) }
+    // The fault is the one that there was: the settings were refused, or it is that of serving the store that they name.
+    ensures fault { IfErr result (λ end. RefusesFile end ⊎ FailsServing ⟦<FileDisk<F> as Disk>⟧ F.is_at
+        (W.has_failed writer.new) (W.contents writer.old) (W.contents writer.new) end) }
 {
     let settings = settings_at(rt, path)?;
-    match serve::<SystemFile, R, Open>(rt, rt.alloc(), &settings, &Open)? {
-        Ok(Served { audit, keeper }) => {
-            drop(keeper);
-            let books = audit.books();
-            show_books(rt.alloc(), &books, writer)?;
-            Ok(())
+    let ended = serve::<F, R, Open>(rt, rt.alloc(), &settings, &Open);
+    finish_serving(rt.alloc(), ended, writer)
+}
+
+/// Writes the books of a server that ended without a fault. After any other end, gives its fault.
+fn finish_serving<D: Disk + Drop, W: Sink>(
+    alloc: Global,
+    ended: Result<Result<Served<D>, Failed<D>>, ServeFault<D>>,
+    writer: &mut W,
+) -> Result<(), Fault>
+    ensures books { OnOk result (WritesBooksOf ended (W.contents writer.old) (W.contents writer.new)) }
+    ensures fault { IfErr result (IsFaultOf (W.has_failed writer.new)
+        (W.contents writer.old) (W.contents writer.new) ended) }
+{
+    match ended {
+        Ok(Ok(served)) => {
+            let books = served.audit.books();
+            drop(served);
+            match show_books(alloc, &books, writer) {
+                Ok(()) => Ok(()),
+                Err(fault) => Err(Fault::from(fault)),
+            }
         }
-        Err(failed) => Err(Fault::from(failed.fault)),
+        Ok(Err(failed)) => Err(Fault::from(failed.fault)),
+        Err(why) => Err(Fault::from(why)),
     }
 }
 
