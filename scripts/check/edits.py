@@ -30,7 +30,7 @@ FEARED = (
 # How many each crate has. One that is added or removed is counted here too.
 EACH = {
     "fe_desk": 9, "fe_disk": 11, "fe_front": 6, "fe_hall": 18, "fe_journal": 14, "fe_keeper": 8, "fe_look": 4, "fe_mail": 6, "fe_pool": 5,
-    "fe_server": 9, "fe_service": 1, "fe_shared": 11, "fe_state": 7, "fe_streams": 4, "fe_waits": 6, "fe_wire": 6, "fe_words": 6,
+    "fe_server": 11, "fe_service": 1, "fe_shared": 11, "fe_state": 7, "fe_streams": 4, "fe_waits": 6, "fe_wire": 6, "fe_words": 6, "femem": 1,
 }
 FUNCTION = re.compile(r"\s*(?:pub(?:\([a-z]+\))? )?(?:const )?(?:unsafe )?fn (\w+)")
 CLAUSE = re.compile(r"\s*(ensures|requires)(?: (\w+))? \{(.*)")
