@@ -71,6 +71,9 @@ class Outbox:
         self._cancelled: Counter[int] = Counter()
         self._settle_sent: Optional[float] = None
         self._withdrawn = set()
+        # The former numbers that were asked again and have no reply yet, and whether the settle above them is still to be sent.
+        self._asked_again: Set[int] = set()
+        self._settles_later = False
 
     def begin(self, floor: int) -> None:
         """Begins at this floor. No number from there on was used."""
@@ -249,7 +252,12 @@ class Outbox:
         return [ticket for ticket in self.window.lower_half() if not ticket.cancel_sent]
 
     def send_again(self, now: float) -> None:
-        """Sends the settle that is due, every unanswered request under its old number, and the cancels."""
+        """Sends the settle that is due, every unanswered request under its old number, and the cancels.
+
+        A request that was moved may have happened under its former number, and its answer gone to the connection that had
+        the session in between. So it is asked again, with a cancel. It may also happen now: so the settle, behind which its
+        answer is dropped, follows only once the answer is in the file or the request is withdrawn.
+        """
         window = self.window
         assert window is not None
         self._cancelled.clear()  # they had their replies, or were refused since another connection had the session
@@ -257,13 +265,15 @@ class Outbox:
             ticket.cancel_sent = False
         for number, new in self._moved_to.items():
             if number >= window.floor and new in window.unanswered:
-                # It may have happened, and its answer gone to the connection that had the session in between.
                 append_under(self.to_send, window.unanswered[new].request.frame, number)  # type: ignore[union-attr]
                 self._cancel_number(number)
+                self._asked_again.add(number)
         if window.left >= window.floor:
             self._cancel_number(window.left)  # it may wait yet
-        for floor in window.floors():
-            self._settle(floor, now)
+        if self._asked_again:
+            self._settle_sent, self._settles_later = now, True
+        else:
+            self._settle_all(window, now)
         if not self._passes:
             self._send_all(window.unanswered.values(), now)
             for ticket in window.unanswered.values():
@@ -283,6 +293,11 @@ class Outbox:
         any of it is sent under a new number or said not to have happened. A late request that comes before the floor is
         raised is the request: its answer counts.
         """
+        if self._settles_later and not self._asked_again:
+            assert self._file is not None
+            self._settles_later = False
+            self._file.must_sync = True  # the answers that came
+            self._settle_all(window, now)
         if window.asked != window.floor:
             return  # until the floor stands there, what was moved may happen under its former number
         earlier = {number: ticket for number, ticket in window.unanswered.items() if number < self._first}
@@ -342,6 +357,10 @@ class Outbox:
             self._cancelled[left] += 1
         if self.window is not None and self.window.asked != self.window.floor:
             self._settle_sent = self._settle_sent or now
+
+    def _settle_all(self, window: Window[Ticket[Any]], now: float) -> None:
+        for floor in window.floors():
+            self._settle(floor, now)
 
     def _settle(self, floor: int, now: float) -> None:
         self._settle_sent = now
@@ -430,6 +449,7 @@ class Outbox:
     def answered(self, answer: Answer) -> bool:
         """Whether it ended a request. Otherwise it came before."""
         assert self.window is not None
+        self._asked_again.discard(answer.number)
         if self._moved_to.get(answer.number, 0) in self.window.unanswered:
             answer = answer._replace(number=self._moved_to[answer.number])
         ticket = self.window.answer(answer)
@@ -470,6 +490,7 @@ class Outbox:
             raise ProtocolError(f"number {number} is withdrawn, which nobody asked for")
         self._cancel_had_reply(number)
         if is_late:
+            self._asked_again.discard(number)
             return
         if self._passes:
             self._withdrawn.add(number)
@@ -544,8 +565,7 @@ class Outbox:
         """
         for number in range(window.floor, window.asked):
             self._cancel_number(number)
-        for floor in window.floors():
-            self._settle(floor, now)
+        self._settle_all(window, now)
         beyond = window.floor + frames.WINDOW
         if self._passes:
             return  # nothing is sent behind the settle

@@ -1,5 +1,6 @@
 """Requests of an earlier process with the same session file that the server reads late, after they were taken back."""
 
+import itertools
 import os
 import tempfile
 import unittest
@@ -165,6 +166,40 @@ class Late(WithFolder):
         self.assertEqual((got, core.failure), ([1, 5], None))
         core.file.abandon()
         return ticket.done and ticket.error is None
+
+    def test_a_put_under_a_key_is_done_once_though_its_answer_is_not_read(self):
+        """The second process gives it a new number. The third asks for the former one again, and is killed before it reads."""
+        for second, third, is_read in itertools.product(range(6), range(6), (False, True)):
+            with self.subTest(second=second, third=third, is_read=is_read), SessionFolder(self):
+                self.put_by_four(World(1), second, third, is_read)
+
+    def put_by_four(self, world, second, third, is_read):
+        word, _ = self.words(world)
+        other, put = world.core(9), requests.writeef(word, 0, 5)
+        run(world, other, requests.writeef(word, 0, 1))
+        _, core = self.left(world, put, b"job")
+        for _ in range(second):
+            self.step(world, core)
+        self.kill(world, core)
+        got = [run(world, other, requests.readfe(word, 0))]
+        core = self.opened(world, self.path)
+        for _ in range(third):
+            self.step(world, core)
+        if not is_read and core in world.links:
+            core.tick(world.now)
+            world.push(core)
+            world.model.post()
+        self.kill(world, core)
+        core, again = self.opened(world, self.path), Ticket(put)
+        again.key = b"job"
+        core.take((again,), None, world.now)
+        for _ in range(12):
+            self.step(world, core)
+            if world.model.state.arrays[word.id][1][0][1]:
+                got.append(run(world, other, requests.readfe(word, 0)))
+        self.assertTrue(again.done and again.error is None, again.error)
+        self.assertEqual((got, core.failure), ([1, 5], None))
+        core.file.abandon()
 
     def with_late(self, world):
         """A client that asks for the floor above a request that was taken back, which comes late just before that."""
