@@ -5,15 +5,23 @@ use Rattle.fe_text.specs.declared.counted_writer.CountedWriter.{CountedWriter}
 use Rattle.fe_text.specs.declared.fault.StreamFault.{StreamFault}
 use Rattle.fe_text.specs.declared.fault.StreamFault.TheVariants as stream
 use Rattle.fe_text.specs.declared.stream_calls.StreamCalls.{StreamCalls}
+use Rattle.fe_text.specs.declared.stream_errors.StreamErrors.{StreamErrors}
+
+-- no call failed
+abbrev pub no_errors : StreamErrors
+no_errors = record { input = false; memory = false; interrupted = false }
 
 -- no call was made
 abbrev pub no_calls : StreamCalls
-no_calls = record { input = false; memory = false; interrupted = false; took_none = false; is_flushed = true }
+no_calls = record { errors = no_errors; took_none = false; is_flushed = true }
 
 -- a call failed with an error that is this fault
+abbrev pub HasErred : StreamErrors → StreamFault → Type 0
+HasErred errors stream.Input = errors.input ≡ true
+HasErred errors stream.Memory = errors.memory ≡ true
+
 abbrev pub HasFailed : StreamCalls → StreamFault → Type 0
-HasFailed calls stream.Input = calls.input ≡ true
-HasFailed calls stream.Memory = calls.memory ≡ true
+HasFailed calls fault = HasErred calls.errors fault
 
 -- at least this many reads were made; the count stays at 2^64 - 1
 abbrev pub WasRead : {R : Type 0} → CountedReader R → ℕ → Type 0

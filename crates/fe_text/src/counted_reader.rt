@@ -44,7 +44,7 @@ impl<R: Read> Source for CountedReader<R> {
 
     ghost was_read = { WasRead };
 
-    ghost was_interrupted = { λ reader. reader.calls.interrupted ≡ true };
+    ghost was_interrupted = { λ reader. reader.calls.errors.interrupted ≡ true };
 
     ghost has_failed = { λ reader fault. HasFailed reader.calls fault };
 

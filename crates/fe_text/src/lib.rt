@@ -12,6 +12,7 @@ mod printing;
 mod request;
 mod stream;
 mod stream_calls;
+mod stream_errors;
 mod streams;
 mod word;
 
@@ -24,4 +25,5 @@ pub use line::{LONGEST_LINE, Line, message_in, parse};
 pub use printing::print_reply;
 pub use stream::{PIECE, READS, WRITES, buffer};
 pub use stream_calls::StreamCalls;
+pub use stream_errors::StreamErrors;
 pub use streams::{Sink, Source};

@@ -1,25 +1,21 @@
 //! The calls of a stream, and what came of them, so that clauses can name it (`docs/schedules.md`, "Lines"). Only this file notes it: each
 //! function makes one call of the stream, and notes what that returned.
 
-ghost use Rattle.std.specs.Prelude.{◌≡◌, ◌↔◌, ◌≤◌, ◌<◌, true, false, None, Some, length, take, IfOk, IfErr, IfSome, OnOk, OnErr};
-ghost use Rattle.std.specs.IoError.{error_kind};
+ghost use Rattle.std.specs.Prelude.{◌≡◌, ◌≤◌, ◌<◌, true, false, None, length, take, IfOk, IfErr, OnOk, OnErr};
 ghost use Rattle.std.specs.Io.KnownBytes.{Appends, Keeps};
 ghost use Rattle.fe_text.specs.Counted.{HasFailed, HasStopped, no_calls};
 ghost use Rattle.fe_text.specs.Line.{ReadsSome};
 ghost use Rattle.fe_text.specs.declared.fault.StreamFault.{StreamFault as Fault};
 
 use crate::fault::StreamFault;
-use std::io::{Error, ErrorKind, Read, Write};
+use crate::stream_errors::StreamErrors;
+use std::io::{Read, Write};
 
 /// What came of the calls of a stream.
 #[derive(Clone, Copy)]
 pub struct StreamCalls {
-    /// A call failed, not for memory or a signal.
-    input: bool,
-    /// A call found no memory.
-    memory: bool,
-    /// A signal interrupted a call.
-    interrupted: bool,
+    /// With which errors calls failed.
+    errors: StreamErrors,
     /// A write of at least one byte took none.
     took_none: bool,
     /// A flush succeeded since the last write that took a byte, or none did.
@@ -32,37 +28,9 @@ impl StreamCalls {
         ensures { result ≡ no_calls }
     {
         StreamCalls {
-            input: false,
-            memory: false,
-            interrupted: false,
+            errors: StreamErrors::none(),
             took_none: false,
             is_flushed: true,
-        }
-    }
-
-    /// Notes the error of a call. The fault for it, or `None` if a signal interrupted the call.
-    fn failed(&mut self, error: Error) -> Option<StreamFault>
-        ensures signal { (result ≡ None) ↔ (error_kind error ≡ ErrorKind.Interrupted) }
-        ensures memory { (result ≡ Some Fault.Memory) ↔ (error_kind error ≡ ErrorKind.OutOfMemory) }
-        ensures interrupted { result ≡ None → self.new.interrupted ≡ true }
-        ensures fails { IfSome result (HasFailed self.new) }
-        ensures stays { (fault : Fault) → HasFailed self.old fault → HasFailed self.new fault }
-        ensures took_none { self.new.took_none ≡ self.old.took_none }
-        ensures flushed { self.new.is_flushed ≡ self.old.is_flushed }
-    {
-        match error.kind() {
-            ErrorKind::Interrupted => {
-                self.interrupted = true;
-                None
-            }
-            ErrorKind::OutOfMemory => {
-                self.memory = true;
-                Some(StreamFault::Memory)
-            }
-            _ => {
-                self.input = true;
-                Some(StreamFault::Input)
-            }
         }
     }
 
@@ -76,12 +44,12 @@ impl StreamCalls {
         ensures reads { IfOk result (ReadsSome (R.remaining reader.old) (R.remaining reader.new) piece.new) }
         ensures len { length piece.new ≡ length piece.old }
         ensures stays { IfErr result (λ _. Keeps (R.remaining reader.old) (R.remaining reader.new)) }
-        ensures interrupted { IfOk result (λ given. given ≡ None → self.new.interrupted ≡ true) }
+        ensures interrupted { IfOk result (λ given. given ≡ None → self.new.errors.interrupted ≡ true) }
         ensures fails { IfErr result (HasFailed self.new) }
     {
         match reader.read(piece) {
             Ok(count) => Ok(Some(count)),
-            Err(error) => match self.failed(error) {
+            Err(error) => match self.errors.keep(error) {
                 Some(fault) => Err(fault),
                 None => Ok(None),
             },
@@ -113,7 +81,7 @@ impl StreamCalls {
                 self.is_flushed = self.is_flushed && count == 0;
                 Ok(count)
             }
-            Err(error) => match self.failed(error) {
+            Err(error) => match self.errors.keep(error) {
                 Some(fault) => Err(fault),
                 None => Ok(0),
             },
@@ -132,13 +100,7 @@ impl StreamCalls {
                 self.is_flushed = true;
                 Ok(())
             }
-            Err(error) => match self.failed(error) {
-                Some(fault) => Err(fault),
-                None => {
-                    self.input = true;
-                    Err(StreamFault::Input)
-                }
-            },
+            Err(error) => Err(self.errors.keep_of_flush(error)),
         }
     }
 }

@@ -1,6 +1,6 @@
 //! What text is read from and written to (`docs/schedules.md`, "Lines").
 
-ghost use Rattle.std.specs.Prelude.{ℕ, ◌≡◌, ◌+◌, List, Option, None, [], length, string_bytes, take, IfOk, IfErr, OnOk, OnErr};
+ghost use Rattle.std.specs.Prelude.{ℕ, ◌≡◌, ◌+◌, ◌-◌, ◌^◌, ◌<◌, List, Option, None, [], length, string_bytes, take, IfOk, IfErr, OnOk, OnErr};
 ghost use Rattle.std.specs.Io.KnownBytes.{Appends, Keeps};
 ghost use Rattle.fe_text.specs.Line.{ReadsSome};
 ghost use Rattle.fe_text.specs.declared.fault.StreamFault.{StreamFault as Fault};
@@ -28,6 +28,8 @@ pub trait Source {
         ensures len { length piece.new ≡ length piece.old }
         ensures stays { IfErr result (λ _. Keeps (remaining self.old) (remaining self.new)) }
         ensures counts { (count : ℕ) → was_read self.old count → was_read self.new (count + 1) }
+        // It counts as one read. A count may stay at 2^64 - 1.
+        ensures once { (count : ℕ) → count < 2 ^ 64 - 1 → was_read self.new (count + 1) → was_read self.old count }
         ensures interrupted { IfOk result (λ given. given ≡ None → was_interrupted self.new) }
         ensures fails { IfErr result (has_failed self.new) };
 
