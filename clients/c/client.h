@@ -68,6 +68,7 @@ typedef struct slot {
   bool unwanted;            /* it ended with its process: nobody gets its answer */
   bool again;               /* an earlier connection carried it too, and the server may not have read that copy yet */
   bool noted;               /* BACK: a settle passes it, and the session file has its end */
+  bool expected;            /* BACK: asked again over this connection, and without a reply */
   bool ends;                /* it ends with its process: a step of a pattern */
   uint64_t wire;
   femem_request request;
@@ -96,6 +97,7 @@ struct femem {
   uint64_t session;
   bool opened, reached, welcomed, ended, bye; /* reached: this process has connected */
   bool restored;            /* from a session file, and not attached since */
+  bool asks_back;           /* RETURNING: what is BACK below the floor that was asked for is asked again */
   int64_t denied_until;     /* microseconds: no right to the path since DENIED before; 0: it was not denied */
   unsigned opening_tries;
   uint64_t attaches, settles, cancels, probes;  /* sent and without a reply */
@@ -175,6 +177,11 @@ void fe_put_cancel(femem *client, uint64_t number);
 void fe_put_slot(femem *client, uint64_t number);
 /* After a welcome that is not the first: puts the settle, the requests without an answer, and other open messages. */
 void fe_put_again(femem *client);
+
+/* Asks again what is BACK below the floor that was asked for, once over each connection: its answer shows whether it has
+   happened meanwhile. It may also happen now. So the settle, behind which its answer is dropped, follows only once each
+   has a reply. Whether one has none yet. */
+bool fe_asks_back(femem *client);
 
 /* ---- slots.c ---- */
 

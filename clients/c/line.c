@@ -23,7 +23,9 @@ void fe_close_line(femem *client, femem_error why) {
   if (client->report == REPORT_COMING) client->report = REPORT_ASKED;
   /* A request that was to move is sent again under its number. */
   client->moving = 0;
+  client->asks_back = false;
   for (slot *place = client->slots; place < client->slots + WINDOW; place++) {
+    place->expected = false;
     if (place->state == PARKED) place->state = OUT;
     if (place->cancelled == TO_MOVE) place->cancelled = NOT;
   }

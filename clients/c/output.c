@@ -65,15 +65,28 @@ static void put_with_cancel(femem *client, uint64_t number) {
   fe_put_cancel(client, number);
 }
 
+bool fe_asks_back(femem *client) {
+  bool asked = client->asks_back, expects = false;
+  client->asks_back = true;
+  for (uint64_t number = client->floor_told; number < client->floor_asked; number++) {
+    slot *place = fe_slot_of(client, number);
+    if (place->state != BACK || place->wire != number) continue;
+    if (!asked) put_with_cancel(client, number);
+    if (!asked) place->expected = true;
+    expects = expects || place->expected;
+  }
+  return expects;
+}
+
 void fe_put_again(femem *client) {
   uint64_t floor = client->restored ? client->low : client->floor_asked;
   client->restored = false;
   for (uint64_t ended = client->floor_told; client->late && ended < client->low; ended++) fe_put_cancel(client, ended);
   client->late = false;
-  /* Of what is BACK the answer shows whether it has happened meanwhile. */
-  for (uint64_t number = client->floor_told; number < client->next; number++)
-    if (fe_slot_of(client, number)->state == BACK) put_with_cancel(client, number);
+  uint64_t passed = client->floor_asked;
   if (floor > client->floor_told) fe_put_settle(client, floor);
+  for (uint64_t number = passed; number < client->next; number++)
+    if (fe_slot_of(client, number)->state == BACK) put_with_cancel(client, number);
   for (uint64_t number = client->low; number < client->next; number++) {
     slot *place = fe_slot_of(client, number);
     if (place->state != OUT) continue;

@@ -34,6 +34,8 @@ static bool is_same(const femem_answer *one, const femem_answer *other) {
          one->length == other->length;
 }
 
+static femem_error go_on(femem *client);
+
 static femem_error take_answer(femem *client, const reply *told) {
   if (client->phase == OPENING) return FEMEM_OK; /* to a request of an earlier program with this session */
   /* A program that resumed a session may get replies to any number in its window at that time. */
@@ -47,14 +49,19 @@ static femem_error take_answer(femem *client, const reply *told) {
   if (!fe_fits(&place->request, told)) return FEMEM_STRANGE_REPLY;
   FEMEM_POINT("answered");
   fe_answered(client, place, answer);
-  return FEMEM_OK;
+  return go_on(client);
 }
 
 static femem_error take_withdrawn(femem *client, const reply *told) {
   if (client->phase == OPENING) return FEMEM_OK;
+  slot *place = fe_slot_of(client, told->number);
+  if (fe_is_known(client, told->number) && place->expected && client->cancels > 0) {
+    client->cancels--;
+    place->expected = false;
+    return go_on(client);
+  }
   if (client->cancels > 0 && told->number < client->low) return client->cancels--, FEMEM_OK; /* came late */
   if (!fe_is_known(client, told->number)) return FEMEM_WRONG_NUMBER;
-  slot *place = fe_slot_of(client, told->number);
   if (place->state == BACK && client->cancels > 0) return client->cancels--, FEMEM_OK; /* it was asked again */
   if (place->state != OUT || place->cancelled == NOT || client->cancels == 0) return FEMEM_WRONG_NUMBER;
   client->cancels--;
@@ -91,11 +98,12 @@ static femem_error begin_opening(femem *client) {
   return FEMEM_OK;
 }
 
-/* Goes on once a welcome has come, and the refusals of all probes: each follows an attach that was repeated. */
+/* Goes on once a welcome has come, and the refusals of all probes: each follows an attach that was repeated. Then once
+   what is BACK has its replies. */
 static femem_error go_on(femem *client) {
   if (!client->welcomed || client->probes > 0) return FEMEM_OK;
   if (client->phase == OPENING) return begin_opening(client);
-  if (client->phase != RETURNING) return FEMEM_OK;
+  if (client->phase != RETURNING || fe_asks_back(client)) return FEMEM_OK;
   client->phase = SERVED;
   client->trying = false;
   client->returns++;
@@ -176,7 +184,8 @@ static femem_error take_refused(femem *client, const reply *told) {
   bool asked = told->number == PROBE && client->probes > 0;
   if (asked && refusal != FEMEM_REFUSED_NOT_ATTACHED) return client->probes--, go_on(client);
   if (client->phase == OPENING && !asked) return take_opening_refusal(client, told, refusal);
-  if (client->phase == RETURNING && !asked) return told->number == client->session ? refusal : FEMEM_STRANGE_REPLY;
+  bool back = client->phase == RETURNING && client->asks_back && refusal == FEMEM_REFUSED_NOT_WAITING;
+  if (client->phase == RETURNING && !asked && !back) return told->number == client->session ? refusal : FEMEM_STRANGE_REPLY;
   if (refusal == FEMEM_REFUSED_NOT_ATTACHED) return refusal;
   if (refusal == FEMEM_REFUSED_NOT_WAITING) return take_not_waiting(client, told);
   if (told->number == 0) return take_refused_report(client, refusal);

@@ -53,6 +53,13 @@ static inline void hear(int line, const char *hex) {
   _exit(1);
 }
 
+/* Nothing more comes before something is said. */
+static inline void hear_nothing(int line) {
+  uint8_t byte;
+  rest(100000);
+  if (recv(line, &byte, 1, MSG_DONTWAIT) >= 0) _exit(1);
+}
+
 static inline void hear_end(int line) {
   uint8_t byte;
   if (recv(line, &byte, 1, 0) != 0) _exit(1);

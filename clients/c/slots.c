@@ -145,6 +145,7 @@ static void end_passed(femem *client, const slot *place) {
 void fe_answered(femem *client, slot *place, femem_answer answer) {
   bool moving = place->cancelled == TO_MOVE;
   answer.number = place->answer.number;
+  place->expected = false;
   place->answer = answer;
   if (answer.error == FEMEM_WITHDRAWN && !place->ends)
     fe_log(client, "request %" PRIu64 " was taken back, and has not happened", answer.number);

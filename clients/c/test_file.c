@@ -655,9 +655,10 @@ static void passed_server(int listener) {
   welcome_any(line, "0000000000000021");
   heard(line, read_of, 2);
   heard(line, cancel_of, 2);
-  heard(line, settle_of, 3);
+  hear_nothing(line);
   said(line, value_of, 2); /* it happens after all */
   said(line, not_waiting_of, 2);
+  heard(line, settle_of, 3);
   said(line, settled_of, 3);
   hear_end(line);
   line = take_line(listener);

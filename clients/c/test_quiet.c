@@ -8,13 +8,6 @@
 #define STILL_OWN "0000000a 46 8000000000000000 0a"
 #define NOT_OWN "0000000a 46 8000000000000000 01"
 
-/* Nothing comes for a while. */
-static void hear_nothing(int line) {
-  uint8_t byte;
-  rest(100000);
-  if (recv(line, &byte, 1, MSG_DONTWAIT) >= 0) _exit(1);
-}
-
 static void unwelcome_server(int listener) {
   int line = take_line(listener);
   hear(line, ATTACH_7);

@@ -341,10 +341,12 @@ static void breaking_server(int listener) {
   say(line, "00000011 41 0000000000000007 0000000000000021");
   heard(line, read_of, 3); /* its copies were read meanwhile, perhaps */
   heard(line, cancel_of, 3);
+  hear_nothing(line); /* behind a settle its answer would be dropped */
+  said(line, not_waiting_of, 3);
+  hear_nothing(line);
+  said(line, value_of, 3);
   heard(line, settle_of, 4);
   heard(line, read_of, 4);
-  said(line, value_of, 3);
-  said(line, not_waiting_of, 3);
   said(line, settled_of, 4);
   said(line, value_of, 4);
   hear_end(line);
