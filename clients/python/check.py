@@ -335,7 +335,7 @@ def try_restarts(server):
     steps, kills = 600, 0
     file, progress = server.path + ".session", server.path + ".progress"
     chance = random.Random(3)
-    end = time.monotonic() + 100
+    end = time.monotonic() + 100 * float(os.environ.get("FEMEM_PATIENCE", "1"))
     while time.monotonic() < end:
         process = subprocess.Popen([sys.executable, __file__, "--count", server.path, file, progress, str(steps)])
         try:
