@@ -56,11 +56,14 @@ gives() {
 # says TEXT: the last femem-cli did.
 says() { is "the text" "$(cat said)" "femem-cli: $1"; }
 
-# Ends what a test that failed left.
+# Ends what a test that failed left. It looks twice: a process that is within an exec shows no environment.
 end_others() {
-  for it in $(grep -ls "FEMEM_SOCKET=$FEMEM_SOCKET" /proc/[0-9]*/environ); do
-    it=${it#/proc/}
-    kill -KILL "${it%/environ}"
+  for pause in 0.1 0; do
+    for it in $(grep -ls "FEMEM_SOCKET=$FEMEM_SOCKET" /proc/[0-9]*/environ); do
+      it=${it#/proc/}
+      kill -KILL "${it%/environ}"
+    done
+    sleep $pause
   done
 }
 
