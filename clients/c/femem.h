@@ -18,9 +18,9 @@ extern "C" {
 
 /* The version of this header. */
 #define FEMEM_VERSION_MAJOR 1
-#define FEMEM_VERSION_MINOR 1
+#define FEMEM_VERSION_MINOR 2
 #define FEMEM_VERSION_PATCH 0
-#define FEMEM_VERSION "1.1.0"
+#define FEMEM_VERSION "1.2.0~git"
 
 #ifdef __GNUC__
 #pragma GCC visibility push(default)

@@ -22,7 +22,7 @@ from ._reports import Report, Waiter
 from ._pipeline import Pipeline
 from .requests import Array, Request
 
-__version__ = "1.1.0"
+__version__ = "1.2.0.dev0"
 
 logging.getLogger("femem").addHandler(logging.NullHandler())
 

@@ -12,7 +12,7 @@ use std::alloc::{AllocError, Global};
 use std::convert::AsStr;
 
 /// The version that `femem --version` prints.
-const VERSION: &str = "1.1.0";
+const VERSION: &str = "1.2.0~git";
 
 /// What the help says about each command.
 const RUN: &str = "Runs a schedule from standard input";
