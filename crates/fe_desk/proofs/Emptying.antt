@@ -23,7 +23,7 @@ use Rattle.fe_desk.specs.within.Desk.{AreQuiet, IsQuiet, client_of, KeepsFront, 
 use Rattle.fe_messages.specs.Mails.{reply_of, spelled}
 use Rattle.fe_desk.specs.DeskRunState.{taken_times, emptied_box, output_of, Extends, Client, unwritten, written_out, all_written_out, all_emptied}
 use Rattle.fe_desk.specs.Steps.{find}
-use Rattle.fe_desk.proofs.Outputs.{extends_itself, extends_both, extends_at}
+use Rattle.fe_desk.proofs.Outputs.{extends_both, extends_at}
 
 -- ---- what stays, over calls one after another
 
@@ -320,10 +320,6 @@ pub record IsWrittenOutSoFar (begun : FrontState) (first : List Client) (f : Fro
   pub clients : done ++ all_written_out f left ≡ all_written_out begun first
   pub quiet : AreQuiet f done
   pub output : Extends (map output_of first) (map output_of (done ++ left))
-
--- none is done with at the beginning
-pub none_written_out : (begun : FrontState) (first : List Client) → IsWrittenOutSoFar begun first begun [] first
-none_written_out begun first = record { front = refl; clients = refl; quiet = tt; output = extends_itself (map output_of first) }
 
 -- a client more
 pub one_written_out : (begun : FrontState) (first : List Client) (f : FrontState) (done : List Client) (c : Client) (left : List Client) (g : FrontState) (d : Client)

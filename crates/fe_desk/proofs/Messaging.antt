@@ -71,5 +71,5 @@ module _ (begun : ServerState) (groups : List (List Entry)) (asked : ℕ → ℕ
 
   pub message_stands : (f g : FrontState) (conn : ℕ) (m : ClientMessage) (es : List Entry) → HasOnly (MayAsk asked) f → KeptStand f → Takes f conn m es g → Stand f → Stand g
   message_stands f g conn m es has kept takes all =
-      message_boxes StandsTo (λ conn number r. tt) (λ conn number. tt) (λ conn text. tt) f conn
-      (λ session number k to is below. (has.sessions conn session (addressed_has f conn number session to), kept session number k is below)) g m es takes all
+      message_boxes StandsTo (λ conn number r. tt) (λ conn number. tt) (λ conn text. tt) f conn g m es
+      (λ session number k calls to is below. (has.sessions conn session (addressed_has f conn number session to), kept session number k is below)) takes all

@@ -1,5 +1,5 @@
 -- The ports to which something was written.
-use Rattle.std.proofs.Common.{◌≡◌, ℕ, zero, suc, ◌+◌, ◌-◌, ◌<◌, ◌≤◌, List, [], ◌∷◌, ◌++◌, length, take, drop, map, get_or, slice_set, refl, sym, ap, ◌∙◌, subst, arith, append-nil, ◌⊎◌}
+use Rattle.std.proofs.Common.{◌≡◌, ℕ, zero, suc, ◌+◌, ◌-◌, ◌<◌, ◌≤◌, List, [], ◌∷◌, ◌++◌, length, take, drop, map, get_or, slice_set, refl, sym, ap, ◌∙◌, subst, arith, ◌⊎◌}
 use Rattle.std.proofs.lemmas.List.{take-append-drop, drop-drop, drop-set-lt, map-append}
 use Rattle.fe_desk.specs.DeskRunState.{Client, output_of}
 use Rattle.fe_desk.specs.Crash.{unwritten_to}
@@ -17,15 +17,6 @@ out_of p = (p.conn, p.written)
 pub outs_of : (ps : List Port) → map output_of (map client_of ps) ≡ map out_of ps
 outs_of [] = refl
 outs_of (p ∷ ps) = ap (λ (os : List (ℕ × List ℕ)). out_of p ∷ os) (outs_of ps)
-
-pub all_written_to : (ports now : List Port) → now ≡ ports → AreWrittenTo now (map output_of (map client_of ports))
-all_written_to ports now is = record {
-  before = [];
-  behind = [];
-  all = outs_of ports ∙ ap (λ (ps : List Port). map out_of ps) (sym is) ∙ sym (append-nil (map out_of now));
-  none_before = tt;
-  none_behind = tt;
-}
 
 three : (ps : List Port) (from to : ℕ) → from ≤ to → ps ≡ take from ps ++ (take (to - from) (drop from ps) ++ drop to ps)
 three ps from to le =

@@ -108,9 +108,6 @@ pub record AreWrittenSoFar (f : FrontState) (cs : List Client) (g : FrontState) 
   pub front : g ≡ all_emptied f before
   pub written_out : done ≡ all_written_out f before
 
-pub none_done : (f : FrontState) (cs : List Client) → AreWrittenSoFar f cs f [] cs
-none_done f cs = record { before = []; all = refl; front = refl; written_out = refl }
-
 pub emptied_more : (f : FrontState) (cs : List Client) (c : Client) → all_emptied f (cs ++ c ∷ []) ≡ emptied_box (all_emptied f cs) c.conn
 emptied_more f [] c = refl
 emptied_more f (x ∷ xs) c = emptied_more (emptied_box f x.conn) xs c

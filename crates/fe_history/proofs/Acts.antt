@@ -7,16 +7,20 @@ use Rattle.fe_state.specs.State.{ServerState}
 use Rattle.fe_state.specs.declared.answer.Answer.{Answer}
 use Rattle.fe_state.specs.declared.batch.Batch.{Batch}
 use Rattle.fe_state.specs.declared.entry.Entry.{Entry}
-use Rattle.fe_messages.specs.Answers.{IsAnswerIn}
-use Rattle.fe_messages.proofs.Answers.{answer_more}
+use Rattle.fe_state.specs.declared.entry.Entry.TheVariants.{Attached, Closed, Settled, Finished}
+use Rattle.fe_state.specs.declared.request.Request.{Request}
+use Rattle.fe_messages.specs.Answers.{IsAnswerIn, IsFinishedAt}
+use Rattle.fe_messages.specs.Taking.{FinishesOnly, LeavesOpen}
+use Rattle.fe_messages.proofs.Boxes.{all_append}
+use Rattle.fe_messages.proofs.Answers.{finished_more}
 use Rattle.fe_history.specs.declared.act.Act.{Act}
-use Rattle.fe_history.specs.declared.act.Act.TheVariants.{Began, Asked, Cut, Stored, Issued}
+use Rattle.fe_history.specs.declared.act.Act.TheVariants.{Began, Asked, Called, Cut, Stored, Issued}
 use Rattle.fe_history.specs.declared.receipt.Receipt.{Receipt}
-use Rattle.std.specs.List.{filter_map, cons_option}
+use Rattle.std.specs.List.{AllByRecursion, filter_map, cons_option}
 use Rattle.std.specs.Prelude.{zero, suc, take, slice_get, Option, Some, None, IfSome, Result, Ok, Err, OnOk, OnErr, false}
 use Rattle.fe_mail.specs.declared.mail.Mail.{Mail}
 use Rattle.fe_history.specs.Receipts.{receipt_of}
-use Rattle.fe_history.specs.Acts.{FollowEachOther, HasMore, IsLegal, MayBeAppended, MayFollow, ReceiptList, WasCut, batches_of, cuts_in, entries_in, place_after, stores_in, StandsIn, EachIssued, WasIssued, AreIssued}
+use Rattle.fe_history.specs.Acts.{AreOfCalls, IsAnswerOf, IsAnswerOfCall, WasCalled, WasCalledSince, FollowEachOther, HasMore, IsLegal, MayBeAppended, MayFollow, ReceiptList, WasCut, batches_of, cuts_in, entries_in, place_after, stores_in, StandsIn, EachIssued, WasIssued, AreIssued}
 use Rattle.fe_history.specs.Rules.{WasAppended, CutsAfter}
 
 -- ---- lists
@@ -62,6 +66,7 @@ legal_append (Began s ∷ log) a legal may = (legal.0, goes_append s [] log a le
 legal_append (Cut b ∷ log) a legal may = absurd legal
 legal_append (Stored b m ∷ log) a legal may = absurd legal
 legal_append (Asked c s ∷ log) a legal may = absurd legal
+legal_append (Called c s n q p ∷ log) a legal may = absurd legal
 legal_append (Issued q ∷ log) a legal may = absurd legal
 
 -- an act of a history may follow those before it
@@ -78,6 +83,7 @@ cuts_append (Began s ∷ xs) ys = cuts_append xs ys
 cuts_append (Cut b ∷ xs) ys = ap (λ bs. b ∷ bs) (cuts_append xs ys)
 cuts_append (Stored b m ∷ xs) ys = cuts_append xs ys
 cuts_append (Asked c s ∷ xs) ys = cuts_append xs ys
+cuts_append (Called c s n q p ∷ xs) ys = cuts_append xs ys
 cuts_append (Issued q ∷ xs) ys = cuts_append xs ys
 
 pub stores_append : (xs ys : List Act) → stores_in (xs ++ ys) ≡ stores_in xs ++ stores_in ys
@@ -86,6 +92,7 @@ stores_append (Began s ∷ xs) ys = stores_append xs ys
 stores_append (Cut b ∷ xs) ys = stores_append xs ys
 stores_append (Stored b m ∷ xs) ys = ap (λ s. (b, m) ∷ s) (stores_append xs ys)
 stores_append (Asked c s ∷ xs) ys = stores_append xs ys
+stores_append (Called c s n q p ∷ xs) ys = stores_append xs ys
 stores_append (Issued q ∷ xs) ys = stores_append xs ys
 
 pub cuts_rise : (xs ys : List Act) → IsPrefix xs ys → IsPrefix (cuts_in xs) (cuts_in ys)
@@ -104,11 +111,11 @@ stored_rise xs ys p = batches_rise (stores_in xs) (stores_in ys) (stores_rise xs
 pub entries_append : (xs ys : List Batch) → entries_in (xs ++ ys) ≡ entries_in xs ++ entries_in ys
 entries_append xs ys = flat_map-append (λ (b : Batch). b.entries) xs ys
 
--- an answer of these batches is one of more
-pub answer_within : (begun : ServerState) (xs ys : List Batch) (session number : ℕ) (answer : Answer) (place : ℕ) → IsPrefix xs ys → IsAnswerIn begun (entries_in xs) session number answer place
-    → IsAnswerIn begun (entries_in ys) session number answer place
-answer_within begun xs ys session number answer place p is =
-    subst (λ (es : List Entry). IsAnswerIn begun es session number answer place) (sym (entries_append xs p.0) ∙ ap entries_in p.1) (answer_more begun (entries_in xs) (entries_in p.0) session number answer place is)
+-- an answer that one of these batches finishes, one of more finishes
+pub finished_within : (begun : ServerState) (xs ys : List Batch) (session number : ℕ) (answer : Answer) (place : ℕ) → IsPrefix xs ys → IsFinishedAt begun (entries_in xs) session number answer place
+    → IsFinishedAt begun (entries_in ys) session number answer place
+finished_within begun xs ys session number answer place p is =
+    subst (λ (es : List Entry). IsFinishedAt begun es session number answer place) (sym (entries_append xs p.0) ∙ ap entries_in p.1) (finished_more begun (entries_in xs) (entries_in p.0) session number answer place is)
 
 -- ---- acts of a beginning
 
@@ -128,17 +135,90 @@ stands_later xs ys a p s = (s.0, subst (λ (zs : List Act). slice_get zs s.0 ≡
 pub stands_last : (xs ys : List Act) (a : Act) → ys ≡ xs ++ a ∷ [] → StandsIn ys a
 stands_last xs ys a is = (length xs, subst (λ (zs : List Act). slice_get zs (length xs) ≡ Some a) (sym is) (get_last xs a))
 
+-- what was called, was called in what goes on from there
+pub called_later : (xs ys : List Act) (session number : ℕ) (request : Request) → IsPrefix xs ys → WasCalled xs session number request → WasCalled ys session number request
+called_later xs ys session number request p called = (called.0, called.1, stands_later xs ys (Called called.0 session number request called.1) p called.2)
+
+-- each call among the first acts is one among the others
+abbrev pub CallsAreIn : List Act → List Act → Type 0
+CallsAreIn xs ys = (conn session number : ℕ) (request : Request) (place : ℕ) → StandsIn xs (Called conn session number request place) → StandsIn ys (Called conn session number request place)
+
+pub calls_later : (xs ys : List Act) → IsPrefix xs ys → CallsAreIn xs ys
+calls_later xs ys p conn session number request place = stands_later xs ys (Called conn session number request place) p
+
+pub since_in : (begun : ServerState) (xs ys : List Act) (es : List Entry) (session number : ℕ) (request : Request) → CallsAreIn xs ys → WasCalledSince begun xs es session number request
+    → WasCalledSince begun ys es session number request
+since_in begun xs ys es session number request so c = record {
+  conn = c.conn;
+  place = c.place;
+  called = so c.conn session number request c.place c.called;
+  before = c.before;
+  since = c.since;
+  entries_are = c.entries_are;
+  at = c.at;
+  not_closed = c.not_closed;
+}
+
+-- more entries, which do not close the session
+pub since_more : (begun : ServerState) (acts : List Act) (es more : List Entry) (session number : ℕ) (request : Request) → AllByRecursion (LeavesOpen session) more → WasCalledSince begun acts es session number request
+    → WasCalledSince begun acts (es ++ more) session number request
+since_more begun acts es more session number request left c = record {
+  conn = c.conn;
+  place = c.place;
+  called = c.called;
+  before = c.before;
+  since = c.since ++ more;
+  entries_are = ap (λ (xs : List Entry). xs ++ more) c.entries_are ∙ append_assoc c.before c.since more;
+  at = c.at;
+  not_closed = all_append (LeavesOpen session) c.since more c.not_closed left;
+}
+
+-- what an entry finishes was called, where more was called
+pub finishes_more : (called more : ℕ → ℕ → Request → Type 0) → ((session number : ℕ) (request : Request) → called session number request → more session number request) → (e : Entry) → FinishesOnly called e → FinishesOnly more e
+finishes_more called more so (Attached session floor) is = tt
+finishes_more called more so (Closed session) is = tt
+finishes_more called more so (Settled session floor) is = tt
+finishes_more called more so (Finished session number request answer) is = so session number request is
+
+pub entries_called : (begun : ServerState) (xs ys : List Act) → CallsAreIn xs ys → (front es : List Entry) → AreOfCalls begun xs front es → AreOfCalls begun ys front es
+entries_called begun xs ys so front [] called = tt
+entries_called begun xs ys so front (e ∷ es) called = (
+  finishes_more (WasCalledSince begun xs front) (WasCalledSince begun ys front) (λ session number request. since_in begun xs ys front session number request so) e called.0,
+  entries_called begun xs ys so (front ++ e ∷ []) es called.1,
+)
+
+pub entries_called_later : (begun : ServerState) (xs ys : List Act) (front es : List Entry) → IsPrefix xs ys → AreOfCalls begun xs front es → AreOfCalls begun ys front es
+entries_called_later begun xs ys front es p = entries_called begun xs ys (calls_later xs ys p) front es
+
+-- entries after others that were called too
+pub entries_called_both : (begun : ServerState) (acts : List Act) (front es more : List Entry) → AreOfCalls begun acts front es → AreOfCalls begun acts (front ++ es) more → AreOfCalls begun acts front (es ++ more)
+entries_called_both begun acts front [] more called then = subst (λ (xs : List Entry). AreOfCalls begun acts xs more) (append-nil front) then
+entries_called_both begun acts front (e ∷ es) more called then =
+    (called.0, entries_called_both begun acts (front ++ e ∷ []) es more called.1 (subst (λ (xs : List Entry). AreOfCalls begun acts xs more) (sym (append_assoc front (e ∷ []) es)) then))
+
+-- an answer of a call in some acts, of one of these batches, is one in more acts, of one of more batches
+pub answer_of_call_later : (begun : ServerState) (xs ys : List Act) (posted more : List Batch) (r : Receipt) → IsPrefix xs ys → IsPrefix posted more → IsAnswerOfCall begun xs (entries_in posted) r
+    → IsAnswerOfCall begun ys (entries_in more) r
+answer_of_call_later begun xs ys posted more r p q (inl (kept, called)) = inl (kept, called_later xs ys r.session r.number kept.request p called)
+answer_of_call_later begun xs ys posted more r p q (inr is) = inr (finished_within begun posted more r.session r.number r.answer r.place q is)
+
+-- it is an answer, whatever was called
+pub answer_of_call : (begun : ServerState) (acts : List Act) (entries : List Entry) (r : Receipt) → IsAnswerOfCall begun acts entries r → IsAnswerIn begun entries r.session r.number r.answer r.place
+answer_of_call begun acts entries r (inl (kept, called)) = inl kept
+answer_of_call begun acts entries r (inr is) = inr is
+
 -- what may be issued may be issued later
 pub issued_may : (xs ys : List Act) (r : Receipt) → IsPrefix xs ys → MayBeAppended xs (Issued r) → MayBeAppended ys (Issued r)
 issued_may [] ys r p may = absurd may
 issued_may (Began s ∷ xs) ys r p may =
     subst (λ (zs : List Act). MayBeAppended zs (Issued r)) p.1 (
-      answer_within s (batches_of (stores_in xs)) (batches_of (stores_in (xs ++ p.0))) r.session r.number r.answer r.place (stored_rise xs (xs ++ p.0) (p.0, refl)) may.0,
+      answer_of_call_later s xs (xs ++ p.0) (batches_of (stores_in xs)) (batches_of (stores_in (xs ++ p.0))) r (p.0, refl) (stored_rise xs (xs ++ p.0) (p.0, refl)) may.0,
       stands_later xs (xs ++ p.0) (Asked r.conn r.session) (p.0, refl) may.1,
     )
 issued_may (Cut b ∷ xs) ys r p may = absurd may
 issued_may (Stored b m ∷ xs) ys r p may = absurd may
 issued_may (Asked c s ∷ xs) ys r p may = absurd may
+issued_may (Called c s n q k ∷ xs) ys r p may = absurd may
 issued_may (Issued q ∷ xs) ys r p may = absurd may
 
 -- ---- what is always true of cuts and stores
@@ -183,6 +263,10 @@ sound_append begun past (Asked c s) sound may =
     let cuts : cuts_in past ≡ cuts_in (past ++ Asked c s ∷ []) = sym (cuts_append past (Asked c s ∷ []) ∙ append-nil (cuts_in past)) in
     let stores : stores_in past ≡ stores_in (past ++ Asked c s ∷ []) = sym (stores_append past (Asked c s ∷ []) ∙ append-nil (stores_in past)) in
     record { balanced = still past (past ++ Asked c s ∷ []) cuts stores sound.balanced; ordered = subst (λ (bs : List Batch). AreInOrder begun.place bs) cuts sound.ordered }
+sound_append begun past (Called c s n q p) sound may =
+    let cuts : cuts_in past ≡ cuts_in (past ++ Called c s n q p ∷ []) = sym (cuts_append past (Called c s n q p ∷ []) ∙ append-nil (cuts_in past)) in
+    let stores : stores_in past ≡ stores_in (past ++ Called c s n q p ∷ []) = sym (stores_append past (Called c s n q p ∷ []) ∙ append-nil (stores_in past)) in
+    record { balanced = still past (past ++ Called c s n q p ∷ []) cuts stores sound.balanced; ordered = subst (λ (bs : List Batch). AreInOrder begun.place bs) cuts sound.ordered }
 sound_append begun past (Issued r) sound may =
     let cuts : cuts_in past ≡ cuts_in (past ++ Issued r ∷ []) = sym (cuts_append past (Issued r ∷ []) ∙ append-nil (cuts_in past)) in
     let stores : stores_in past ≡ stores_in (past ++ Issued r ∷ []) = sym (stores_append past (Issued r ∷ []) ∙ append-nil (stores_in past)) in
@@ -257,6 +341,11 @@ cut_later xs ys count batch p (before, size, cut) = (before, size, prefix_trans 
 pub begins_so : (begun : ServerState) (past xs ys : List Act) → xs ≡ Began begun ∷ past → IsPrefix xs ys → (rest : List Act) × (ys ≡ Began begun ∷ rest)
 begins_so begun past xs ys begins p = (past ++ p.0, sym p.1 ∙ ap (λ (zs : List Act). zs ++ p.0) begins)
 
+-- what was called in a history was called after its beginning
+pub call_behind : (begun : ServerState) (past : List Act) → CallsAreIn (Began begun ∷ past) past
+call_behind begun past conn session number request place (zero, is) = absurd (cc is)
+call_behind begun past conn session number request place (suc k, is) = (k, is)
+
 -- a cut, where as many were cut as were stored before
 pub cut_may : (v log : List Act) (count : ℕ) (batch : Batch) → CutsAfter v count batch → IsPrefix v log → IsLegal log → length (cuts_in log) ≡ count → MayBeAppended log (Cut batch)
 cut_may v log count batch next pre legal here =
@@ -268,8 +357,14 @@ cut_may v log count batch next pre legal here =
     let all : batches_of (stores_in log) ≡ next.before = prefix_whole next.before (batches_of (stores_in log)) stored (omega (arith, few, more, here, next.counted)) in
     let both : cuts_in log ≡ batches_of (stores_in log) = prefix_whole (batches_of (stores_in log)) (cuts_in log) cut (omega (arith, few, more, here, next.counted)) in
     let first : batch.first ≡ place_after next.begun (cuts_in log) = next.first ∙ ap (λ (bs : List Batch). place_after next.begun bs) (sym (both ∙ all)) in
-    subst (λ (zs : List Act). MayBeAppended zs (Cut batch)) (sym begins)
-    (subst (λ (zs : List Act). cuts_in zs ≡ batches_of (stores_in zs)) begins both, subst (λ (zs : List Act). batch.first ≡ place_after next.begun (cuts_in zs)) begins first, next.some)
+    subst (λ (zs : List Act). MayBeAppended zs (Cut batch)) (sym begins) (
+      subst (λ (zs : List Act). cuts_in zs ≡ batches_of (stores_in zs)) begins both,
+      subst (λ (zs : List Act). batch.first ≡ place_after next.begun (cuts_in zs)) begins first,
+      next.some,
+      entries_called next.begun (Began next.begun ∷ rest) rest (call_behind next.begun rest) (entries_in (cuts_in rest)) batch.entries
+          (subst (λ (zs : List Act). AreOfCalls next.begun zs (entries_in (cuts_in zs)) batch.entries) begins
+          (subst (λ (bs : List Batch). AreOfCalls next.begun log (entries_in bs) batch.entries) (sym (both ∙ all)) (entries_called_later next.begun v log (entries_in next.before) batch.entries pre next.called))),
+    )
 
 -- a store of the batch that was cut next
 pub store_may : (v log : List Act) (count moment : ℕ) (batch : Batch) → WasCut v count batch → IsPrefix v log → IsLegal log → length (stores_in log) ≡ count → MayBeAppended log (Stored batch moment)
@@ -277,6 +372,7 @@ store_may v [] count moment batch was pre legal here = absurd legal
 store_may v (Cut b ∷ log) count moment batch was pre legal here = absurd legal
 store_may v (Stored b m ∷ log) count moment batch was pre legal here = absurd legal
 store_may v (Asked c s ∷ log) count moment batch was pre legal here = absurd legal
+store_may v (Called c s n q k ∷ log) count moment batch was pre legal here = absurd legal
 store_may v (Issued q ∷ log) count moment batch was pre legal here = absurd legal
 store_may v (Began begun ∷ log) count moment batch (before, size, cut) pre legal here = by (legal_sound begun log (Began begun ∷ log) refl legal).balanced
   where
@@ -370,6 +466,188 @@ gathered_issued (Ok a) old new others slice xs ys zs same ok err p q one two =
 gathered_issued (Err e) old new others slice xs ys zs same ok err p q one two =
     subst (λ (rs : List Receipt). EachIssued rs zs) (sym (ap (λ (l : ReceiptList). l.items) err)) (each_later old.items xs zs p one)
 
+-- each entry of a batch that was cut finishes a request that had been called
+pub cut_called : (begun : ServerState) (acts earlier later : List Act) (b : Batch) → FollowEachOther begun [] acts → acts ≡ earlier ++ Cut b ∷ later
+    → AreOfCalls begun earlier (entries_in (cuts_in earlier)) b.entries
+cut_called begun acts earlier later b goes is = (goes_at begun [] earlier later (Cut b) (subst (λ (a : List Act). FollowEachOther begun [] a) is goes)).3
+
 -- an answer that was issued is of a session that its connection had asked for
 pub issued_asked : (begun : ServerState) (acts earlier later : List Act) (r : Receipt) → FollowEachOther begun [] acts → acts ≡ earlier ++ Issued r ∷ later → StandsIn earlier (Asked r.conn r.session)
 issued_asked begun acts earlier later r goes is = (goes_at begun [] earlier later (Issued r) (subst (λ (a : List Act). FollowEachOther begun [] a) is goes)).1
+
+-- a call is of a session that its connection had asked for
+pub called_asked : (begun : ServerState) (acts earlier later : List Act) (conn session number : ℕ) (request : Request) (place : ℕ) → FollowEachOther begun [] acts
+    → acts ≡ earlier ++ Called conn session number request place ∷ later → StandsIn earlier (Asked conn session)
+called_asked begun acts earlier later conn session number request place goes is =
+    goes_at begun [] earlier later (Called conn session number request place) (subst (λ (a : List Act). FollowEachOther begun [] a) is goes)
+
+-- ---- the call of an answer
+
+-- a beginning of acts that follow each other follows too
+goes_front : (begun : ServerState) (past xs ys : List Act) → FollowEachOther begun past (xs ++ ys) → FollowEachOther begun past xs
+goes_front begun past [] ys goes = tt
+goes_front begun past (x ∷ xs) ys goes = (goes.0, goes_front begun (past ++ x ∷ []) xs ys goes.1)
+
+-- a batch among those that were cut was cut by an act
+cut_act : (acts : List Act) (front back : List Batch) (b : Batch) → cuts_in acts ≡ front ++ b ∷ back → (earlier later : List Act) × (acts ≡ earlier ++ Cut b ∷ later)
+cut_act [] front back b is = absurd (omega (arith, ap length is, length-append front (b ∷ back)))
+cut_act (Began s ∷ acts) front back b is = let r = cut_act acts front back b is in (Began s ∷ r.0, r.1, ap (λ (zs : List Act). Began s ∷ zs) r.2)
+cut_act (Cut c ∷ acts) [] back b is =
+    let head : c ≡ b = cc is in
+    ([], acts, ap (λ (x : Batch). Cut x ∷ acts) head)
+cut_act (Cut c ∷ acts) (x ∷ front) back b is =
+    let tail : cuts_in acts ≡ front ++ b ∷ back = cc is in
+    let r = cut_act acts front back b tail in (Cut c ∷ r.0, r.1, ap (λ (zs : List Act). Cut c ∷ zs) r.2)
+cut_act (Stored c m ∷ acts) front back b is = let r = cut_act acts front back b is in (Stored c m ∷ r.0, r.1, ap (λ (zs : List Act). Stored c m ∷ zs) r.2)
+cut_act (Asked c s ∷ acts) front back b is = let r = cut_act acts front back b is in (Asked c s ∷ r.0, r.1, ap (λ (zs : List Act). Asked c s ∷ zs) r.2)
+cut_act (Called c s n q p ∷ acts) front back b is = let r = cut_act acts front back b is in (Called c s n q p ∷ r.0, r.1, ap (λ (zs : List Act). Called c s n q p ∷ zs) r.2)
+cut_act (Issued q ∷ acts) front back b is = let r = cut_act acts front back b is in (Issued q ∷ r.0, r.1, ap (λ (zs : List Act). Issued q ∷ zs) r.2)
+
+-- an entry of two lists is in the first, or in the second
+split_at : (xs ys before behind : List Entry) (e : Entry) → xs ++ ys ≡ before ++ e ∷ behind
+    → (slice_get xs (length before) ≡ Some e) ⊎ ((rest : List Entry) × (before ≡ xs ++ rest) × (ys ≡ rest ++ e ∷ behind))
+split_at [] ys before behind e is = inr (before, refl, is)
+split_at (x ∷ xs) ys [] behind e is = let head : x ≡ e = cc is in inl (ap (λ (y : Entry). Some y) head)
+split_at (x ∷ xs) ys (w ∷ before) behind e is = by (split_at xs ys before behind e tail)
+  where
+    head : x ≡ w
+    head = cc is
+
+    tail : xs ++ ys ≡ before ++ e ∷ behind
+    tail = cc is
+
+    by : (slice_get xs (length before) ≡ Some e) ⊎ ((rest : List Entry) × (before ≡ xs ++ rest) × (ys ≡ rest ++ e ∷ behind))
+        → (slice_get (x ∷ xs) (length (w ∷ before)) ≡ Some e) ⊎ ((rest : List Entry) × (w ∷ before ≡ (x ∷ xs) ++ rest) × (ys ≡ rest ++ e ∷ behind))
+    by (inl here) = inl here
+    by (inr (rest, front, back)) = inr (rest, ap (λ (es : List Entry). w ∷ es) front ∙ ap (λ (y : Entry). y ∷ (xs ++ rest)) (sym head), back)
+
+-- an entry of batches that are in order is in one of them, at its place
+record IsInBatch (at : ℕ) (bs : List Batch) (before : List Entry) (e : Entry) : Type 0 where
+  pub front : List Batch
+  pub back : List Batch
+  pub batch : Batch
+  pub k : ℕ
+  pub batches : bs ≡ front ++ batch ∷ back
+  pub there : slice_get batch.entries k ≡ Some e
+  pub place : at + length before ≡ batch.first + k
+
+in_batch : (at : ℕ) (bs rest : List Batch) (before behind : List Entry) (e : Entry) → AreInOrder at (bs ++ rest) → entries_in bs ≡ before ++ e ∷ behind → IsInBatch at bs before e
+in_batch at [] rest before behind e order is = absurd (omega (arith, ap length is, length-append before (e ∷ behind)))
+in_batch at (b ∷ bs) rest before behind e order is =
+    by (λ more tail. in_batch (at + length b.entries) bs rest more behind e order.2 tail) (split_at b.entries (entries_in bs) before behind e is)
+  where
+    by : ((more : List Entry) → entries_in bs ≡ more ++ e ∷ behind → IsInBatch (at + length b.entries) bs more e)
+        → (slice_get b.entries (length before) ≡ Some e) ⊎ ((more : List Entry) × (before ≡ b.entries ++ more) × (entries_in bs ≡ more ++ e ∷ behind)) → IsInBatch at (b ∷ bs) before e
+    by rec (inl here) = record { front = []; back = bs; batch = b; k = length before; batches = refl; there = here; place = omega (arith, order.0) }
+    by rec (inr (more, size, tail)) =
+        let r = rec more tail in
+        record {
+          front = b ∷ r.front;
+          back = r.back;
+          batch = r.batch;
+          k = r.k;
+          batches = ap (λ (xs : List Batch). b ∷ xs) r.batches;
+          there = r.there;
+          place = omega (arith, r.place, ap length size, length-append b.entries more);
+        }
+
+all_at : (begun : ServerState) (acts : List Act) (front es : List Entry) (k : ℕ) (e : Entry) → AreOfCalls begun acts front es → slice_get es k ≡ Some e → FinishesOnly (WasCalledSince begun acts (front ++ take k es)) e
+all_at begun acts front [] k e all is = absurd cc
+all_at begun acts front (x ∷ es) zero e all is =
+    let same : x ≡ e = cc is in
+    subst (λ (xs : List Entry). FinishesOnly (WasCalledSince begun acts xs) e) (sym (append-nil front)) (subst (λ (y : Entry). FinishesOnly (WasCalledSince begun acts front) y) same all.0)
+all_at begun acts front (x ∷ es) (suc k) e all is =
+    subst (λ (xs : List Entry). FinishesOnly (WasCalledSince begun acts xs) e) (append_assoc front (x ∷ []) (take k es)) (all_at begun acts (front ++ x ∷ []) es k e all.1 is)
+
+-- an answer that was issued is that of a request that was called: since the beginning if it was kept then, or before its batch was cut
+pub issued_of_call : (begun : ServerState) (acts earlier later : List Act) (r : Receipt) → FollowEachOther begun [] acts → acts ≡ earlier ++ Issued r ∷ later → (request : Request) × IsAnswerOf begun earlier r request
+issued_of_call begun acts earlier later r goes is = by may.0
+  where
+    goes' : FollowEachOther begun [] (earlier ++ Issued r ∷ later)
+    goes' = subst (λ (a : List Act). FollowEachOther begun [] a) is goes
+
+    may : MayFollow begun earlier (Issued r)
+    may = goes_at begun [] earlier later (Issued r) goes'
+
+    goes_earlier : FollowEachOther begun [] earlier
+    goes_earlier = goes_front begun [] earlier (Issued r ∷ later) goes'
+
+    sound : IsSound begun earlier
+    sound = sound_goes begun [] earlier (record { balanced = inl refl; ordered = tt }) goes_earlier
+
+    stored : List Batch
+    stored = batches_of (stores_in earlier)
+
+    rest : (more : List Batch) × (cuts_in earlier ≡ stored ++ more)
+    rest = of sound.balanced
+      where
+        of : IsBalanced earlier → (more : List Batch) × (cuts_in earlier ≡ stored ++ more)
+        of (inl all) = ([], all ∙ sym (append-nil stored))
+        of (inr (b, all)) = (b ∷ [], all)
+
+    by : IsAnswerOfCall begun earlier (entries_in stored) r → (request : Request) × IsAnswerOf begun earlier r request
+    by (inl (kept, called)) = (kept.request, IsAnswerOf.Before kept.kept called)
+    by (inr f) =
+        let e : Entry = Finished r.session r.number f.request r.answer in
+        let b = in_batch begun.place stored rest.0 f.before f.behind e (subst (λ (bs : List Batch). AreInOrder begun.place bs) rest.1 sound.ordered) f.entries in
+        let cuts : cuts_in earlier ≡ b.front ++ b.batch ∷ (b.back ++ rest.0) =
+        rest.1 ∙ ap (λ (bs : List Batch). bs ++ rest.0) b.batches ∙ append_assoc b.front (b.batch ∷ b.back) rest.0 in
+        let act = cut_act earlier b.front (b.back ++ rest.0) b.batch cuts in
+        let all : AreOfCalls begun act.0 (entries_in (cuts_in act.0)) b.batch.entries = cut_called begun earlier act.0 act.1 b.batch goes_earlier act.2 in
+        (f.request, IsAnswerOf.Since act.0 act.1 b.batch b.k act.2 (all_at begun act.0 (entries_in (cuts_in act.0)) b.batch.entries b.k e all b.there) b.there (f.at ∙ b.place))
+
+-- ---- real time
+
+place_grows : (begun : ServerState) (xs ys : List Batch) → IsPrefix xs ys → place_after begun xs ≤ place_after begun ys
+place_grows begun xs ys p = omega (arith, ap length (ap entries_in p.1), ap length (entries_append xs p.0), length-append (entries_in xs) (entries_in p.0))
+
+-- What was issued before a batch was cut has a place before all of that batch. So an answer that was issued before a request was called for
+-- the first time has a place before that request's.
+pub issued_before_cut : (begun : ServerState) (acts earlier between later : List Act) (r : Receipt) (b : Batch) → FollowEachOther begun [] acts
+    → acts ≡ (earlier ++ Issued r ∷ between) ++ Cut b ∷ later → r.place < b.first
+issued_before_cut begun acts earlier between later r b goes is = omega (arith, below, grows, cut.1)
+  where
+    goes' : FollowEachOther begun [] ((earlier ++ Issued r ∷ between) ++ Cut b ∷ later)
+    goes' = subst (λ (a : List Act). FollowEachOther begun [] a) is goes
+
+    cut : MayFollow begun (earlier ++ Issued r ∷ between) (Cut b)
+    cut = goes_at begun [] (earlier ++ Issued r ∷ between) later (Cut b) goes'
+
+    goes_front' : FollowEachOther begun [] (earlier ++ Issued r ∷ between)
+    goes_front' = goes_front begun [] (earlier ++ Issued r ∷ between) (Cut b ∷ later) goes'
+
+    may : MayFollow begun earlier (Issued r)
+    may = goes_at begun [] earlier between (Issued r) goes_front'
+
+    grows : place_after begun (batches_of (stores_in earlier)) ≤ place_after begun (cuts_in (earlier ++ Issued r ∷ between))
+    grows =
+        place_grows begun (batches_of (stores_in earlier)) (cuts_in (earlier ++ Issued r ∷ between))
+        (subst (λ (bs : List Batch). IsPrefix (batches_of (stores_in earlier)) bs) (sym cut.0) (stored_rise earlier (earlier ++ Issued r ∷ between) (Issued r ∷ between, refl)))
+
+    below : r.place < place_after begun (batches_of (stores_in earlier))
+    below = of may.0
+      where
+        of : IsAnswerOfCall begun earlier (entries_in (batches_of (stores_in earlier))) r → r.place < place_after begun (batches_of (stores_in earlier))
+        of (inl (kept, called)) = let first = kept.earlier in omega (arith, first)
+        of (inr f) = omega (arith, f.at, ap length f.entries, length-append f.before (Finished r.session r.number f.request r.answer ∷ f.behind))
+
+-- ---- with one more act before the others
+
+pub stands_with : (first : Act) (acts : List Act) (a : Act) → StandsIn acts a → StandsIn (first ∷ acts) a
+stands_with first acts a (at, is) = (suc at, is)
+
+pub called_with : (first : Act) (acts : List Act) (session number : ℕ) (request : Request) → WasCalled acts session number request → WasCalled (first ∷ acts) session number request
+called_with first acts session number request (conn, place, called) = (conn, place, stands_with first acts (Called conn session number request place) called)
+
+calls_with : (first : Act) (acts : List Act) → CallsAreIn acts (first ∷ acts)
+calls_with first acts conn session number request place = stands_with first acts (Called conn session number request place)
+
+pub entries_called_with : (begun : ServerState) (first : Act) (acts : List Act) (front es : List Entry) → AreOfCalls begun acts front es → AreOfCalls begun (first ∷ acts) front es
+entries_called_with begun first acts front es = entries_called begun acts (first ∷ acts) (calls_with first acts) front es
+
+-- the first act of a history is its beginning, and cuts nothing
+pub answer_of_with : (begun : ServerState) (acts : List Act) (r : Receipt) (request : Request) → IsAnswerOf begun acts r request → IsAnswerOf begun (Began begun ∷ acts) r request
+answer_of_with begun acts r request (IsAnswerOf.Before kept called) = IsAnswerOf.Before kept (called_with (Began begun) acts r.session r.number request called)
+answer_of_with begun acts r request (IsAnswerOf.Since earlier later batch at is called there place) =
+    IsAnswerOf.Since (Began begun ∷ earlier) later batch at (ap (λ (zs : List Act). Began begun ∷ zs) is)
+    (since_in begun earlier (Began begun ∷ earlier) (entries_in (cuts_in earlier) ++ take at batch.entries) r.session r.number request (calls_with (Began begun) earlier) called) there place

@@ -7,11 +7,13 @@ use prog.Atomic.{either}
 use Rattle.logbook.specs.Pages.{Cell, cell, keeps, no_nib, step, Moves, Goes}
 use Rattle.fe_state.specs.declared.batch.Batch.{Batch}
 use Rattle.fe_history.specs.declared.act.Act.{Act}
-use Rattle.fe_history.specs.declared.act.Act.TheVariants.{Began, Asked, Cut, Stored, Issued}
+use Rattle.fe_history.specs.declared.act.Act.TheVariants.{Began, Asked, Called, Cut, Stored, Issued}
 use Rattle.fe_history.specs.declared.receipt.Receipt.{Receipt}
-use Rattle.fe_history.specs.Acts.{IsLegal, MayBeAppended, WasCut, cuts_in, stores_in}
+use Rattle.std.specs.Prelude.{zero, suc}
+use Rattle.fe_state.specs.declared.request.Request.{Request}
+use Rattle.fe_history.specs.Acts.{IsLegal, MayBeAppended, StandsIn, WasCut, cuts_in, stores_in}
 use Rattle.fe_history.specs.Rules.{IsKept, Adds, AddsNext, CutsAfter, CutsNext, Counts}
-use Rattle.fe_history.proofs.Acts.{cut_may, cuts_append, legal_append, store_may, stores_append, issued_may}
+use Rattle.fe_history.proofs.Acts.{cut_may, cuts_append, legal_append, stands_later, store_may, stores_append, issued_may}
 
 abbrev pub shown : List Act → List Act
 shown log = []
@@ -58,6 +60,7 @@ ask_may (Began s ∷ log) conn session legal = tt
 ask_may (Cut b ∷ log) conn session legal = absurd legal
 ask_may (Stored b n ∷ log) conn session legal = absurd legal
 ask_may (Asked c s ∷ log) conn session legal = absurd legal
+ask_may (Called c s n q p ∷ log) conn session legal = absurd legal
 ask_may (Issued q ∷ log) conn session legal = absurd legal
 
 asked_stores : (log : List Act) (conn session : ℕ) → length (stores_in log) ≡ length (stores_in (log ++ Asked conn session ∷ []))
@@ -79,6 +82,46 @@ asks_moves v conn session whole cs log kept pre away =
         None,
         tt,
         kept_with (log ++ Asked conn session ∷ []) (length (stores_in log)) (length (cuts_in log)) (asked_stores log conn session) (asked_cuts log conn session) legal',
+        inl (refl, refl),
+        (record { earlier = log; seen = pre; is = refl }, legal'),
+      ),
+    )
+
+-- a connection may call a request of a session that it asked for
+call_may : (v log : List Act) (conn session number : ℕ) (request : Request) (place : ℕ) → IsLegal log → IsPrefix v log → StandsIn v (Asked conn session) → MayBeAppended log (Called conn session number request place)
+call_may v [] conn session number request place legal pre asked = absurd legal
+call_may v (Began s ∷ log) conn session number request place legal pre asked = behind (stands_later v (Began s ∷ log) (Asked conn session) pre asked)
+  where
+    behind : StandsIn (Began s ∷ log) (Asked conn session) → StandsIn log (Asked conn session)
+    behind (zero, is) = absurd (cc is)
+    behind (suc k, is) = (k, is)
+call_may v (Cut b ∷ log) conn session number request place legal pre asked = absurd legal
+call_may v (Stored b n ∷ log) conn session number request place legal pre asked = absurd legal
+call_may v (Asked c s ∷ log) conn session number request place legal pre asked = absurd legal
+call_may v (Called c s n q p ∷ log) conn session number request place legal pre asked = absurd legal
+call_may v (Issued q ∷ log) conn session number request place legal pre asked = absurd legal
+
+called_stores : (log : List Act) (conn session number : ℕ) (request : Request) (place : ℕ) → length (stores_in log) ≡ length (stores_in (log ++ Called conn session number request place ∷ []))
+called_stores log conn session number request place = ap length (sym (stores_append log (Called conn session number request place ∷ []) ∙ append-nil (stores_in log)))
+
+called_cuts : (log : List Act) (conn session number : ℕ) (request : Request) (place : ℕ) → length (cuts_in log) ≡ length (cuts_in (log ++ Called conn session number request place ∷ []))
+called_cuts log conn session number request place = ap length (sym (cuts_append log (Called conn session number request place ∷ []) ∙ append-nil (cuts_in log)))
+
+pub calls_moves : (v : List Act) (conn session number : ℕ) (request : Request) (place : ℕ) → StandsIn v (Asked conn session)
+    → Moves IsKept shown moved 0 (v, (no_nib, None)) (λ n. n) (Adds (step 0 0 0 (Called conn session number request place)) (v, (no_nib, None)))
+calls_moves v conn session number request place asked cs log kept pre away =
+    let act : Act = Called conn session number request place in
+    let P : List Cell → Type 0 = λ c. (0 < length c) × ((cell c 0).1 ≡ true) × Goes IsKept shown moved 0 (v, (no_nib, None)) (λ n. n) (Adds (step 0 0 0 act) (v, (no_nib, None))) c log in
+    let legal' : IsLegal (log ++ act ∷ []) = legal_append log act kept.legal (call_may v log conn session number request place kept.legal pre asked) in
+    subst P (sym kept.words) (
+      omega arith,
+      refl,
+      (
+        keeps,
+        act ∷ [],
+        None,
+        tt,
+        kept_with (log ++ act ∷ []) (length (stores_in log)) (length (cuts_in log)) (called_stores log conn session number request place) (called_cuts log conn session number request place) legal',
         inl (refl, refl),
         (record { earlier = log; seen = pre; is = refl }, legal'),
       ),

@@ -1,10 +1,10 @@
 //! The history of a hall (`docs/headline.md`, "Every acknowledged answer"). It exists in proofs alone, except for two atomic words
 //! (`Word` of the toolchain's `logbook`), which count the batches that were stored and cut.
 
-ghost use Rattle.std.specs.Prelude.{◌≡◌, ◌^◌, ◌==◌, ◌<◌, ◌∷◌, [], true, length, IsTrue};
+ghost use Rattle.std.specs.Prelude.{◌≡◌, ◌^◌, ◌==◌, ◌<◌, ◌∷◌, [], true, length, IsTrue, IfSome};
 ghost use mathlib.Core.List.{IsPrefix};
 ghost use Rattle.fe_history.specs.declared.act.Act.TheVariants as act;
-ghost use Rattle.fe_history.specs.Acts.{GoesOnFrom, IsLegal, IsStored, MayBeAppended, WasCut, cuts_in, stores_in};
+ghost use Rattle.fe_history.specs.Acts.{GoesOnFrom, IsLegal, IsStored, MayBeAppended, StandsIn, WasCut, cuts_in, stores_in};
 ghost use Rattle.fe_history.specs.Rules.{WasAppended, CutsAfter, Hears, cuts_of, pending_batch, stores_of};
 
 use crate::account::Account;
@@ -15,7 +15,7 @@ use fe_disk::Disk;
 use fe_front::Front;
 use fe_keeper::Keeper;
 use fe_messages::Took;
-use fe_state::{Answer, Batch, State};
+use fe_state::{Answer, Batch, Request, State};
 use fe_wire::ClientMessage;
 use logbook::{Gain, Offer, Opening, Plain, Play, Rule, Seen, Start, Word};
 use std::alloc::Global;
@@ -103,6 +103,34 @@ impl Plain<Wish, Act, u64> for Asking {
     ghost ask = { λ wish. Asked wish.conn wish.session };
 
     ghost state = { λ wish. None };
+}
+
+/// The step that adds that a connection calls a request.
+struct Calling;
+
+impl Play<Act, u64> for Calling {
+    ghost use Rattle.fe_history.specs.Rules.{Adds};
+
+    ghost then = { Adds };
+}
+
+/// A connection, the session that it had, the request that it called under this number, and the place before.
+#[derive(Clone, Copy)]
+struct HeardCall {
+    conn: u64,
+    session: u64,
+    number: u64,
+    request: Request,
+    place: u64,
+}
+
+impl Plain<HeardCall, Act, u64> for Calling {
+    ghost use Rattle.std.specs.Prelude.{None};
+    ghost use Rattle.fe_history.specs.declared.act.Act.TheVariants.{Called};
+
+    ghost ask = { λ call. Called call.conn call.session call.number call.request call.place };
+
+    ghost state = { λ call. None };
 }
 
 /// The step that adds a cut of all that is pending in a front.
@@ -324,14 +352,15 @@ impl<M: Tally> History<M> {
             .load::<Issuing, Nothing>(&mut self.seen, &mut offer);
     }
 
-    /// Adds that a connection asks for a session, if this message asks for one; `took` shows that it was handed to a front. Only the code
-    /// under the hall's lock has `_mails`, the book of the ledger of mails.
+    /// Adds that a connection asks for a session, or calls a request of the session that it had, if this message does so; `took` shows that
+    /// it was handed to a front. Only the code under the hall's lock has `_mails`, the book of the ledger of mails.
     pub fn hear(&mut self, history_words: &HistoryWords<M>, _mails: &Book<M>, took: Took)
-        ensures heard { Hears self.old took.conn took.message self.new }
+        requires asked { IfSome took.had (λ session. StandsIn self.old (act.Asked took.conn session)) }
+        ensures heard { Hears self.old took.conn took.had took.place took.message self.new }
     {
         // This use of the field tells the proof what is always true of a history.
         let _ = &self.seen;
-        let (conn, message) = took.into_parts();
+        let (conn, had, place, message) = took.into_parts();
         if let ClientMessage::Attach { session } = message {
             let wish = Wish { conn, session };
             let mut offer: Offer<Act, u64, Law, Nothing> = self
@@ -340,6 +369,23 @@ impl<M: Tally> History<M> {
             let _ = history_words
                 .stores
                 .load::<Asking, Nothing>(&mut self.seen, &mut offer);
+        } else if let ClientMessage::Call { number, request } = message {
+            let Some(session) = had else {
+                return;
+            };
+            let call = HeardCall {
+                conn,
+                session,
+                number,
+                request,
+                place,
+            };
+            let mut offer: Offer<Act, u64, Law, Nothing> = self
+                .seen
+                .plain::<Nothing, HeardCall, Calling>(&call);
+            let _ = history_words
+                .stores
+                .load::<Calling, Nothing>(&mut self.seen, &mut offer);
         }
     }
 

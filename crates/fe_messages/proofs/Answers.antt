@@ -49,11 +49,6 @@ finished_more begun xs ys session number answer place is = record {
   replied = is.replied;
 }
 
-pub answer_more : (begun : ServerState) (xs ys : List Entry) (session number : ℕ) (answer : Answer) (place : ℕ) → IsAnswerIn begun xs session number answer place
-    → IsAnswerIn begun (xs ++ ys) session number answer place
-answer_more begun xs ys session number answer place (inl kept) = inl kept
-answer_more begun xs ys session number answer place (inr is) = inr (finished_more begun xs ys session number answer place is)
-
 -- what a state within its limits keeps has places before its own
 abbrev pub KeepsBelow : ServerState → Type 0
 KeepsBelow begun = (session number : ℕ) (k : Kept) → kept_of begun session number ≡ Some k → k.place < begun.place

@@ -4,3 +4,4 @@ pub mod Answers
 pub mod Boxes
 pub mod Boxing
 pub mod AttachmentLaws
+pub mod WaitLaws

@@ -8,8 +8,6 @@ use Rattle.fe_state.specs.declared.answer.Answer.{Answer}
 use Rattle.fe_state.specs.declared.entry.Entry.{Entry}
 use Rattle.fe_state.specs.declared.entry.Entry.TheVariants.{Finished}
 use Rattle.fe_state.specs.declared.request.Request.{Request}
-use Rattle.fe_mail.specs.declared.mail.Mail.{Mail}
-use Rattle.fe_mail.specs.declared.mail.Mail.TheVariants as mail
 
 -- The answer is that of the entry at the place: the entry finishes the number with the reply to its request in the state before.
 pub record IsFinishedAt (begun : ServerState) (es : List Entry) (session number : ℕ) (answer : Answer) (place : ℕ) : Type 0 where
@@ -29,16 +27,6 @@ pub record IsKeptSince (begun : ServerState) (session number : ℕ) (answer : An
 -- The answer of a number is that of its entry among these, or it was kept before them.
 abbrev pub IsAnswerIn : ServerState → List Entry → ℕ → ℕ → Answer → ℕ → Type 0
 IsAnswerIn begun es session number answer place = IsKeptSince begun session number answer place ⊎ IsFinishedAt begun es session number answer place
-
--- If the mail is an answer, it is such an answer.
-abbrev pub TellsAnswerIn : ServerState → List Entry → Mail → Type 0
-TellsAnswerIn begun es (mail.Answer session number answer place) = IsAnswerIn begun es session number answer place
-TellsAnswerIn begun es (mail.Welcome session floor) = Unit {0}
-TellsAnswerIn begun es (mail.Refused number refusal) = Unit {0}
-TellsAnswerIn begun es (mail.Withdrawn number) = Unit {0}
-TellsAnswerIn begun es (mail.Settled floor) = Unit {0}
-TellsAnswerIn begun es (mail.Goodbye session) = Unit {0}
-TellsAnswerIn begun es (mail.Report text) = Unit {0}
 
 -- Each entry that finishes a request has the reply to it in the state before the entry.
 abbrev pub AreAnswered : ServerState → List Entry → Type 0

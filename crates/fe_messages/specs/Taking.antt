@@ -1,6 +1,9 @@
 -- What a message of a connection does to the front: it is an event, or is refused (`docs/model.md`, "Messages and mails").
-use Rattle.std.specs.Prelude.{◌≡◌, ◌⊎◌, ℕ, List, [], Err, true, ◌++◌, Some}
+use Rattle.std.specs.Prelude.{◌≡◌, ◌≢◌, ◌⊎◌, ℕ, List, [], Err, true, ◌++◌, Option, Some, IfSome}
+use Rattle.std.specs.FinMap.{get}
+use Rattle.fe_service.specs.Service.{request_of}
 use Rattle.fe_state.specs.declared.entry.Entry.{Entry}
+use Rattle.fe_state.specs.declared.entry.Entry.TheVariants.{Attached, Closed, Settled, Finished}
 use Rattle.fe_state.specs.declared.request.Request.{Request}
 use Rattle.fe_mail.specs.declared.mail.Mail.TheVariants as mail
 use Rattle.fe_mail.specs.declared.refusal.Refusal.{Refusal}
@@ -57,9 +60,12 @@ pub record Enters (f : FrontState) (es : List Entry) (g : FrontState) : Type 0 w
 
 -- ---- which sessions connections ask for
 
--- a message that was handed to a front, and its connection
+-- a message that was handed to a front, its connection, the session that the connection had then, if it had one, and the place that the
+-- front's state had then
 pub record Took : Type 0 where
   pub conn : ℕ
+  pub had : Option ℕ
+  pub place : ℕ
   pub message : ClientMessage
 
 -- if the message asks for a session, that is one of these
@@ -75,3 +81,30 @@ AsksOnly asked Report = Unit {0}
 pub record HasOnly (asked : ℕ → ℕ → Type 0) (f : FrontState) : Type 0 where
   pub holders : (session conn : ℕ) → holder_of f.service.attachments session ≡ Some conn → asked conn session
   pub sessions : (conn session : ℕ) → session_on f.connections conn ≡ Some session → asked conn session
+
+-- a request waits only if it was called, under its number of its session
+abbrev pub WaitsOnly : (ℕ → ℕ → Request → Type 0) → FrontState → Type 0
+WaitsOnly called f = (key : ℕ × ℕ) → IfSome (get f.service.waiting key) (λ w. called key.0 key.1 (request_of w))
+
+-- if the message calls a request on the session that its connection has, that is one of these
+abbrev pub CallsOnly : (ℕ → ℕ → Request → Type 0) → Option ℕ → ClientMessage → Type 0
+CallsOnly called had (Attach session) = Unit {0}
+CallsOnly called had (Call number request) = IfSome had (λ session. called session number request)
+CallsOnly called had (Cancel number) = Unit {0}
+CallsOnly called had (Settle floor) = Unit {0}
+CallsOnly called had Bye = Unit {0}
+CallsOnly called had Report = Unit {0}
+
+-- if the entry finishes a request, that is one of these
+abbrev pub FinishesOnly : (ℕ → ℕ → Request → Type 0) → Entry → Type 0
+FinishesOnly called (Attached session floor) = Unit {0}
+FinishesOnly called (Closed session) = Unit {0}
+FinishesOnly called (Settled session floor) = Unit {0}
+FinishesOnly called (Finished session number request answer) = called session number request
+
+-- the entry does not close this session
+abbrev pub LeavesOpen : ℕ → Entry → Type 0
+LeavesOpen session (Attached other floor) = Unit {0}
+LeavesOpen session (Closed other) = session ≢ other
+LeavesOpen session (Settled other floor) = Unit {0}
+LeavesOpen session (Finished other number request answer) = Unit {0}

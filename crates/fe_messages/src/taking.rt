@@ -3,6 +3,7 @@
 ghost use Rattle.std.specs.Prelude.{◌≡◌, List, IsTrue};
 ghost use Rattle.fe_state.specs.declared.entry.Entry.{Entry};
 ghost use Rattle.fe_front.specs.Front.{has_room};
+ghost use Rattle.fe_mail.specs.Connections.{session_on};
 ghost use Rattle.fe_messages.specs.Taking.{Takes, Enters};
 ghost use Rattle.fe_wire.specs.declared.client_message.ClientMessage.TheVariants as Message;
 
@@ -18,9 +19,15 @@ use std::alloc::Global;
 pub fn take_message(alloc: Global, front: &mut Front, conn: u64, message: ClientMessage) -> Took
     requires room { IsTrue (has_room front.old) }
     ensures taken { (es : List Entry) × Takes front.old conn message es front.new × Enters front.old es front.new }
-    ensures took { result ≡ record { conn = conn; message = message } }
+    ensures took { result ≡ record {
+      conn = conn;
+      had = session_on front.old.connections conn;
+      place = front.old.service.state.place;
+      message = message;
+    } }
 {
-    let took = Took::of(conn, &message);
+    let had = front.connections().session_of(conn);
+    let took = Took::of(conn, had, front.state().place(), &message);
     hand_over(alloc, front, conn, message);
     took
 }

@@ -10,6 +10,10 @@ use std::marker::Model;
 #[derive(Drop)]
 pub struct Took {
     conn: u64,
+    /// The session that the connection had before, if it had one.
+    had: Option<u64>,
+    /// The place that the front's state had before: that of the next entry.
+    place: u64,
     message: ClientMessage,
 }
 
@@ -18,24 +22,31 @@ impl Model for Took {
 
     ghost Value = { Took };
 
-    ghost view = { λ t. record { conn = t.conn; message = t.message } };
+    ghost view = { λ t. record { conn = t.conn; had = t.had; place = t.place; message = t.message } };
 }
 
 impl Took {
-    pub(crate) fn of(conn: u64, message: &ClientMessage) -> Took
-        ensures { result ≡ record { conn = conn; message = message.now } }
+    pub(crate) fn of(conn: u64, had: Option<u64>, place: u64, message: &ClientMessage) -> Took
+        ensures { result ≡ record { conn = conn; had = had; place = place; message = message.now } }
     {
         Took {
             conn,
+            had,
+            place,
             message: *message,
         }
     }
 
-    /// The number of the connection, and its message.
-    pub fn into_parts(self) -> (u64, ClientMessage)
-        ensures { result ≡ (self.conn, self.message) }
+    /// The number of the connection, the session that it had, the place before, and the message.
+    pub fn into_parts(self) -> (u64, Option<u64>, u64, ClientMessage)
+        ensures { result ≡ (self.conn, self.had, self.place, self.message) }
     {
-        let Took { conn, message } = self;
-        (conn, message)
+        let Took {
+            conn,
+            had,
+            place,
+            message,
+        } = self;
+        (conn, had, place, message)
     }
 }

@@ -9,17 +9,18 @@ use Rattle.fe_state.specs.State.{ServerState, after_all}
 use Rattle.fe_state.specs.declared.batch.Batch.{Batch}
 use Rattle.fe_state.specs.declared.entry.Entry.{Entry}
 use Rattle.fe_state.specs.declared.entry.Entry.TheVariants.{Finished}
+use Rattle.fe_state.specs.declared.request.Request.{Request}
 use Rattle.fe_replica.proofs.Following.{place_after}
 use Rattle.fe_keeper.specs.Keeper.{KeeperState}
 use Rattle.fe_keeper.specs.Stands.{LeavesPrefix}
 use Rattle.fe_messages.specs.Answers.{IsAnswerIn}
 use mathlib.Core.List.{IsPrefix}
-use Rattle.fe_history.proofs.Acts.{goes_at, prefix_self, prefix_trans, stores_rise, issued_asked}
+use Rattle.fe_history.proofs.Acts.{answer_of_call, answer_of_with, called_asked, cut_called, entries_called_with, goes_at, issued_asked, issued_before_cut, issued_of_call, prefix_self, prefix_trans, stands_with, stores_rise}
 use Rattle.fe_hall.proofs.Committed.{appends_length}
-use Rattle.fe_history.specs.Acts.{Account, EachIssued, FollowEachOther, HasMore, IsAccountOf, IsLegal, StandsIn, batches_of, entries_in, stores_in}
+use Rattle.fe_history.specs.Acts.{Account, AreOfCalls, EachIssued, FollowEachOther, HasMore, IsAccountOf, IsAnswerOf, IsLegal, StandsIn, batches_of, cuts_in, entries_in, stores_in}
 use Rattle.fe_hall.specs.Commits.{Append, AreAppends, AppendsAreNoted, AreNotesOf, Commits, HoldsSince, note_of}
 use Rattle.fe_history.specs.declared.act.Act.{Act}
-use Rattle.fe_history.specs.declared.act.Act.TheVariants.{Asked, Began, Issued}
+use Rattle.fe_history.specs.declared.act.Act.TheVariants.{Asked, Began, Called, Cut, Issued}
 use Rattle.fe_hall.specs.declared.commit_end.CommitEnd.{CommitEnd}
 use Rattle.fe_history.specs.declared.receipt.Receipt.{Receipt}
 use Rattle.fe_server.specs.Acknowledged.{IsHeld, IsAcknowledged, HasCommittedAndNoted}
@@ -146,7 +147,7 @@ module _ {D : Type 0} (model : Ghosts D) (old new : KeeperState D) (end : Commit
     answer_is : IsAnswerIn old.state (flat (take (length (stores_in earlier)) stored_groups)) r.session r.number r.answer r.place
     answer_is =
         subst (λ (es : List Entry). IsAnswerIn old.state es r.session r.number r.answer r.place) entries_are
-        (goes_at old.state [] earlier later (Issued r) (subst (λ (a : List Act). FollowEachOther old.state [] a) is goes)).0
+        (answer_of_call old.state earlier (entries_in (batches_of (stores_in earlier))) r (goes_at old.state [] earlier later (Issued r) (subst (λ (a : List Act). FollowEachOther old.state [] a) is goes)).0)
 
     issued_right : IsAnswerIn old.state (flat (take (length (stores_in earlier)) commits.groups)) r.session r.number r.answer r.place
     issued_right =
@@ -196,8 +197,40 @@ module _ {D : Type 0} (model : Ghosts D) (old new : KeeperState D) (end : Commit
   all_asked acts goes [] later r is = absurd (cc is)
   all_asked acts goes (e ∷ earlier) later r is =
       let tail : acts ≡ earlier ++ Issued r ∷ later = cc is in
-      let before : StandsIn earlier (Asked r.conn r.session) = issued_asked old.state acts earlier later r goes tail in
-      (suc before.0, before.1)
+      stands_with e earlier (Asked r.conn r.session) (issued_asked old.state acts earlier later r goes tail)
+
+  all_called : (acts : List Act) → FollowEachOther old.state [] acts → (earlier later : List Act) (batch : Batch) → Began old.state ∷ acts ≡ earlier ++ Cut batch ∷ later
+      → AreOfCalls old.state earlier (entries_in (cuts_in earlier)) batch.entries
+  all_called acts goes [] later batch is = absurd (cc is)
+  all_called acts goes (e ∷ earlier) later batch is =
+      let tail : acts ≡ earlier ++ Cut batch ∷ later = cc is in
+      let head : Began old.state ≡ e = cc is in
+      let all : AreOfCalls old.state earlier (entries_in (cuts_in earlier)) batch.entries = cut_called old.state acts earlier later batch goes tail in
+      subst (λ (a : Act). AreOfCalls old.state (a ∷ earlier) (entries_in (cuts_in (a ∷ earlier))) batch.entries) head
+      (entries_called_with old.state (Began old.state) earlier (entries_in (cuts_in earlier)) batch.entries all)
+
+  all_of_calls : (acts : List Act) → FollowEachOther old.state [] acts → (earlier later : List Act) (r : Receipt) → Began old.state ∷ acts ≡ earlier ++ Issued r ∷ later
+      → (request : Request) × IsAnswerOf old.state earlier r request
+  all_of_calls acts goes [] later r is = absurd (cc is)
+  all_of_calls acts goes (e ∷ earlier) later r is =
+      let tail : acts ≡ earlier ++ Issued r ∷ later = cc is in
+      let of = issued_of_call old.state acts earlier later r goes tail in
+      let head : Began old.state ≡ e = cc is in
+      (of.0, subst (λ (a : Act). IsAnswerOf old.state (a ∷ earlier) r of.0) head (answer_of_with old.state earlier r of.0 of.1))
+
+  all_in_order : (acts : List Act) → FollowEachOther old.state [] acts → (earlier between later : List Act) (r : Receipt) (batch : Batch)
+      → Began old.state ∷ acts ≡ (earlier ++ Issued r ∷ between) ++ Cut batch ∷ later → r.place < batch.first
+  all_in_order acts goes [] between later r batch is = absurd (cc is)
+  all_in_order acts goes (e ∷ earlier) between later r batch is =
+      let tail : acts ≡ (earlier ++ Issued r ∷ between) ++ Cut batch ∷ later = cc is in
+      issued_before_cut old.state acts earlier between later r batch goes tail
+
+  all_calls_asked : (acts : List Act) → FollowEachOther old.state [] acts → (earlier later : List Act) (conn session number : ℕ) (request : Request) (place : ℕ)
+      → Began old.state ∷ acts ≡ earlier ++ Called conn session number request place ∷ later → StandsIn earlier (Asked conn session)
+  all_calls_asked acts goes [] later conn session number request place is = absurd (cc is)
+  all_calls_asked acts goes (e ∷ earlier) later conn session number request place is =
+      let tail : acts ≡ earlier ++ Called conn session number request place ∷ later = cc is in
+      stands_with e earlier (Asked conn session) (called_asked old.state acts earlier later conn session number request place goes tail)
 
   pub acknowledged : (account : Account) (seat : List Act) → AppendsAreNoted model commits.appends (Some end) (Began old.state ∷ []) seat → IsPrefix seat account.history → IsLegal account.history
       → MatchBool account.own (stores_in account.history ≡ stores_in seat) (HasMore (stores_in seat) (stores_in account.history)) → EachIssued account.receipts account.history
@@ -220,6 +253,10 @@ module _ {D : Type 0} (model : Ghosts D) (old new : KeeperState D) (end : Commit
         issued = contains_issued account.history account.receipts issued;
         right = λ alone earlier later r at. all_right whole.0 (front alone) goes earlier later r (begins ∙ at);
         held = λ alone h fine earlier later r at. all_held whole.0 (front alone) goes h fine earlier later r (begins ∙ at);
+        called = λ earlier later batch at. all_called whole.0 goes earlier later batch (begins ∙ at);
+        of_call = λ earlier later r at. all_of_calls whole.0 goes earlier later r (begins ∙ at);
+        in_order = λ earlier between later r batch at. all_in_order whole.0 goes earlier between later r batch (begins ∙ at);
+        calls_asked = λ earlier later conn session number request place at. all_calls_asked whole.0 goes earlier later conn session number request place (begins ∙ at);
         asked = λ earlier later r at. all_asked whole.0 goes earlier later r (begins ∙ at);
       }
 

@@ -6,13 +6,14 @@ use Rattle.fe_disk.specs.Runs.{LeavesOnly}
 use Rattle.fe_state.specs.State.{ServerState}
 use Rattle.fe_state.specs.declared.batch.Batch.{Batch}
 use Rattle.fe_state.specs.declared.entry.Entry.{Entry}
+use Rattle.fe_state.specs.declared.request.Request.{Request}
 use Rattle.fe_keeper.specs.Keeper.{KeeperState}
 use Rattle.fe_keeper.specs.Stands.{LeavesPrefix, EachStandsFor}
 use Rattle.fe_messages.specs.Answers.{IsAnswerIn}
-use Rattle.fe_history.specs.Acts.{Account, HasMore, StandsIn, stores_in}
+use Rattle.fe_history.specs.Acts.{Account, AreOfCalls, HasMore, IsAnswerOf, StandsIn, cuts_in, entries_in, stores_in}
 use Rattle.fe_hall.specs.Commits.{Append, AreNotesOf, Commits, AppendsAreNoted, EndsAs}
 use Rattle.fe_history.specs.declared.act.Act.{Act}
-use Rattle.fe_history.specs.declared.act.Act.TheVariants.{Asked, Issued, Began}
+use Rattle.fe_history.specs.declared.act.Act.TheVariants.{Asked, Called, Cut, Issued, Began}
 use Rattle.fe_hall.specs.declared.commit_end.CommitEnd.{CommitEnd}
 use Rattle.fe_history.specs.declared.receipt.Receipt.{Receipt}
 use Rattle.fe_disk.specs.declared.disk.Disk.{Ghosts}
@@ -36,10 +37,12 @@ pub record IsHeld {D : Type 0} (model : Ghosts D) (begun : ServerState) (groups 
   pub every_image : LeavesOnly model append.after.store.disk last (LeavesPrefix begun groups (at + 1))
 
 -- A server ended with this end of its committing side. The side stored groups and noted them, at the end `Strange` perhaps not the last.
--- The history has these notes, in their order, and the answer of each receipt. Each answer that was issued went to a connection that had
--- asked for its session before. If nobody else noted groups in the hall (`own`), each is that of its entry in the groups stored before, or
--- was kept from the beginning; and if the disk was honest and had not failed before, each image that a stop leaves since that group's
--- append has the group.
+-- The history has these notes, in their order, and the answer of each receipt. Whatever a batch finishes was called before the batch was
+-- cut, and its session was not closed between the call and the entry (`called`). Each answer that was issued is that of a request which was
+-- called before (`of_call`), and has a place before all of the batches that were cut after it was issued (`in_order`). A connection calls
+-- only on a session that it had asked for (`calls_asked`), and an answer goes only to such a connection (`asked`). If nobody else noted
+-- groups in the hall (`own`), each answer is that of its entry in the groups stored before, or was kept from the beginning; and if the disk
+-- was honest and had not failed before, each image that a stop leaves since that group's append has the group.
 pub record IsAcknowledged {D : Type 0} (model : Ghosts D) (old new : KeeperState D) (end : CommitEnd) (account : Account) : Type 0 where
   pub commits : Commits model old new (Some end)
   pub notes : List (Batch × ℕ)
@@ -50,6 +53,13 @@ pub record IsAcknowledged {D : Type 0} (model : Ghosts D) (old new : KeeperState
       → IsAnswerIn old.state (flat_map (λ group. group) (take (length (stores_in earlier)) commits.groups)) r.session r.number r.answer r.place
   pub held : account.own ≡ true → model.honest old.store.disk → old.store.has_failed ≡ false → (earlier later : List Act) (r : Receipt) → account.history ≡ earlier ++ Issued r ∷ later
       → (r.place < old.state.place) ⊎ IsHeld model old.state commits.groups commits.appends new.store.disk (length (stores_in earlier)) r.place
+  pub called : (earlier later : List Act) (batch : Batch) → account.history ≡ earlier ++ Cut batch ∷ later
+      → AreOfCalls old.state earlier (entries_in (cuts_in earlier)) batch.entries
+  pub of_call : (earlier later : List Act) (r : Receipt) → account.history ≡ earlier ++ Issued r ∷ later
+      → (request : Request) × IsAnswerOf old.state earlier r request
+  pub in_order : (earlier between later : List Act) (r : Receipt) (batch : Batch) → account.history ≡ (earlier ++ Issued r ∷ between) ++ Cut batch ∷ later → r.place < batch.first
+  pub calls_asked : (earlier later : List Act) (conn session number : ℕ) (request : Request) (place : ℕ)
+      → account.history ≡ earlier ++ Called conn session number request place ∷ later → StandsIn earlier (Asked conn session)
   pub asked : (earlier later : List Act) (r : Receipt) → account.history ≡ earlier ++ Issued r ∷ later
       → StandsIn earlier (Asked r.conn r.session)
 

@@ -1,8 +1,8 @@
 -- The front under a hall's lock follows the hall's history through each event.
-use Rattle.std.proofs.Common.{◌≡◌, inr, ℕ, zero, suc, ◌+◌, ◌<◌, ◌≤◌, Bool, true, false, List, [], ◌∷◌, ◌++◌, length, Option, Some, None, Result, Ok, Err, OnOk, OnErr, refl, sym, ap, subst, ◌∙◌, arith, append_assoc, length-append}
+use Rattle.std.proofs.Common.{◌≡◌, inl, inr, ℕ, zero, suc, ◌+◌, ◌<◌, ◌≤◌, Bool, true, false, List, [], ◌∷◌, ◌++◌, length, Option, Some, None, Result, Ok, Err, OnOk, OnErr, refl, sym, ap, subst, ◌∙◌, arith, append_assoc, length-append}
 use Rattle.std.proofs.lemmas.Bool.Decides.{nat_tests}
 use Rattle.std.proofs.lemmas.List.{append-nil, map-append}
-use Rattle.std.specs.Prelude.{IfSome, drop, is_some, nat_eq, nat_lt, not, slice_get, if◌then◌else◌, ◌||◌, Ok as Right}
+use Rattle.std.specs.Prelude.{IfSome, drop, is_some, nat_eq, nat_lt, not, slice_get, if◌then◌else◌, ◌||◌}
 use Rattle.std.specs.List.{AllByRecursion}
 use Rattle.std.specs.Option.{option_map, option_map_or}
 use Rattle.std.specs.Ordering.{nat_cmp}
@@ -14,65 +14,70 @@ use Rattle.fe_state.specs.declared.batch.Batch.{Batch}
 use Rattle.fe_state.specs.declared.entry.Entry.{Entry}
 use Rattle.fe_state.specs.declared.entry.Entry.TheVariants.{Attached, Closed, Settled, Finished}
 use Rattle.fe_state.specs.declared.kept.Kept.{Kept}
+use Rattle.fe_state.specs.declared.request.Request.{Request}
 use Rattle.fe_state.proofs.Histories.{after-append}
 use Rattle.fe_mail.specs.Books.{mail_taken}
-use Rattle.fe_mail.specs.Connections.{mails_on, with_mails, mail_of, session_of}
+use Rattle.fe_mail.specs.Connections.{mails_on, with_mails, mail_of, session_of, session_on}
 use Rattle.fe_mail.specs.declared.connection.Connection.{Connection}
 use Rattle.fe_mail.specs.declared.mail.Mail.{Mail}
 use Rattle.fe_mail.specs.declared.mail.Mail.TheVariants as mail
 use Rattle.fe_wire.specs.declared.client_message.ClientMessage.{ClientMessage}
 use Rattle.fe_wire.specs.declared.client_message.ClientMessage.TheVariants as message
-use Rattle.fe_front.specs.Call.{kept_at, addressed}
+use Rattle.fe_waits.specs.Waiting.{WaitingAccess}
+use Rattle.fe_service.specs.Service.{request_of}
+use Rattle.fe_service.proofs.Turns.{turns_place}
 use Rattle.fe_front.specs.Front.{FrontState, IsFront}
 use Rattle.fe_front.specs.Posting.{IsOut, posted, posted_entry}
 use Rattle.fe_front.specs.Steps.{connected, cut, dropped, has_no_cut, taken}
 use Rattle.fe_front.specs.declared.out.Out.{Out}
 use Rattle.fe_front.proofs.Keeping.{dropped-keeps, posted_all-keeps}
-use Rattle.fe_messages.specs.Answers.{AreAnswered, IsAnswerIn, TellsAnswerIn}
-use Rattle.fe_messages.specs.Taking.{Enters, Takes, AsksOnly, HasOnly}
-use Rattle.fe_messages.proofs.Answers.{answer_more, answered-append, answered-split, finished_at, keeps_below, kept_stands, legal_answered}
+use Rattle.fe_messages.specs.Answers.{AreAnswered}
+use Rattle.fe_messages.specs.Taking.{Enters, Takes, AsksOnly, CallsOnly, FinishesOnly, HasOnly}
+use Rattle.fe_messages.proofs.Answers.{KeepsBelow, answered-append, answered-split, finished_at, keeps_below, legal_answered}
+use Rattle.fe_messages.proofs.Recorded.{kept_of, kept_after, cut_within}
 use Rattle.fe_messages.proofs.Boxes.{AllIn, AllPosted, all_weaker, boxes-connected, boxes-dropped, boxes-posted_all, boxes-taken}
 use Rattle.fe_messages.proofs.Boxing.{message_boxes}
 use Rattle.fe_messages.proofs.AttachmentLaws.{Loses, addressed_has, connected_loses, dropped_loses, first_has, has_lost, has_more, message_has, posted_entry_loses, posted_loses, taken_loses}
+use Rattle.fe_messages.proofs.WaitLaws.{ClosesIdle, ClosesNone, Fewer, connected_fewer, dropped_fewer, first_waits, message_closes, message_waits, none_open, posted_fewer, taken_fewer, waits_fewer, waits_more, waits_open}
 use Rattle.fe_history.specs.declared.act.Act.{Act}
-use Rattle.fe_history.specs.declared.act.Act.TheVariants.{Asked, Began, Cut, Issued}
+use Rattle.fe_history.specs.declared.act.Act.TheVariants.{Asked, Began, Called, Cut, Issued}
 use Rattle.fe_history.specs.declared.receipt.Receipt.{Receipt}
 use Rattle.fe_shared.specs.declared.taking.Taking.{Taking}
 use Rattle.fe_shared.specs.declared.taking.Taking.TheVariants as taking
-use Rattle.fe_history.specs.Acts.{IsLegal, MayBeAppended, WasCut, WasStoredLast, batches_of, cuts_in, entries_in, stores_in}
-use Rattle.fe_shared.specs.Marks.{AskedIn, BoxesAsked, BoxesTell, IsBegun, IsMarked, MayBeIssued, WasAskedFor, made_entries, out_batches, out_of}
+use Rattle.fe_history.specs.Acts.{AreOfCalls, IsAnswerOfCall, IsLegal, MayBeAppended, WasCalled, WasCalledSince, WasCut, WasStoredLast, batches_of, cuts_in, entries_in, stores_in}
+use Rattle.fe_shared.specs.Marks.{AskedIn, BoxesAsked, BoxesTellOfCalls, IsBegun, IsMarked, MayBeIssued, TellsOfCall, WaitsAreCalled, WasAskedFor, cut_entries, made_entries, out_batches, out_of}
 use Rattle.fe_history.specs.Rules.{WasAppended, CutsAfter, Hears, pending_batch}
 use Rattle.fe_history.specs.Receipts.{receipt_of}
-use Rattle.fe_history.proofs.Acts.{answer_within, begins_so, cut_few, cuts_append, cuts_rise, entries_append, one_cut, prefix_self, prefix_trans, prefix_whole, stands_last, stands_later, stored_cut, stored_rise, issued_may}
+use Rattle.fe_history.proofs.Acts.{answer_of_call_later, begins_so, call_behind, calls_later, cut_few, cuts_append, cuts_rise, entries_append, entries_called_both, entries_called_later, finishes_more, one_cut, prefix_self, prefix_trans, prefix_whole, since_in, since_more, stands_last, stands_later, stored_cut, stored_rise, issued_may}
 
 -- ---- answers in boxes
 
-tells_more : (begun : ServerState) (es more : List Entry) (m : Mail) → TellsAnswerIn begun es m → TellsAnswerIn begun (es ++ more) m
-tells_more begun es more (mail.Answer session number answer place) is = answer_more begun es more session number answer place is
-tells_more begun es more (mail.Welcome session floor) is = tt
-tells_more begun es more (mail.Refused number refusal) is = tt
-tells_more begun es more (mail.Withdrawn number) is = tt
-tells_more begun es more (mail.Settled floor) is = tt
-tells_more begun es more (mail.Goodbye session) is = tt
-tells_more begun es more (mail.Report text) is = tt
+-- what a mail tells, it tells in more acts, where more batches are posted
+tells_more : (begun : ServerState) (xs ys : List Act) (posted more : List Batch) → IsPrefix xs ys → IsPrefix posted more → (m : Mail) → TellsOfCall begun xs posted m → TellsOfCall begun ys more m
+tells_more begun xs ys posted more p q m = by (receipt_of 0 m)
+  where
+    by : (o : Option Receipt) → IfSome o (λ r. IsAnswerOfCall begun xs (entries_in posted) r) → IfSome o (λ r. IsAnswerOfCall begun ys (entries_in more) r)
+    by None is = tt
+    by (Some r) is = answer_of_call_later begun xs ys posted more r p q is
 
-boxes_more : (begun : ServerState) (es more : List Entry) (f : FrontState) → BoxesTell begun es f → BoxesTell begun (es ++ more) f
-boxes_more begun es more f boxes conn = all_weaker (TellsAnswerIn begun es) (TellsAnswerIn begun (es ++ more)) (tells_more begun es more) (mails_on f.connections conn) (boxes conn)
+boxes_more : (begun : ServerState) (xs ys : List Act) (posted more : List Batch) (f : FrontState) → IsPrefix xs ys → IsPrefix posted more → BoxesTellOfCalls begun xs posted f → BoxesTellOfCalls begun ys more f
+boxes_more begun xs ys posted more f p q boxes conn =
+    all_weaker (TellsOfCall begun xs posted) (TellsOfCall begun ys more) (tells_more begun xs ys posted more p q) (mails_on f.connections conn) (boxes conn)
 
 -- the mails of entries that are posted tell their answers
-posts_tell : (begun : ServerState) (all front es rest : List Entry) (place : ℕ) → AreAnswered begun all → all ≡ front ++ (es ++ rest) → place ≡ begun.place + length front
-    → AllPosted (λ conn session. Unit {0}) (λ conn. TellsAnswerIn begun all) es place
-posts_tell begun all front [] rest place answered is at = tt
-posts_tell begun all front (e ∷ es) rest place answered is at = (
+posts_tell : (begun : ServerState) (acts : List Act) (posted : List Batch) (front es rest : List Entry) (place : ℕ) → AreAnswered begun (entries_in posted) → entries_in posted ≡ front ++ (es ++ rest)
+    → place ≡ begun.place + length front → AllPosted (λ conn session. Unit {0}) (λ conn. TellsOfCall begun acts posted) es place
+posts_tell begun acts posted front [] rest place answered is at = tt
+posts_tell begun acts posted front (e ∷ es) rest place answered is at = (
   λ conn may. of e is,
-  posts_tell begun all (front ++ e ∷ []) es rest (place + 1) answered (is ∙ sym (append_assoc front (e ∷ []) (es ++ rest))) (let many = length-append front (e ∷ []) in omega (arith, at, many)),
+  posts_tell begun acts posted (front ++ e ∷ []) es rest (place + 1) answered (is ∙ sym (append_assoc front (e ∷ []) (es ++ rest))) (let many = length-append front (e ∷ []) in omega (arith, at, many)),
 )
   where
-    of : (e : Entry) → all ≡ front ++ (e ∷ (es ++ rest)) → TellsAnswerIn begun all (mail_of e place)
+    of : (e : Entry) → entries_in posted ≡ front ++ (e ∷ (es ++ rest)) → TellsOfCall begun acts posted (mail_of e place)
     of (Attached session floor) is = tt
     of (Closed session) is = tt
     of (Settled session floor) is = tt
-    of (Finished session number request answer) is = inr (finished_at begun all front (es ++ rest) session number request answer place answered is at)
+    of (Finished session number request answer) is = inr (finished_at begun (entries_in posted) front (es ++ rest) session number request answer place answered is at)
 
 -- the mails of entries that are posted are of sessions that those who have them asked for
 posts_asked : (acts : List Act) (es : List Entry) (place : ℕ) → AllPosted (AskedIn acts) (WasAskedFor acts) es place
@@ -99,6 +104,36 @@ was_more xs ys p conn m = by (receipt_of conn m)
 boxes_asked_more : (xs ys : List Act) (f : FrontState) → IsPrefix xs ys → BoxesAsked xs f → BoxesAsked ys f
 boxes_asked_more xs ys f p boxes conn = all_weaker (WasAskedFor xs conn) (WasAskedFor ys conn) (was_more xs ys p conn) (mails_on f.connections conn) (boxes conn)
 
+-- ---- requests that wait
+
+-- what waits was called in more acts
+waits_later : (begun : ServerState) (xs ys : List Act) (es : List Entry) (f : FrontState) → IsPrefix xs ys → WaitsAreCalled begun xs es f → WaitsAreCalled begun ys es f
+waits_later begun xs ys es f p = waits_more (WasCalledSince begun xs es) (WasCalledSince begun ys es) f (λ session number request. since_in begun xs ys es session number request (calls_later xs ys p))
+
+-- and since then, if more entries come that close no session for which a request waits
+waits_since : (begun : ServerState) (acts : List Act) (all es : List Entry) (g : FrontState) → ClosesIdle es g → WaitsAreCalled begun acts all g → WaitsAreCalled begun acts (all ++ es) g
+waits_since begun acts all es g closes only key = by (get g.service.waiting key) refl (only key)
+  where
+    by : (o : Option WaitingAccess) → get g.service.waiting key ≡ o → IfSome o (λ w. WasCalledSince begun acts all key.0 key.1 (request_of w)) → IfSome o (λ w. WasCalledSince begun acts (all ++ es) key.0 key.1 (request_of w))
+    by None is was = tt
+    by (Some w) is was = since_more begun acts all es key.0 key.1 (request_of w) (waits_open es g key w closes is) was
+
+-- entries that close no session are of calls since which no session was closed, if each is of a call before them
+entries_open : (begun : ServerState) (acts : List Act) (all es : List Entry) → AllByRecursion ClosesNone es → AllByRecursion (FinishesOnly (WasCalledSince begun acts all)) es → AreOfCalls begun acts all es
+entries_open begun acts all [] none calls = tt
+entries_open begun acts all (e ∷ es) none calls =
+    let more : List Entry = all ++ e ∷ [] in
+    let rises : (session number : ℕ) (request : Request) → WasCalledSince begun acts all session number request → WasCalledSince begun acts more session number request =
+    λ session number request. since_more begun acts all (e ∷ []) session number request (none_open session e none.0, tt) in (
+      calls.0,
+      entries_open begun acts more es none.1
+          (all_weaker (FinishesOnly (WasCalledSince begun acts all)) (FinishesOnly (WasCalledSince begun acts more)) (finishes_more (WasCalledSince begun acts all) (WasCalledSince begun acts more) rises) es calls.1),
+    )
+
+entries_since : (begun : ServerState) (acts : List Act) (all es : List Entry) (g : FrontState) → ClosesIdle es g → AllByRecursion (FinishesOnly (WasCalledSince begun acts all)) es → AreOfCalls begun acts all es
+entries_since begun acts all es g (inl none) calls = entries_open begun acts all es none calls
+entries_since begun acts all es g (inr (session, is, idle)) calls = subst (λ (xs : List Entry). AreOfCalls begun acts all xs) (sym is) (tt, tt)
+
 -- ---- events that make nothing
 
 -- a hall begins
@@ -117,7 +152,9 @@ begun_marked f acts (begun, first, begins) legal = record {
   durable = omega (arith, first.durable);
   state = first.state ∙ sym (ap (λ (es : List Entry). after_all begun es) first.pending);
   answered = subst (λ (es : List Entry). AreAnswered begun es) (sym first.pending) tt;
-  boxes = λ conn. subst (λ (ms : List Mail). AllByRecursion (TellsAnswerIn begun []) ms) (sym (none conn)) tt;
+  boxes = λ conn. subst (λ (ms : List Mail). AllByRecursion (TellsOfCall begun acts []) ms) (sym (none conn)) tt;
+  pending_called = subst (λ (es : List Entry). AreOfCalls begun acts (cut_entries [] None) es) (sym first.pending) tt;
+  waiting_called = first_waits (WasCalledSince begun acts (made_entries [] None f)) begun f first;
   has = first_has (AskedIn acts) begun f first;
   asked = λ conn. subst (λ (ms : List Mail). AllByRecursion (WasAskedFor acts conn) ms) (sym (none conn)) tt;
 }
@@ -132,8 +169,9 @@ record Remains (f g : FrontState) : Type 0 where
   pub out : g.out ≡ f.out
   pub durable : g.durable ≡ f.durable
 
-remains_marked : (f g : FrontState) (count : ℕ) (acts : List Act) → Remains f g → Loses f g → ((P : ℕ → Mail → Type 0) → AllIn P f.connections → AllIn P g.connections) → IsMarked f count acts → IsMarked g count acts
-remains_marked f g count acts same loses boxes m =
+remains_marked : (f g : FrontState) (count : ℕ) (acts : List Act) → Remains f g → Loses f g → Fewer f g → ((P : ℕ → Mail → Type 0) → AllIn P f.connections → AllIn P g.connections)
+    → IsMarked f count acts → IsMarked g count acts
+remains_marked f g count acts same loses fewer boxes m =
     let made : made_entries m.posted m.out f ≡ made_entries m.posted m.out g = ap (λ (es : List Entry). entries_in m.posted ++ (entries_in (out_batches m.out) ++ es)) (sym same.pending) in
     record {
       begun = m.begun;
@@ -149,7 +187,11 @@ remains_marked f g count acts same loses boxes m =
       durable = same.durable ∙ m.durable;
       state = same.state ∙ m.state ∙ ap (λ (es : List Entry). after_all m.begun es) made;
       answered = subst (λ (es : List Entry). AreAnswered m.begun es) made m.answered;
-      boxes = boxes (λ conn. TellsAnswerIn m.begun (entries_in m.posted)) m.boxes;
+      boxes = boxes (λ conn. TellsOfCall m.begun acts m.posted) m.boxes;
+      pending_called = subst (λ (es : List Entry). AreOfCalls m.begun acts (cut_entries m.posted m.out) es) (sym same.pending) m.pending_called;
+      waiting_called =
+          subst (λ (es : List Entry). WaitsAreCalled m.begun acts es g) made
+          (waits_fewer (WasCalledSince m.begun acts (made_entries m.posted m.out f)) f g fewer m.waiting_called);
       has = has_lost (AskedIn acts) f g loses m.has;
       asked = boxes (WasAskedFor acts) m.asked;
     }
@@ -161,7 +203,8 @@ pub connected_marked : {A E : Type 0} (f g : FrontState) (conn : ℕ) (result : 
     → IsMarked f count acts → IsMarked g count acts
 connected_marked f g conn (Ok u) count acts is err marked =
     marked_still (connected f conn) g count acts is
-    (remains_marked f (connected f conn) count acts (record { state = refl; pending = refl; out = refl; durable = refl }) (connected_loses f conn) (λ P. boxes-connected P f conn) marked)
+    (remains_marked f (connected f conn) count acts (record { state = refl; pending = refl; out = refl; durable = refl }) (connected_loses f conn) (connected_fewer f conn)
+    (λ P. boxes-connected P f conn) marked)
 connected_marked f g conn (Err e) count acts ok is marked = marked_still f g count acts is marked
 
 pub gone_marked : (f g : FrontState) (conn count : ℕ) (acts : List Act) → g ≡ dropped f conn → IsMarked f count acts → IsMarked g count acts
@@ -169,11 +212,12 @@ gone_marked f g conn count acts is marked =
     let keeps = dropped-keeps f conn in
     marked_still (dropped f conn) g count acts is
     (remains_marked f (dropped f conn) count acts (record { state = keeps.state; pending = keeps.pending; out = keeps.out; durable = keeps.durable })
-    (dropped_loses f conn) (λ P. boxes-dropped P f conn) marked)
+    (dropped_loses f conn) (dropped_fewer f conn) (λ P. boxes-dropped P f conn) marked)
 
 pub taken_marked : (f g : FrontState) (conn count : ℕ) (acts : List Act) → g ≡ taken f conn → IsMarked f count acts → IsMarked g count acts
 taken_marked f g conn count acts is marked =
-    marked_still (taken f conn) g count acts is (remains_marked f (taken f conn) count acts (by (nat_lt 0 (length (mails_on f.connections conn)))) (taken_loses f conn) (λ P. boxes-taken P f conn) marked)
+    marked_still (taken f conn) g count acts is
+    (remains_marked f (taken f conn) count acts (by (nat_lt 0 (length (mails_on f.connections conn)))) (taken_loses f conn) (taken_fewer f conn) (λ P. boxes-taken P f conn) marked)
   where
     by : (b : Bool) → Remains f (if b then record f { connections = with_mails f.connections conn (drop 1 (mails_on f.connections conn)); books = mail_taken f.books } else f)
     by true = record { state = refl; pending = refl; out = refl; durable = refl }
@@ -185,11 +229,11 @@ prefix_self_at xs ys same = subst (λ (zs : List Act). IsPrefix xs zs) (sym same
 -- a history that goes on
 later_marked : (f : FrontState) (count : ℕ) (acts later : List Act) → IsPrefix acts later → IsLegal later → IsMarked f count acts → IsMarked f count later
 later_marked f count acts later p legal m =
-    let (past, begins) = begins_so m.begun m.past acts later m.begins p in
+    let so = begins_so m.begun m.past acts later m.begins p in
     record {
       begun = m.begun;
-      past = past;
-      begins = begins;
+      past = so.0;
+      begins = so.1;
       is_legal = legal;
       posted = m.posted;
       out = m.out;
@@ -200,27 +244,62 @@ later_marked f count acts later p legal m =
       durable = m.durable;
       state = m.state;
       answered = m.answered;
-      boxes = m.boxes;
+      boxes = boxes_more m.begun acts later m.posted m.posted f p (prefix_self m.posted) m.boxes;
+      pending_called = entries_called_later m.begun acts later (cut_entries m.posted m.out) f.service.pending p m.pending_called;
+      waiting_called = waits_later m.begun acts later (made_entries m.posted m.out f) f p m.waiting_called;
       has = has_more (AskedIn acts) (AskedIn later) f (asked_more acts later p) m.has;
       asked = boxes_asked_more acts later f p m.asked;
     }
 
-hears_rises : (acts : List Act) (conn : ℕ) (m : ClientMessage) (later : List Act) → Hears acts conn m later → IsPrefix acts later
-hears_rises acts conn (message.Attach session) later h = prefix_trans acts h.earlier later h.seen (Asked conn session ∷ [], sym h.is)
-hears_rises acts conn (message.Call number request) later h = prefix_self_at acts later h
-hears_rises acts conn (message.Cancel number) later h = prefix_self_at acts later h
-hears_rises acts conn (message.Settle floor) later h = prefix_self_at acts later h
-hears_rises acts conn message.Bye later h = prefix_self_at acts later h
-hears_rises acts conn message.Report later h = prefix_self_at acts later h
+-- an act that was added
+added_rises : (acts : List Act) (a : Act) (later : List Act) → WasAppended acts a later → IsPrefix acts later
+added_rises acts a later added = prefix_trans acts added.earlier later added.seen (a ∷ [], sym added.is)
+
+hears_rises : (acts : List Act) (conn : ℕ) (had : Option ℕ) (place : ℕ) (m : ClientMessage) (later : List Act) → Hears acts conn had place m later → IsPrefix acts later
+hears_rises acts conn had place (message.Attach session) later h = added_rises acts (Asked conn session) later h
+hears_rises acts conn None place (message.Call number request) later h = prefix_self_at acts later h
+hears_rises acts conn (Some session) place (message.Call number request) later h = added_rises acts (Called conn session number request place) later h
+hears_rises acts conn had place (message.Cancel number) later h = prefix_self_at acts later h
+hears_rises acts conn had place (message.Settle floor) later h = prefix_self_at acts later h
+hears_rises acts conn had place message.Bye later h = prefix_self_at acts later h
+hears_rises acts conn had place message.Report later h = prefix_self_at acts later h
 
 -- a message asks for a session that the history heard of
-hears_asks : (acts : List Act) (conn : ℕ) (m : ClientMessage) (later : List Act) → Hears acts conn m later → AsksOnly (AskedIn later conn) m
-hears_asks acts conn (message.Attach session) later h = stands_last h.earlier later (Asked conn session) h.is
-hears_asks acts conn (message.Call number request) later h = tt
-hears_asks acts conn (message.Cancel number) later h = tt
-hears_asks acts conn (message.Settle floor) later h = tt
-hears_asks acts conn message.Bye later h = tt
-hears_asks acts conn message.Report later h = tt
+hears_asks : (acts : List Act) (conn : ℕ) (had : Option ℕ) (place : ℕ) (m : ClientMessage) (later : List Act) → Hears acts conn had place m later → AsksOnly (AskedIn later conn) m
+hears_asks acts conn had place (message.Attach session) later h = stands_last h.earlier later (Asked conn session) h.is
+hears_asks acts conn had place (message.Call number request) later h = tt
+hears_asks acts conn had place (message.Cancel number) later h = tt
+hears_asks acts conn had place (message.Settle floor) later h = tt
+hears_asks acts conn had place message.Bye later h = tt
+hears_asks acts conn had place message.Report later h = tt
+
+-- and calls a request that the history heard of, at the place that the entries made so far lead to
+hears_calls : (begun : ServerState) (all : List Entry) (acts : List Act) (conn : ℕ) (had : Option ℕ) (place : ℕ) (m : ClientMessage) (later : List Act) → place ≡ begun.place + length all → Hears acts conn had place m later
+    → CallsOnly (WasCalledSince begun later all) had m
+hears_calls begun all acts conn had place (message.Attach session) later at h = tt
+hears_calls begun all acts conn None place (message.Call number request) later at h = tt
+hears_calls begun all acts conn (Some session) place (message.Call number request) later at h = record {
+  conn = conn;
+  place = place;
+  called = stands_last h.earlier later (Called conn session number request place) h.is;
+  before = all;
+  since = [];
+  entries_are = sym (append-nil all);
+  at = at;
+  not_closed = tt;
+}
+hears_calls begun all acts conn had place (message.Cancel number) later at h = tt
+hears_calls begun all acts conn had place (message.Settle floor) later at h = tt
+hears_calls begun all acts conn had place message.Bye later at h = tt
+hears_calls begun all acts conn had place message.Report later at h = tt
+
+-- the session that a connection has is one that it asked for
+pub had_asked : (f : FrontState) (conn count : ℕ) (acts : List Act) → IsMarked f count acts → IfSome (session_on f.connections conn) (λ session. AskedIn acts conn session)
+had_asked f conn count acts m = by (session_on f.connections conn) refl
+  where
+    by : (o : Option ℕ) → session_on f.connections conn ≡ o → IfSome o (λ session. AskedIn acts conn session)
+    by None is = tt
+    by (Some session) is = m.has.sessions conn session is
 
 -- a batch that was posted has an entry, or more
 pub posted_few : (f : FrontState) (count : ℕ) (acts : List Act) → IsMarked f count acts → count ≤ f.durable
@@ -230,17 +309,41 @@ posted_few f count acts m =
 
 -- ---- messages that are taken
 
-takes_marked : (f g : FrontState) (conn : ℕ) (m : ClientMessage) (es : List Entry) (count : ℕ) (acts : List Act) → Enters f es g → Takes f conn m es g → AsksOnly (AskedIn acts conn) m → IsMarked f count acts → IsMarked g count acts
-takes_marked f g conn message es count acts enters takes asks m =
+-- An answer that is kept and durable is that of the call that brings it again, if its request was called.
+kept_answers : (begun : ServerState) (acts : List Act) (posted : List Batch) (rest : List Entry) (session number : ℕ) (k : Kept) → AreAnswered begun (entries_in posted ++ rest) → KeepsBelow begun
+    → kept_of (after_all begun (entries_in posted ++ rest)) session number ≡ Some k → k.place < begun.place + length (entries_in posted) → WasCalled acts session number k.request
+    → TellsOfCall begun acts posted (mail.Answer session number k.answer k.place)
+kept_answers begun acts posted rest session number k all limits kept below called = elim (kept_after begun (entries_in posted ++ rest) session number k kept) [
+  | inl was ↦ inl (record { request = k.request; kept = was; earlier = limits session number k was }, called)
+  | inr r ↦
+      let (behind, is) = cut_within (entries_in posted) rest r.before r.behind (Finished session number k.request k.answer) r.entries (omega (arith, r.at, below)) in
+      inr (finished_at begun (entries_in posted) r.before behind session number k.request k.answer k.place (answered-split begun (entries_in posted) rest all).0 is r.at)
+]
+
+-- a call on the session that its connection has is one of these
+of_session : (called : ℕ → ℕ → Request → Type 0) (had : Option ℕ) (session number : ℕ) (request : Request) → had ≡ Some session → CallsOnly called had (message.Call number request) → called session number request
+of_session called had session number request is calls = subst (λ (o : Option ℕ). CallsOnly called o (message.Call number request)) is calls
+
+-- what was called since was called
+was_called : (begun : ServerState) (acts : List Act) (es : List Entry) (session number : ℕ) (request : Request) → WasCalledSince begun acts es session number request → WasCalled acts session number request
+was_called begun acts es session number request c = (c.conn, c.place, c.called)
+
+takes_marked : (f g : FrontState) (conn : ℕ) (m : ClientMessage) (es : List Entry) (count : ℕ) (acts : List Act) → Enters f es g → Takes f conn m es g → AsksOnly (AskedIn acts conn) m → (marked : IsMarked f count acts)
+    → CallsOnly (WasCalledSince marked.begun acts (made_entries marked.posted marked.out f)) (session_on f.connections conn) m → IsMarked g count acts
+takes_marked f g conn message es count acts enters takes asks m calls =
     let begun : ServerState = m.begun in
     let front : List Entry = entries_in m.posted in
     let rest : List Entry = entries_in (out_batches m.out) ++ f.service.pending in
     let made : made_entries m.posted m.out f ++ es ≡ made_entries m.posted m.out g =
     append_assoc front rest es ∙ ap (λ (xs : List Entry). front ++ xs) (append_assoc (entries_in (out_batches m.out)) f.service.pending es ∙ ap (λ (xs : List Entry). entries_in (out_batches m.out) ++ xs) (sym enters.pending)) in
     let whole : IsLegal (Began begun ∷ m.past) = subst IsLegal m.begins m.is_legal in
-    let kept : (session number : ℕ) (k : Kept) → addressed f conn number ≡ Right session → kept_at f session number ≡ Some k → k.place < f.durable → IsAnswerIn begun front session number k.answer k.place =
-    λ session number k to is below. kept_stands begun front rest session number k m.answered (keeps_below begun whole.0 session number)
-    (sym (ap (λ (s : ServerState). kept_in (get s.sessions session) number) m.state) ∙ is) (omega (arith, m.durable, below)) in
+    let outs : List Entry = entries_in (out_batches m.out) in
+    let all : List Entry = made_entries m.posted m.out f in
+    let Called' : ℕ → ℕ → Request → Type 0 = WasCalledSince begun acts all in
+    let waits = message_waits Called' f g conn message es takes calls m.waiting_called in
+    let closes : ClosesIdle es g = message_closes f g conn message es takes in
+    let after : AreOfCalls begun acts (cut_entries m.posted m.out ++ f.service.pending) es =
+    subst (λ (xs : List Entry). AreOfCalls begun acts xs es) (sym (append_assoc front outs f.service.pending)) (entries_since begun acts all es g closes waits.1) in
     record {
       begun = begun;
       past = m.past;
@@ -259,18 +362,36 @@ takes_marked f g conn message es count acts enters takes asks m =
       answered =
           subst (λ (xs : List Entry). AreAnswered begun xs) made
           (answered-append begun (made_entries m.posted m.out f) es m.answered (subst (λ (s : ServerState). AreAnswered s es) m.state (legal_answered f.service.state es enters.legal)));
-      boxes = message_boxes (λ q. TellsAnswerIn begun front) (λ q number r. tt) (λ q number. tt) (λ q text. tt) f conn kept g message es takes m.boxes;
+      boxes =
+          message_boxes (λ q. TellsOfCall begun acts m.posted) (λ q number r. tt) (λ q number. tt) (λ q text. tt) f conn g message es
+          (λ session number k is_call to is below.
+          kept_answers begun acts m.posted rest session number k m.answered (keeps_below begun whole.0) (sym (ap (λ (s : ServerState). kept_in (get s.sessions session) number) m.state) ∙ is)
+          (omega (arith, m.durable, below))
+          (was_called begun acts all session number k.request
+          (of_session Called' (session_on f.connections conn) session number k.request (addressed_has f conn number session to)
+          (subst (λ (c : ClientMessage). CallsOnly Called' (session_on f.connections conn) c) is_call calls))))
+          takes m.boxes;
+      pending_called =
+          subst (λ (xs : List Entry). AreOfCalls begun acts (cut_entries m.posted m.out) xs) (sym enters.pending)
+          (entries_called_both begun acts (cut_entries m.posted m.out) f.service.pending es m.pending_called after);
+      waiting_called = subst (λ (xs : List Entry). WaitsAreCalled begun acts xs g) made (waits_since begun acts all es g closes waits.0);
       has = message_has (AskedIn acts) f g conn message es asks takes m.has;
       asked =
-          message_boxes (WasAskedFor acts) (λ q number r. tt) (λ q number. tt) (λ q text. tt) f conn
-          (λ session number k to is below. m.has.sessions conn session (addressed_has f conn number session to)) g message es takes m.asked;
+          message_boxes (WasAskedFor acts) (λ q number r. tt) (λ q number. tt) (λ q text. tt) f conn g message es
+          (λ session number k is_call to is below. m.has.sessions conn session (addressed_has f conn number session to)) takes m.asked;
     }
 
 -- a message that the history hears is taken
-pub heard_marked : (f g : FrontState) (conn : ℕ) (m : ClientMessage) (es : List Entry) (count : ℕ) (acts later : List Act) → Hears acts conn m later → IsLegal later → Enters f es g → Takes f conn m es g
-    → IsMarked f count acts → IsMarked g count later
+pub heard_marked : (f g : FrontState) (conn : ℕ) (m : ClientMessage) (es : List Entry) (count : ℕ) (acts later : List Act) → Hears acts conn (session_on f.connections conn) f.service.state.place m later → IsLegal later
+    → Enters f es g → Takes f conn m es g → IsMarked f count acts → IsMarked g count later
+unfolding later_marked
 heard_marked f g conn message es count acts later heard legal enters takes m =
-    takes_marked f g conn message es count later enters takes (hears_asks acts conn message later heard) (later_marked f count acts later (hears_rises acts conn message later heard) legal m)
+    let had : Option ℕ = session_on f.connections conn in
+    let place : ℕ = f.service.state.place in
+    let all : List Entry = made_entries m.posted m.out f in
+    let at : place ≡ m.begun.place + length all = ap (λ (s : ServerState). s.place) m.state ∙ turns_place m.begun all in
+    takes_marked f g conn message es count later enters takes (hears_asks acts conn had place message later heard)
+    (later_marked f count acts later (hears_rises acts conn had place message later heard) legal m) (hears_calls m.begun all acts conn had place message later at heard)
 
 -- ---- batches that are cut
 
@@ -299,6 +420,7 @@ module _ (f : FrontState) (count : ℕ) (acts : List Act) (m : IsMarked f count 
     counted = m.counted;
     first = m.durable;
     some = by (length f.service.pending) (none_there f.out (nat_eq (length f.service.pending) 0) some).1;
+    called = subst (λ (xs : List Entry). AreOfCalls m.begun acts xs f.service.pending) (ap (λ (o : Option Batch). cut_entries m.posted o) no_out ∙ append-nil (entries_in m.posted)) m.pending_called;
   }
     where
       by : (n : ℕ) → nat_eq n 0 ≡ false → 0 < n
@@ -340,7 +462,10 @@ module _ (f : FrontState) (count : ℕ) (acts : List Act) (m : IsMarked f count 
           durable = m.durable;
           state = m.state ∙ ap (λ (es : List Entry). after_all m.begun es) made;
           answered = subst (λ (es : List Entry). AreAnswered m.begun es) made m.answered;
-          boxes = m.boxes;
+          boxes = boxes_more m.begun acts later m.posted m.posted f rises (prefix_self m.posted) m.boxes;
+          pending_called = tt;
+          waiting_called =
+              subst (λ (xs : List Entry). WaitsAreCalled m.begun later xs h) made (waits_later m.begun acts later (made_entries m.posted m.out f) f rises m.waiting_called);
           has = has_lost (AskedIn later) f h (record { holders = λ session conn is. is; sessions = λ conn session is. is }) (has_more (AskedIn acts) (AskedIn later) f (asked_more acts later rises) m.has);
           asked = boxes_asked_more acts later f rises m.asked;
         })
@@ -352,7 +477,7 @@ module _ (f g : FrontState) (batch : Batch) (count : ℕ) (acts seat later : Lis
   -- what is marked of a front whose batch that is out is this
   abbrev WithOut : Option Batch → Type 0
   WithOut o = IsPrefix (m.posted ++ out_batches o) (cuts_in acts) × (f.out ≡ option_map out_of o) × (f.service.state ≡ after_all m.begun (made_entries m.posted o f))
-      × AreAnswered m.begun (made_entries m.posted o f)
+      × AreAnswered m.begun (made_entries m.posted o f) × AreOfCalls m.begun acts (cut_entries m.posted o) f.service.pending × WaitsAreCalled m.begun acts (made_entries m.posted o f) f
 
   abbrev before : List Batch
   before = batches_of last.0
@@ -363,7 +488,7 @@ module _ (f g : FrontState) (batch : Batch) (count : ℕ) (acts seat later : Lis
       subst (λ (bs : List Batch). IsPrefix bs (batches_of (stores_in later))) all (stored_rise seat later q)
 
   with_batch : (b : Batch) → WithOut (Some b) → IsMarked g (count + 1) later
-  with_batch b (was_cut, out, state, answered) =
+  with_batch b (was_cut, out, state, answered, pending_was, waiting_was) =
       let begun : ServerState = m.begun in
       let so = begins_so begun m.past acts later m.begins p in
       let same_place : IsOut (Some (out_of b)) batch = subst (λ (o : Option Out). IsOut o batch) out is_out in
@@ -376,13 +501,16 @@ module _ (f g : FrontState) (batch : Batch) (count : ℕ) (acts seat later : Lis
       let pending : List Entry = f.service.pending in
       let entries : entries_in now ≡ entries_in m.posted ++ entries_in (batch ∷ []) = entries_append m.posted (batch ∷ []) in
       let size : length (batch.entries ++ []) ≡ length batch.entries = ap length (append-nil batch.entries) in
+      let same_pending : g.service.pending ≡ pending = ap (λ (h : FrontState). h.service.pending) is ∙ (posted_all-keeps f batch.entries batch.first).pending in
       let made : made_entries m.posted (Some b) f ≡ made_entries now None g =
       ap (λ (x : Batch). made_entries m.posted (Some x) f) one.1 ∙ sym (append_assoc (entries_in m.posted) (entries_in (batch ∷ [])) pending) ∙ ap (λ (es : List Entry). es ++ pending) (sym entries)
-      ∙ ap (λ (es : List Entry). entries_in now ++ es) (sym (ap (λ (h : FrontState). h.service.pending) is ∙ (posted_all-keeps f batch.entries batch.first).pending)) in
+      ∙ ap (λ (es : List Entry). entries_in now ++ es) (sym same_pending) in
+      let same_cuts : cut_entries m.posted (Some b) ≡ cut_entries now None =
+      ap (λ (x : Batch). cut_entries m.posted (Some x)) one.1 ∙ sym entries ∙ sym (append-nil (entries_in now)) in
       let all : AreAnswered begun (made_entries now None g) = subst (λ (es : List Entry). AreAnswered begun es) made answered in
-      let posts : AllPosted (λ conn session. Unit {0}) (λ conn. TellsAnswerIn begun (entries_in now)) batch.entries batch.first =
-      posts_tell begun (entries_in now) (entries_in m.posted) batch.entries [] batch.first (answered-split begun (entries_in now) (g.service.pending) all).0 entries (omega (arith, same_place.0, first, m.durable)) in
-      let old_boxes : BoxesTell begun (entries_in now) f = subst (λ (es : List Entry). BoxesTell begun es f) (sym entries) (boxes_more begun (entries_in m.posted) (entries_in (batch ∷ [])) f m.boxes) in
+      let posts : AllPosted (λ conn session. Unit {0}) (λ conn. TellsOfCall begun later now) batch.entries batch.first =
+      posts_tell begun later now (entries_in m.posted) batch.entries [] batch.first (answered-split begun (entries_in now) (g.service.pending) all).0 entries (omega (arith, same_place.0, first, m.durable)) in
+      let old_boxes : BoxesTellOfCalls begun later now f = boxes_more begun acts later m.posted now f p (batch ∷ [], refl) m.boxes in
       let has : HasOnly (AskedIn later) f = has_more (AskedIn acts) (AskedIn later) f (asked_more acts later p) m.has in
       record {
         begun = begun;
@@ -402,8 +530,15 @@ module _ (f g : FrontState) (batch : Batch) (count : ℕ) (acts seat later : Lis
         state = ap (λ (h : FrontState). h.service.state) is ∙ (posted_all-keeps f batch.entries batch.first).state ∙ state ∙ ap (λ (es : List Entry). after_all begun es) made;
         answered = all;
         boxes =
-            subst (λ (h : FrontState). BoxesTell begun (entries_in now) h) (sym is)
-            (boxes-posted_all (λ conn. TellsAnswerIn begun (entries_in now)) (λ conn session. Unit {0}) (λ h. Unit {0}) (λ h has session conn holds. tt) (λ h e place has. tt) f batch.entries batch.first posts tt old_boxes);
+            subst (λ (h : FrontState). BoxesTellOfCalls begun later now h) (sym is)
+            (boxes-posted_all (λ conn. TellsOfCall begun later now) (λ conn session. Unit {0}) (λ h. Unit {0}) (λ h has session conn holds. tt) (λ h e place has. tt) f batch.entries batch.first posts tt old_boxes);
+        pending_called =
+            subst (λ (es : List Entry). AreOfCalls begun later (cut_entries now None) es) (sym same_pending)
+            (subst (λ (xs : List Entry). AreOfCalls begun later xs pending) same_cuts (entries_called_later begun acts later (cut_entries m.posted (Some b)) pending p pending_was));
+        waiting_called =
+            subst (λ (h : FrontState). WaitsAreCalled begun later (made_entries now None g) h) (sym is)
+            (waits_fewer (WasCalledSince begun later (made_entries now None g)) f (posted f batch) (posted_fewer f batch)
+            (subst (λ (xs : List Entry). WaitsAreCalled begun later xs f) made (waits_later begun acts later (made_entries m.posted (Some b) f) f p waiting_was)));
         has = subst (λ (h : FrontState). HasOnly (AskedIn later) h) (sym is) (has_lost (AskedIn later) f (posted f batch) (posted_loses f batch) has);
         asked =
             subst (λ (h : FrontState). BoxesAsked later h) (sym is)
@@ -412,7 +547,7 @@ module _ (f g : FrontState) (batch : Batch) (count : ℕ) (acts seat later : Lis
       }
 
   pub posted_marked : IsMarked g (count + 1) later
-  posted_marked = by m.out (m.cut, m.same_out, m.state, m.answered)
+  posted_marked = by m.out (m.cut, m.same_out, m.state, m.answered, m.pending_called, m.waiting_called)
     where
       by : (o : Option Batch) → WithOut o → IsMarked g (count + 1) later
       by None w = absurd (subst (λ (o : Option Out). IsOut o batch) w.1 is_out)
@@ -430,18 +565,32 @@ asked_behind : (begun : ServerState) (past : List Act) (conn session : ℕ) → 
 asked_behind begun past conn session (zero, is) = absurd (cc is)
 asked_behind begun past conn session (suc k, is) = (k, is)
 
+-- what was called, was called after the beginning
+called_behind : (begun : ServerState) (past : List Act) (session number : ℕ) (request : Request) → WasCalled (Began begun ∷ past) session number request → WasCalled past session number request
+called_behind begun past session number request (conn, place, called) = (conn, place, call_behind begun past conn session number request place called)
+
 -- what is first in a box may be issued
 pub first_may : (f : FrontState) (conn : ℕ) (m : Mail) (more : Bool) (count : ℕ) (acts : List Act) → Some m ≡ slice_get (mails_on f.connections conn) 0 → IsMarked f count acts → MayBeIssued conn (taking.Mail m more) acts
 first_may f conn m more count acts first marked =
-    by m (first_in (TellsAnswerIn marked.begun (entries_in marked.posted)) m (mails_on f.connections conn) first (marked.boxes conn)) (first_in (WasAskedFor acts conn) m (mails_on f.connections conn) first (marked.asked conn))
+    by m (first_in (TellsOfCall marked.begun acts marked.posted) m (mails_on f.connections conn) first (marked.boxes conn)) (first_in (WasAskedFor acts conn) m (mails_on f.connections conn) first (marked.asked conn))
   where
-    by : (m : Mail) → TellsAnswerIn marked.begun (entries_in marked.posted) m → WasAskedFor acts conn m → MayBeIssued conn (taking.Mail m more) acts
+    behind : (es : List Entry) (r : Receipt) → IsAnswerOfCall marked.begun (Began marked.begun ∷ marked.past) es r → IsAnswerOfCall marked.begun marked.past es r
+    behind es r (inl (kept, called)) = inl (kept, called_behind marked.begun marked.past r.session r.number kept.request called)
+    behind es r (inr is) = inr is
+
+    answers : (r : Receipt) → IsAnswerOfCall marked.begun acts (entries_in marked.posted) r → IsAnswerOfCall marked.begun marked.past (entries_in (batches_of (stores_in marked.past))) r
+    answers r is =
+        let stored : List Batch = batches_of (stores_in marked.past) in
+        let rises : IsPrefix marked.posted stored = subst (λ (zs : List Act). IsPrefix marked.posted (batches_of (stores_in zs))) marked.begins marked.stored in
+        behind (entries_in stored) r
+        (answer_of_call_later marked.begun (Began marked.begun ∷ marked.past) (Began marked.begun ∷ marked.past) marked.posted stored r (prefix_self (Began marked.begun ∷ marked.past)) rises
+        (subst (λ (zs : List Act). IsAnswerOfCall marked.begun zs (entries_in marked.posted) r) marked.begins is))
+
+    by : (m : Mail) → TellsOfCall marked.begun acts marked.posted m → WasAskedFor acts conn m → MayBeIssued conn (taking.Mail m more) acts
     by (mail.Answer session number answer place) is asked =
-        subst (λ (zs : List Act). MayBeAppended zs (Issued (record { conn = conn; session = session; number = number; answer = answer; place = place }))) (sym marked.begins) (
-          answer_within marked.begun marked.posted (batches_of (stores_in marked.past)) session number answer place
-              (subst (λ (zs : List Act). IsPrefix marked.posted (batches_of (stores_in zs))) marked.begins marked.stored) is,
-          asked_behind marked.begun marked.past conn session (subst (λ (zs : List Act). AskedIn zs conn session) marked.begins asked),
-        )
+        let r : Receipt = record { conn = conn; session = session; number = number; answer = answer; place = place } in
+        subst (λ (zs : List Act). MayBeAppended zs (Issued r)) (sym marked.begins)
+        (answers r is, asked_behind marked.begun marked.past conn session (subst (λ (zs : List Act). AskedIn zs conn session) marked.begins asked))
     by (mail.Welcome session floor) is asked = tt
     by (mail.Refused number refusal) is asked = tt
     by (mail.Withdrawn number) is asked = tt

@@ -12,13 +12,13 @@ use Rattle.fe_mail.specs.Connections.{mails_on}
 use Rattle.fe_front.specs.Front.{FrontState, IsFirst}
 use Rattle.fe_front.specs.declared.out.Out.{Out}
 use Rattle.fe_mail.specs.declared.mail.Mail.{Mail}
-use Rattle.fe_messages.specs.Answers.{AreAnswered, TellsAnswerIn}
-use Rattle.fe_messages.specs.Taking.{HasOnly}
+use Rattle.fe_messages.specs.Answers.{AreAnswered}
+use Rattle.fe_messages.specs.Taking.{HasOnly, WaitsOnly}
 use Rattle.fe_history.specs.declared.act.Act.{Act}
 use Rattle.fe_history.specs.declared.act.Act.TheVariants.{Asked, Began, Issued}
 use Rattle.fe_shared.specs.declared.taking.Taking.{Taking}
 use Rattle.fe_shared.specs.declared.taking.Taking.TheVariants as taking
-use Rattle.fe_history.specs.Acts.{IsLegal, MayBeAppended, StandsIn, WasIssued, batches_of, cuts_in, entries_in, place_after, stores_in}
+use Rattle.fe_history.specs.Acts.{AreOfCalls, IsAnswerOfCall, IsLegal, MayBeAppended, StandsIn, WasCalledSince, WasIssued, batches_of, cuts_in, entries_in, place_after, stores_in}
 use Rattle.fe_history.specs.Receipts.{receipt_of}
 
 -- the read side of a connection waits
@@ -38,10 +38,6 @@ out_batches (Some batch) = batch ∷ []
 abbrev pub out_of : Batch → Out
 out_of batch = record { first = batch.first; length = length batch.entries }
 
--- each answer in a box is one that these entries give
-abbrev pub BoxesTell : ServerState → List Entry → FrontState → Type 0
-BoxesTell begun es f = (conn : ℕ) → AllByRecursion (TellsAnswerIn begun es) (mails_on f.connections conn)
-
 -- which sessions each connection asked for in these acts
 abbrev pub AskedIn : List Act → ℕ → ℕ → Type 0
 AskedIn acts = λ conn session. StandsIn acts (Asked conn session)
@@ -54,13 +50,30 @@ WasAskedFor acts conn mail = IfSome (receipt_of conn mail) (λ r. AskedIn acts c
 abbrev pub BoxesAsked : List Act → FrontState → Type 0
 BoxesAsked acts f = (conn : ℕ) → AllByRecursion (WasAskedFor acts conn) (mails_on f.connections conn)
 
+-- each request that waits was called in these acts, under its number of its session, which none of these entries closes since
+abbrev pub WaitsAreCalled : ServerState → List Act → List Entry → FrontState → Type 0
+WaitsAreCalled begun acts entries f = WaitsOnly (WasCalledSince begun acts entries) f
+
+-- if the mail is an answer, it is that of a posted entry, or was kept when the hall began and its request was called in these acts
+abbrev pub TellsOfCall : ServerState → List Act → List Batch → Mail → Type 0
+TellsOfCall begun acts posted mail = IfSome (receipt_of 0 mail) (λ r. IsAnswerOfCall begun acts (entries_in posted) r)
+
+-- each answer in a box is such an answer
+abbrev pub BoxesTellOfCalls : ServerState → List Act → List Batch → FrontState → Type 0
+BoxesTellOfCalls begun acts posted f = (conn : ℕ) → AllByRecursion (TellsOfCall begun acts posted) (mails_on f.connections conn)
+
 -- all entries that were made: those of the batches that were posted, of the one that is out, and those that are pending
 abbrev pub made_entries : List Batch → Option Batch → FrontState → List Entry
 made_entries posted out f = entries_in posted ++ (entries_in (out_batches out) ++ f.service.pending)
 
+-- the entries that were cut: those of the batches that were posted, and of the one that is out
+abbrev pub cut_entries : List Batch → Option Batch → List Entry
+cut_entries posted out = entries_in posted ++ entries_in (out_batches out)
+
 -- A front whose posted batches, this many, were stored in the history, and whose batch that is out was cut next. Its state is the
 -- one after all entries made, each *finished* one with the reply to its request, and each answer in its boxes is of a posted entry. A
--- connection has only sessions that it asked for in that history, and each answer in its box is of one of them.
+-- connection has only sessions that it asked for in that history, and each answer in its box is of one of them. Each request that waits,
+-- and each that a pending entry finishes, was called in that history, and its session was not closed since.
 pub record IsMarked (f : FrontState) (count : ℕ) (acts : List Act) : Type 0 where
   pub begun : ServerState
   pub past : List Act
@@ -75,7 +88,9 @@ pub record IsMarked (f : FrontState) (count : ℕ) (acts : List Act) : Type 0 wh
   pub durable : f.durable ≡ place_after begun posted
   pub state : f.service.state ≡ after_all begun (made_entries posted out f)
   pub answered : AreAnswered begun (made_entries posted out f)
-  pub boxes : BoxesTell begun (entries_in posted) f
+  pub boxes : BoxesTellOfCalls begun acts posted f
+  pub pending_called : AreOfCalls begun acts (cut_entries posted out) f.service.pending
+  pub waiting_called : WaitsAreCalled begun acts (made_entries posted out f) f
   pub has : HasOnly (AskedIn acts) f
   pub asked : BoxesAsked acts f
 

@@ -6,6 +6,7 @@ ghost use Rattle.std.specs.Prelude.{IsNone, ◌≡◌, ◌≢◌, ◌+◌, ◌�
 ghost use Rattle.fe_state.specs.declared.entry.Entry.{Entry};
 ghost use Rattle.fe_front.specs.Front.{has_room, is_connected};
 ghost use Rattle.fe_mail.specs.Books.{AddUp};
+ghost use Rattle.fe_mail.specs.Connections.{session_on};
 ghost use Rattle.fe_front.specs.Event as event;
 ghost use Rattle.fe_messages.specs.Taking.{Takes};
 ghost use Rattle.fe_history.specs.Acts.{GoesOnFrom, IsLegal};
@@ -54,7 +55,7 @@ pub struct Shared<C: Tally, M: Tally> {
     mails: Book<M>,
     spare_calls: Share<C>,
     spare_mails: Share<M>,
-    /// What was cut, what connections asked for, and what was stored, at least as far as it is posted.
+    /// What was cut, what connections asked for and called, and what was stored, at least as far as it is posted.
     history: History<M>,
     /// How many batches were posted.
     posted: u64,
@@ -271,7 +272,7 @@ impl<C: Tally, M: Tally> Shared<C, M> {
     }
 
     /// Handles a message, or records in the read side's seat why it does not. If there is no room for the message, does nothing and returns
-    /// `None`. If the message asks for a session, the history learns which.
+    /// `None`. If the message asks for a session or calls a request, the history learns which.
     pub fn handle(
         &mut self,
         alloc: Global,
@@ -287,7 +288,8 @@ impl<C: Tally, M: Tally> Shared<C, M> {
             × MakesEvent self.old self.new }
         ensures other { result ≢ Some LastAnswer.Served → MakesNothing self.old self.new }
         ensures heard { result ≡ Some LastAnswer.Served
-            → Hears self.old.history seat.old.conn message.now self.new.history }
+            → Hears self.old.history seat.old.conn (session_on self.old.front.connections seat.old.conn)
+            self.old.front.service.state.place message.now self.new.history }
         ensures unheard { result ≢ Some LastAnswer.Served → self.new.history ≡ self.old.history }
         ensures seat { MatchOption result (seat.new ≡ seat.old)
             (λ s. seat.new ≡ message_answered seat.old message.now self.new.front.service.state.place s) }
@@ -489,7 +491,7 @@ impl<C: Tally, M: Tally> Shared<C, M> {
         None
     }
 
-    /// Adds to a thread's history what was cut, what connections asked for, and what was stored, at least as far as it is posted.
+    /// Adds to a thread's history what was cut, what connections asked for and called, and what was stored, at least as far as it is posted.
     pub fn teach(&self, history: &mut History<M>)
         ensures { GoesOnFrom history.old self.now.history history.new }
     {
