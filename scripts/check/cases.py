@@ -281,7 +281,8 @@ def sweeps():
     say("twice 20")
     case("formats_again")
     small()
-    say("calls keeper", "formats 9")
+    # slot 0 is no store any more; an opening that finds that 3, a format 9 (docs/store.md)
+    say("write 0 00", "calls keeper", "formats 12")
 
 
 def device_calls():
@@ -631,7 +632,7 @@ def desk_sweeps():
             say(f"{word} {5 + 4 * len(groups)}", "run ok")
             check_written(told, groups)
     case("fuse_each_of_format")
-    say(f"disk {SIZE}", "calls desk", "formats 9")
+    say(f"disk {SIZE}", "calls desk", "formats 12")
 
 
 def stop_in_slices():

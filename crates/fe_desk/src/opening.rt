@@ -21,7 +21,7 @@ use crate::desk::Desk;
 use crate::fault::DeskFault;
 use crate::messages::desk_fault;
 use fe_disk::Disk;
-use fe_keeper::Keeper;
+use fe_keeper::{Blank, Keeper};
 use std::alloc::Global;
 
 impl<D: Disk> Desk<D> {
@@ -56,28 +56,28 @@ impl<D: Disk> Desk<D> {
         }
     }
 
-    /// Makes a new store of format 2 on the device, whatever was there. A device of another size than a store's is refused as
-    /// `Unformatted`. If memory is short, the device may be formatted already.
-    pub fn format(alloc: Global, disk: D) -> Result<Desk<D>, (DeskFault, D)>
-        ensures formatted { D.honest disk → IfOk result (λ desk. EachStandsFor D.Disk (disk_of desk) first_state) }
+    /// Makes a new store of format 2 on the device, which an opening found unformatted (`Keeper::open_or_blank`). A device of another
+    /// size than a store's is refused as `Unformatted`. If memory is short, the device may be formatted already.
+    pub fn format(alloc: Global, blank: Blank<D>) -> Result<Desk<D>, (DeskFault, D)>
+        ensures formatted { D.honest blank → IfOk result (λ desk. EachStandsFor D.Disk (disk_of desk) first_state) }
         ensures first { IfOk result
             (λ desk. IsFirstRunState first_state desk.run_state × (desk.keeper.state ≡ first_state)
             × (desk.synced ≡ 0)) }
         ensures acknowledged { (asked : ℕ → ℕ → Bool) → IfOk result (λ desk. IsAcknowledged first_state asked desk) }
         ensures store { IfOk result (λ desk. desk.keeper.store ≡ first_store (disk_of desk)) }
-        ensures sized { IfOk result (λ desk. D.size disk ≡ device_bytes) }
-        ensures unformatted { IfErr result (λ e. (e.0 ≡ Store keeper.Unformatted) ↔ (D.size disk ≢ device_bytes)) }
+        ensures sized { IfOk result (λ desk. D.size blank ≡ device_bytes) }
+        ensures unformatted { IfErr result (λ e. (e.0 ≡ Store keeper.Unformatted) ↔ (D.size blank ≢ device_bytes)) }
         ensures works { IfOk result (λ desk. desk.keeper.store.has_failed ≡ false) }
-        ensures device { IfErr result (λ e. e.0 ≡ Store keeper.Device → Rises (D.failures disk) (D.failures e.1)) }
+        ensures device { IfErr result (λ e. e.0 ≡ Store keeper.Device → Rises (D.failures blank) (D.failures e.1)) }
         // Success, or another fault, means that no call of the device failed.
-        ensures still { IfOk result (λ desk. D.failures (disk_of desk) ≡ D.failures disk) }
-        ensures calm { IfErr result (λ e. e.0 ≢ Store keeper.Device → D.failures e.1 ≡ D.failures disk) }
+        ensures still { IfOk result (λ desk. D.failures (disk_of desk) ≡ D.failures blank) }
+        ensures calm { IfErr result (λ e. e.0 ≢ Store keeper.Device → D.failures e.1 ≡ D.failures blank) }
         ensures faults { IfErr result
             (λ e. (e.0 ≡ Store keeper.Device) ⊎ ((e.0 ≡ Store keeper.Unformatted) ⊎ (e.0 ≡ NoMemory false))) }
-        ensures honesty { D.honest (disk_after result) ↔ D.honest disk }
-        ensures size { D.size (disk_after result) ≡ D.size disk }
+        ensures honesty { D.honest (disk_after result) ↔ D.honest blank }
+        ensures size { D.size (disk_after result) ≡ D.size blank }
     {
-        match Keeper::format(alloc, disk) {
+        match Keeper::format(alloc, blank) {
             Ok(keeper) => Desk::over(alloc, keeper),
             Err((fault, disk)) => Err((desk_fault(fault, false), disk)),
         }

@@ -1,5 +1,5 @@
 -- What opening a store returns, and why it fails (`docs/store.md`, "Opening a store").
-use Rattle.std.specs.Prelude.{◌≡◌, ◌⊎◌, ◌↔◌, ◌+◌, ◌≤◌, ℕ, List, None, Result, Ok, Err, IfOk, IfErr, IsErrAnd, IsErrOf}
+use Rattle.std.specs.Prelude.{◌≡◌, ◌≢◌, ◌⊎◌, ◌↔◌, ◌+◌, ◌≤◌, ℕ, List, None, Result, Ok, Err, IfOk, IfErr, IsErrAnd, IsErrOf}
 use Rattle.fe_disk.specs.Disk.{Rises, MakesAtMost}
 use Rattle.fe_disk.specs.declared.calls.Calls.{Calls}
 use Rattle.fe_journal.specs.Layout.{area_of}
@@ -7,6 +7,8 @@ use Rattle.fe_journal.specs.Contents.{Contents, Holds, Lists, end_of_groups}
 use Rattle.fe_journal.specs.Journal.{KeepsContents, OnlyReads}
 use Rattle.fe_journal.specs.Damage.{IsUnformatted, TellsFound}
 use Rattle.fe_journal.specs.declared.opening.Found.{Found}
+use Rattle.fe_journal.specs.declared.opening.Unopened.{Unopened}
+use Rattle.fe_journal.specs.declared.opening.Unopened.TheVariants.{Blank, Refused}
 use Rattle.fe_journal.specs.declared.fault.StoreFault.{StoreFault}
 use Rattle.fe_journal.specs.declared.fault.StoreFault.TheVariants.{Unformatted, Device, NoMemory}
 use Rattle.fe_disk.specs.declared.disk.Disk.{Ghosts}
@@ -61,3 +63,20 @@ pub record FindsStore {D : Type 0} (model : Ghosts D) (disk : D) (result : Resul
   pub refused : IfErr result (λ e. IsReason (model.seen disk) (model.calls disk) (model.calls e.1) e.0)
   pub unformatted : IsUnformatted (model.seen disk) → IsErrAnd result (λ e. (e.0 ≡ Unformatted) ⊎ (e.0 ≡ Device))
   pub reads : OnlyReads model disk (disk_after result)
+
+-- ---- what an opening says of an unformatted disk, whose fault each layer has in its own type
+
+-- the fault, and the disk
+abbrev pub refusal : {F D : Type 0} → F → Unopened F D → F × D
+refusal unformatted (Blank disk) = (unformatted, disk)
+refusal unformatted (Refused fault disk) = (fault, disk)
+
+-- the result with the fault and the disk in place of what was not opened
+abbrev pub told : {T F D : Type 0} → F → Result T (Unopened F D) → Result T (F × D)
+told unformatted (Ok opened) = Ok opened
+told unformatted (Err unopened) = Err (refusal unformatted unopened)
+
+-- An unformatted disk is given as a blank one.
+abbrev pub BlankIsTold : {F D : Type 0} → F → Unopened F D → Type 0
+BlankIsTold unformatted (Blank disk) = Unit {0}
+BlankIsTold unformatted (Refused fault disk) = fault ≢ unformatted

@@ -13,7 +13,7 @@ use crate::buffer::buffer_of;
 use crate::commit::commit;
 use crate::layout::{AREA_BYTES, DEVICE_BYTES, area_of, gate_of, header_of, image_of};
 use crate::spelling::header_fields;
-use crate::{Format, Journal, StoreFault};
+use crate::{Blank, Format, Journal, StoreFault};
 use fe_disk::{DeviceFault, Disk};
 use std::alloc::Global;
 
@@ -24,32 +24,36 @@ const EMPTY_IMAGE: [u8; 24] = [
 ];
 
 impl<D: Disk> Journal<D> {
-    /// Makes a new store of format 2 on the device, whatever was there. `Unformatted` (the device doesn't have the size of a store) and
-    /// `NoMemory` leave the device alone. If formatting stops, or a device call fails, nothing is promised about the device's bytes, and
-    /// it has to be formatted again.
-    pub fn format(alloc: Global, disk: D) -> Result<Journal<D>, (StoreFault, D)>
-        ensures formatted { D.honest disk
+    /// Makes a new store of format 2 on the device, which an opening found unformatted. `Unformatted` (the device doesn't have the size of
+    /// a store) and `NoMemory` leave the device alone. If formatting stops, or a device call fails, nothing is promised about the
+    /// device's bytes, and it has to be opened and formatted again.
+    pub fn format(alloc: Global, blank: Blank<D>) -> Result<Journal<D>, (StoreFault, D)>
+        ensures formatted { D.honest blank
             → IfOk result (λ journal. KeepsContents D.Disk journal (first_contents Two) None) }
 
         // Over any disk, the journal is that of a new store.
         ensures value { IfOk result (λ journal. journal ≡ new_journal Two journal.disk) }
-        ensures ends { Formats D.Disk Unformatted Device NoMemory (without_disk result) disk
+        ensures ends { Formats D.Disk Unformatted Device NoMemory (without_disk result) blank
             (disk_left result) }
     {
-        Journal::format_in(alloc, Format::Two, disk)
+        Journal::format_in(alloc, Format::Two, blank)
     }
 
     /// Makes a new store as `format` does, in this format.
-    pub fn format_in(alloc: Global, format: Format, disk: D) -> Result<Journal<D>, (StoreFault, D)>
-        ensures formatted { D.honest disk
+    pub fn format_in(
+        alloc: Global,
+        format: Format,
+        blank: Blank<D>,
+    ) -> Result<Journal<D>, (StoreFault, D)>
+        ensures formatted { D.honest blank
             → IfOk result (λ journal. KeepsContents D.Disk journal (first_contents format) None) }
 
         // Over any disk, the journal is that of a new store.
         ensures value { IfOk result (λ journal. journal ≡ new_journal format journal.disk) }
-        ensures ends { Formats D.Disk Unformatted Device NoMemory (without_disk result) disk
+        ensures ends { Formats D.Disk Unformatted Device NoMemory (without_disk result) blank
             (disk_left result) }
     {
-        let mut disk = disk;
+        let mut disk = blank.into_disk();
         match write_store(alloc, format, &mut disk) {
             Err(fault) => Err((fault, disk)),
             Ok(buffer) => Ok(Journal::opened(disk, buffer, 0, format, 1, 0)),

@@ -29,4 +29,4 @@ pub use layout::{
     AREA_BYTES, DEVICE_BYTES, HEADER_BYTES, LONGEST_PAYLOAD, SLICE_BYTES, area_of, header_of,
     image_of,
 };
-pub use opening::Found;
+pub use opening::{Blank, Found, Unopened};

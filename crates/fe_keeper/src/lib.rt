@@ -16,5 +16,6 @@ mod recovering;
 
 pub use fault::Fault;
 pub use fe_format::Format;
+pub use fe_journal::{Blank, Unopened};
 pub use keeper::Keeper;
 pub use laws::{images_stand_for_one, stops_join, stores_are_told_apart};

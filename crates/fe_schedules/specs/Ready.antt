@@ -1,6 +1,6 @@
 -- A desk (the front, its connections' streams and a store's keeper, in one thread) over a store in memory, between two steps.
 -- See `docs/model.md`, "Schedules".
-use Rattle.fe_disk.specs.Memory.{MemoryState, size_of, failures_of, calls_of, seen_of, moment_of, IsHonest, LeavesNow, LeavesSince}
+use Rattle.fe_disk.specs.Memory.{MemoryState, IsBlank, size_of, failures_of, calls_of, seen_of, moment_of, IsHonest, LeavesNow, LeavesSince}
 use Rattle.fe_disk.specs.declared.disk.Disk.{Ghosts}
 use Rattle.std.specs.Prelude.{◌≡◌, false, List, [], ◌∷◌, length}
 use Rattle.fe_journal.specs.Layout.{device_bytes}
@@ -31,6 +31,11 @@ pub record HoldsStore (disk : MemoryState) : Type 0 where
   pub size : length disk.image ≡ device_bytes
   pub honest : IsHonest disk
   pub calm : disk.failures ≡ 0
+
+-- a new disk of a store's size, all of it zeros, that does what its model says
+pub record IsNewDisk (disk : MemoryState) : Type 0 where
+  pub zeros : IsBlank device_bytes disk
+  pub honest : IsHonest disk
 
 -- The store works, its disk does what its model says, and no call of it failed. The desk's groups are a history from some state, and all
 -- are stored. Each image that a stop may leave stands for the state that the keeper has. No mail is left to be written.

@@ -6,7 +6,7 @@ ghost use Rattle.fe_desk.specs.Acknowledged.{HasNoneToPost};
 ghost use Rattle.fe_desk.specs.DeskRunState.{IsFirstRunState};
 ghost use Rattle.fe_state.specs.State.{first_state};
 ghost use Rattle.fe_schedules.specs.Schedule.{TellsDisk, endings};
-ghost use Rattle.fe_schedules.specs.Ready.{HoldsStore, IsBetweenLines};
+ghost use Rattle.fe_schedules.specs.Ready.{HoldsStore, IsNewDisk, IsBetweenLines};
 ghost use Rattle.fe_schedules.specs.Runs.{IsMachine, ActsOn, TakesSteps, PrintsTrace, last_disk};
 
 use crate::fault::MachineFault;
@@ -15,7 +15,7 @@ use crate::reading::read_all;
 use fe_desk::{Desk, Step};
 use fe_disk::{MemoryDisk, Torn};
 use fe_journal::DEVICE_BYTES;
-use fe_keeper::images_stand_for_one;
+use fe_keeper::{Blank, Keeper, Unopened, images_stand_for_one};
 use fe_text::Line;
 use fe_wire::{ClientMessage, put_message};
 use std::alloc::{AllocError, Global};
@@ -35,14 +35,33 @@ pub(crate) struct Machine {
 impl Machine {
     /// A machine with a new store on the disk and no connection.
     pub fn new(alloc: Global, disk: MemoryDisk) -> Result<Machine, (MachineFault, MemoryDisk)>
-        requires { HoldsStore disk }
+        requires { IsNewDisk disk }
         ensures machine { IfOk result IsMachine }
         ensures first { IfOk result (λ machine. IsFirstRunState first_state machine.desk.run_state) }
         ensures state { IfOk result (λ machine. machine.desk.keeper.state ≡ first_state) }
         ensures between { IfOk result (λ machine. IsBetweenLines machine.desk) }
         ensures fault { IfErr result (λ e. TellsDisk e.1 e.0) }
     {
-        match Desk::format(alloc, disk) {
+        match Keeper::open_or_blank(alloc, disk) {
+            Err(Unopened::Blank(blank)) => Machine::formatted(alloc, blank),
+            Err(Unopened::Refused(_, disk)) => Err((MachineFault::Device, disk)),
+            Ok(_) => unreachable!(),
+        }
+    }
+
+    /// A machine with a new store on the disk, which has none, and no connection.
+    fn formatted(
+        alloc: Global,
+        blank: Blank<MemoryDisk>,
+    ) -> Result<Machine, (MachineFault, MemoryDisk)>
+        requires { HoldsStore blank }
+        ensures machine { IfOk result IsMachine }
+        ensures first { IfOk result (λ machine. IsFirstRunState first_state machine.desk.run_state) }
+        ensures state { IfOk result (λ machine. machine.desk.keeper.state ≡ first_state) }
+        ensures between { IfOk result (λ machine. IsBetweenLines machine.desk) }
+        ensures fault { IfErr result (λ e. TellsDisk e.1 e.0) }
+    {
+        match Desk::format(alloc, blank) {
             Ok(desk) => Ok(Machine {
                 desk,
                 lost: None,

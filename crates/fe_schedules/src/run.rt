@@ -3,7 +3,7 @@
 ghost use Rattle.std.specs.Prelude.{◌≡◌, ◌+◌, ◌++◌, ℕ, List, Option, [], ◌∷◌, string_bytes, IfOk, IfErr, OnOk, OnErr, MatchResult};
 ghost use Rattle.fe_text.specs.Line.{HasNoFeed};
 ghost use Rattle.fe_schedules.specs.Schedule.{TellsDisk, TellsOfDisk, TellsDiskOrWriter};
-ghost use Rattle.fe_schedules.specs.Ready.{HoldsStore};
+ghost use Rattle.fe_schedules.specs.Ready.{IsNewDisk};
 ghost use Rattle.fe_schedules.specs.Runs.{IsRun, RanLine, RanBytes, SaysLine, IsStray, IsFaultOf, IsTooLong, SoFar, Whole, Ended, EndedIn, last_disk};
 
 use crate::fault::{MachineFault, ScheduleFault};
@@ -40,7 +40,7 @@ pub(crate) struct Run {
 impl Run {
     /// Makes a new store on the disk, and a run over it before its first line. Fails with the disk.
     pub fn new(alloc: Global, disk: MemoryDisk) -> Result<Run, (MachineFault, MemoryDisk)>
-        requires { HoldsStore disk }
+        requires { IsNewDisk disk }
         ensures begins { IfOk result (λ run. (now : Option (List ℕ)) → SoFar [] now now run) }
         ensures text { IfOk result (λ run. string_bytes run.text ≡ []) }
         ensures fault { IfErr result (λ e. TellsDisk e.1 e.0) }

@@ -3,8 +3,7 @@
 ghost use Rattle.std.specs.Prelude.{◌≡◌, ◌<◌, [], length, string_bytes, IfErr, OnOk};
 ghost use Rattle.fe_schedules.specs.Schedule.{RunsAll, RunsUntil, ReaderFails, TellsDiskOrWriter};
 ghost use Rattle.fe_schedules.specs.Runs.{SoFar, last_disk};
-ghost use Rattle.fe_disk.specs.Memory.{IsHonest};
-ghost use Rattle.fe_journal.specs.Layout.{device_bytes};
+ghost use Rattle.fe_schedules.specs.Ready.{IsNewDisk};
 
 use crate::fault::ScheduleFault;
 use crate::run::Run;
@@ -12,7 +11,7 @@ use fe_disk::MemoryDisk;
 use fe_text::{PIECE, READS, Sink, Source, buffer};
 use std::alloc::Global;
 
-/// Makes a new store on the disk, runs the lines of the reader, and prints their replies to the writer. What the lines
+/// Makes a new store on a new disk, runs the lines of the reader, and prints their replies to the writer. What the lines
 /// of one read print is written before the next read.
 ///
 /// `Line` is the number of the first line outside the syntax, counted from 1; empty lines count, and do nothing.
@@ -25,9 +24,7 @@ pub fn run_schedule<R: Source, W: Sink>(
     reader: &mut R,
     writer: &mut W,
 ) -> (Result<(), ScheduleFault>, MemoryDisk)
-    requires size { length disk.image ≡ device_bytes }
-    requires honest { IsHonest disk }
-    requires calm { disk.failures ≡ 0 }
+    requires fresh { IsNewDisk disk }
     // Every line of the input ran, what is written is what they print, and it is handed on.
     // A stop leaves all that they stored on the disk.
     ensures ok { OnOk result.0

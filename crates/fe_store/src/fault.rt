@@ -1,11 +1,14 @@
 //! Why a store is not opened, and why a file next to it is not made, kept or removed (`docs/store.md`, "The file").
 
 ghost use Rattle.std.specs.Prelude.{◌≡◌};
+ghost use Rattle.fe_journal.specs.Found.{refusal, BlankIsTold};
 ghost use Rattle.fe_keeper.specs.Opened.{IsOpenFault};
+ghost use Rattle.fe_keeper.specs.declared.fault.Fault.TheVariants as store;
 ghost use Rattle.fe_store.specs.within.Faults.{IsOpenFaultOf};
+ghost use Rattle.fe_store.specs.declared.fault.OpenFault.TheVariants as fault;
 
-use fe_disk::{DeviceFault, FileFault};
-use fe_keeper::Fault;
+use fe_disk::{DeviceFault, Disk, FileFault};
+use fe_keeper::{Fault, Unopened};
 use std::alloc::AllocError;
 use std::io;
 
@@ -119,5 +122,18 @@ pub(crate) fn open_fault_of(fault: Fault) -> OpenFault
         Fault::Unformatted => OpenFault::Unformatted,
         Fault::Damaged { offset } => OpenFault::Damaged(offset),
         Fault::Failed | Fault::Mismatch { .. } => unreachable!(),
+    }
+}
+
+/// Why a store is not opened, when its keeper is not.
+pub(crate) fn unopened_of<D: Disk>(unopened: Unopened<Fault, D>) -> Unopened<OpenFault, D>
+    requires { IsOpenFault (refusal store.Unformatted unopened).0 }
+    ensures fault { IsOpenFaultOf (refusal store.Unformatted unopened).0 (refusal fault.Unformatted result).0 }
+    ensures disk { (refusal fault.Unformatted result).1 ≡ (refusal store.Unformatted unopened).1 }
+    ensures blank { BlankIsTold store.Unformatted unopened → BlankIsTold fault.Unformatted result }
+{
+    match unopened {
+        Unopened::Blank(blank) => Unopened::Blank(blank),
+        Unopened::Refused(fault, disk) => Unopened::Refused(open_fault_of(fault), disk),
     }
 }

@@ -3,7 +3,7 @@
 
 ghost use Rattle.std.specs.Prelude.{◌≡◌, false, IfOk, IfErr};
 ghost use Rattle.fe_disk.specs.Runs.{without_disk};
-ghost use Rattle.fe_journal.specs.Found.{AsksToOpen};
+ghost use Rattle.fe_journal.specs.Found.{AsksToOpen, told, BlankIsTold};
 ghost use Rattle.fe_journal.specs.Layout.{device_bytes};
 ghost use Rattle.fe_journal.specs.Journal.{OnlyReads};
 ghost use Rattle.fe_keeper.specs.Damage.{MayLackMemory};
@@ -11,9 +11,9 @@ ghost use Rattle.fe_keeper.specs.Opened.{IsOpenedFrom};
 ghost use Rattle.fe_store.specs.Opening.{IsToFormat, IsOpenedAs, EndsOpening, disk_after};
 ghost use Rattle.fe_store.specs.declared.fault.OpenFault.TheVariants as fault;
 
-use crate::fault::{OpenFault, open_fault_of};
+use crate::fault::{OpenFault, open_fault_of, unopened_of};
 use fe_disk::Disk;
-use fe_keeper::Keeper;
+use fe_keeper::{Keeper, Unopened};
 use std::alloc::Global;
 
 /// Opens the store on a disk: a sync, and then only reads. It never fails with `Size`.
@@ -34,9 +34,26 @@ pub fn open_existing<D: Disk>(alloc: Global, disk: D) -> Result<Keeper<D>, (Open
     ensures device { AsksToOpen D.Disk fault.Device (without_disk result) disk
         (disk_after result) }
 {
-    match Keeper::open(alloc, disk) {
+    match found_or_blank(alloc, disk) {
         Ok(keeper) => Ok(keeper),
-        Err((fault, disk)) => Err((open_fault_of(fault), disk)),
+        Err(unopened) => Err(unopened.into_parts(OpenFault::Unformatted)),
+    }
+}
+
+/// Opens the store on a disk as `open_existing` does. An unformatted disk is given as a blank one, which may be formatted.
+fn found_or_blank<D: Disk>(alloc: Global, disk: D) -> Result<Keeper<D>, Unopened<OpenFault, D>>
+    ensures opened { D.honest disk → IfOk result (IsOpenedFrom D.Disk (D.seen disk)) }
+    ensures ends { EndsOpening D.Disk disk (told fault.Unformatted result) }
+    ensures memory { D.honest disk → IfErr (told fault.Unformatted result)
+        (λ e. e.0 ≡ fault.Memory → MayLackMemory (D.seen disk) (D.calls disk) (D.calls e.1)) }
+    ensures reads { D.honest disk → OnlyReads D.Disk disk (disk_after (told fault.Unformatted result)) }
+    ensures device { AsksToOpen D.Disk fault.Device (without_disk (told fault.Unformatted result)) disk
+        (disk_after (told fault.Unformatted result)) }
+    ensures blank { IfErr result (BlankIsTold fault.Unformatted) }
+{
+    match Keeper::open_or_blank(alloc, disk) {
+        Ok(keeper) => Ok(keeper),
+        Err(unopened) => Err(unopened_of(unopened)),
     }
 }
 
@@ -56,11 +73,16 @@ pub fn open_on<D: Disk>(alloc: Global, disk: D, format: bool) -> Result<Keeper<D
     // A disk of a store's size is reported as unformatted only if no format was asked for.
     ensures unformatted { D.size disk ≡ device_bytes → IfErr result (λ e. e.0 ≡ fault.Unformatted → format ≡ false) }
 {
-    match open_existing(alloc, disk) {
-        Err((OpenFault::Unformatted, disk)) if format => match Keeper::format(alloc, disk) {
-            Ok(keeper) => Ok(keeper),
-            Err((fault, disk)) => Err((open_fault_of(fault), disk)),
-        },
-        opened => opened,
+    let blank = match found_or_blank(alloc, disk) {
+        Ok(keeper) => return Ok(keeper),
+        Err(Unopened::Refused(fault, disk)) => return Err((fault, disk)),
+        Err(Unopened::Blank(blank)) => blank,
+    };
+    if !format {
+        return Err((OpenFault::Unformatted, blank.into_disk()));
+    }
+    match Keeper::format(alloc, blank) {
+        Ok(keeper) => Ok(keeper),
+        Err((fault, disk)) => Err((open_fault_of(fault), disk)),
     }
 }

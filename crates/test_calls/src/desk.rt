@@ -43,6 +43,11 @@ pub fn new_liar(rt: &impl Abort, alloc: Global) -> Liar {
     Liar::new(bytes)
 }
 
+/// A disk that takes no memory, and reads zeros whatever is written.
+pub fn blank_liar(rt: &impl Abort, alloc: Global) -> Liar {
+    Liar::new(zeros(rt, alloc))
+}
+
 fn open_at_last(rt: &impl Abort, alloc: Global) -> Desk<Liar> {
     match Desk::open(alloc, new_liar(rt, alloc)) {
         Ok(desk) => desk,

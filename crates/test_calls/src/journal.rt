@@ -2,7 +2,7 @@
 //! lack of memory. `rt try --test --fail-alloc N`, for N from 1 on, refuses the Nth allocation.
 use crate::disk::DEVICE_BYTES;
 use fe_disk::{Disk, MemoryDisk};
-use fe_journal::{Found, Journal, StoreFault};
+use fe_journal::{Blank, Found, Journal, StoreFault, Unopened};
 use std::alloc::Global;
 use std::process::Abort;
 use std::test::Fail;
@@ -21,12 +21,35 @@ fn wants_memory(fault: StoreFault, disk: &MemoryDisk) -> bool {
     }
 }
 
+// The disk, which opening finds unformatted.
+fn blank_at_once(rt: &impl Abort, alloc: Global, disk: MemoryDisk) -> Blank<MemoryDisk> {
+    let Err(Unopened::Blank(blank)) = Journal::find(alloc, disk) else {
+        panic!(rt; "no unformatted disk");
+    };
+    blank
+}
+
+// The disk, which opening finds unformatted, at the latest at the second try.
+fn blank(rt: &impl Abort, alloc: Global, disk: MemoryDisk) -> Blank<MemoryDisk> {
+    match Journal::find(alloc, disk) {
+        Err(Unopened::Blank(blank)) => blank,
+        Err(Unopened::Refused(fault, disk)) => {
+            assert!(rt; wants_memory(fault, &disk));
+            blank_at_once(rt, alloc, disk)
+        }
+        Ok(found) => {
+            drop(found);
+            panic!(rt; "no unformatted disk");
+        }
+    }
+}
+
 fn formatted(rt: &impl Abort, alloc: Global, disk: MemoryDisk) -> MemoryDisk {
-    match Journal::format(alloc, disk) {
+    match Journal::format(alloc, blank(rt, alloc, disk)) {
         Ok(journal) => journal.into_disk(),
         Err((fault, disk)) => {
             assert!(rt; wants_memory(fault, &disk));
-            Journal::format(alloc, disk)
+            Journal::format(alloc, blank(rt, alloc, disk))
                 .ok()
                 .expect(rt, "formatted")
                 .into_disk()
@@ -37,7 +60,8 @@ fn formatted(rt: &impl Abort, alloc: Global, disk: MemoryDisk) -> MemoryDisk {
 fn found_again(rt: &impl Abort, alloc: Global, disk: MemoryDisk) -> Found<MemoryDisk> {
     match Journal::find(alloc, disk) {
         Ok(found) => found,
-        Err((fault, disk)) => {
+        Err(unopened) => {
+            let (fault, disk) = unopened.into_parts(StoreFault::Unformatted);
             assert!(rt; wants_memory(fault, &disk));
             Journal::find(alloc, disk).ok().expect(rt, "found")
         }

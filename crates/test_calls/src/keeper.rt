@@ -1,9 +1,9 @@
 //! A keeper when memory runs out, as in `desk`: what is refused leaves the state, returns disk and batch, and is done
 //! when it is asked again.
 
-use crate::desk::new_liar;
+use crate::desk::{blank_liar, new_liar};
 use fe_disk::Liar;
-use fe_keeper::{Fault, Keeper};
+use fe_keeper::{Blank, Fault, Keeper, Unopened};
 use fe_state::{Answer, BATCH_ENTRIES, Batch, Entry, Name, Request};
 use fe_words::Tag;
 use std::alloc::Global;
@@ -14,12 +14,22 @@ const ATTACHED: Entry = Entry::Attached {
     floor: 1,
 };
 
+// The disk, which opening finds unformatted, however little memory there is.
+fn blank(rt: &impl Abort, alloc: Global, disk: Liar) -> Blank<Liar> {
+    let Err(Unopened::Blank(blank)) = Keeper::open_or_blank(alloc, disk) else {
+        panic!(rt; "no unformatted disk");
+    };
+    blank
+}
+
 fn format_at_last(rt: &impl Abort, alloc: Global) -> Keeper<Liar> {
-    match Keeper::format(alloc, new_liar(rt, alloc)) {
+    match Keeper::format(alloc, blank(rt, alloc, blank_liar(rt, alloc))) {
         Ok(keeper) => keeper,
         Err((fault, liar)) => {
             assert!(rt; fault == Fault::NoMemory);
-            Keeper::format(alloc, liar).ok().expect(rt, "formatted")
+            Keeper::format(alloc, blank(rt, alloc, liar))
+                .ok()
+                .expect(rt, "formatted")
         }
     }
 }

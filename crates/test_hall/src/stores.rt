@@ -1,7 +1,7 @@
 //! New stores in memory.
 
-use fe_disk::MemoryDisk;
-use fe_keeper::Keeper;
+use fe_disk::{Disk, MemoryDisk};
+use fe_keeper::{Keeper, Unopened};
 use std::alloc::Global;
 use std::process::Abort;
 
@@ -10,9 +10,15 @@ pub fn new_disk(rt: &impl Abort, alloc: Global) -> MemoryDisk {
     MemoryDisk::new(alloc, 4_202_496).ok().expect(rt, "a disk")
 }
 
+/// A new store on a disk that has none.
+pub fn formatted<D: Disk + Drop>(rt: &impl Abort, alloc: Global, disk: D) -> Keeper<D> {
+    let Err(Unopened::Blank(blank)) = Keeper::open_or_blank(alloc, disk) else {
+        panic!(rt; "no unformatted disk");
+    };
+    Keeper::format(alloc, blank).ok().expect(rt, "formatted")
+}
+
 /// A new store.
 pub fn new_store(rt: &impl Abort, alloc: Global) -> Keeper<MemoryDisk> {
-    Keeper::format(alloc, new_disk(rt, alloc))
-        .ok()
-        .expect(rt, "formatted")
+    formatted(rt, alloc, new_disk(rt, alloc))
 }

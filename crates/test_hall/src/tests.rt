@@ -7,7 +7,7 @@ use crate::rows::{
     PURGE, RESENT, TAKEN_OVER, TURNS_OF_WRITERS, TWO_LIVES, WINDOWS, WORDS,
 };
 use crate::stage::{Played, perform};
-use crate::stores::{new_disk, new_store};
+use crate::stores::{formatted, new_disk, new_store};
 use fe_disk::{Disk, Fuse, Guarded, Held, MemoryDisk, SyncHold};
 use fe_front::Books;
 use fe_hall::{ReadEnd, WriteEnd};
@@ -132,9 +132,7 @@ fn resend_between(rt: HostRuntime) -> Result<(), Fail> {
         new_disk(&rt, rt.alloc()),
         Held::new(rt, Arc::try_clone(&hold)?),
     );
-    let keeper = Keeper::format(rt.alloc(), disk)
-        .ok()
-        .expect(&rt, "formatted");
+    let keeper = formatted(&rt, rt.alloc(), disk);
     drop(keeper_after(&rt, rt.alloc(), &RESENT, &hold, keeper));
     Ok(())
 }

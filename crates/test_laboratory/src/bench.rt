@@ -11,7 +11,7 @@ use crate::trouble::Trouble;
 use crate::words::{first_number, first_word, number};
 use fe_codec::Format;
 use fe_disk::{MemoryDisk, Torn};
-use fe_journal::Journal;
+use fe_journal::{Journal, Unopened};
 use std::alloc::Global;
 
 /// The size of a store's device, in bytes.
@@ -83,7 +83,10 @@ impl Bench {
     // Makes a new store of the format.
     fn make_store(&mut self, format: Format) -> Result<(), Trouble> {
         let disk = MemoryDisk::new(self.alloc, DEVICE_BYTES)?;
-        match Journal::format_in(self.alloc, format, disk) {
+        let Err(Unopened::Blank(blank)) = Journal::find(self.alloc, disk) else {
+            return Err(Trouble::Disk);
+        };
+        match Journal::format_in(self.alloc, format, blank) {
             Ok(journal) => {
                 self.disk = journal.into_disk();
                 Ok(())

@@ -7,7 +7,7 @@ use crate::trouble::Trouble;
 use fe_codec::{Format, read_image};
 use fe_desk::{Desk, DeskFault, Port, Trace};
 use fe_disk::Disk;
-use fe_keeper::Fault;
+use fe_keeper::{Fault, Keeper, Unopened};
 use fe_state::State;
 use fe_wire::{ServerMessage, read_reply};
 use std::alloc::Global;
@@ -198,10 +198,14 @@ pub fn found<D: Disk>(alloc: Global, disk: D) -> (D, Result<Vec<u8>, Fault>) {
     }
 }
 
-/// Makes a store on the disk. Returns whether there was a fault.
+/// Makes a store on the disk, if it has none. Returns whether there was a fault.
 pub fn formatted<D: Disk>(alloc: Global, disk: D) -> (D, bool) {
-    match Desk::format(alloc, disk) {
-        Ok(desk) => (desk.into_disk(), false),
-        Err((_, disk)) => (disk, true),
+    match Keeper::open_or_blank(alloc, disk) {
+        Ok(keeper) => (keeper.into_disk(), false),
+        Err(Unopened::Refused(_, disk)) => (disk, true),
+        Err(Unopened::Blank(blank)) => match Desk::format(alloc, blank) {
+            Ok(desk) => (desk.into_disk(), false),
+            Err((_, disk)) => (disk, true),
+        },
     }
 }

@@ -4,7 +4,7 @@ use crate::act::{Act, Verb};
 use crate::made::Made;
 use crate::trouble::Trouble;
 use fe_disk::Disk;
-use fe_journal::{Format, Found, Groups, Journal};
+use fe_journal::{Format, Found, Groups, Journal, StoreFault};
 use fe_keeper::Fault;
 use std::alloc::{AllocError, Global};
 
@@ -22,7 +22,10 @@ pub fn made<D: Disk>(alloc: Global, disk: D, acts: &[Act]) -> (D, Result<Made, T
             let made = make_all(alloc, &mut journal, acts);
             (journal.into_disk(), made)
         }
-        Err((fault, disk)) => (disk, Ok(Made::refused(alloc, Fault::from(fault)))),
+        Err(unopened) => {
+            let (fault, disk) = unopened.into_parts(StoreFault::Unformatted);
+            (disk, Ok(Made::refused(alloc, Fault::from(fault))))
+        }
     }
 }
 
@@ -117,7 +120,10 @@ pub fn held<D: Disk>(alloc: Global, disk: D) -> (D, Result<Vec<u8>, Fault>) {
             drop(image);
             (journal.into_disk(), spelled)
         }
-        Err((fault, disk)) => (disk, Err(Fault::from(fault))),
+        Err(unopened) => {
+            let (fault, disk) = unopened.into_parts(StoreFault::Unformatted);
+            (disk, Err(Fault::from(fault)))
+        }
     }
 }
 

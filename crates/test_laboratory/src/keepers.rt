@@ -5,7 +5,7 @@ use crate::made::{Made, image_of};
 use crate::shown::{fault_text, format_name};
 use crate::trouble::Trouble;
 use fe_disk::Disk;
-use fe_keeper::{Fault, Keeper};
+use fe_keeper::{Fault, Keeper, Unopened};
 use fe_state::{BATCH_ENTRIES, Batch, Entry, State};
 use std::alloc::Global;
 
@@ -166,10 +166,14 @@ pub fn opened<D: Disk>(alloc: Global, disk: D) -> (D, Result<String, Trouble>) {
     }
 }
 
-/// Makes a store on the disk. Returns whether there was a fault.
+/// Makes a store on the disk, if it has none. Returns whether there was a fault.
 pub fn formatted<D: Disk>(alloc: Global, disk: D) -> (D, bool) {
-    match Keeper::format(alloc, disk) {
+    match Keeper::open_or_blank(alloc, disk) {
         Ok(keeper) => (keeper.into_disk(), false),
-        Err((_, disk)) => (disk, true),
+        Err(Unopened::Refused(_, disk)) => (disk, true),
+        Err(Unopened::Blank(blank)) => match Keeper::format(alloc, blank) {
+            Ok(keeper) => (keeper.into_disk(), false),
+            Err((_, disk)) => (disk, true),
+        },
     }
 }

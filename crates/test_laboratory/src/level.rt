@@ -54,7 +54,7 @@ impl Level {
         }
     }
 
-    /// Makes a store on the disk. Returns whether there was a fault.
+    /// Makes a store on the disk, if it has none. Returns whether there was a fault.
     pub fn formatted<D: Disk>(self, alloc: Global, disk: D) -> (D, bool) {
         match self {
             Level::Desk => desks::formatted(alloc, disk),

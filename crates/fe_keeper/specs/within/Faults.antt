@@ -21,3 +21,7 @@ fault_of_store (store.Damaged offset) = Damaged offset
 abbrev pub fault_of_refused : Refused → Fault
 fault_of_refused (replica.Mismatch place) = Mismatch place
 fault_of_refused replica.NoMemory = NoMemory
+
+-- what a keeper says of a store that its journal did not open
+abbrev pub refused_by_journal : {D : Type 0} → StoreFault × D → Fault × D
+refused_by_journal refused = (fault_of_store refused.0, refused.1)

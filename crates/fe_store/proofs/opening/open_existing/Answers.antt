@@ -1,74 +1,10 @@
-use Rattle.std.proofs.Common.{◌≡◌, ◌⊎◌, ℕ, List, Err, inl, inr, sym, ap, subst, refl}
-use Rattle.fe_disk.specs.declared.calls.Calls.{Calls}
-use Rattle.fe_journal.proofs.Founds.{opens_as}
-use Rattle.fe_keeper.specs.declared.fault.Fault as keeper
-use Rattle.fe_keeper.specs.declared.fault.Fault.TheVariants as store
+use Rattle.std.proofs.Common.{◌≡◌, sym, subst}
+use Rattle.fe_keeper.specs.Damage.{MayLackMemory}
 use Rattle.fe_store.specs.declared.fault.OpenFault.{OpenFault}
 use Rattle.fe_store.specs.declared.fault.OpenFault.TheVariants as fault
-use Rattle.fe_keeper.specs.Damage.{TellsStore}
-use Rattle.fe_store.specs.Opening.{TellsImage}
-use Rattle.fe_store.specs.within.Faults.{IsOpenFaultOf}
-use Rattle.fe_store.proofs.Faults.{not_sized}
 use Rattle.fe_store.proofs.opening.open_existing.Goals as goal
 
--- only the device or memory is reported
-told : (end : keeper.Fault) (answer : OpenFault) → IsOpenFaultOf end answer → (end ≡ store.Device) ⊎ (end ≡ store.NoMemory) → (answer ≡ fault.Device) ⊎ (answer ≡ fault.Memory)
-told end answer is (inl device) = inl (subst (λ (e : keeper.Fault). IsOpenFaultOf e answer) device is)
-told end answer is (inr short) = inr (subst (λ (e : keeper.Fault). IsOpenFaultOf e answer) short is)
-
--- the same is said of the image
-tells : (end : keeper.Fault) (answer : OpenFault) (image : List ℕ) (before now : Calls) → IsOpenFaultOf end answer → TellsStore end image before now → TellsImage answer image
-tells store.Device answer image before now is says = subst (λ (f : OpenFault). TellsImage f image) (sym is) tt
-tells store.NoMemory answer image before now is says = subst (λ (f : OpenFault). TellsImage f image) (sym is) tt
-tells (store.Damaged offset) answer image before now is says = subst (λ (f : OpenFault). TellsImage f image) (sym is) says
-tells store.Unformatted answer image before now is says = subst (λ (f : OpenFault). TellsImage f image) (sym is) says
-tells store.Failed answer image before now is says = absurd is
-tells (store.Mismatch place) answer image before now is says = absurd is
-
--- the device is reported exactly where it failed
-device_of : (end : keeper.Fault) (answer : OpenFault) → IsOpenFaultOf end answer → answer ≡ fault.Device → end ≡ store.Device
-device_of store.Device answer is device = refl
-device_of store.NoMemory answer is device = cc
-device_of (store.Damaged offset) answer is device = cc
-device_of store.Unformatted answer is device = cc
-device_of store.Failed answer is device = absurd is
-device_of (store.Mismatch place) answer is device = absurd is
-
--- memory is reported exactly where it ran out
-memory_of : (end : keeper.Fault) (answer : OpenFault) → IsOpenFaultOf end answer → answer ≡ fault.Memory → end ≡ store.NoMemory
-memory_of store.Device answer is short = cc
-memory_of store.NoMemory answer is short = refl
-memory_of (store.Damaged offset) answer is short = cc
-memory_of store.Unformatted answer is short = cc
-memory_of store.Failed answer is short = absurd is
-memory_of (store.Mismatch place) answer is short = absurd is
-
 pub returns-in-Err-clause-memory : goal.returns-in-Err-clause-memory
-returns-in-Err-clause-memory g c honest is =
-    subst (λ (e : keeper.Fault). TellsStore e (g.D.Disk.seen c.args.disk) (g.D.Disk.calls c.args.disk) (g.D.Disk.calls c.in-Err.disk)) (memory_of _ _ c.open_fault_of.ensures is) (c.in-Err.ensures.refused honest).tells
-
-pub returns-in-Err-clause-ends : goal.returns-in-Err-clause-ends
-returns-in-Err-clause-ends g c =
-    record {
-      ready = tt;
-      reason = λ honest.
-          let reason = c.in-Err.ensures.refused honest in
-          record { tells = tells _ _ _ _ _ c.open_fault_of.ensures reason.tells; valid = λ s stands. told _ _ c.open_fault_of.ensures (reason.valid s stands) };
-      sized = λ found. not_sized _ _ found c.open_fault_of.ensures;
-      honesty = c.in-Err.ensures.device.honesty;
-      size = c.in-Err.ensures.device.same_size;
-    }
-
-pub returns-in-Err-clause-device : goal.returns-in-Err-clause-device
-returns-in-Err-clause-device g c =
-    opens_as g.D.Disk store.Device fault.Device _ _ c.args.disk c.in-Err.disk c.in-Err.ensures.device
-    (λ is. ap (λ (f : keeper.Fault). Err f) (device_of _ _ c.open_fault_of.ensures (cc is)))
-    (λ is. let same : c.in-Err.fault ≡ store.Device = cc is in ap (λ (f : OpenFault). Err f) (subst (λ (e : keeper.Fault). IsOpenFaultOf e c.open_fault_of.result) same c.open_fault_of.ensures))
-
-pub returns-in-Ok-clause-device : goal.returns-in-Ok-clause-device
-returns-in-Ok-clause-device g c =
-    opens_as g.D.Disk store.Device fault.Device _ _ c.args.disk c.in-Ok.keeper.store.disk c.in-Ok.ensures.device (λ is. cc) (λ is. cc)
-
-pub returns-in-Ok-clause-ends : goal.returns-in-Ok-clause-ends
-returns-in-Ok-clause-ends g c =
-    record { ready = c.in-Ok.ensures.ready; reason = λ honest. tt; sized = tt; honesty = c.in-Ok.ensures.device.honesty; size = c.in-Ok.ensures.device.same_size }
+returns-in-Err-clause-memory g c = λ honest.
+    subst (λ (e : OpenFault × g.row.D.Denot). e.0 ≡ fault.Memory → MayLackMemory (g.D.Disk.seen c.args.disk) (g.D.Disk.calls c.args.disk) (g.D.Disk.calls e.1)) (sym c.into_parts.ensures)
+    (c.in-Err.ensures.memory honest)

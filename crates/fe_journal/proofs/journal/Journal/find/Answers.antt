@@ -1,10 +1,11 @@
-use Rattle.std.proofs.Common.{◌≡◌, ℕ, List, length, Result, Ok, Err, sym, ◌∙◌, ap, subst, refl}
+use Rattle.std.proofs.Common.{◌≡◌, inl, ℕ, List, length, Result, Ok, Err, sym, ◌∙◌, ap, subst, refl}
 use Rattle.fe_journal.specs.Contents.{Cursor, Lists}
+use Rattle.fe_journal.specs.Damage.{IsUnformatted, TellsFound}
 use Rattle.fe_journal.specs.Found.{IsFound, AsksToOpen}
 use Rattle.fe_journal.specs.Journal.{JournalState, OnlyReads}
 use Rattle.fe_journal.specs.Store.{IsStore}
 use Rattle.fe_journal.specs.declared.fault.StoreFault.{StoreFault}
-use Rattle.fe_journal.specs.declared.fault.StoreFault.TheVariants.{Device}
+use Rattle.fe_journal.specs.declared.fault.StoreFault.TheVariants.{Device, Unformatted}
 use Rattle.fe_journal.specs.declared.opening.Found.{Found}
 use Rattle.fe_journal.proofs.Founds.{formatted, is_found, opens_as, refused_only, unformatted_only}
 use Rattle.fe_journal.proofs.journal.Journal.find.Goals as goal
@@ -65,3 +66,22 @@ returns-in-Err-clause-finds g c = λ honest.
 
 pub returns-in-Err-clause-device : goal.returns-in-Err-clause-device
 returns-in-Err-clause-device g c = opens_as g.D.Disk Device Device _ _ c.args.disk c.read_store.new.disk c.in-Err.ensures.device (λ e. cc) (λ e. cc)
+
+-- what is reported as unformatted is so, and still is
+pub invariant_of-result : goal.invariant_of-result
+invariant_of-result g c = λ honest_1.
+    let old = g.D.Disk.seen c.args.disk in
+    let honest = c.read_store.ensures.device.honesty.0 honest_1 in
+    let tells = subst (λ (f : StoreFault). TellsFound f old) c.in-Err-Unformatted.field-0-is (c.in-Err-Unformatted.ensures.faults honest) in
+    subst (λ (l : List ℕ). IsUnformatted l) (sym (c.read_store.ensures.reads honest).same) tells
+
+pub returns-in-Err-Unformatted-clause-finds : goal.returns-in-Err-Unformatted-clause-finds
+returns-in-Err-Unformatted-clause-finds g c = λ honest.
+    let old = g.D.Disk.seen c.args.disk in
+    let tells = subst (λ (f : StoreFault). TellsFound f old) c.in-Err-Unformatted.field-0-is (c.in-Err-Unformatted.ensures.faults honest) in
+    record {
+      found = tt;
+      refused = record { tells = tells; valid = λ contents holds. refused_only contents old holds Unformatted tells; memory = λ is. cc };
+      unformatted = λ odd. inl refl;
+      reads = c.read_store.ensures.reads honest;
+    }

@@ -31,5 +31,5 @@ returns-in-Ok-format-clause-formatted g c = λ honest.
 
 pub returns-in-Err-format-clause-ends : goal.returns-in-Err-format-clause-ends
 returns-in-Err-format-clause-ends g c =
-    subst (λ (f : Fault). Formats g.D.Disk Unformatted Device NoMemory (Err f) c.args.disk c.in-Err-format.disk) (sym c.from.ensures)
-    (formats_as g.D.Disk c.in-Err-format.fault c.args.disk c.in-Err-format.disk c.in-Err-format.ensures.ends)
+    subst (λ (f : Fault). Formats g.D.Disk Unformatted Device NoMemory (Err f) c.args.blank c.in-Err-format.disk) (sym c.from.ensures)
+    (formats_as g.D.Disk c.in-Err-format.fault c.args.blank c.in-Err-format.disk c.in-Err-format.ensures.ends)
