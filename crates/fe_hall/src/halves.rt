@@ -14,7 +14,7 @@ pub struct HalfFault;
 
 /// The direction from the client.
 pub trait ReadHalf {
-    /// Whether the bytes that it reads are known. Those of a socket are not.
+    /// Whether the bytes that it reads are known.
     ghost is_known: { Self → Type 0 };
 
     /// The bytes that were read.
@@ -43,7 +43,7 @@ pub trait ReadHalf {
 
 /// The direction to the client.
 pub trait WriteHalf {
-    /// Whether the bytes that it got are known. Those of a socket are not.
+    /// Whether the bytes that it got are known.
     ghost is_known: { Self → Type 0 };
 
     /// The bytes that it got.

@@ -1,4 +1,5 @@
 pub mod Ends
 pub mod Accounts
 pub mod Acknowledged
-pub mod Known
+pub mod Noted
+pub mod Transcripts

@@ -4,4 +4,5 @@ pub mod BooksText
 pub mod FinishedConnections
 pub mod Serving
 pub mod Sides
+pub mod Transcripts
 pub mod within

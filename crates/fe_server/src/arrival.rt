@@ -139,7 +139,7 @@ impl<C: Tally + Send + Sync, M: Tally + Send + Sync> Arrival<C, M> {
         let Arrival { connection, seats } = self;
         let (calls, mails) = seats.begin();
         let seats = ConnectionSeats { calls, mails };
-        let outcome = connection.serve(rt, alloc, server, gate, seats, reads);
+        let (connection, outcome) = connection.serve(rt, alloc, server, gate, seats, reads);
         server.leave(rt, connection, outcome);
         ArrivalEnded(())
     }

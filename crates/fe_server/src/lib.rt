@@ -8,6 +8,8 @@ mod accepting;
 mod arrival;
 mod binding;
 mod books;
+mod byte_log;
+mod client_socket;
 mod connection;
 mod failed;
 mod listener;

@@ -1,5 +1,6 @@
 //! Part of the accepting thread of a server (`ARCHITECTURE.md`, "Threads").
 
+use crate::client_socket::FreshSocket;
 use crate::connection::Accepted;
 use crate::register::Running;
 use std::alloc::Global;
@@ -27,10 +28,7 @@ impl Listener {
 
     /// Waits for a connection. One for which there is no memory is closed, and the error is `OutOfMemory`.
     pub(crate) fn accept(&self, alloc: Global, _running: Running) -> io::Result<Accepted> {
-        let (stream, _) = self.listener.accept()?;
-        match Accepted::of(alloc, stream) {
-            Ok(accepted) => Ok(accepted),
-            Err(_) => Err(io::Error::from(io::ErrorKind::OutOfMemory)),
-        }
+        let socket = FreshSocket::accept(alloc, &self.listener)?;
+        Ok(Accepted::of(socket))
     }
 }

@@ -5,13 +5,14 @@ ghost use Rattle.std.specs.Prelude.{◌≡◌, ◌∷◌, [], IfOk, IfErr, nat_l
 ghost use Rattle.fe_front.specs.Front.{IsFirst};
 ghost use Rattle.fe_history.specs.declared.act.Act.TheVariants as act;
 ghost use Rattle.fe_shared.specs.declared.last_answer.LastAnswer.TheVariants as LastAnswer;
+ghost use Rattle.fe_server.specs.Transcripts.{IsTranscript};
 ghost use Rattle.fe_server.specs.Arrivals.{HasEnded, IsBoundBy};
 ghost use Rattle.fe_server.specs.Acknowledged.{HasCommittedAndNoted};
 ghost use Rattle.fe_server.specs.within.HasServed.{AreBlank};
 
 use crate::accepting::AllServed;
 use crate::arrival::{Arrival, Unkept, Unserved};
-use crate::connection::{Accepted, Connection};
+use crate::connection::{Accepted, ServedConnection};
 use crate::listener::Listener;
 use crate::register::{
     Admission, Bounds, Expected, Full, NoArrival, NoLate, NoMore, Register, Running, ServerEnded,
@@ -204,10 +205,14 @@ impl<C: Tally, M: Tally> RunningServer<C, M> {
     pub(crate) fn leave<R: Wait>(
         &self,
         rt: &R,
-        connection: Connection,
+        connection: ServedConnection,
         outcome: ConnectionOutcome<C, M>,
     )
         requires own { outcome.write.seat.conn ≡ connection.admission.conn }
+        // What the socket received and was sent is what its sides handled and took.
+        requires transcript { IsTranscript connection.socket.from.received connection.socket.to.writer.sent
+            connection.admission.conn outcome.read.seat outcome.read.sent.items outcome.read.end
+            outcome.write.seat outcome.write.receipts.items outcome.write.end }
     {
         self.finished.lock(rt).add(outcome, self.keeps);
         let admission = connection.close();

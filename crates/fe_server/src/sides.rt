@@ -3,14 +3,14 @@
 //!
 //! What a connection leaves is made here, and used up by `FinishedConnections::add`: its fields are private to this file and that one.
 
-ghost use Rattle.std.specs.Prelude.{◌≡◌, ◌≢◌, List, true, false, IsSome};
+ghost use Rattle.std.specs.Prelude.{◌≡◌, ◌≢◌, ◌+◌, List, [], true, false, IsSome};
 ghost use Rattle.std.specs.Io.KnownBytes.{IsAtEnd};
 ghost use Rattle.fe_history.specs.Acts.{AreIssued};
 ghost use Rattle.fe_mail.specs.declared.mail.Mail.{Mail as TakenMail};
-ghost use Rattle.fe_streams.specs.Incoming.{bytes_read};
 ghost use Rattle.fe_hall.specs.Reads.{HandlesStream};
 ghost use Rattle.fe_hall.specs.Writes.{AreTaken, IsWritten};
 ghost use Rattle.fe_server.specs.Sides.{HasHandled, HasWritten, ends_stream, most_reads, known_bytes};
+ghost use Rattle.fe_server.specs.Transcripts.{AreRead};
 
 mod finished_connections;
 
@@ -119,9 +119,9 @@ impl<W: WriteHalf + Drop, M: Tally> Promise<(W, WriteOutcome<M>)> for Wrote<W, M
         r.1.seat r.1.receipts r.1.end };
 }
 
-/// Serves a connection over a reader and a writer, until both its sides have ended. If the reader's bytes are known, the beginning of
-/// what was read was handled; if the writer's are, it got the frames of the mails that were taken: all, unless a write failed or memory
-/// was short.
+/// Serves a connection over the two directions of its stream, from a reader and to a writer, until both its sides have ended. The
+/// beginning of what was received was handled; if the writer's bytes are known, as those of a socket are, it got the frames of the mails
+/// that were taken: all, unless a write failed or memory was short.
 pub(crate) fn serve_streams<
     C: Tally + Send + Sync,
     M: Tally + Send + Sync,
@@ -136,30 +136,30 @@ pub(crate) fn serve_streams<
     server: &RunningServer<C, M>,
     gate: &G,
     seats: ConnectionSeats<C, M>,
-    reader: I,
-    writer: O,
+    from: StreamRead<I>,
+    to: StreamWrite<O>,
     ends: &E,
     reads: ReadLimit,
 ) -> (StreamRead<I>, StreamWrite<O>, ConnectionOutcome<C, M>)
     ensures own { result.2.write.seat.conn ≡ seats.mails.conn }
-    ensures handled { let incoming = result.0.incoming in IsSome (I.remaining reader)
-        → HandlesStream (known_bytes (bytes_read (I.remaining incoming.began.value) (I.remaining incoming.reader)))
+    ensures handled { from.received ≡ [] → HandlesStream result.0.received
         seats.calls result.2.read.seat result.2.read.sent.items result.2.read.end }
+    // Where the bytes that the reader had at first are known, those received are the ones that were read.
+    ensures read { AreRead (I.remaining result.0.incoming.began.value) (I.remaining result.0.incoming.reader) result.0.received }
     ensures wrote { let write = result.2.write in
         (all : List TakenMail) × AreTaken seats.mails write.seat write.receipts.items all
-        × (IsSome (O.contents writer)
-        → IsWritten (known_bytes (O.contents writer)) all write.end (known_bytes (O.contents result.1.writer)))
+        × (IsSome (O.contents to.writer)
+        → IsWritten (known_bytes (O.contents to.writer)) all write.end (known_bytes (O.contents result.1.writer)))
         × AreIssued seats.mails.conn all write.receipts.history }
     ensures departed { result.2.write.end ≢ WriteEnd.Stopped → result.2.write.seat.departed ≡ true }
     // The read side ends as `Turns` only after as many reads as it may make, as `Closed` only at the end of the stream, and as `Device`
     // only after a read that failed; the write side only after a write that failed.
     ensures turns { result.2.read.end ≡ ReadEnd.Turns
-        → result.0.reads ≡ most_reads result.2.reads server.now.turns }
+        → result.0.reads ≡ from.reads + most_reads result.2.reads server.now.turns }
     ensures ended { result.2.read.end ≡ ReadEnd.Closed → IsAtEnd (I.remaining result.0.incoming.reader) }
     ensures failed { (result.2.read.end ≡ ReadEnd.Device → IsSome result.0.failure)
         × (result.2.write.end ≡ WriteEnd.Device → IsSome result.1.failure) }
 {
-    let (from, to) = (StreamRead::new(reader), StreamWrite::new(writer));
     serve_over(rt, alloc, server, gate, seats, from, to, ends, reads)
 }
 

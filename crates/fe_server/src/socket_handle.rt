@@ -2,7 +2,7 @@
 
 ghost use Rattle.std.specs.Prelude.{◌≡◌, IfOk};
 
-use crate::connection::ClientSocket;
+use crate::client_socket::ClientSocket;
 use std::alloc::Global;
 use std::sync::Arc;
 

@@ -1,17 +1,21 @@
 //! The two directions of a connection, over any reader and over any writer, for its two sides in the hall (`docs/proved.md`, "Server").
 
-ghost use Rattle.std.specs.Prelude.{◌≡◌};
+ghost use Rattle.std.specs.Prelude.{◌≡◌, []};
+ghost use Rattle.fe_server.specs.Transcripts.{AreRead};
 
+use crate::byte_log::ByteLog;
 use fe_hall::{Free, HalfFault, ReadCount, ReadHalf, WriteHalf};
 use fe_streams::{Incoming, StreamFailed, write_some};
 use std::io::{Read, Write};
 
-/// The direction from the client, over a reader. Its bytes are known if those of the reader are; those of a socket are not.
+/// The direction from the client, over a reader. It notes the bytes that it receives, also those of a socket.
 #[derive(Drop)]
 pub struct StreamRead<R: Read> {
     incoming: Incoming<R>,
+    received: ByteLog,
     failure: Option<StreamFailed>,
     reads: ReadCount,
+    ghost read: { AreRead (R.remaining incoming.began.value) (R.remaining incoming.reader) received },
 }
 
 impl<R: Read> StreamRead<R> {
@@ -19,10 +23,12 @@ impl<R: Read> StreamRead<R> {
     pub fn new(reader: R) -> StreamRead<R>
         ensures reader { result.incoming.reader ≡ reader }
         ensures began { result.incoming.began.value ≡ reader }
+        ensures received { result.received ≡ [] }
         ensures reads { result.reads ≡ 0 }
     {
         StreamRead {
             incoming: Incoming::new(reader),
+            received: ByteLog::new(),
             failure: None,
             reads: ReadCount::none(),
         }
@@ -32,13 +38,10 @@ impl<R: Read> StreamRead<R> {
 impl<R: Read> ReadHalf for StreamRead<R> {
     ghost use Rattle.std.specs.Prelude.{IsSome};
     ghost use Rattle.std.specs.Io.KnownBytes.{IsAtEnd};
-    ghost use Rattle.fe_streams.specs.Incoming.{bytes_read};
-    ghost use Rattle.fe_server.specs.Sides.{known_bytes};
 
-    ghost is_known = { λ h. IsSome (R.remaining h.incoming.began.value) };
+    ghost is_known = { λ _. Unit {0} };
 
-    ghost known = { λ h. known_bytes (bytes_read (R.remaining h.incoming.began.value)
-        (R.remaining h.incoming.reader)) };
+    ghost known = { λ h. h.received };
 
     ghost reads = { λ h. h.reads };
 
@@ -49,7 +52,10 @@ impl<R: Read> ReadHalf for StreamRead<R> {
     fn read(&mut self, _free: &mut Free, buffer: &mut [u8]) -> Result<usize, HalfFault> {
         self.reads.rise();
         match self.incoming.read_some(buffer) {
-            Ok(count) => Ok(count),
+            Ok(count) => {
+                self.received.note(&buffer[..count]);
+                Ok(count)
+            }
             Err(failure) => {
                 self.failure = Some(failure);
                 Err(HalfFault)
@@ -58,7 +64,7 @@ impl<R: Read> ReadHalf for StreamRead<R> {
     }
 }
 
-/// The direction to the client, over a writer. Its bytes are known if those of the writer are; those of a socket are not.
+/// The direction to the client, over a writer. Its bytes are known if those of the writer are, as those that a `SocketWriter` notes.
 #[derive(Drop)]
 pub struct StreamWrite<W: Write> {
     writer: W,
