@@ -182,16 +182,18 @@ class Client(BlockingCalls):
 
     def _run_job(self, job: Job[T]) -> T:
         """Runs an operation of several steps. If this thread is interrupted, it is taken back and undone."""
-        self._check_thread()
+        worker = self._worker
+        if get_ident() == worker.own_thread:
+            self._check_thread()
         try:
             # What is asked comes first: what mends the caller's last operation may be among it.
-            if job.is_light and not self._worker.asked and self._worker.lease is not None and self._run_here(job):
-                return result_of(job)
-            gate = threading.Lock()
+            if job.is_light and not worker.asked and worker.lease is not None and self._run_here(job):
+                return job.result if job.error is None else result_of(job)  # type: ignore[return-value]
+            gate = _new_gate()
             gate.acquire()
             job.finished = gate.release
             self._ask(partial(self._core.start, job))
-            self._worker.wait_at(gate)
+            worker.wait_at(gate)
             return result_of(job)
         except errors.FememError:
             raise
@@ -221,7 +223,7 @@ class Client(BlockingCalls):
                     job.log += tickets
                 if not self._ask_here(tickets, job.until):
                     break
-                job.asked, job.until = [], None
+                job.asked, job.until = (), None
                 if isinstance(step, Batch):
                     step = steps.send([ticket.result if ticket.error is None else ticket.error for ticket in tickets])
                 elif tickets[0].error is None:
@@ -229,7 +231,7 @@ class Client(BlockingCalls):
                 else:
                     step = steps.throw(tickets[0].error)
         except StopIteration as end:
-            job.end(end.value)
+            job.result, job.done = end.value, True
             return True
         except Exception as error:
             job.end(error=error)
@@ -239,14 +241,13 @@ class Client(BlockingCalls):
 
     def _ask_here(self, tickets: List[Ticket[Any]], until: Optional[float]) -> bool:
         """Asks them over lent numbers, if there are enough. Whether all are done."""
-        worker = self._worker
-        lease = worker.lease
-        if lease is None or worker.asked or worker.lead.locked():
+        worker, events = self._worker, self._core.events
+        lease, lead = worker.lease, worker.lead
+        if lease is None or worker.asked or lead.locked():
             return False
         # No interruption comes between the lock's taking and the block.
-        events = self._core.events
         begun = 0.0 if events is None else time.monotonic()
-        with worker.lead:
+        with lead:
             are_done = worker.lease is lease and lease.call(tickets, until)
             answered = 0 if events is None else sum(ticket.done for ticket in tickets)
         if events is not None:

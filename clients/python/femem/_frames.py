@@ -134,6 +134,7 @@ _REPORT = 71
 
 
 # An answer: length, kind, number, code, value and length of an array.
+ANSWER_BYTES = 26
 _new_tuple = tuple.__new__
 unpack_answer = struct.Struct(">IBQBQI").unpack_from
 
@@ -143,8 +144,8 @@ def _read_plain_answers(stream: Union[bytes, bytearray], at: int, replies: List[
 
     It stops at anything else, correct or not, which the other readers handle.
     """
-    end = at + (len(stream) - at) // 26 * 26
-    for here in range(at, end, 26):
+    end = at + (len(stream) - at) // ANSWER_BYTES * ANSWER_BYTES
+    for here in range(at, end, ANSWER_BYTES):
         size, kind, number, code, value, length = unpack_answer(stream, here)
         if size != 22 or kind != 66 or length or code != VALUE and (code != DONE and code != NOT_NOW or value):
             return here
@@ -167,10 +168,10 @@ class ReplyDecoder:
 
         `ProtocolError` has the offset of the first invalid frame; nothing of that piece is then returned.
         """
-        if len(piece) == 26 and not self._rest:
+        if len(piece) == ANSWER_BYTES and not self._rest:
             size, kind, number, code, value, length = unpack_answer(piece)
             if size == 22 and kind == 66 and not length and (code == VALUE or code == DONE and not value):
-                self._offset += 26
+                self._offset += ANSWER_BYTES
                 return [_new_tuple(Answer, (number, code, value, 0))]
         replies: List[Reply] = []
         stream: Union[bytes, bytearray] = piece

@@ -2,7 +2,6 @@
 
 from __future__ import annotations
 
-import threading
 from typing import Dict, List, Optional, Sequence, Set, Tuple
 
 from . import requests
@@ -72,40 +71,82 @@ class Leftovers:
         return {int.from_bytes(frame[22:26], "big") for frame in frames if int.from_bytes(frame[14:22], "big") == array.id}
 
 
+class Read:
+    """A read of this process under a read-write lock, from before it begins."""
+
+    def __init__(self, caller: object) -> None:
+        self.caller = caller
+        self.array: Optional[Array] = None
+        # Whether the server knows of it, so that its caller may read again beside it.
+        self.has_begun = False
+        # Over which seat it was counted, and whether that is to be given back: from the moment at which it is to leave.
+        self.seat: Optional[int] = None
+        self.is_last = False
+        # Who gives it back: the first one that sets this.
+        self.given_by: Dict[int, object] = {}
+
+
+class Release:
+    """A release of a read: which one it gives back is said as it begins."""
+
+    def __init__(self, caller: object) -> None:
+        self.caller = caller
+        self.read: Optional[Read] = None
+        self._mark = object()
+
+    def is_of(self, read: Read) -> bool:
+        """Whether this one gives it back, from now on, and no other one."""
+        return read.given_by.setdefault(0, self._mark) is self._mark
+
+
+class Sitting:
+    """Who of this process reads under a lock, and over which seat, until it becomes another one."""
+
+    def __init__(self, seat: Optional[int] = None, reads: Tuple[Read, ...] = ()) -> None:
+        self.seat = seat
+        self.reads = reads
+        self.next: Dict[int, Sitting] = {}
+
+    def becomes(self, seat: Optional[int], reads: Tuple[Read, ...]) -> bool:
+        """Whether this one is next. Another thread may have set another one."""
+        after = Sitting(seat, reads)
+        return self.next.setdefault(0, after) is after
+
+
 class Reads:
-    """Who of this process reads under a read-write lock. They share one seat there."""
+    """Who of this process reads under a read-write lock. They share one seat there.
+
+    What several threads change is changed by one call, `setdefault`: it has happened or not, wherever one is interrupted.
+    """
 
     def __init__(self) -> None:
-        self._seats: Dict[int, int] = {}
-        self._callers: Dict[int, List[object]] = {}
-        # Several threads may run steps at the same time.
-        self._lock = threading.Lock()
+        self._sittings: Dict[int, Sitting] = {}
 
-    def has(self, array: int) -> bool:
-        return array in self._seats
+    def now(self, array: Array) -> Sitting:
+        sitting = self._sittings.get(array.id) or self._sittings.setdefault(array.id, Sitting())
+        while sitting.next:
+            sitting = sitting.next[0]
+        self._sittings[array.id] = sitting
+        return sitting
 
-    def begin(self, array: int, seat: int, caller: object) -> None:
-        with self._lock:
-            self._seats[array], self._callers[array] = seat, [caller]
-
-    def join(self, array: int, caller: object, again: bool) -> bool:
-        """Adds the caller if somebody of this process reads, or with `again` if the caller does."""
-        with self._lock:
-            callers = self._callers.get(array, [])
-            if not callers or again and caller not in callers:
-                return False
-            callers.append(caller)
-            return True
-
-    def leave(self, array: int, caller: object) -> Optional[int]:
-        """Removes the caller. The seat to be given back, if it was the last one."""
-        with self._lock:
-            callers = self._callers[array]
-            callers.remove(caller)
-            if callers:
+    def add(self, array: Array, read: Read, seat: Optional[int], again: bool = False) -> Optional[int]:
+        """Adds the read: over the seat of the others, or over this one as the first. With `again` only beside one of its caller.
+        The seat, or `None` if there is none."""
+        while True:
+            now = self.now(array)
+            over = now.seat if now.reads else seat
+            if over is None or again and not any([each.has_begun and each.caller == read.caller for each in now.reads]):
                 return None
-            del self._callers[array]
-            return self._seats.pop(array)
+            if now.becomes(over, (*now.reads, read)):
+                return over
+
+    def leave(self, array: Array, read: Read) -> Optional[int]:
+        """Removes the read. The seat to be given back, if it was the last one. Called again, it says the same."""
+        while read in (now := self.now(array)).reads:
+            others = tuple([each for each in now.reads if each is not read])
+            read.seat, read.is_last = now.seat, not others
+            now.becomes(now.seat if others else None, others)
+        return read.seat if read.is_last else None
 
 
 class Holdings:

@@ -123,7 +123,7 @@ class JobRunner:
             raise errors.Withdrawn("interrupted")
         if isinstance(step, (Batch, Wait, First)):
             # (the tickets of a step that the caller has begun are there)
-            tickets = job.asked or [Ticket(request) for request in step.requests]
+            tickets = list(job.asked) or [Ticket(request) for request in step.requests]
             if may_wait:
                 for ticket in tickets:
                     ticket.ends_with_process = True
@@ -171,7 +171,7 @@ class JobRunner:
             self._end(last)
 
     def _answer(self, job: Job[Any], step: Step, tickets: List[Ticket[Any]]) -> None:
-        job.asked = []
+        job.asked = ()
         for ticket in tickets:
             ticket.finished = nobody  # nothing holds itself
         if isinstance(step, (Batch, First)):

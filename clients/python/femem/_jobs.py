@@ -80,6 +80,20 @@ Step = Union[Wait, Batch, First, Pause, Look, Hand, Present]
 Steps = Generator[Step, Any, T]
 
 
+class Mended(Generator[Step, Any, T]):
+    """Steps that name what mends them, in place of their pattern's `_mend`: it knows what they have changed in their process."""
+
+    def __init__(self, steps: Steps[T], mend: Callable[[List[Ticket[Any]]], Steps[Any]]) -> None:
+        self.mend = mend
+        self._steps = steps
+
+    def send(self, outcome: Any) -> Step:
+        return self._steps.send(outcome)
+
+    def throw(self, error: Any, *more: Any) -> Step:
+        return self._steps.throw(error, *more)
+
+
 def first_of(asked: Sequence[Request[Any]], seconds: Optional[float]) -> Steps[Dict[int, Any]]:
     """Waits until one of them has happened, and takes the others back. The answers by their places among them.
 
@@ -96,23 +110,24 @@ def first_of(asked: Sequence[Request[Any]], seconds: Optional[float]) -> Steps[D
 class Job(Ticket[T]):
     """An operation of several steps."""
 
+    # The tickets of the current step.
+    asked: Sequence[Ticket[Any]] = ()
+    # The step that its caller has begun by itself, with its tickets, and when that is over.
+    begun: Optional[Step] = None
+    until: Optional[float] = None
+    # Whether its caller may run it by itself, and does. What that has asked, if it can be mended: if it is interrupted within
+    # the steps, `mend` makes steps from this that undo what these requests did, or that end what was to be given back.
+    is_light = False
+    is_here = False
+    log: List[Ticket[Any]]
+    mend: Optional[Callable[[List[Ticket[Any]]], Steps[Any]]] = None
+    is_interrupted = False
+    # Whether its caller no longer waits; `undo` then makes steps that undo what was done.
+    is_abandoned = False
+
     def __init__(self, steps: Steps[T], undo: Optional[Callable[[T], Steps[Any]]] = None, gives_back: bool = False) -> None:
-        super().__init__(None)
+        self.request = None
         self.steps = steps
         # Whether it gives something back: then it is done even for a task that is to be cancelled.
         self.gives_back = gives_back
-        # The tickets of the current step.
-        self.asked: List[Ticket[Any]] = []
-        # The step that its caller has begun by itself, with its tickets, and when that is over.
-        self.begun: Optional[Step] = None
-        self.until: Optional[float] = None
-        # Whether its caller may run it by itself, and does. What that has asked; if it is interrupted within the steps, `mend`
-        # makes steps from this that undo what these requests did, or that end what was to be given back.
-        self.is_light = False
-        self.is_here = False
-        self.log: List[Ticket[Any]] = []
-        self.mend: Optional[Callable[[List[Ticket[Any]]], Steps[Any]]] = None
-        self.is_interrupted = False
-        # Whether its caller no longer waits; `undo` then makes steps that undo what was done.
-        self.is_abandoned = False
         self.undo = undo

@@ -20,7 +20,7 @@ import time
 from typing import Any, List, Optional, Sequence
 
 from ._errors import ProtocolError
-from ._frames import NOT_NOW, NOT_WAITING, NOWAIT, READFE, WINDOW, WRITEEF, Answer, Refusal, Reply, ReplyDecoder, Settled, Withdrawn
+from ._frames import ANSWER_BYTES, NOT_NOW, NOT_WAITING, NOWAIT, READFE, WINDOW, WRITEEF, Answer, Refusal, Reply, ReplyDecoder, Settled, Withdrawn
 from ._frames import append_under, cancel, pack_number, settle
 from ._tickets import Ticket
 from ._window import LONGEST_STEP, Used
@@ -87,31 +87,34 @@ class Lease:
 
         One that may wait is asked alone. If it waits, it is left once `until` is over, or when the thread wants its numbers.
         """
-        number = self.next_number()
-        if not self._has_room(number, len(asked)):
+        number, count = self.tickets.first + len(self.tickets), len(asked)
+        if self.is_over or not self.is_known:
             return False
         frames, waits = bytearray(), False
-        if number + len(asked) > self._end:
+        if number + count > self._end:
+            if not self.floor or self.tickets.asked != self.floor or count > MOST_AT_ONCE:
+                return False
             frames, number = self._settle(number), self.next_number()
-        for under, ticket in enumerate(asked, number):
-            request, at = ticket.request, len(frames) + 5
+        at, under = len(frames) + 5, number
+        for ticket in asked:
+            request = ticket.request
             assert request is not None
-            frames += request.frame
+            frame = request.frame
+            frames += frame
             pack_number(frames, at, under)
             if request.may_wait:
-                waits = self._bell is not None and frames[at + 8] in _OFTEN_WAIT
+                waits = self._bell is not None and frame[13] in _OFTEN_WAIT
                 if not waits:
                     ticket.asks_first = True
                     frames[at - 1] = NOWAIT
+            at, under = at + len(frame), under + 1
         self.is_known = False
         self.tickets += asked
-        return self._sends(frames) and self._reads(number, number + len(asked), waits, until)
-
-    def _has_room(self, number: int, count: int) -> bool:
-        """Whether so many numbers can be used, perhaps once the floor is raised."""
-        if self.is_over or not self.is_known:
+        try:
+            is_sent = self.connection.send(frames, socket.MSG_DONTWAIT) == len(frames)
+        except OSError:
             return False
-        return number + count <= self._end or bool(self.floor) and self.tickets.asked == self.floor and count <= MOST_AT_ONCE
+        return is_sent and self._reads(number, under, waits, until)
 
     def _settle(self, number: int) -> bytearray:
         """Asks for the floor to be raised to this number, or nearly: all below have their answers. Their tickets are dropped.
@@ -133,12 +136,6 @@ class Lease:
         self.tickets, self.left = used, used.left
         return frames + settle(used.asked)
 
-    def _sends(self, frames: bytearray) -> bool:
-        try:
-            return self.connection.send(frames, socket.MSG_DONTWAIT) == len(frames)
-        except OSError:
-            return False
-
     def _reads(self, number: int, end: int, waits: bool, until: Optional[float]) -> bool:
         """Reads the answers from `number` on, before `end`, in their order. What is none of them is kept, and ends the lease."""
         latest = None
@@ -146,7 +143,10 @@ class Lease:
             while number < end and not self.is_over:
                 if waits:
                     self._await(until)
-                piece = self.connection.recv(_READ_BYTES)
+                if waits or end - number == 1:
+                    piece = self.connection.recv(_READ_BYTES)
+                else:  # several answers, which often come one by one: the kernel puts them together
+                    piece = self.connection.recv(ANSWER_BYTES * (end - number), socket.MSG_WAITALL)
                 if not piece:
                     return False
                 number = self._take(self.decoder.feed(piece), number, end)

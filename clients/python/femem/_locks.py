@@ -2,12 +2,14 @@
 
 from __future__ import annotations
 
+from functools import partial
 from typing import Any, Dict, Iterable, List, Optional, Sequence, Tuple
 
 from . import _frames as frames, requests
 from ._arguments import Key, seconds_of
 from ._errors import FememError, NoArray, NotNow, NotOwner, TimedOut
-from ._jobs import Look, Steps, Wait
+from ._holdings import Read, Release
+from ._jobs import Look, Mended, Steps, Wait
 from ._operations import FIRST_LOOK, LAST_LOOK, Absence, Pattern, Tries, batch, done_at, is_full, marked_array
 from ._operations import operation, operation_with, shared_array, size_of
 from .requests import Array, Request
@@ -331,8 +333,8 @@ class ReadWriteLock(Owned):
         first = 26 + 2 * len(self._seats)
         self.REQUESTS = {"acquire_read": (first, first), "release_read": (4, 0), "release_write": (1, 0)}
         self.REQUESTS["acquire_write"] = (first - 1, first)
-        # Who reads by this handle, and in which array.
-        self._reads: List[Tuple[object, Array]] = []
+        # The reads by this handle, in their order.
+        self._reads: Dict[Read, None] = {}
 
     def _make(self) -> Steps[Array]:
         return (yield from marked_array(self._name, self._seats.stop, self.MARK))
@@ -349,12 +351,13 @@ class ReadWriteLock(Owned):
 
     # Reading.
 
-    @operation_with(undo="_leave_if_got")
+    @operation_with(undo="_leave_if_got", light=True)
     def acquire_read(self, timeout: Optional[float] = None, *, takeover_after: Optional[float] = None) -> Steps[bool]:
         """Waits until this client may read. Returns whether it may, in time."""
-        return self._acquire_read(self._caller(), self._deadline(timeout), seconds_of(takeover_after, "takeover_after"))
+        read, patience = Read(self._caller()), seconds_of(takeover_after, "takeover_after")
+        return Mended(self._acquire_read(read, self._deadline(timeout), patience), partial(self._mend_acquired, read))
 
-    def _acquire_read(self, caller: object, end: Optional[float], patience: Optional[float]) -> Steps[bool]:
+    def _acquire_read(self, read: Read, end: Optional[float], patience: Optional[float]) -> Steps[bool]:
         self._broke, self._adopted = None, False
         yield from self._show()
         while True:
@@ -362,25 +365,29 @@ class ReadWriteLock(Owned):
                 array = yield from self._begin()
                 if self._core.holdings.left.take(array, self.OWNER):  # it may have to wait for a seat
                     yield from batch([requests.readfe(array, self.OWNER, nowait=True)], NotNow)
-                again = self._core.holdings.reads.join(array.id, caller, again=True)
-                if not again and not (yield from self._enter(array, caller, end, patience)):
+                read.seat, read.is_last, read.array = None, False, array
+                again = self._core.holdings.reads.add(array, read, None, again=True)
+                if again is None and not (yield from self._enter(array, read, end, patience)):
                     return False
-                self._reads.append((caller, array))
+                read.has_begun = True
+                self._reads[read] = None
                 return True
             except NoArray:
+                if read.array is not None:
+                    self._core.holdings.reads.leave(read.array, read)
                 self._array = None  # it was broken
 
-    def _enter(self, array: Array, caller: object, end: Optional[float], patience: Optional[float]) -> Steps[bool]:
+    def _enter(self, array: Array, read: Read, end: Optional[float], patience: Optional[float]) -> Steps[bool]:
         """A seat, unless this client has one, and then a turn: no seat is waited for with the word OWNER."""
         while True:
             seat = None
-            if not self._core.holdings.reads.has(array.id):
+            if not self._core.holdings.reads.now(array).reads:
                 seat = yield from self._sit(array, end, patience)
                 if seat is None:
                     return False
             if not (yield from self._turn(array, seat, end, patience)):
                 return False
-            if (yield from self._read(array, seat, caller)):
+            if (yield from self._read(array, seat, read)):
                 return True
 
     def _sit(self, array: Array, end: Optional[float], patience: Optional[float]) -> Steps[Optional[int]]:
@@ -417,19 +424,16 @@ class ReadWriteLock(Owned):
             yield from self._stand_up(array, seat, False)
         return got
 
-    def _read(self, array: Array, seat: Optional[int], caller: object) -> Steps[bool]:
+    def _read(self, array: Array, seat: Optional[int], read: Read) -> Steps[bool]:
         """Begins to read, with the word OWNER, and empties that. False if a seat is needed: the one who had it has left."""
-        reads = self._core.holdings.reads
         asked: List[Request[Any]] = [requests.readfe(array, self.OWNER, nowait=True)]
-        joins = reads.join(array.id, caller, again=False)
+        over = self._core.holdings.reads.add(array, read, seat)
         if seat is not None:
             begins = requests.int_fetch_add(array, self.READERS, self._bit(seat), nowait=True)
-            asked.insert(0, requests.readfe(array, seat, nowait=True) if joins else begins)
+            asked.insert(0, begins if over == seat else requests.readfe(array, seat, nowait=True))
         self._core.holdings.words.discard((array.id, self.OWNER))
         yield from batch(asked)
-        if not joins and seat is not None:
-            reads.begin(array.id, seat, caller)
-        return joins or seat is not None
+        return over is not None
 
     def _bit(self, seat: int) -> int:
         return 1 << seat - self.SEATS
@@ -453,18 +457,26 @@ class ReadWriteLock(Owned):
         found = yield from batch([requests.readff(array, seat, nowait=True) for seat in seats], NotNow)
         return {seat: int(holder) for seat, holder in zip(seats, found) if is_full(holder)}
 
-    @operation_with(gives_back=True)
+    @operation_with(gives_back=True, light=True)
     def release_read(self) -> Steps[None]:
         """This thread or task reads no more, or another one of this handle if it does not read. `NotOwner` if none reads, or
         somebody broke the lock."""
-        return self._leave(self._caller())
+        release = Release(self._caller())
+        return Mended(self._leave(release), partial(self._mend_left, release))
 
-    def _leave(self, caller: object) -> Steps[None]:
-        if not self._reads:
+    def _given_by(self, release: Release) -> Read:
+        """The read that this gives back: no other release does. One without an array stands for none."""
+        while release.read is None or not release.is_of(release.read):
+            reads = [each for each in [*self._reads] if not each.given_by] or [Read(None)]
+            release.read = next((each for each in reversed(reads) if each.caller == release.caller), reads[-1])
+        self._reads.pop(release.read, None)
+        return release.read
+
+    def _leave(self, release: Release) -> Steps[None]:
+        read = self._given_by(release)
+        if read.array is None:
             raise NotOwner(f"{self._name} is not held for reading")
-        read = next((each for each in reversed(self._reads) if each[0] == caller), self._reads[-1])
-        self._reads.remove(read)
-        array, seat = read[1], self._core.holdings.reads.leave(read[1].id, read[0])
+        array, seat = read.array, self._core.holdings.reads.leave(read.array, read)
         if seat is None:  # others of this client read yet
             is_there = is_full((yield from batch([requests.readff(array, self.READERS, nowait=True)], NoArray))[0])
         else:
@@ -474,7 +486,35 @@ class ReadWriteLock(Owned):
 
     def _leave_if_got(self, got: bool) -> Steps[None]:
         if got:
-            yield from self._leave(None)
+            yield from self._leave(Release(None))
+
+    def _mend_left(self, release: Release, asked: Sequence[Ticket[Any]]) -> Steps[None]:
+        """Ends the release. Its seat was given back together with the bit."""
+        read = self._given_by(release)
+        seat = None if read.array is None else self._core.holdings.reads.leave(read.array, read)
+        if read.array is None or seat is None:
+            return
+        if self.READERS in done_at(asked, frames.INT_FETCH_ADD):
+            yield from batch([requests.writexf(read.array, self.DOOR, 0)], NoArray)
+        else:
+            yield from self._stand_up(read.array, seat, True)
+
+    def _mend_acquired(self, read: Read, asked: Sequence[Ticket[Any]]) -> Steps[None]:
+        """Undoes the acquisition, unless another thread gives the read back. This process leaves before another thread of it
+        can have the word OWNER and join."""
+        array = read.array
+        if array is None or not Release(None).is_of(read):
+            return
+        self._reads.pop(read, None)
+        seat = self._core.holdings.reads.leave(array, read)
+        asked = [each for each in asked if each.request is not None and int.from_bytes(each.request.frame[14:22], "big") == array.id]
+        yield from self._mend(array, False, asked)
+        filled, emptied = (done_at(asked, code) for code in (frames.WRITEEF, frames.READFE))
+        own = next((each for each in self._seats if filled.count(each) > emptied.count(each)), None)
+        if own != read.seat:  # it was not the first one that read over that
+            yield from self._stand_up(array, own, False)
+        if seat is not None:
+            yield from self._stand_up(array, seat, own != seat or self.READERS in done_at(asked, frames.INT_FETCH_ADD))
 
     # Writing.
 
@@ -564,7 +604,8 @@ class Turn(Pattern):
     def acquire(self) -> Steps[bool]:
         """Begins the block: its `with` calls this."""
         kind = ReadWriteLock.acquire_write if self._writes else ReadWriteLock.acquire_read
-        return self._in_time(kind.steps(self._lock, self._timeout, takeover_after=self._patience))
+        steps = kind.steps(self._lock, self._timeout, takeover_after=self._patience)
+        return Mended(self._in_time(steps), steps.mend) if isinstance(steps, Mended) else self._in_time(steps)
 
     def _in_time(self, steps: Steps[bool]) -> Steps[bool]:
         if not (yield from steps):
@@ -582,7 +623,7 @@ class Turn(Pattern):
 
     def _can_mend(self) -> bool:
         self._array = self._lock._array
-        return self._writes and self._lock._can_mend()
+        return self._lock._can_mend()
 
     def _mend(self, array: Array, gives_back: bool, asked: Sequence[Ticket[Any]]) -> Steps[None]:
         return self._lock._mend(array, gives_back, asked)

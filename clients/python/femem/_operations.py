@@ -92,7 +92,7 @@ class Pattern:
         return self._core.clock()
 
     def _deadline(self, timeout: Optional[float]) -> Optional[float]:
-        return end_of(timeout, self._core.clock())
+        return None if timeout is None else end_of(timeout, self._core.clock())
 
     def _left(self, end: Optional[float]) -> Optional[float]:
         return None if end is None else left(end, self._core.clock())

@@ -21,9 +21,10 @@ from typing import Any, Callable, Deque, List, Optional, Sequence
 
 from . import requests
 from ._errors import NoArray, NotNow, TimedOut, Withdrawn
-from ._jobs import First, Steps, Wait
+from ._jobs import Batch, First, Steps, Wait
 from ._operations import FIRST_LOOK, LAST_LOOK, Tries, batch, is_full, left
-from .requests import Array, Request
+from ._frames import INT_FETCH_ADD, READFE, READFF
+from .requests import Array, Request, made_before
 
 # How long a client waits for one that has a ticket and may be late, or gone, in seconds.
 SOON = 0.005
@@ -76,6 +77,10 @@ class Ring:
         # Tickets that were not used.
         self._puts: Deque[int] = deque()
         self._gets: Deque[int] = deque()
+        # What TAIL of which array has, at least: it never falls.
+        self._tail = (0, 0)
+        # Whether the taker of the last value that was put had its ticket: it is so often in a row.
+        self._are_takers_ahead = False
         self._looked_at = 0.0
 
     def slot(self, ticket: int) -> int:
@@ -117,17 +122,26 @@ class Ring:
         return (yield from self._new_ticket(words, TAIL))
 
     def _new_ticket(self, words: Array, counter: int) -> Steps[int]:
-        (ticket,) = yield from batch([requests.int_fetch_add(words, counter, 1, nowait=True)])
+        (ticket,) = yield Batch((made_before(INT_FETCH_ADD, words.id, counter, 1, True),))
+        if isinstance(ticket, BaseException):
+            raise ticket
+        if counter == TAIL:
+            self._tail = (words.id, ticket + 1)
         return int(ticket)
 
     def _put_at(self, words: Array, ticket: int, value: int, tries: Tries) -> Steps[bool]:
         """Puts the value into its slot, if that is empty."""
         slot = self.slot(ticket)
-        asked: List[Request[object]] = [requests.writeef(words, slot, value, nowait=True), *self._looks(words, slot)]
+        asked: List[Request[object]] = [requests.writeef(words, slot, value, nowait=True), made_before(READFF, words.id, HEAD, 0, True)]
+        if self._are_takers_ahead:
+            asked.insert(1, made_before(READFF, words.id, slot, 0, True))
         done, *looks = yield from batch(asked, NotNow, key=tries.next())
         if isinstance(done, NotNow):
             return False
-        if looks[1] > ticket:
+        self._are_takers_ahead = looks[-1] > ticket
+        if self._are_takers_ahead:
+            if len(looks) == 1:
+                looks = yield from batch(self._looks(words, slot), NotNow)
             yield from self._tell_if_left(words, ticket, looks)
         return True
 
@@ -143,12 +157,12 @@ class Ring:
 
     def _looks(self, words: Array, slot: int) -> List[Request[object]]:
         """What a putter looks at once its value is in."""
-        return [requests.readff(words, word, nowait=True) for word in (slot, HEAD, SIGNAL)]
+        return [made_before(READFF, words.id, word, 0, True) for word in (slot, HEAD)]
 
     def _tell_if_left(self, words: Array, ticket: int, looks: Sequence[Any]) -> Steps[None]:
-        """Fills the signal if the value lies there, though its taker has the ticket, and whoever waits is not told of it."""
-        there, head, signal = looks
-        if head > ticket and is_full(there) and signal != ALL:
+        """Fills the signal if the value lies there, though its taker has the ticket."""
+        there, head = looks
+        if head > ticket and is_full(there):
             yield from self.tell(words, self.slot(ticket))
 
     def _put_anywhere(self, words: Array, ticket: int, value: int, tries: Tries) -> Steps[bool]:
@@ -189,14 +203,11 @@ class Ring:
         clock: Optional[Clock] = None
         while True:
             slot = self.slot(ticket)
-            asked = [requests.readfe(words, slot, nowait=True), requests.readff(words, TAIL, nowait=True)]
-            if nowait:
-                asked.append(requests.readff(words, SIGNAL, nowait=True))
-            value, tail, *signal = yield from batch(asked, NotNow, key=tries.next())
+            value, *signal = yield from self._get_at(words, slot, ticket, nowait, tries)
             if is_full(value):
                 return int(value)
             clock = clock or Clock(end, self._now)
-            is_late = tail > ticket  # the putter of its value has the ticket
+            is_late = self._is_put(words, ticket)  # the putter of its value has the ticket
             if is_late and is_kept:
                 ticket, is_kept = (yield from self._new_ticket(words, HEAD)), False
                 continue
@@ -218,6 +229,22 @@ class Ring:
                 raise NotNow(f"{self.name} is empty") if nowait else TimedOut(f"get {self.name}")
             if is_late:
                 ticket = yield from self._new_ticket(words, HEAD)
+
+    def _is_put(self, words: Array, ticket: int) -> bool:
+        """Whether a putter is known to have the ticket."""
+        return self._tail[0] == words.id and self._tail[1] > ticket
+
+    def _get_at(self, words: Array, slot: int, ticket: int, nowait: bool, tries: Tries) -> Steps[List[Any]]:
+        """Takes the slot's value, if there is one, and looks at TAIL if need be. The signal too, if nothing waits."""
+        asked = [made_before(READFE, words.id, slot, 0, True)]
+        if nowait:
+            asked.append(requests.readff(words, SIGNAL, nowait=True))
+        if self._is_put(words, ticket):
+            return (yield from batch(asked, NotNow, key=tries.next()))
+        asked.append(made_before(READFF, words.id, TAIL, 0, True))
+        *found, tail = yield from batch(asked, NotNow, key=tries.next())
+        self._tail = (words.id, int(tail))
+        return found
 
     def _wait_for(self, words: Array, slot: int, is_late: bool, seconds: float, tries: Tries) -> Steps[List[Any]]:
         """Waits for the slot's value: for a putter that is late that alone, otherwise for the signal too."""

@@ -24,7 +24,7 @@ from ._arguments import seconds_of
 from ._client import Client
 from ._errors import FememError, TimedOut
 from ._faces import ForThreads
-from ._jobs import Job, Steps
+from ._jobs import Job, Mended, Steps
 from .requests import Array, number_of_bits
 
 C = TypeVar("C", bound="Held")
@@ -77,12 +77,13 @@ def _performing(done: operations.operation[Any, Any]) -> Callable[..., Any]:
 
 
 def _job(pattern: Blocking, done: operations.operation[Any, Any], *args: Any, **more: Any) -> Job[Any]:
-    job: Job[Any] = Job(done.steps(pattern, *args, **more), getattr(pattern, done.undo) if done.undo else None, done.gives_back)
+    steps = done.steps(pattern, *args, **more)
+    job: Job[Any] = Job(steps, getattr(pattern, done.undo) if done.undo else None, done.gives_back)
     if not done.undo and not done.gives_back:
         job.is_light = done.is_light
     elif done.is_light and pattern._can_mend() and not (done.gives_back and (args or more)):
-        job.is_light = True
-        job.mend = functools.partial(pattern._mend, pattern._array, done.gives_back)
+        job.is_light, job.log = True, []
+        job.mend = steps.mend if isinstance(steps, Mended) else functools.partial(pattern._mend, pattern._array, done.gives_back)
     return job
 
 

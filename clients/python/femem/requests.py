@@ -130,7 +130,7 @@ def access(code: int, array: ArrayLike, index: int, operand: int = 0, nowait: bo
     try:
         id = array.id if isinstance(array, Array) else array
         if operand == 0 or code == frames.INT_FETCH_ADD:
-            return _made_before(code, id, index, operand, nowait)  # patterns ask the same again and again
+            return made_before(code, id, index, operand, nowait)  # patterns ask the same again and again
         return _access(code, id, index, operand, nowait)
     except (struct.error, TypeError):
         # One of them is wrong, or no plain `int`: this raises for which.
@@ -146,8 +146,8 @@ def _access(code: int, id: int, index: int, operand: int, nowait: bool) -> Reque
     return Request(pack_access(30, NOWAIT if nowait else ACCESS, 0, code, id, index, operand), read, may_wait and not nowait)
 
 
-@lru_cache(maxsize=256, typed=True)
-def _made_before(code: int, id: int, index: int, operand: int, nowait: bool) -> Request[Any]:
+@lru_cache(maxsize=1024, typed=True)
+def made_before(code: int, id: int, index: int, operand: int, nowait: bool) -> Request[Any]:
     return _access(code, id, index, operand, nowait)
 
 

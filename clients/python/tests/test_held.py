@@ -11,6 +11,8 @@ import sys
 import threading
 import time
 import unittest
+from concurrent.futures import ThreadPoolExecutor
+from unittest import mock
 
 import paths  # noqa: F401
 from serving import WithFolder
@@ -19,8 +21,10 @@ from test_unspoilt import Stop, interrupted
 import femem
 from femem import Client, patterns, requests
 from femem.aio import AsyncClient
+from femem._holdings import Read, Reads, Release, Sitting
 from femem._operations import operation
 from femem.patterns import BoundedQueue, Channel, Lock, ReadWriteLock, Semaphore, WorkQueue
+from femem.requests import Array
 
 LONG = 60
 
@@ -29,8 +33,81 @@ class Raising:
     __getitem__ = getattr(ctypes.CDLL(None), "raise")  # an index is no call, after which Python looks for signals
 
 
-# Of which bytecodes each run of the longest test tries one.
-STEP = 7
+# Of which bytecodes each run of the longest tests tries one.
+STEP, WIDE_STEP = 7, 21
+
+
+class Reading:
+    """What a caller and another thread of its client read, while the caller is interrupted at each twenty-first bytecode."""
+
+    def __init__(self, test, mine, theirs, beside):
+        self.test, self.mine, self.theirs, self.beside = test, mine, theirs, beside
+        self.client, self.word = mine._client, mine._client.find("rw")
+        self.caller, self.begun, self.whole = threading.get_ident(), 0, []
+        self.client._run_here = self.run_here
+
+    def run_here(self, job):
+        is_callers = threading.get_ident() == self.caller
+        self.begun += is_callers
+        is_whole = Client._run_here(self.client, job)
+        self.whole += [is_whole] * is_callers
+        return is_whole
+
+    def try_all(self, before, use, reads, mate):
+        """`before`: how many times each of the two reads. `use` is interrupted; `reads`: how many times the caller reads if it is
+        not. `mate` is what the other thread does meanwhile."""
+        at, total = random.randint(1 - WIDE_STEP, 0), 0
+        while True:
+            at += WIDE_STEP
+            self.read(*before)
+            here, there = before[0], before[1] + {"acquire_read": 1, "release_read": -1}.get(mate and mate.__name__, 0)
+            while not self.test.lends(self.client, self.word):
+                pass
+            self.begun, self.whole = 0, []
+            going = mate and self.beside.submit(mate)
+            was = interrupted(use, at)
+            if going:
+                going.result(LONG)
+            total += self.begun > 0
+            if use.__name__ != "release_read":
+                here = here if was else reads
+            elif was and not self.begun and not until(lambda: self.count() == there, 0.1):
+                here = before[0]  # it had not begun
+            else:
+                here = 0
+            self.check(here, there, at)
+            if not was and (mate or all(self.whole)):
+                break  # (otherwise the thread had taken its numbers back)
+            at -= 0 if was else WIDE_STEP
+        self.test.assertGreater(at, 300)
+        self.test.assertGreater(total, at // WIDE_STEP // 3)
+
+    def count(self):
+        return len(self.mine._reads)
+
+    def read(self, here, there):
+        for _ in range(here):
+            self.mine.acquire_read()
+        for _ in range(there):
+            self.beside.submit(self.mine.acquire_read).result(LONG)
+
+    def check(self, here, there, at):
+        """Who reads yet keeps a writer out; then nothing is left."""
+        test, names = self.test, (here, there, at)
+        test.assertTrue(until(lambda: self.count() == here + there), (names, self.count()))
+        for release in [*[self.mine.release_read] * here, *[lambda: self.beside.submit(self.mine.release_read).result(LONG)] * there]:
+            test.assertFalse(self.theirs.acquire_write(timeout=0), names)
+            release()
+        test.assertTrue(self.theirs.acquire_write(timeout=LONG), names)
+        self.theirs.release_write()
+        test.assertTrue(until(lambda: self.words() == [True, False, True, True, False, False]), (names, self.words()))
+        test.assertEqual(self.client.readff(self.word, 3), 0, names)
+        test.assertEqual((self.client._core.holdings.words, self.client._core.holdings.reads.now(self.word).reads), (set(), ()), names)
+
+    def words(self):
+        """Which are full, but for the DOOR: a writer that is told late has seen by itself that nobody reads."""
+        looks = self.client.submit_many([requests.readff(self.word, k, nowait=True) for k in (0, 1, 2, 3, 5, 6)])
+        return [not isinstance(each, femem.NotNow) for each in looks]
 
 
 def until(holds, seconds=LONG):
@@ -248,6 +325,61 @@ class Interrupted(WithFolder):
                     self.assertGreater(len(here), at // STEP // 3)
             self.assertIsNone(client.failure)
 
+    def test_reads_at_each_bytecode(self):
+        """Of a caller alone, and beside another thread, over the same seat. Interrupted, an acquisition leaves nothing held, and a
+        release nothing kept; who reads yet keeps a writer out.
+
+        Each run tries every twenty-first bytecode, from another one on.
+        """
+        self.server()
+        with Client(self.path, 7) as client, Client(self.path, 8) as other, ThreadPoolExecutor(1) as beside:
+            mine, theirs = (ReadWriteLock(each, "rw", 2) for each in (client, other))
+            mine.acquire_read()
+            mine.release_read()
+
+            def block():
+                with mine.read():
+                    pass
+
+            for before, use, reads, mate in (
+                ((0, 0), mine.acquire_read, 1, None),
+                ((0, 1), mine.acquire_read, 1, None),
+                ((1, 0), mine.acquire_read, 2, None),
+                ((0, 0), mine.acquire_read, 1, mine.acquire_read),
+                ((0, 1), mine.acquire_read, 1, mine.release_read),
+                ((1, 0), mine.release_read, 0, None),
+                ((1, 1), mine.release_read, 0, None),
+                ((1, 1), mine.release_read, 0, mine.release_read),
+                ((0, 0), block, 0, None),
+                ((0, 1), block, 0, None),
+            ):
+                with self.subTest(f"{use.__name__} {before} {mate and mate.__name__}"):
+                    Reading(self, mine, theirs, beside).try_all(before, use, reads, mate)
+            self.assertIsNone(client.failure)
+
+    def test_reads_that_others_change_meanwhile(self):
+        """Each change comes after what another thread has just changed."""
+        reads, array, becomes = Reads(), Array(1, 8), Sitting.becomes
+        one, two, three, four = (Read(caller) for caller in (1, 2, 1, 1))
+
+        def before(change, call):
+            changes = [change]
+            with mock.patch.object(Sitting, "becomes", lambda *now: changes and changes.pop()() and False or becomes(*now)):
+                return call()
+
+        self.assertEqual(reads.add(array, one, 5), 5)
+        self.assertIsNone(reads.add(array, three, None, again=True))  # the server may not know of the first one
+        one.has_begun = True
+        self.assertEqual(before(lambda: reads.add(array, three, None, again=True), lambda: reads.leave(array, one)), None)
+        self.assertEqual((reads.leave(array, one), reads.now(array).reads), (None, (three,)))
+        self.assertEqual(before(lambda: reads.leave(array, three), lambda: reads.add(array, two, None)), None)
+        self.assertEqual((reads.leave(array, three), reads.now(array).reads), (5, ()))
+        self.assertEqual(reads.add(array, two, 6), 6)
+        self.assertEqual(before(lambda: reads.leave(array, two), lambda: reads.add(array, four, 7)), 7)
+        self.assertEqual((reads.leave(array, two), reads.leave(array, four), reads.leave(array, one)), (6, 7, None))
+        releases = Release(1), Release(1)
+        self.assertEqual([each.is_of(four) for each in (*releases, *releases)], [True, False, True, False])
+
     def lends(self, client, word):
         """Whether the client's thread lends numbers: it has nothing to do then."""
         client.readxx(word, 0)
@@ -334,7 +466,8 @@ class Interrupted(WithFolder):
                     (mine if got else theirs).release()
 
     def test_signals_within_reads_and_writes(self, stops=150):
-        """Of a lock for readers and writers: it returned, or nothing is held; and what is released is released."""
+        """Of a lock for readers and writers: it returned, or nothing is held; and what is released is released. Another thread
+        reads over the same seat."""
         self.server()
         self.stop_by_signals()
         self.addCleanup(signal.setitimer, signal.ITIMER_REAL, 0)
@@ -351,7 +484,18 @@ class Interrupted(WithFolder):
             return not returned
 
         with Client(self.path, 7) as client, Client(self.path, 8) as other:
-            mine, theirs = ReadWriteLock(client, "rw", 4), ReadWriteLock(other, "rw", 4)
+            mine, beside, theirs = (ReadWriteLock(each, "rw", 4) for each in (client, client, other))
+            inside, ends = [], threading.Event()
+
+            def read():
+                while not ends.is_set():
+                    beside.acquire_read()
+                    inside.append(1)
+                    inside.pop()
+                    beside.release_read()
+
+            thread = threading.Thread(target=read)
+            thread.start()
             for acquire, release in ((mine.acquire_read, mine.release_read), (mine.acquire_write, mine.release_write)):
                 acquires = releases = not_begun = 0
                 while acquires < stops or releases < stops:
@@ -365,11 +509,17 @@ class Interrupted(WithFolder):
                         except femem.NotOwner:
                             pass
                     self.assertTrue(theirs.acquire_write(timeout=LONG))
+                    self.assertEqual(inside, [])
                     theirs.release_write()
                 self.assertLess(not_begun, releases // 2)
-            words = client.submit_many([requests.readff(client.find("rw"), k, nowait=True) for k in range(9)])
+            ends.set()
+            thread.join(LONG)
+            self.assertTrue(theirs.acquire_write(timeout=LONG))
+            theirs.release_write()
+            book = client.find("rw")
+            words = client.submit_many([requests.readff(book, k, nowait=True) for k in range(9)])
             self.assertEqual([k for k, word in enumerate(words) if not isinstance(word, femem.NotNow)], [0, 2, 3])
-            self.assertEqual((words[3], client._core.holdings.reads._callers), (0, {}))
+            self.assertEqual((words[3], client._core.holdings.reads.now(book).reads), (0, ()))
             self.assertIsNone(client.failure)
 
     def test_threads_that_read_and_write(self):

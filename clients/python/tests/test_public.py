@@ -81,6 +81,7 @@ class Public(unittest.TestCase):
                 if inspect.isclass(found):
                     self.assertNotIn("._", found.__module__, each)
                     self.assertIs(getattr(importlib.import_module(found.__module__), found.__name__), found)
+                    self.assertIsInstance(typing.get_type_hints(found), dict)  # what its annotations name is found
         try:
             raise femem.NotOwner("lock is free")
         except femem.NotOwner as error:
