@@ -498,20 +498,25 @@ class Interrupted(WithFolder):
             thread.start()
             for acquire, release in ((mine.acquire_read, mine.release_read), (mine.acquire_write, mine.release_write)):
                 acquires = releases = not_begun = 0
-                while acquires < stops or releases < stops:
-                    if is_interrupted(acquire):
+                for turn in range(2 * stops):
+                    # (on a slow machine hardly any acquisition ends in its time, so each second one has all time)
+                    if turn % 2 and is_interrupted(acquire):
                         acquires += 1
-                    elif is_interrupted(release):
-                        releases += 1
-                        try:
-                            release()
-                            not_begun += 1
-                        except femem.NotOwner:
-                            pass
+                    else:
+                        if not turn % 2:
+                            acquire()
+                        if is_interrupted(release):
+                            releases += 1
+                            try:
+                                release()
+                                not_begun += 1
+                            except femem.NotOwner:
+                                pass
                     self.assertTrue(theirs.acquire_write(timeout=LONG))
                     self.assertEqual(inside, [])
                     theirs.release_write()
-                self.assertLess(not_begun, releases // 2)
+                self.assertGreater(acquires, 0)
+                self.assertLess(not_begun, releases)
             ends.set()
             thread.join(LONG)
             self.assertTrue(theirs.acquire_write(timeout=LONG))
