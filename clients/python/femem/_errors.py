@@ -18,6 +18,14 @@ class AnswerError(FememError):
 
     _text = ""
 
+    def __str__(self) -> str:
+        """Of a request it is made only when it is wanted: patterns look at many words that are not as they need them."""
+        what = getattr(self.args[0], "what", None) if self.args else None
+        return super().__str__() if what is None else f"{what}: {self._text}"
+
+    def __repr__(self) -> str:
+        return f"{type(self).__name__}({str(self)!r})"
+
 
 class NoArray(AnswerError):
     """There is no such array. Also the answer to what waits on an array when it is removed."""

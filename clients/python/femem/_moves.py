@@ -10,9 +10,10 @@ from typing import Any, List, Optional
 
 from . import requests
 from ._errors import NoArray, NotNow, NotOwner
+from ._frames import READFF, WRITEEF
 from ._jobs import Hand, Steps
 from ._operations import batch, is_full
-from .requests import Request
+from .requests import Request, made, made_before
 from ._workpages import FINISHED, HEAD, JOBS, NOTHING, VOID, Page, Pages, address
 
 
@@ -71,8 +72,8 @@ class Moves(Pages):
 
     def _offer(self, page: Page, slot: int, offers: Request[None], key: Optional[bytes] = None) -> Steps[Any]:
         """Makes this request, after which the slot has a job, with the signal for takers. The request's outcome."""
-        look = requests.readff(page.id, HEAD, nowait=True)
-        asked: List[Request[Any]] = [offers, requests.writeef(self._root, JOBS, self._number(page, slot), nowait=True)]
+        look = made_before(READFF, page.id, HEAD, 0, True)
+        asked: List[Request[Any]] = [offers, made(WRITEEF, self._root, JOBS, self._number(page, slot), True)]
         if not self._is_told:
             asked.append(look)
         done, told, *head = yield from batch(asked, NotNow, NoArray, key=key)

@@ -23,8 +23,8 @@ from . import requests
 from ._errors import NoArray, NotNow, TimedOut, Withdrawn
 from ._jobs import Batch, First, Steps, Wait
 from ._operations import FIRST_LOOK, LAST_LOOK, Tries, batch, is_full, left
-from ._frames import INT_FETCH_ADD, READFE, READFF
-from .requests import Array, Request, made_before
+from ._frames import INT_FETCH_ADD, READFE, READFF, WRITEEF
+from .requests import Array, Request, made, made_before
 
 # How long a client waits for one that has a ticket and may be late, or gone, in seconds.
 SOON = 0.005
@@ -132,7 +132,7 @@ class Ring:
     def _put_at(self, words: Array, ticket: int, value: int, tries: Tries) -> Steps[bool]:
         """Puts the value into its slot, if that is empty."""
         slot = self.slot(ticket)
-        asked: List[Request[object]] = [requests.writeef(words, slot, value, nowait=True), made_before(READFF, words.id, HEAD, 0, True)]
+        asked: List[Request[object]] = [made(WRITEEF, words.id, slot, value, True), made_before(READFF, words.id, HEAD, 0, True)]
         if self._are_takers_ahead:
             asked.insert(1, made_before(READFF, words.id, slot, 0, True))
         done, *looks = yield from batch(asked, NotNow, key=tries.next())

@@ -6,7 +6,7 @@ import heapq
 import itertools
 from typing import Any, Callable, Generic, List, Optional, Sequence, Tuple, TypeVar
 
-from ._errors import ANSWER_ERRORS, ProtocolError, Withdrawn, answered
+from ._errors import ANSWER_ERRORS, ProtocolError, Withdrawn
 from ._frames import DONE, VALUE, Answer
 from .requests import Request, read_done, read_value
 
@@ -71,7 +71,7 @@ class Ticket(Generic[T]):
         if code == VALUE and request.read is read_value:
             self.result = answer.value  # type: ignore[assignment]
         elif code in ANSWER_ERRORS:
-            self.error = answered(code, request.what)
+            self.error = ANSWER_ERRORS[code](request)
         elif code != DONE or request.read is not read_done:
             try:
                 self.result = request.read(answer)

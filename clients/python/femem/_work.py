@@ -6,14 +6,15 @@ import math
 from collections import deque
 from typing import Any, Callable, Deque, Dict, List, Optional, Sequence, Set, Tuple
 
-from . import _frames as frames, requests
+from . import requests
 from ._arguments import Key
 from ._errors import BadName, FememError, NoArray, NotNow, NotOwner, TimedOut, Withdrawn, WordLimit
+from ._frames import INT_FETCH_ADD, NOWAIT, READFF, WRITEEF
 from ._jobs import Hand, Look, Steps, Wait
 from ._moves import Moves
 from ._operations import FIRST_LOOK, LAST_LOOK, Pattern, Tries, batch, done_at, is_full
 from ._operations import operation, operation_with, size_of
-from .requests import Array, Request, number_of_bits
+from .requests import Array, Request, made, made_before, number_of_bits
 from ._tickets import Ticket
 from ._workpages import CHUNK, DONE, DROPPED, FINISHED, FIRST_SLOT, HEAD, JOBS, LARGEST, MOST_ATTEMPTS
 from ._workpages import NOTHING, PAGES, ROOM, TAIL, Page
@@ -70,9 +71,9 @@ class WorkJob(Pattern):
         queue, self.has_ended = self._queue, True
         id, slot = self.number >> 16, self.number & 0xFFFF
         queue._let_go(self.number)
-        if queue._end_at(slot) not in done_at(asked, frames.WRITEEF):
+        if queue._end_at(slot) not in done_at(asked, WRITEEF):
             yield from queue._end(id, slot, DONE)
-        elif FINISHED not in done_at(asked, frames.INT_FETCH_ADD):
+        elif FINISHED not in done_at(asked, INT_FETCH_ADD):
             yield from queue._finished(id)
         else:
             yield from queue._remove_if_ended(id)
@@ -154,7 +155,7 @@ class WorkQueue(Moves):
             return
         if number_of_bits(value, 64, "value") == NOTHING:
             raise ValueError("a job is below 2^64 - 1")
-        tries = Tries(self._core, key, frames.WRITEEF, value)
+        tries = Tries(self._core, key, WRITEEF, value)
         try:
             if (yield from tries.begin()) is None:
                 yield from self._open()
@@ -204,7 +205,7 @@ class WorkQueue(Moves):
             if page is None or page.tail >= self._slots:
                 yield from self._find_room(end)
                 continue
-            (ticket,) = yield from batch([requests.int_fetch_add(page.id, TAIL, 1, nowait=True)], NoArray, NotNow)
+            (ticket,) = yield from batch([made_before(INT_FETCH_ADD, page.id, TAIL, 1, True)], NoArray, NotNow)
             if not is_full(ticket):
                 yield from self._count([page], TAIL)
                 continue
@@ -258,14 +259,14 @@ class WorkQueue(Moves):
         for most in (0, 1, PAGES):
             if most:
                 yield from self._count([each for each in self._by_age() if each.id <= page.id][:most], FINISHED)
-            older = sum(self._slots - each.finished for each in self._by_age() if each.id < page.id)
+            older = sum(self._slots - each.finished for each in [*self._pages.values()] if each.id < page.id)
             if page.id not in self._pages or ticket < self._capacity + page.finished - older:
                 return True  # (without its page it is of no use)
         return False
 
     def _put_into(self, page: Page, slot: int, value: int, tries: Tries) -> Steps[bool]:
         """Puts the value into a slot, with its signal. Whether it is in."""
-        fills = requests.writeef(page.id, self._value_at(slot), value, nowait=True)
+        fills = made(WRITEEF, page.id, self._value_at(slot), value, True)
         done = yield from self._offer(page, slot, fills, tries.next())
         if isinstance(done, NoArray):
             self._forget_page(page)
@@ -341,7 +342,7 @@ class WorkQueue(Moves):
 
     def _take_from(self, page: Page, end: Optional[float]) -> Steps[Optional[WorkJob]]:
         """Draws a ticket of the page, and takes its job if it is there."""
-        asked = [requests.int_fetch_add(page.id, HEAD, 1, nowait=True)]
+        asked = [made_before(INT_FETCH_ADD, page.id, HEAD, 1, True)]
         if page.head >= page.tail:
             asked.append(requests.readff(page.id, TAIL, nowait=True))
         ticket, *tail = yield from batch(asked, NoArray)
@@ -361,7 +362,7 @@ class WorkQueue(Moves):
 
     def _take_slot(self, page: Page, slot: int, end: Optional[float]) -> Steps[Optional[WorkJob]]:
         """Takes the job of a slot whose ticket this client has."""
-        looks = [requests.readff(page.id, word, nowait=True) for word in (self._value_at(slot), self._source_at(slot))]
+        looks = [made(READFF, page.id, word, 0, True) for word in (self._value_at(slot), self._source_at(slot))]
         outcomes = yield from self._claim(page, slot, 0, *looks)
         if outcomes is None:
             return None
@@ -385,8 +386,7 @@ class WorkQueue(Moves):
     def _claim(self, page: Page, slot: int, attempt: int, *looks: Request[Any]) -> Steps[Optional[List[Any]]]:
         """Claims an attempt of the job, and looks. `None` if another client has it. It is noted before it is sent."""
         number, jobs = self._number(page, slot), self._core.holdings.jobs
-        claim = requests.writeef(page.id, self._claim_at(slot, attempt), self._session, nowait=True)
-        claim = requests.of_frame(claim.frame)  # one that is nobody else's: a thread knows its note by it
+        claim = made(WRITEEF, page.id, self._claim_at(slot, attempt), self._session, True)  # (a thread knows its note by it)
         is_mine = False
         try:
             if jobs.setdefault(number, claim) is not claim:  # another thread has it
@@ -611,7 +611,7 @@ class WorkQueue(Moves):
         jobs = self._core.holdings.jobs
         for ticket in asked:
             request = ticket.request
-            if request is None or request.frame[4] != frames.NOWAIT or request.frame[13] != frames.WRITEEF:
+            if request is None or request.frame[4] != NOWAIT or request.frame[13] != WRITEEF:
                 continue
             id, word = int.from_bytes(request.frame[14:22], "big"), int.from_bytes(request.frame[22:26], "big")
             if word < FIRST_SLOT:

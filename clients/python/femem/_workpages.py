@@ -6,9 +6,10 @@ from typing import Any, Dict, Iterable, List, Optional, Set
 
 from . import requests
 from ._errors import NameTaken, NoArray, NotNow, OtherPattern
+from ._frames import INT_FETCH_ADD, WRITEEF
 from ._jobs import Steps
 from ._operations import Pattern, batch, is_full, shared_array
-from .requests import Request
+from .requests import Request, made, made_before
 
 PAGES = 8
 MOST_ATTEMPTS = 16
@@ -115,8 +116,7 @@ class Pages(Pattern):
         return sorted(self._pages.values(), key=lambda page: page.id)  # (a copy at once: several threads may run steps)
 
     def _newest(self) -> Optional[Page]:
-        pages = self._by_age()
-        return pages[-1] if pages else None
+        return self._pages.get(max(self._pages, default=0))
 
     def _forget_page(self, page: Page) -> None:
         self._pages.pop(page.id, None)
@@ -167,7 +167,7 @@ class Pages(Pattern):
 
     def _room(self) -> Request[None]:
         """The signal for putters that wait."""
-        return requests.writeef(self._root, ROOM, 0, nowait=True)
+        return made_before(WRITEEF, self._root, ROOM, 0, True)
 
     def _has_ended(self, page: Page) -> Steps[bool]:
         """Whether all its slots have ended. Reads no more than it must."""
@@ -202,7 +202,7 @@ class Pages(Pattern):
 
     def _end(self, id: int, slot: int, how: int) -> Steps[bool]:
         """Ends a slot, once. Removes its page if this was the last one there."""
-        (ended,) = yield from batch([requests.writeef(id, self._end_at(slot), how, nowait=True)], NoArray, NotNow)
+        (ended,) = yield from batch([made(WRITEEF, id, self._end_at(slot), how, True)], NoArray, NotNow)
         if not isinstance(ended, NotNow):  # (what another client ended may have moved: only its END says to where)
             self._note_end(id, slot)
         if not is_full(ended):
@@ -218,7 +218,7 @@ class Pages(Pattern):
 
     def _finished(self, id: int) -> Steps[None]:
         """Counts a slot that this client ended."""
-        counts = [requests.int_fetch_add(id, FINISHED, 1, nowait=True), self._room()]
+        counts = [made_before(INT_FETCH_ADD, id, FINISHED, 1, True), self._room()]
         (before, _) = yield from batch(counts, NoArray, NotNow)
         if is_full(before):
             page = self._pages.get(id) or Page(id)

@@ -131,15 +131,15 @@ def access(code: int, array: ArrayLike, index: int, operand: int = 0, nowait: bo
         id = array.id if isinstance(array, Array) else array
         if operand == 0 or code == frames.INT_FETCH_ADD:
             return made_before(code, id, index, operand, nowait)  # patterns ask the same again and again
-        return _access(code, id, index, operand, nowait)
+        return made(code, id, index, operand, nowait)
     except (struct.error, TypeError):
         # One of them is wrong, or no plain `int`: this raises for which.
         at, value = number_of_bits(index, 32, "index"), number_of_bits(operand, 64, "value")
-        return _access(code, _id(array), at, value, _flag(nowait, "nowait"))
+        return made(code, _id(array), at, value, _flag(nowait, "nowait"))
 
 
-def _access(code: int, id: int, index: int, operand: int, nowait: bool) -> Request[Any]:
-    """`struct.error` if an argument is not a whole number or has too many bits."""
+def made(code: int, id: int, index: int, operand: int, nowait: bool) -> Request[Any]:
+    """One that is nobody else's. `struct.error` if an argument is not a whole number or has too many bits."""
     _, read, may_wait = OPERATIONS[code]
     if nowait is not False and nowait is not True:
         nowait = _flag(nowait, "nowait")
@@ -148,7 +148,7 @@ def _access(code: int, id: int, index: int, operand: int, nowait: bool) -> Reque
 
 @lru_cache(maxsize=1024, typed=True)
 def made_before(code: int, id: int, index: int, operand: int, nowait: bool) -> Request[Any]:
-    return _access(code, id, index, operand, nowait)
+    return made(code, id, index, operand, nowait)
 
 
 # For each operation: its name, how its answer is read, and whether it may wait.

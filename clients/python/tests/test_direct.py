@@ -226,8 +226,9 @@ class Direct(WithFolder):
         model.connect = lambda conn: (connections.append(conn), connect(conn))
         with Client(self.path, 7, probe_interval=LONG) as client:
             word, begun = client.create("word", 2, full=True), len(connections)
-            waited = 0
-            for turn in range(20):
+            waited = turn = 0
+            while turn < 20 or turn < 200 and not waited:  # (on a busy machine the thread may be late each time)
+                turn += 1
                 client.purge(word, 1)
                 self.warm(client, word)
                 got = []
