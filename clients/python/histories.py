@@ -97,6 +97,9 @@ HELD = {
 # Who is inside: a byte for each process, 1 or, for one that writes, 2.
 INSIDE = mmap.mmap(-1, PUTTERS + TAKERS)
 
+# How often each lost its session to a connection of its former process, whose attach the server read late.
+TAKEN = mmap.mmap(-1, PUTTERS + TAKERS)
+
 
 def held(client, kind):
     """The sessions in the words of what all have given back."""
@@ -125,8 +128,12 @@ class Life:
         if self.pid == 0:
             status = 1
             try:
-                self._work()
-                status = 0
+                while status:
+                    try:
+                        self._work()
+                        status = 0
+                    except femem.TakenOver:
+                        INSIDE[self.k], TAKEN[self.k] = 0, min(TAKEN[self.k] + 1, 255)  # it begins again
             except femem.FememError as error:
                 print(f"process {self.k}: {type(error).__name__}: {error}", file=sys.stderr, flush=True)
             finally:
@@ -344,7 +351,8 @@ class History:
 def told(history, spent, lost, twice, held_, count, what):
     """Prints the four numbers, and what else came. Whether all are 0."""
     pauses = history.pauses
-    print(f"{spent:.0f} s: {history.kills} kills of clients, {history.server_kills} of the server, {history.stops} stops")
+    events = f"{history.kills} kills of clients, {history.server_kills} of the server, {history.stops} stops"
+    print(f"{spent:.0f} s: {events}; {sum(TAKEN)} times a former process's attach came late")
     print(f"lost {lost}, twice {twice}, held {len(held_)}, blocked {pauses.blocked}: {count:,} {what}, {count / spent:,.0f}/s")
     print(f"a process did nothing for {pauses.worst_of_one:.1f} s at most; this program was {pauses.late:.1f} s late at most", flush=True)
     return not (lost or twice or held_ or pauses.blocked) and count > 0
