@@ -429,6 +429,31 @@ static void closed_while_away(void) {
   femem_bye_within(client, 60000), femem_close(client);
 }
 
+/* A holder that makes no other call is absent after a restart of the server, until it says that it is present. */
+static void present_again(void) {
+  femem *one = opened(26, &usual), *two = opened(27, &usual);
+  femem_lock *held = NULL, *other = NULL;
+  uint64_t session = 0;
+  bool there = true;
+  ERROR(femem_lock_open(&held, one, "present"), FEMEM_OK);
+  ERROR(femem_lock_open(&other, two, "present"), FEMEM_OK);
+  ERROR(femem_present(one), FEMEM_OK);
+  ERROR(femem_lock_acquire(held, 0, FEMEM_NEVER), FEMEM_OK);
+  stop_server();
+  start_server();
+  ERROR(femem_lock_owner(other, &session, &there), FEMEM_OK);
+  CHECK(session == 26 && !there);
+  for (int tries = 0; !there && tries < 2000; tries++) {
+    ERROR(femem_present(one), FEMEM_OK);
+    pause_for(10);
+    ERROR(femem_lock_owner(other, &session, &there), FEMEM_OK);
+  }
+  CHECK(session == 26 && there);
+  femem_lock_close(held), femem_lock_close(other);
+  femem_bye_within(one, 60000), femem_close(one);
+  femem_bye_within(two, 60000), femem_close(two);
+}
+
 /* ---- over kills ---- */
 
 static char files[CLIENTS][100];
@@ -640,6 +665,7 @@ int main(int count, char **words_given) {
   first_of_several();
   released_again();
   closed_while_away();
+  present_again();
   for (size_t i = 0; i < sizeof all_shared / sizeof *all_shared; i++) kills(&all_shared[i]);
   meetings();
   counted_once();

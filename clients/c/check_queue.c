@@ -72,6 +72,26 @@ static void room(femem *client) {
   femem_queue_close(queue);
 }
 
+/* Jobs that stay open hold up a page each. Once they do so in all eight, a put waits until one of them is done. */
+static void old_jobs(femem *client) {
+  enum { PAGES = 8, SLOTS = 12 };
+  femem_queue *queue = queue_opened(client, "old", SLOTS, 3, 500);
+  femem_job job, old[PAGES];
+  for (int i = 0; i < PAGES * SLOTS; i++) {
+    put(queue, 7);
+    job = taken(queue, 7, 1);
+    if (i % SLOTS == 0) old[i / SLOTS] = job;
+    else ERROR(femem_queue_done(queue, &job), FEMEM_OK);
+  }
+  for (int i = 0; i < 2; i++) ERROR(femem_queue_put(queue, 8, NULL, 200 * i), FEMEM_WITHDRAWN);
+  ERROR(femem_queue_done(queue, &old[3]), FEMEM_OK);
+  put(queue, 8);
+  job = taken(queue, 8, 1);
+  ERROR(femem_queue_done(queue, &job), FEMEM_OK);
+  for (int i = 0; i < PAGES; i++) ERROR(femem_queue_done(queue, &old[i]), i == 3 ? FEMEM_NOT_OWNER : FEMEM_OK);
+  femem_queue_close(queue);
+}
+
 /* A job that fails is tried again, three times in all, and then set aside until it is dropped. */
 static void failures_of_jobs(femem_queue *queue) {
   femem_job job = {0}, aside[2];
@@ -196,6 +216,7 @@ static void calls(void) {
   femem_queue_close(queue);
   takers_away_for_moments(client);
   room(client);
+  old_jobs(client);
   stops(client);
   arguments(client);
   ERROR(femem_bye_within(client, 60000), FEMEM_OK);

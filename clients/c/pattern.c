@@ -166,6 +166,9 @@ femem_error fp_show(femem *client, bool *shows) {
 
 femem_error femem_present(femem *client) {
   femem_error error = fe_usable(client);
+  /* Only a read tells a client with nothing to send that its server is gone. */
+  if (error == FEMEM_OK && client->phase == SERVED) error = fe_read_some(client);
+  if (error) error = fe_mend(client, error, fe_moment(client->settings.wait));
   if (error == FEMEM_OK && client->showing > 0) error = show(client);
   return error ? error : fe_flush(client);
 }
