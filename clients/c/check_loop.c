@@ -101,6 +101,7 @@ static void end_is_made_up(femem *client) {
   uint64_t before = femem_session(client);
   femem_answer answer = {0};
   kill(server, SIGSTOP);
+  waitpid(server, NULL, WUNTRACED); /* until all its threads have stopped */
   ERROR(femem_bye_within(client, 0), FEMEM_TIMEOUT);
   femem_close(client);
   stop_server();

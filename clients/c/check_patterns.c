@@ -392,6 +392,7 @@ static void released_again(void) {
   ERROR(femem_wait(other, number, &answer, 0), FEMEM_TIMEOUT);
   ERROR(femem_readxx(other, array, 1, NULL), FEMEM_OK);
   kill(server, SIGSTOP);
+  waitpid(server, NULL, WUNTRACED); /* until all its threads have stopped */
   ERROR(femem_lock_release(lock), FEMEM_TIMEOUT);
   kill(server, SIGCONT);
   while ((error = femem_lock_release(lock)) == FEMEM_TIMEOUT) continue;
