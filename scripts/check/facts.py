@@ -2,18 +2,13 @@
 
 The codes, frames, offsets, limits and the operation table are the ones by which all checks speak (tables.py)."""
 
-import os
 import re
-import struct
 
 from . import calls, fields, sessions, store, tables, wire, writes
 from .crowds import TALK
 from .harness import holds, preload, same
 from .model import LIMITS, TOP_FLOOR, TOP_PLACE
 from .tables import number, rows, said, text
-
-# Sizes of a store are written so in the documents.
-SIZED = re.compile(r"[Ss]tore[^.|\n]{0,40}?\b([34],\d\d\d,\d\d\d)")
 
 
 def exchange(_place):
@@ -89,46 +84,11 @@ def part(first):
     return page[begin : page.index("\n\n", begin)]
 
 
-def lengths(_place):
-    """the greatest lengths of frames, and the operations that never wait, are those of the tables"""
-    longest = [max(1 + struct.calcsize(kind.form) for code, kind in wire.FROM_CLIENT.items() if code in codes) for codes in (range(10), range(14))]
-    same(said("docs/formats.md", "above the greatest, which is N in version 1 and N in version 2", 2), longest)
+def never_wait(_place):
+    """the operations that never wait are those of the table"""
     never = re.search(r"((?:`\w+`(?:, | and )?)+) never wait, nor do", text("docs/formats.md"))[1]
     wanted = [name for name, row in tables.operations().items() if row[0] == "any"]
     same(sorted(re.findall(r"`(\w+)`", never)), sorted(wanted))
-
-
-def offsets(_place):
-    """each size of a store that a document gives is its size, and slot 1 is a slot behind slot 0 in the tables of docs/store.md"""
-    count = 0
-    for name in ("README.md", "docs/formats.md", "docs/store.md", "docs/operating.md", "docs/commands.md", "docs/model.md"):
-        for it in SIZED.findall(text(name)):
-            count += 1
-            same(number(it), store.SIZE, name)
-    holds(count >= 5, f"only {count} sizes")
-    found = [(number(a), number(b)) for a, b in re.findall(r"^    ([\d,]+) {2,}([\d,]+) {2,}[\d,]+ {2,}", text("docs/store.md"), re.M)]
-    same([(a, b) for a, b in found if b != a + store.SLOT], [])
-    holds(len(found) >= 3, f"only {len(found)} offsets")
-    return f"{count} sizes, {len(found)} offsets"
-
-
-def limits(_place):
-    """the limits of the README, of docs/operating.md and of the formats are the same ones"""
-    same(LIMITS["requests that wait"], [LIMITS["sessions kept"][0] * LIMITS["request numbers of a session in use"][0]])
-    same(LIMITS["size of a store"], [store.SIZE])
-    operating = " ".join(row[0] for row in rows("docs/operating.md", "| limit | what happens there |"))
-    for form, name in (
-        (r"([\d,]+) sessions", "sessions kept"), (r"([\d,]+) numbers from", "request numbers of a session in use"),
-        (r"([\d,]+) arrays", "arrays"), (r"([\d,]+) words", "words in all arrays"), (r"([\d,]+) requests that wait", "requests that wait"),
-        (r"([\d,]+) replies unread", "replies queued for one connection"), (r"the store, ([\d,]+) bytes", "size of a store"),
-        (r"connections, (?:\d+) by default and up to (\d+)", "connections"),
-    ):
-        same([number(it) for it in re.findall(form, operating)], LIMITS[name][:1], f"docs/operating.md: {name}")
-    fields = dict(re.findall(r"^\| (\d+) \| how many (\w+), 0 to \d+ \|$", text("docs/formats.md"), re.M))
-    same(len(fields), 1, "two counts of four bytes")
-    for what, name in (("arrays", "arrays"), ("sessions", "sessions kept")):
-        same(said("docs/formats.md", f"how many {what}, 0 to N |"), LIMITS[name][0], what)
-    return f"{len(LIMITS)} limits"
 
 
 def defined(crate, file):
@@ -157,10 +117,8 @@ def definitions(_place):
     }
     same(layout, areas, "fe_journal/Layout")
     same(layout["header_bytes"], store.GATE + 1, "the header's last byte is its gate")
-    most_used = re.search(r"^const MOST_USED: u32 = (\d+);$", text("crates/fe_hall/src/committing.rt"), re.M)[1]
-    same(said("docs/operating.md", "A checkpoint begins once more than N bytes of the journal are used"), int(most_used), "a checkpoint begins")
     same(defined("fe_text", "Line"), {"longest_line": said("docs/schedules.md", "The longest line of the syntax has N bytes")}, "fe_text/Line")
-    return f"{len(states) + len(boxes) + len(areas) + 1} numbers"
+    return f"{len(states) + len(boxes) + len(areas)} numbers"
 
 
 def settings(place):
@@ -215,8 +173,6 @@ def statuses(place):
     listed = [int(it) for it in re.findall(r"^  (\d)  ", shown.decode(), re.M)]
     same(listed, list(meant), "the statuses in the help of serve")
     same(sorted(meant), sorted({status for status, _, _ in ends.values()}), "statuses of docs/commands.md")
-    spoken = re.search(r"The status gives the kind: 0 no fault, (\d) settings, command line, lines and standard streams, (\d) store, memory and `strange`, (\d) socket", text("docs/operating.md"))
-    same([int(it) for it in spoken.groups()], [ends[it][0] for it in ("the settings", "the store", "the socket")], "docs/operating.md")
     return f"{len(ends)} ends"
 
 
@@ -236,4 +192,4 @@ def unit(_place):
     holds("RequiresMountsFor=" in page and "`MALLOC_ARENA_MAX=1`" in page and lines["Environment"] == "MALLOC_ARENA_MAX=1", "the page names them")
 
 
-CHECKS = (exchange, kinds, examples, lengths, offsets, limits, definitions, settings, statuses, unit, *fields.CHECKS, *writes.CHECKS, *sessions.CHECKS)
+CHECKS = (exchange, kinds, examples, never_wait, definitions, settings, statuses, unit, *fields.CHECKS, *writes.CHECKS, *sessions.CHECKS)

@@ -250,46 +250,6 @@ def first_refusal(place):
     return f"{len(BOTH)} messages"
 
 
-def elsewhere(_place):
-    """numbers and names that the tables of docs/operating.md, model.md, proved.md and images.md repeat are those of docs/formats.md and the README"""
-    most, usual = LIMITS["connections"]
-    sessions, window, mails = (LIMITS[it][0] for it in ("sessions kept", "request numbers of a session in use", "replies queued for one connection"))
-    waiting = LIMITS["requests that wait"][0]
-    for page, form, wanted in (
-        ("operating", "| N bytes in each image for a word |", image_tables()[1][-1][0]), ("operating", "| N bytes for an entry until", store.TWO.record),
-        ("operating", "| `connections`, N by default and up to N |", [usual, most]), ("operating", "| N sessions | `session-limit`.", sessions),
-        ("operating", "or a counter of calls or mails came near N |", 2**63), ("operating", "| the answers kept, up to N each |", window),
-        ("operating", "| N sessions with N numbers each can't pass it |", [sessions, window]), ("model", "there are fewer than N | a missing", sessions),
-        ("model", "at most N higher, and at most N - N |", [window, 2**63, 2**63 - TOP_FLOOR]), ("proved", "| at most N entries, in order", 2 * waiting + 1),
-        ("proved", "`steps_are_few` (N entries)", said(PAGE, "fewer than N places left")), ("proved", "`boxes_stay_short` (N mails)", mails),
-        ("images", "at most the image's place + N, in format 2 + N |", said(PAGE, "from 1 to its image's place + N in format 1, + N in format 2", 2)),
-    ):
-        same(said(f"docs/{page}.md", form, 1 if isinstance(wanted, int) else len(wanted)), wanted, f"docs/{page}.md: {form}")
-    known = {*wire.ANSWERS, *wire.REFUSALS.values(), "connections", "bye"}
-    named = re.findall(r"`([a-z-]+)`", re.search(r"^\| limit \| what happens there .*?\n\n", text("docs/operating.md"), re.M | re.S)[0])
-    same(sorted(set(named) - known), [], "names in the table of limits")
-    return f"{len(named)} names"
-
-
-# Numbers of the code that pages have: the page's words, the file, how the number stands there, and what the page counts it in.
-IN_CODE = (
-    ("docs/operating.md", "two threads each, with N MB of address space", "fe_server/src/connection.rt", r"STACK: usize = 1 << (\d+)", lambda it: 2 * 2**it // 2**20),
-    ("docs/proved.md", "The list has the first N attaches and calls", "fe_history/src/strange.rt", r"LISTED: usize = (\d+)", int),
-    ("docs/proved.md", "The receipts are the first N answers", "fe_hall/src/writing.rt", r"RECEIPTS: usize = (\d+)", int),
-    ("docs/model.md", "a missing session opens, floor N |", "fe_state/specs/Sessions.antt", r"first_session = record \{ floor = (\d+)", int),
-    ("docs/model.md", "it does not exist, the floor is N and", "fe_state/specs/Sessions.antt", r"first_session = record \{ floor = (\d+)", int),
-    ("docs/headline.md", "each entry adds N to the place", "fe_state/specs/State.antt", r"place = s\.place \+ (\d+)", int),
-    ("docs/performance.md", "1,000: up to 1.8 times the user time | N |", "fe_hall/src/hold.rt", r"LOOKS: u64 = (\d+)", int),
-)
-
-
-def in_code(_place):
-    """numbers of the code that tables of other pages have are those of the code"""
-    for page, form, file, pattern, counted in IN_CODE:
-        same(said(page, form), counted(int(re.search(pattern, text(f"crates/{file}"))[1])), f"{page}: {form}")
-    return f"{len(IN_CODE)} numbers"
-
-
 def told_again(_place):
     """the files beside a store, the kinds of entries and the number of operations are on other pages as docs/formats.md and the README have them"""
     beside = set(re.findall(r"`STORE(\.[\w-]+)`", text("docs/operating.md")))
@@ -299,8 +259,9 @@ def told_again(_place):
     entries = re.findall(r"^\| \*(\w+)\* \|", text("docs/model.md"), re.M)
     same(sorted(entries), sorted(codes_in_record("kind")), "entries of docs/model.md")
     counted = {"seven": 7, "eight": 8, "nine": 9}
-    same(counted[re.search(r"\| the (\w+) rows \|", text("docs/headline.md"))[1]], len(operations()), "rows in docs/headline.md")
+    for page, form in (("docs/headline.md", r"\| the (\w+) rows \|"), ("README.md", r"#operations\) are (\w+)\.")):
+        same(counted[re.search(form, text(page))[1]], len(operations()), f"operations of {page}")
     return f"{len(entries)} entries"
 
 
-CHECKS = (images, operation_table, frames, codes, areas, bounds, replies, refusals, first_refusal, elsewhere, in_code, told_again)
+CHECKS = (images, operation_table, frames, codes, areas, bounds, replies, refusals, first_refusal, told_again)

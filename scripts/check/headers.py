@@ -6,7 +6,6 @@ import os
 import re
 import sys
 
-from . import tables
 from .harness import same
 from .texts import NAME, TOP, exists, text_of, told
 
@@ -37,8 +36,6 @@ def of_c(_place):
     refused = [code for name, code in codes.items() if name.startswith("FEMEM_REFUSED_")]
     said = re.search(r"`FEMEM_REFUSED_\.\.\.` \((\d+) to (\d+)\)", page).groups()
     same([min(refused), max(refused)], [int(it) for it in said], "refusals")
-    buffered = int(re.search(r"^  RESERVE = (\d+)", text_of("clients/c/client.h"), re.M)[1])
-    same(tables.said(C_PAGE, "to write if N bytes are not yet written"), buffered, "bytes that are not yet written")
     short = re.search(r"A client with its own session can get (.*?): another", page)[1]
     missing += [f"{C_PAGE}: no {it}" for it in NAME.findall(short) if f"FEMEM_REFUSED_{it}" not in codes]
     return told(missing, count, 90, "names")

@@ -74,11 +74,13 @@ def tables(_place):
     same(int.from_bytes(check, "big"), zlib.crc32(magic + session), "the header's sum")
     fields = sizes_of("| block, 32 bytes and the payload |")
     same(sum(size or 0 for _, size in fields), said(PAGE, "| block, N bytes and the payload |"), "a block")
-    met = []
+    met, blocks_of = [], []
     for content in blocks:
         length = int.from_bytes(content[: fields[0][1]], "big")
         reader = Reader(content)
         found = {name: reader.take(length if size is None else size) for name, size in fields}
+        numbers = [int.from_bytes(found[name], "big") for name in ("floor", "asked", "next")]
+        blocks_of += [numbers] if any(numbers) else []
         same((reader.at, int.from_bytes(found["sum"], "big")), (len(content), zlib.crc32(content[:-4], zlib.crc32(session))), "a block")
         records = Reader(found["payload"])
         while records.at < length:
@@ -86,6 +88,8 @@ def tables(_place):
             met.append(name)
             for part in parts:
                 records.field(*part)
+    same([said(PAGE, f"Block {at}: floor N, asked N, next N.", 3) for at in range(2, 2 + len(blocks_of))], blocks_of, "the blocks in words")
+    same(int(re.search(r"of the text `123456789` it is (0x\w+)", text(PAGE))[1], 16), zlib.crc32(b"123456789"), "the CRC")
     same({name: kind for kind, (name, _) in kinds().items()}, {name: getattr(sessionrecords, f"{name.upper()}_KIND") for _, (name, _) in kinds().items()})
     same(len(set(met)), 5, f"kinds in the example: {met}")
     return f"{len(met)} records"

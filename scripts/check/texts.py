@@ -1,13 +1,12 @@
 """The documents as texts: their prose, blocks, headings and tables, and the files that they name."""
 
-import functools
 import glob
 import os
 import re
 
 from .harness import holds, same
+from .tables import TOP, text as text_of
 
-TOP = os.path.normpath(os.path.join(os.path.dirname(os.path.realpath(__file__)), "..", ".."))
 TITLES = ("README.md", "ARCHITECTURE.md", "CONTRIBUTING.md")
 PAGES = (*TITLES, *sorted(os.path.relpath(it, TOP) for it in glob.glob(os.path.join(TOP, "docs", "*.md"))))
 READMES = ("packaging/README.md", "clients/c/README.md", "clients/python/README.md")
@@ -20,12 +19,6 @@ KINDS = (".rt", ".antt", ".py", ".c", ".h", ".md", ".toml", ".txt", ".out", ".ed
 # A placeholder in a path. Files made by a build or filled in by an installation are not in the repository.
 ANY = re.compile(r"\b(?:NAME|CRATE|FILE)\b")
 MADE = re.compile(r"out/|PREFIX/|PATH\.")
-
-
-@functools.cache
-def text_of(name):
-    with open(os.path.join(TOP, name), encoding="utf-8") as file:
-        return file.read()
 
 
 def split(text):

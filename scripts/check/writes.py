@@ -47,9 +47,9 @@ def orders(_place):
 
 
 def layout(_place):
-    """the layout of docs/store.md has the areas of docs/formats.md, with their sizes"""
-    found = re.findall(r"^    ([\d,]+) {2,}[\d,]+ {2,}([\d,]+) {2,}(header|image|journal area)\b", text(PAGE), re.M)
-    same({name: (number(at), number(size)) for at, size, name in found}, store.AREAS)
+    """the layout of docs/store.md has the areas of docs/formats.md, with their sizes, in both slots"""
+    found = re.findall(r"^    ([\d,]+) {2,}([\d,]+) {2,}([\d,]+) {2,}(header|image|journal area)\b", text(PAGE), re.M)
+    same({name: (number(at), number(other) - number(at), number(size)) for at, other, size, name in found}, {name: (at, store.SLOT, size) for name, (at, size) in store.AREAS.items()})
 
 
 # How the page writes the calls that make a store's file, and the steps in which a backup reads a slot with what does each there.
