@@ -114,6 +114,28 @@ class Malice(WithFolder):
                 with self.assertRaises(femem.ProtocolError):
                     client.readxx(1, 0)
 
+    def test_what_a_server_refuses_later(self):
+        def returns(reply):
+            attaches = itertools.count()
+            first = attached(lambda piece, count: None)
+            return lambda piece, count: reply if count == 0 and next(attaches) else first(piece, count)
+
+        def refuses(kind, code):
+            asked = struct.pack(">IB", 1, kind)
+            return attached(lambda piece, count: frame(70, 0, code) if asked in piece else echoes(piece))
+
+        for name, answer, error, ask in [
+            ("64 other sessions are kept", returns(frame(70, 7, frames.SESSION_LIMIT)), femem.SessionLost, lambda it: it.readxx(1, 0)),
+            ("the floor of another client", returns(frame(65, 7, 200)), femem.TakenOver, lambda it: it.readxx(1, 0)),
+            ("no memory for a report", refuses(9, frames.NO_MEMORY), femem.NoMemory, Client.report),
+            ("no place for a bye", refuses(8, frames.SPENT), femem.Spent, Client.bye),
+        ]:
+            with self.subTest(name):
+                self.path += "s"
+                self.serve(answer)
+                with self.assertRaises(error):
+                    ask(self.client())
+
     def test_two_answers_that_differ(self):
         replies = frame(66, FIRST, frames.VALUE, 1, 0) * 2 + frame(66, FIRST, frames.VALUE, 2, 0)
         self.serve(attached(lambda piece, count: replies))
