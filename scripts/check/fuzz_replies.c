@@ -7,7 +7,7 @@
 size_t LLVMFuzzerMutate(uint8_t *bytes, size_t size, size_t most);
 
 /* The lengths of the kinds from 0x41 on; 0 where a kind has none of its own. */
-static const uint8_t lengths[] = {17, 22, 10, 9, 9, 9, 0, 0};
+static const uint8_t lengths[] = {17, 22, 9, 9, 9, 10, 0, 0};
 
 size_t LLVMFuzzerCustomMutator(uint8_t *bytes, size_t size, size_t most, unsigned seed) {
   size = LLVMFuzzerMutate(bytes, size, most);

@@ -4,7 +4,7 @@ docs/performance.md.
 Usage: scripts/figures [--before NAME COSTS.. --after COSTS..]
 
 The gate leaves its last line, its log and its costs in out/gate, and scripts/plant what it found in out/plant. Where they left nothing,
-as in a new clone, the page keeps what it has of them. A text of bench/results has what a bench of that name printed last, with when
+as in a new clone, the page keeps what it has of them. So do the parts `coverage` and `fuzz` of scripts/check_programs, in out/figures. A text of bench/results has what a bench of that name printed last, with when
 and where, and is written anew with each figure that changes. No figure of these two is written by hand. With --before and --after it compares the costs of another text, which it calls
 NAME, with those of this one. A file of COSTS is as scripts/measure writes it, and counts for a crate where no later one has it.
 """
@@ -183,6 +183,17 @@ def compared(asked):
     yield ""
 
 
+def left(heading, name, *head):
+    """A table of what parts of scripts/check_programs left in out/figures, or else the page has, of the files that are there."""
+    texts = ["\n".join(section(heading))]
+    for path in sorted(glob.glob(os.path.join(TOP, "out", "figures", f"{name}-*"))):
+        with open(path, encoding="utf-8") as file:
+            texts.append(file.read())
+    found = {name: line for text in texts for line, name in re.findall(r"^(\| `([^`]+)` \|.*)$", text, re.M)}
+    yield from (row(head), "|---|" + "---|" * (len(head) - 1))
+    yield from (line for name, line in sorted(found.items()) if os.path.exists(os.path.join(TOP, name)))
+
+
 def wrong_bodies():
     """What scripts/plant found in each crate that it was run in."""
     found = planted.figures()
@@ -240,6 +251,11 @@ def page(asked):
         "## Wrong bodies", "",
         "What `rt plant` tried and could judge. Tried bodies in no later column give, by the contract, the"
         " same as the right one. `scripts/planted.txt` says why the explained ones do no harm.", "", *wrong_bodies(), "",
+        "## Coverage", "",
+        "Of the clients, by their tests: gcov and coverage.py, when `scripts/check_programs PROGRAM coverage` was run last. Killed processes leave no counts, and the tries of all"
+        " schedules are left out (`scripts/check/coverage.py`), so more is run than is said here.", "",
+        *left("Coverage", "coverage", "file", "lines", "run", "branches", "taken", "lines that are never run"), "",
+        "## Fuzzing", "", "Of the clients' readers of foreign bytes, when `scripts/check_programs PROGRAM fuzz` was run last.", "", *left("Fuzzing", "fuzz", "fuzzer", "seconds", "runs", "edges", "findings"), "",
         "## Documents", "", *words(),
     ]
     return "\n".join(parts) + "\n"
