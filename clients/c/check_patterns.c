@@ -340,6 +340,23 @@ static void counters_and_barriers(void) {
   femem_close(client);
 }
 
+/* One that waits for seconds passes once the other one has arrived. */
+static void late_partner(void) {
+  fflush(stdout);
+  pid_t first = fork();
+  femem *client = opened(first == 0 ? 28 : 29, &usual);
+  femem_barrier *barrier;
+  right(femem_barrier_open(&barrier, client, "late", 2));
+  if (first) pause_for(2500);
+  right(femem_barrier_wait(barrier, 60000, NULL));
+  femem_barrier_close(barrier);
+  right(femem_bye_within(client, 60000));
+  femem_close(client);
+  if (first == 0) _exit(0);
+  int status = 1;
+  CHECK(waitpid(first, &status, 0) == first && status == 0);
+}
+
 /* The first of several words: one that is there already, one that comes, several, none in time, an error. */
 static void first_of_several(void) {
   femem *client = opened(19, &usual), *other = opened(20, &usual);
@@ -663,6 +680,7 @@ int main(int count, char **words_given) {
   keys();
   semaphores();
   counters_and_barriers();
+  late_partner();
   first_of_several();
   released_again();
   closed_while_away();

@@ -15,7 +15,7 @@ from .clients import CLIENTS, output_of
 from .harness import Skipped, compiler, holds, within
 from .texts import TOP, text_of
 
-FLAGS = ("CFLAGS=-O0 -g --coverage", "SANITIZERS=-O0 --coverage")
+FLAGS = ("CFLAGS=-O0 -g --coverage -D_exit=exit", "SANITIZERS=-O0 --coverage -D_exit=exit")  # (gcov writes its counts at `exit`)
 PYTHON = "/usr/bin/python3"
 # Each Python that a test starts counts too, and counts again once a test has traced by itself.
 COUNTS = b"""
