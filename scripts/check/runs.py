@@ -2,6 +2,7 @@
 
 import os
 import re
+import resource
 import subprocess
 
 from . import schedules
@@ -254,6 +255,22 @@ def printed_is_let_go(place):
     return f"{many} kB, {few} with a hundredth"
 
 
+def mixed_lines(count):
+    """Lines in groups of nine: two requests that are stored, a settle that is, refused ones, waits that are cancelled or end with their connection."""
+    for number in range(2, 2 + 2 * (count // 9), 2):
+        yield b"c1 settle %d\nc1 %d writeef 1 0 42\nc1 %d readfe 1 0\nc1 %d find other\n" % (number, number, number + 1, number)
+        yield b"c1 %d readfe 1 1\nc1 cancel %d\nc2 attach 8\nc2 1 readfe 1 1\nc2 gone\n" % (number + 2, number + 2)
+
+
+def synced_is_let_go(place):
+    """the store in memory forgets what was synced: 100,000 lines have enough memory with 24 MiB of data, some 20 of which a few lines take"""
+    lines = place.write("given", b"c1 attach 7\nc1 1 create cells 2 empty\n" + b"".join(mixed_lines(100_000)))
+    with open(lines, "rb") as source:
+        process = place.start([place.program, "run"], "run", stdin=source, limit=(resource.RLIMIT_DATA, 24 << 20))
+    same((process.wait(30 * place.options.patience), place.read("run.err")), (0, b""))
+    same(place.read("run.out").count(b"\n"), 2 + 100_000 // 9 * 6)
+
+
 def cut_anywhere(place):
     """an input cut at each byte: the cut line runs if it is a line of the syntax, or its number is printed"""
     given = b"c1 attach 7\nc1 1 create cells 2 empty\nc1 2 writeef 1 0 42\nc1 cancel 2\nhold\nc1 gone\nflush\n"
@@ -415,6 +432,7 @@ CHECKS = (
     names_are_bytes,
     longest_lines,
     printed_is_let_go,
+    synced_is_let_go,
     cut_anywhere,
     short_streams,
     streams_fail,

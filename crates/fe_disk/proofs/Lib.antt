@@ -3,3 +3,4 @@ pub mod Moments
 pub mod Outcomes
 mod Stops
 mod Tears
+mod Unsynced

@@ -1,12 +1,10 @@
 -- What a `MemoryDisk` is, and which images its record of writes and syncs says that a stop may leave. An image is the
 -- list of all bytes of a disk (`docs/model.md`, "The disk").
 use Rattle.fe_disk.specs.declared.calls.Calls.{Calls}
-use Rattle.std.specs.Prelude.{◌≡◌, ◌⊎◌, ℕ, ◌+◌, ◌-◌, ◌^◌, ◌<◌, ◌≤◌, min, List, [], ◌∷◌, length, slice_index, replicate, map, reverse}
+use Rattle.std.specs.Prelude.{◌≡◌, ◌⊎◌, ℕ, ◌+◌, ◌-◌, ◌^◌, ◌<◌, ◌≤◌, min, List, [], ◌∷◌, length, slice_index, replicate}
 use Rattle.fe_disk.specs.Disk.{IsImage, bytes_at, after_write}
 use Rattle.fe_disk.specs.declared.memory_disk.Torn.{Torn}
 use Rattle.fe_disk.specs.declared.memory_disk.Torn.TheVariants.{Kept, Lost, Byte}
-use Rattle.fe_disk.specs.declared.record.Call.{Call}
-use Rattle.fe_disk.specs.declared.record.Call.TheVariants.{Wrote, Synced}
 
 -- no calls
 abbrev pub none : Calls
@@ -153,12 +151,3 @@ abbrev pub image_with_tears : Torn → List ℕ → List DiskEvent → List ℕ
 image_with_tears torn image [] = image
 image_with_tears torn image (Sync ∷ earlier) = image
 image_with_tears torn image (Write at before ∷ earlier) = image_with_tears torn (image_with_tear torn image at before) earlier
-
--- the event of a call; `before` is the bytes that the write replaced
-abbrev pub event_of : Call → DiskEvent
-event_of (Wrote at before) = Write at before.items
-event_of Synced = Sync
-
--- the events of these calls, the latest first; the calls come in the order in which they were made
-abbrev pub newest_first : List Call → List DiskEvent
-newest_first calls = reverse (map event_of calls)

@@ -7,7 +7,7 @@ ghost use Rattle.fe_disk.specs.Memory.{size_of, failures_of, calls_of, seen_of, 
 ghost use Rattle.fe_disk.specs.within.Memory.{seen_may_stay_law, left_is_image_law, counts_now_law, only_now_law};
 
 use crate::faults::fault;
-use crate::record::{Call, record_sync, record_write, replace, torn_copy};
+use crate::record::{Record, replace};
 use crate::{Calls, DeviceFault, Disk};
 use std::alloc::{AllocError, Global};
 use std::marker::Model;
@@ -23,13 +23,13 @@ pub enum Torn {
     Byte(u8),
 }
 
-/// A disk in memory. It records every write and sync that succeeds and forgets none, so the record
-/// grows without end. A call that finds no memory for the record fails and does nothing.
+/// A disk in memory. Beside its bytes it keeps those that the writes since the last sync replaced. A write that finds no memory for
+/// them fails and does nothing.
 #[derive(Drop)]
 pub struct MemoryDisk {
     alloc: Global,
     bytes: Vec<u8>,
-    record: Vec<Call>,
+    record: Record,
     calls: Calls,
     failures: u64,
 }
@@ -56,27 +56,26 @@ impl MemoryDisk {
         Ok(MemoryDisk {
             alloc,
             bytes: vec![in alloc; 0; size]?,
-            record: Vec::new(alloc),
+            record: Record::new(alloc),
             calls: Calls::NONE,
             failures: 0,
         })
     }
 
-    /// A disk with these bytes, no calls and no faults. Its record has room for one call: a sync that is recorded first takes no
-    /// memory. A write takes some for the bytes that it replaces.
-    pub fn over(alloc: Global, bytes: Vec<u8>) -> Result<MemoryDisk, AllocError>
-        ensures image { IfOk result (λ disk. disk.image ≡ bytes.items) }
-        ensures fresh { IfOk result IsFresh }
-        ensures honest { IfOk result IsHonest }
-        ensures durable { IfOk result (λ disk. LeavesJust disk.image (LeavesNow disk)) }
+    /// A disk with these bytes, no calls and no faults.
+    pub fn over(alloc: Global, bytes: Vec<u8>) -> MemoryDisk
+        ensures image { result.image ≡ bytes.items }
+        ensures fresh { IsFresh result }
+        ensures honest { IsHonest result }
+        ensures durable { LeavesJust result.image (LeavesNow result) }
     {
-        Ok(MemoryDisk {
+        MemoryDisk {
             alloc,
             bytes,
-            record: Vec::with_capacity(alloc, 1)?,
+            record: Record::new(alloc),
             calls: Calls::NONE,
             failures: 0,
-        })
+        }
     }
 
     /// The disk that a stop now leaves if this happens to the ranges that were written since the last sync
@@ -94,8 +93,8 @@ impl MemoryDisk {
     {
         Ok(MemoryDisk {
             alloc: self.alloc,
-            bytes: torn_copy(self.alloc, torn, &self.record, &self.bytes)?,
-            record: Vec::new(self.alloc),
+            bytes: self.record.torn_copy(self.alloc, torn, &self.bytes)?,
+            record: Record::new(self.alloc),
             calls: Calls::NONE,
             failures: 0,
         })
@@ -110,7 +109,10 @@ impl MemoryDisk {
     {
         if self.failures == u64::MAX
             || self.calls.writes == u64::MAX
-            || record_write(self.alloc, &mut self.record, &self.bytes, at, bytes.len()).is_err()
+            || self
+                .record
+                .wrote(self.alloc, &self.bytes, at, bytes.len())
+                .is_err()
         {
             return Err(fault(&mut self.failures));
         }
@@ -201,16 +203,17 @@ impl Disk for MemoryDisk {
         ensures time { IsHonest self.old → Elapses moment_of LeavesSince LeavesNow self.old self.new }
         ensures device { EndsCall size_of failures_of calls_of IsHonest 0 0 1 result self.old self.new }
 
+        // A sync takes no memory, so it fails exactly if the count of faults, or that of syncs, is at its top.
+        ensures only_at_top { IsErr result ↔ ((self.old.failures ≡ 2 ^ 64 - 1) ⊎ (self.old.calls.syncs ≡ 2 ^ 64 - 1)) }
+
         // The record has one sync more, or only the fault was counted.
         ensures ok { OnOk result (self.new ≡ disk_after_sync self.old) }
         ensures err { OnErr result (self.new ≡ disk_after_fault self.old) }
     {
-        if self.failures == u64::MAX
-            || self.calls.syncs == u64::MAX
-            || record_sync(&mut self.record).is_err()
-        {
+        if self.failures == u64::MAX || self.calls.syncs == u64::MAX {
             return Err(fault(&mut self.failures));
         }
+        self.record.synced();
         self.calls.syncs += 1;
         Ok(())
     }

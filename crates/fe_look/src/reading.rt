@@ -57,7 +57,7 @@ pub(crate) fn copy_of<D: Disk>(alloc: Global, disk: &mut D) -> Result<MemoryDisk
     }
     let bytes = read_bytes(alloc, disk)?;
     disk.sync()?;
-    Ok(MemoryDisk::over(alloc, bytes)?)
+    Ok(MemoryDisk::over(alloc, bytes))
 }
 
 // The bytes of a store, from the first reading that found a slot that counts and in which no checkpoint began.
