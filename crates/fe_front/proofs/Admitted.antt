@@ -145,7 +145,7 @@ window_tests false true s session e = (refl, refl, ok_same s session e)
 window_tests false false s session e = err_ok BeyondWindow session e
 window_tests true b s session e = err_ok BelowFloor session e
 
-addresses : (f : FrontState) (conn session number : ℕ) → addressed f conn number ≡ Ok session → Owns f conn session × InWindow f session number
+pub addresses : (f : FrontState) (conn session number : ℕ) → addressed f conn number ≡ Ok session → Owns f conn session × InWindow f session number
 addresses f conn session number e =
     let (s, mine, rest) = both_passed (own f conn) (in_window f number) session e in
     let (not_below, within, same) = window_tests (nat_lt number (floor_of f.service s)) (nat_lt number (floor_of f.service s + 32)) s session rest in

@@ -7,7 +7,7 @@ ghost use Rattle.std.specs.FinMap.{get, len};
 ghost use Rattle.fe_state.specs.State as states;
 ghost use Rattle.fe_state.specs.declared.entry.Entry.{Entry};
 ghost use Rattle.fe_mail.specs.Books.{Balances};
-ghost use Rattle.fe_mail.specs.Connections.{mails_on, mails_in};
+ghost use Rattle.fe_mail.specs.Connections.{session_on, mails_on, mails_in};
 ghost use Rattle.fe_mail.specs.declared.mail.Mail.TheVariants as mails;
 ghost use Rattle.fe_mail.specs.declared.refusal.Refusal as refusals;
 ghost use Rattle.fe_front.specs.Front.{IsFront, IsFirst, has_room, is_connected, is_attached};
@@ -19,7 +19,7 @@ ghost use Rattle.fe_front.specs.Posting.{IsOut, posted, Notes};
 
 use crate::connection_set::ConnectionSet;
 use crate::out::Out;
-use crate::outcome::{Outcome, StrangeBatch};
+use crate::outcome::{StrangeBatch, TakenCall};
 use fe_mail::{Books, Connections, Mail, Refusal, ReportText};
 use fe_service::Service;
 use fe_state::{Batch, Entries, Request, State, WAITING};
@@ -139,11 +139,12 @@ impl Front {
     /// Completes a new request of the session that the connection has, and serves the waiting requests that may be served then; or lets
     /// it wait. If the request repeats that of its number, its answer is mailed again if its entry is durable. The books count each call,
     /// also one that is refused.
-    pub fn call(&mut self, conn: u64, number: u64, request: Request) -> Result<Outcome, Refusal>
+    pub fn call(&mut self, conn: u64, number: u64, request: Request) -> Result<TakenCall, Refusal>
         requires room { IsTrue (has_room self.old) }
         ensures step { IfOk result
-            (λ outcome. (entries : List Entry)
-            × FrontStep self.old (event.Call conn number request outcome) entries self.new) }
+            (λ call. (entries : List Entry)
+            × FrontStep self.old (event.Call conn number request call.outcome) entries self.new) }
+        ensures session { IfOk result (λ call. session_on self.old.connections conn ≡ Some call.session) }
         ensures refused { (refusal : refusals.Refusal) → IsCallRefused self.old conn number request refusal
             → result ≡ Err refusal }
         ensures refusal { IfErr result
@@ -152,13 +153,13 @@ impl Front {
         ensures err { OnErr result (self.new ≡ call_refused_by self.old) }
     {
         match self.addressed(conn, number, &request) {
-            Ok(session) => {
-                let result = self.call_within(conn, session, number, request);
-                if result.is_err() {
+            Ok(session) => match self.call_within(conn, session, number, request) {
+                Ok(outcome) => Ok(TakenCall { session, outcome }),
+                Err(refusal) => {
                     self.books.call_refused();
+                    Err(refusal)
                 }
-                result
-            }
+            },
             Err(refusal) => {
                 self.books.call_refused();
                 Err(refusal)

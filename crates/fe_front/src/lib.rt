@@ -20,4 +20,4 @@ pub use front::Front;
 pub use laws::{
     books_rise, boxes_stay_short, limits_are, mails_stay_durable, steps_are_few, steps_are_legal,
 };
-pub use outcome::{Outcome, StrangeBatch};
+pub use outcome::{Outcome, StrangeBatch, TakenCall};

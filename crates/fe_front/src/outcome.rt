@@ -17,6 +17,14 @@ pub enum Outcome {
     NotYetSynced,
 }
 
+/// A call that was not refused.
+#[derive(Clone, Copy, PartialEq, Eq)]
+pub struct TakenCall {
+    /// The session that it was for: that of its connection.
+    pub session: u64,
+    pub outcome: Outcome,
+}
+
 /// A batch that is not the one that is out (cut and not yet posted).
 #[derive(Drop)]
 pub struct StrangeBatch(pub Batch);

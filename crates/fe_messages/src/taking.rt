@@ -11,6 +11,7 @@ use crate::took::Took;
 use fe_front::Front;
 use fe_mail::{Refusal, ReportText};
 use fe_report::report;
+use fe_state::Request;
 use fe_wire::ClientMessage;
 use std::alloc::Global;
 
@@ -26,29 +27,30 @@ pub fn take_message(alloc: Global, front: &mut Front, conn: u64, message: Client
       message = message;
     } }
 {
-    let had = front.connections().session_of(conn);
-    let took = Took::of(conn, had, front.state().place(), &message);
-    hand_over(alloc, front, conn, message);
-    took
+    let place = front.state().place();
+    let had = hand_over(alloc, front, conn, &message);
+    Took::of(conn, had, place, message)
 }
 
-fn hand_over(alloc: Global, front: &mut Front, conn: u64, message: ClientMessage)
+/// Hands a message to the front, and returns the session that the connection had before.
+fn hand_over(alloc: Global, front: &mut Front, conn: u64, message: &ClientMessage) -> Option<u64>
     requires room { IsTrue (has_room front.old) }
-    ensures taken { (es : List Entry) × Takes front.old conn message es front.new × Enters front.old es front.new }
+    ensures taken { (es : List Entry) × Takes front.old conn message.now es front.new × Enters front.old es front.new }
+    ensures had { result ≡ session_on front.old.connections conn }
 {
+    if let ClientMessage::Call { number, request } = *message {
+        return hand_over_call(front, conn, number, request);
+    }
+    let had = front.connections().session_of(conn);
     // From here on the proof has what is always true of the front (`docs/DECISIONS.md`, "Toolchain").
     let _ = front.state();
-    match message {
+    match *message {
         ClientMessage::Attach { session } => {
             if let Err(refusal) = front.attach(conn, session) {
                 front.mail_refusal(conn, session, refusal);
             }
         }
-        ClientMessage::Call { number, request } => {
-            if let Err(refusal) = front.call(conn, number, request) {
-                front.mail_refusal(conn, number, refusal);
-            }
-        }
+        ClientMessage::Call { .. } => unreachable!(),
         ClientMessage::Cancel { number } => {
             if let Err(refusal) = front.cancel(conn, number) {
                 front.mail_refusal(conn, number, refusal);
@@ -65,6 +67,26 @@ fn hand_over(alloc: Global, front: &mut Front, conn: u64, message: ClientMessage
             }
         }
         ClientMessage::Report => mail_report(alloc, front, conn),
+    }
+    had
+}
+
+/// Hands a call to the front, and returns the session that the connection had before. It is looked up only if the call is refused.
+fn hand_over_call(front: &mut Front, conn: u64, number: u64, request: Request) -> Option<u64>
+    requires room { IsTrue (has_room front.old) }
+    ensures taken { (es : List Entry) × Takes front.old conn (Message.Call number request) es front.new
+        × Enters front.old es front.new }
+    ensures had { result ≡ session_on front.old.connections conn }
+{
+    // As in `hand_over`: what is always true of the front.
+    let _ = front.state();
+    match front.call(conn, number, request) {
+        Ok(call) => Some(call.session),
+        Err(refusal) => {
+            let had = front.connections().session_of(conn);
+            front.mail_refusal(conn, number, refusal);
+            had
+        }
     }
 }
 

@@ -26,14 +26,14 @@ impl Model for Took {
 }
 
 impl Took {
-    pub(crate) fn of(conn: u64, had: Option<u64>, place: u64, message: &ClientMessage) -> Took
-        ensures { result ≡ record { conn = conn; had = had; place = place; message = message.now } }
+    pub(crate) fn of(conn: u64, had: Option<u64>, place: u64, message: ClientMessage) -> Took
+        ensures { result ≡ record { conn = conn; had = had; place = place; message = message } }
     {
         Took {
             conn,
             had,
             place,
-            message: *message,
+            message,
         }
     }
 
