@@ -1,6 +1,6 @@
 -- What an event that is not refused finds.
 use Rattle.std.proofs.Common.{◌≡◌, ℕ, ◌+◌, ◌-◌, ◌^◌, ◌<◌, ◌≤◌, Bool, true, false, not, ◌||◌, Option, Some, None, IsSome, refl, sym, ap, subst, ◌∙◌, arith, rules}
-use Rattle.std.specs.Prelude.{IsSomeAnd, nat_lt, if◌then◌else◌, Result, Ok, Err, IsTrue, option_and_then}
+use Rattle.std.specs.Prelude.{IsSomeAnd, is_some, nat_lt, if◌then◌else◌, Result, Ok, Err, IsTrue, option_and_then}
 use Rattle.std.specs.Option.{option_map, option_map_or}
 use Rattle.std.specs.FinMap.{get}
 use Rattle.std.proofs.lemmas.Bool.Decides.{nat_tests}
@@ -14,9 +14,9 @@ use Rattle.fe_service.specs.Service.{request_of, IsService}
 use Rattle.fe_service.specs.Events.{MaySettle, IsFree, floor_of}
 use Rattle.fe_mail.specs.Connections.{session_on}
 use Rattle.fe_mail.specs.declared.refusal.Refusal.{Refusal}
-use Rattle.fe_mail.specs.declared.refusal.Refusal.TheVariants.{NotAttached, Closing, BelowFloor, BeyondWindow, StillWaiting, Spent}
+use Rattle.fe_mail.specs.declared.refusal.Refusal.TheVariants.{NotAttached, Closing, BelowFloor, BeyondWindow, StillWaiting, NotWaiting, Spent}
 use Rattle.fe_front.specs.Front.{FrontState, IsFront, has_room, is_spent}
-use Rattle.fe_front.specs.Call.{and_then, own, unclosing, unspent, in_window, addressed, may_settle, settling, leaving, waits_below, kept_at, request_at}
+use Rattle.fe_front.specs.Call.{and_then, own, unclosing, unspent, in_window, addressed, may_cancel, may_settle, cancelling, settling, leaving, waits_below, kept_at, request_at}
 use Rattle.fe_front.proofs.Agreement.{Agree}
 use Rattle.fe_front.proofs.Attaching.{room_for}
 use Rattle.fe_front.proofs.Below.{below-clear}
@@ -74,6 +74,17 @@ leaves f conn session e =
     let (s, mine, rest) = both_passed (own f conn) (unspent f) session e in
     let (left, same) = unspent_ok f s session rest in
     (subst (λ s. Owns f conn s) same (owns f conn s mine), left)
+
+-- ---- cancelling
+
+may_cancel_same : (waits : Bool) (s session : ℕ) → (if waits then Ok s else Err NotWaiting) ≡ Ok session → s ≡ session
+may_cancel_same true s session e = ok_same s session e
+may_cancel_same false s session e = err_ok NotWaiting session e
+
+pub cancels : (f : FrontState) (conn session number : ℕ) → cancelling f conn number ≡ Ok session → Owns f conn session
+cancels f conn session number e =
+    let (s, mine, rest) = both_passed (own f conn) (may_cancel f number) session e in
+    subst (λ s. Owns f conn s) (may_cancel_same (is_some (get f.service.waiting (s, number))) s session rest) (owns f conn s mine)
 
 -- ---- settling
 

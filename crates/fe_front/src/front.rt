@@ -167,46 +167,49 @@ impl Front {
         }
     }
 
-    /// Sets the floor of the connection's session, the least number of its window, with an entry. It may stay as it is. The refusals are
-    /// `NotAttached`, `Closing`, `BelowFloor`, `BeyondWindow`, `StillWaiting` and `Spent`.
-    pub fn settle(&mut self, conn: u64, floor: u64) -> Result<(), Refusal>
+    /// Sets the floor of the connection's session, the least number of its window, with an entry, and returns the session. The floor may
+    /// stay as it is. The refusals are `NotAttached`, `Closing`, `BelowFloor`, `BeyondWindow`, `StillWaiting` and `Spent`.
+    pub fn settle(&mut self, conn: u64, floor: u64) -> Result<u64, Refusal>
         requires room { IsTrue (has_room self.old) }
         ensures settled { MatchResult (settling self.old conn floor)
             (λ session. IsOk result × (self.new ≡ settled_to self.old session floor))
             (λ refusal. (result ≡ Err refusal) × (self.new ≡ self.old)) }
+        ensures session { IfOk result (λ session. session_on self.old.connections conn ≡ Some session) }
     {
         let _ = self.state();
         let session = self.settling(conn, floor)?;
         self.service.settle(session, floor);
-        Ok(())
+        Ok(session)
     }
 
-    /// Closes the connection's session, with an entry, and withdraws its waiting requests. The session is closing until that entry is
-    /// posted. The refusals are `NotAttached`, `Closing` and `Spent`.
-    pub fn bye(&mut self, conn: u64) -> Result<(), Refusal>
+    /// Closes the connection's session, with an entry, withdraws its waiting requests, and returns it. The session is closing until that
+    /// entry is posted. The refusals are `NotAttached`, `Closing` and `Spent`.
+    pub fn bye(&mut self, conn: u64) -> Result<u64, Refusal>
         requires room { IsTrue (has_room self.old) }
         ensures closed { MatchResult (leaving self.old conn)
             (λ session. IsOk result × (self.new ≡ closed_by self.old session))
             (λ refusal. (result ≡ Err refusal) × (self.new ≡ self.old)) }
+        ensures session { IfOk result (λ session. session_on self.old.connections conn ≡ Some session) }
     {
         let _ = self.state();
         let session = self.leaving(conn)?;
         let count = self.service.close(session);
         self.books.waiters_withdrawn(count);
-        Ok(())
+        Ok(session)
     }
 
-    /// Withdraws a waiting request of the connection's session, and mails the connection a withdrawal. The refusals are `NotAttached`,
-    /// `Closing` and `NotWaiting`.
-    pub fn cancel(&mut self, conn: u64, number: u64) -> Result<(), Refusal>
+    /// Withdraws a waiting request of the connection's session, mails the connection a withdrawal, and returns the session. The refusals
+    /// are `NotAttached`, `Closing` and `NotWaiting`.
+    pub fn cancel(&mut self, conn: u64, number: u64) -> Result<u64, Refusal>
         ensures cancelled { MatchResult (cancelling self.old conn number)
             (λ session. IsOk result × (self.new ≡ cancelled_by self.old conn session number))
             (λ refusal. (result ≡ Err refusal) × (self.new ≡ self.old)) }
+        ensures session { IfOk result (λ session. session_on self.old.connections conn ≡ Some session) }
     {
         let session = self.cancelling(conn, number)?;
         self.take_out(session, number);
         self.mail(conn, Mail::Withdrawn { number });
-        Ok(())
+        Ok(session)
     }
 
     /// Removes a connection with its box, and withdraws its session's waiting requests. Returns how many, 0 to

@@ -36,3 +36,6 @@ invariant_of-self c =
     (ap (λ s. length s.pending) is ∙ length-append old.service.pending _)
     (subst (λ s. Agree s.attachments old.connections) (sym is) (agree-closing old.service.attachments old.connections c.self.invariant.tied.agree session))
     (subst (λ s. Balances c.waiters_withdrawn.new.self (len s.waiting) (mails_in old.connections)) (sym is) books)
+
+pub returns-clause-session : goal.returns-clause-session
+returns-clause-session c = (leaves c.args.self.now c.args.conn c.in_ok-session.session (sym c.leaving.ensures ∙ c.in_ok-session.was)).0.has

@@ -10,3 +10,7 @@ settle-requires c =
     let (mine, may) = settles old c.args.conn c.in_ok-session.session c.args.floor (sym c.settling.ensures ∙ c.in_ok-session.was) in
     subst (λ (f : FrontState). MaySettle f.service c.in_ok-session.session c.args.floor) (sym c.self.view_is)
     (may_settle_to old c.in_ok-session.session c.args.floor (own_there old c.args.conn c.in_ok-session.session c.state.ensures.front.service c.state.ensures.front.tied.agree mine) may c.requires.room)
+
+pub returns-clause-session : goal.returns-clause-session
+returns-clause-session c =
+    (settles c.args.self.now c.args.conn c.in_ok-session.session c.args.floor (sym c.settling.ensures ∙ c.in_ok-session.was)).0.has
