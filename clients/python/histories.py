@@ -352,7 +352,7 @@ def told(history, spent, lost, twice, held_, count, what):
     """Prints the four numbers, and what else came. Whether all are 0."""
     pauses = history.pauses
     events = f"{history.kills} kills of clients, {history.server_kills} of the server, {history.stops} stops"
-    print(f"{spent:.0f} s: {events}; {sum(TAKEN)} times a former process's attach came late")
+    print(f"{spent:.0f} s: {events}; {sum(TAKEN[:])} times a former process's attach came late")
     print(f"lost {lost}, twice {twice}, held {len(held_)}, blocked {pauses.blocked}: {count:,} {what}, {count / spent:,.0f}/s")
     print(f"a process did nothing for {pauses.worst_of_one:.1f} s at most; this program was {pauses.late:.1f} s late at most", flush=True)
     return not (lost or twice or held_ or pauses.blocked) and count > 0
