@@ -14,12 +14,11 @@ import logging
 
 from . import requests
 from ._calls import Recovered
-from ._client import Client
+from ._client import Client, Pipeline
 from ._errors import *
+from ._faces import show_as
 from .observer import Observer
-from ._public import show_as
 from ._reports import Report, Waiter
-from ._pipeline import Pipeline
 from .requests import Array, Request
 
 __version__ = "1.2.0.dev0"

@@ -8,22 +8,20 @@ from __future__ import annotations
 import asyncio
 import os
 import weakref
-from typing import TYPE_CHECKING, Callable, Optional, cast
+from contextlib import suppress
+from typing import Callable, Optional, cast
 
 from . import _frames as frames
 from ._attachment import READY
-from ._carrier import FAREWELL, Carrier
-from ._connecting import FIRST_PAUSE, LONGEST_PAUSE
+from ._carrier import FAREWELL, FIRST_PAUSE, LONGEST_PAUSE, Carrier
 from ._core import Core
 
-if TYPE_CHECKING:
-    from .aio import AsyncClient
 
 def now() -> float:
     return asyncio.get_running_loop().time()
 
 
-class AsyncWorker(Carrier["AsyncClient"]):
+class AsyncWorker(Carrier):
     """In one event loop."""
 
     def __init__(self, path: str, core: Core, is_temporary: bool, waits_for_server: bool) -> None:
@@ -57,15 +55,17 @@ class AsyncWorker(Carrier["AsyncClient"]):
                 self.core.close()
             self.move()
         elif self.transport is not None and self.is_temporary and self.core.phase is READY:
-            try:
+            with suppress(OSError):
                 os.write(self.transport.get_extra_info("socket").fileno(), frames.bye())
-            except OSError:
-                pass
 
     async def close(self) -> None:
         try:
             await asyncio.sleep(0)  # a loop over jobs that was dropped just now gives its job back first
-            await self._depart()
+            if self.is_temporary and self.connecting is not None and self.core.failure is None:
+                self.core.depart(now(), FAREWELL)  # the session is ended, within that time
+                self.move()
+                while self.core.failure is None:
+                    await self.departed.wait()
         finally:
             self.core.close()
             try:
@@ -74,14 +74,6 @@ class AsyncWorker(Carrier["AsyncClient"]):
                     await asyncio.shield(self.connecting)
             finally:
                 self.core.close_file()
-
-    async def _depart(self) -> None:
-        """Ends the session if it is temporary, within a second."""
-        if self.is_temporary and self.connecting is not None and self.core.failure is None:
-            self.core.depart(now(), FAREWELL)
-            self.move()
-            while self.core.failure is None:
-                await self.departed.wait()
 
     def ask(self, what: Callable[[float], object]) -> None:
         what(now())
@@ -117,16 +109,15 @@ class AsyncWorker(Carrier["AsyncClient"]):
             core.to_send.clear()
 
     async def _close_wait_sessions(self) -> None:
-        """As of `Client`."""
         is_there = self._ends_further()
-        for further in self.wait_sessions:
+        for further in [*self.wait_sessions]:
             further._worker.is_temporary = is_there
             await further.close()
             is_there = further._core.has_left
 
     def forked(self) -> None:
         """In a child of the process: as in `Client`. The loop is the parent's too, so only the socket is closed."""
-        self._forked()
+        super().forked()
         self.is_temporary = self.is_chosen = False
         if self.transport is not None:
             inherited = getattr(self.transport.get_extra_info("socket"), "_sock", None)
@@ -194,10 +185,8 @@ class AsyncWorker(Carrier["AsyncClient"]):
         self.move()
 
     async def _sleep(self, seconds: float) -> None:
-        try:
+        with suppress(asyncio.TimeoutError):
             await asyncio.wait_for(self.changed.wait(), seconds)
-        except asyncio.TimeoutError:
-            pass
         self.changed.clear()
 
 
@@ -232,13 +221,7 @@ class _Connection(asyncio.Protocol):
             self._transport.abort()
 
 
-# The workers of this process. Its children close the ones that they inherit.
 workers: weakref.WeakSet[AsyncWorker] = weakref.WeakSet()
-
-
-def in_child() -> None:
-    for worker in list(workers):
-        worker.forked()
 
 
 def at_exit() -> None:

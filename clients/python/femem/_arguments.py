@@ -2,20 +2,20 @@
 
 from __future__ import annotations
 
+import hashlib
 import math
 import os
 from typing import Any, Callable, List, NamedTuple, Optional, Union
 
-from . import _registry as registry, requests
 from ._core import Core
 from .events import OnEvent
 from .requests import Request
 from ._sessionfile import SessionFile
 from ._tickets import Ticket
-from ._waitsessions import count_of, numbers
 
-# How long a client sleeps at most, in seconds.
-_LONGEST_SLEEP = 3600.0
+MOST = 64  # how many sessions the server keeps
+
+_LONGEST_SLEEP = 3600.0  # how long a client sleeps at most, in seconds
 
 
 class Default:
@@ -73,13 +73,18 @@ def request_of(request: object) -> Request[Any]:
 
 
 def ticket_of(future: object, core: Core) -> Ticket[Any]:
-    """The ticket of this future, which the core's client made."""
     owner, ticket = getattr(future, "asked", (None, None))
     if not isinstance(ticket, Ticket):
         raise TypeError(f"not a future of submit: {future!r}")
     if owner is not core:
         raise ValueError(f"a future of another client: {future!r}")
     return ticket
+
+
+def numbers(session: int, count: int) -> List[int]:
+    """A session's further sessions: always the same ones, which a restarted client takes over, and far from others."""
+    spelled = [b"femem %d further %d" % (session, k) for k in range(1, count)]
+    return [int.from_bytes(hashlib.sha256(each).digest()[:8], "big") | 2**63 for each in spelled]
 
 
 class Choice(NamedTuple):
@@ -102,36 +107,7 @@ class Choice(NamedTuple):
         return Core(self.session, patience, pause, file, clock, moves_waits, self.is_temporary, self.on_event)
 
     def further(self, number: int) -> Choice:
-        """For the client of a further session of that number."""
         return self._replace(session=number, file=None, is_temporary=False, sessions=1, waits_for_server=True)
 
     def all_further(self) -> List[Choice]:
         return [self.further(number) for number in numbers(self.session, self.sessions)]
-
-
-def choose(
-    path: Path,
-    session: Optional[int],
-    sessions: int,
-    session_file: Optional[Path],
-    reconnect_timeout: Optional[float],
-    probe_interval: float,
-    wait_for_server: bool,
-    on_event: Optional[OnEvent],
-) -> Choice:
-    """The given session, or the file's, or one chosen at random that ends with the client."""
-    patience, pause = seconds_of(reconnect_timeout, "reconnect_timeout"), pause_of(probe_interval)
-    if not isinstance(path, (str, bytes, os.PathLike)):
-        raise TypeError(f"the path of a socket is a str: {path!r}")
-    number = None if session is None else requests.number_of_bits(session, 64, "session")
-    count = count_of(sessions, session_file is not None)
-    place, file, is_temporary = os.fsdecode(path), None, False
-    if session_file is not None:
-        file = SessionFile(os.fsdecode(session_file))
-        if number not in (None, file.state.session):
-            file.abandon()
-            raise ValueError(f"{file.path} is of session {file.state.session}, not {number}")
-        number = file.state.session
-    elif number is None:
-        number, is_temporary = registry.temporary(place), True
-    return Choice(place, number, file, is_temporary, count, patience, pause, wait_for_server, on_event)

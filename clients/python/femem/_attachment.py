@@ -11,12 +11,11 @@ import enum
 import itertools
 import logging
 import random
-from typing import Callable, List, Optional, Set
+from typing import Callable, Iterator, List, Optional, Set
 
 from . import _errors as errors, _frames as frames
 from ._errors import ProtocolError
 from .events import Events
-from ._handshake import FIRST_PROBE, Handshake, unexpected
 from ._outbox import Outbox
 from ._tickets import Ticket
 
@@ -28,6 +27,103 @@ _FIGHTS = 20
 
 # About how long a client waits before it again attaches a session that it could not get, in seconds.
 _ATTACH_PAUSE = 0.03
+
+
+# A cancel of a number from here on is always refused at once, since requests have lower numbers. Clients send one to ask
+# "are you there?".
+FIRST_PROBE = 2**63
+
+
+def unexpected(refusal: frames.Refusal) -> ProtocolError:
+    name = errors.REFUSALS[refusal.code].__name__
+    return ProtocolError(f"number {refusal.number} is refused, {name}, and nothing was sent that could be")
+
+
+class Handshake:
+    """How a new client begins in a session that may have been used before, up to a floor from which on none
+    was.
+
+    A former process may have used any of the 32 numbers from the floor on. So the client raises the floor by 32: the numbers
+    from there on were never used, and no old answer can be taken for one of a new request.
+
+    For that it must know the newest floor. Replies to the former process for entries that were not yet stored at the attach
+    come to the new connection, perhaps an older welcome among them. So the client first tries a welcome's floor: `settle` of
+    the current floor changes nothing, and of an older one is refused at once. A cancel of an unused number, sent after it, is
+    refused at once too; when that refusal has come, the settle's has come before or never will.
+    """
+
+    def __init__(self, floor: int, probes: Iterator[int], to_send: bytearray) -> None:
+        self.to_send = to_send
+        self.new_floor: Optional[int] = None
+        self._probes = probes
+        self._newest = floor
+        self._try(floor)
+
+    def _try(self, floor: int) -> None:
+        if floor + 2 * frames.WINDOW > frames.GREATEST_FLOOR:
+            raise errors.BeyondWindow("the numbers of the session are used up")
+        self._tried = floor
+        self._target = floor + frames.WINDOW
+        self._is_old = False
+        self._is_newest = False
+        self._cancelled: Set[int] = set()
+        self._has_cleared = False
+        self._probe: Optional[int] = next(self._probes)
+        self.to_send += frames.settle(floor) + frames.cancel(self._probe)
+
+    def take(self, reply: frames.Reply) -> None:
+        if isinstance(reply, frames.Answer):
+            return  # to a request of the former process
+        if isinstance(reply, frames.Settled):
+            if self._is_newest and reply.floor == self._target:
+                self.new_floor = reply.floor
+        elif isinstance(reply, frames.Welcome):
+            self._welcomed(reply.floor)
+        elif isinstance(reply, frames.Refusal):
+            self._refused(reply)
+        elif isinstance(reply, frames.Withdrawn) and reply.number in self._cancelled:
+            self._cancelled.discard(reply.number)
+        else:
+            raise ProtocolError("a reply that nobody asked for")
+
+    def _welcomed(self, floor: int) -> None:
+        if floor < self._newest or self._is_newest and floor != self._tried:
+            raise ProtocolError(f"a welcome with floor {floor} behind one with {self._newest}")
+        self._newest = floor
+        self._try_newer()
+
+    def _try_newer(self) -> None:
+        """Tries another floor, once the tried one is known to be old and there is a newer one."""
+        if self._is_old and self._probe is None and self._newest > self._tried:
+            self._try(self._newest)
+
+    def _refused(self, refusal: frames.Refusal) -> None:
+        number, code = refusal.number, refusal.code
+        if code == frames.SPENT and number in (self._tried, self._target):
+            raise errors.Spent("settle")
+        if code == frames.BELOW_FLOOR and number == self._tried and self._probe is not None:
+            self._is_old = True
+        elif code == frames.NOT_WAITING and number == self._probe:
+            self._probe = None
+            if self._is_old:
+                self._try_newer()
+            else:
+                self._is_newest = True
+                self.to_send += frames.settle(self._target)
+        elif code == frames.NOT_WAITING and number in self._cancelled:
+            self._cancelled.discard(number)
+        elif code == frames.STILL_WAITING and number == self._target and self._is_newest and not self._has_cleared:
+            self._clear()
+        else:
+            raise unexpected(refusal)
+
+    def _clear(self) -> None:
+        """Takes back what still waits from the former process."""
+        self._has_cleared = True
+        for number in range(self._tried, self._target):
+            self._cancelled.add(number)
+            self.to_send += frames.cancel(number)
+        self.to_send += frames.settle(self._target)
 
 
 class Phase(enum.Enum):
@@ -55,20 +151,14 @@ class Attachment:
     # The requests to end the session, and to be told once it is attached for the first time.
     _leaving: Optional[Ticket[None]] = None
     _opening: Optional[Ticket[None]] = None
-    # Since when something is asked and not done.
-    _asked_at = 0.0
+    _asked_at = 0.0  # since when something is asked and not done
     # When the report that is due was asked for over this connection, and the end of the session.
     _report_sent: Optional[float] = None
     _bye_sent: Optional[float] = None
 
     def __init__(
-        self,
-        session: int,
-        outbox: Outbox,
-        events: Optional[Events],
-        reconnect_timeout: Optional[float],
-        probe_interval: float,
-        is_own: bool,
+        self, session: int, outbox: Outbox, events: Optional[Events], reconnect_timeout: Optional[float],
+        probe_interval: float, is_own: bool,
     ) -> None:
         self.session = session
         self.phase = DOWN
@@ -132,10 +222,9 @@ class Attachment:
             self._changed("lost")
 
     def _probe_at(self) -> Optional[float]:
-        """When to ask whether the server is there, and whether the session is still this client's.
-
-        The server does not tell a client that its session was taken over, even while the client waits for its welcome.
-        """
+        """When to ask whether the server is there, and whether the session is still this client's. The server
+        does not tell a client that its session was taken over, even while the client waits for its
+        welcome."""
         if self._probe is not None or self._attach_at is not None or self.phase is DOWN:
             return None
         if self._bye_sent is not None:
@@ -191,15 +280,13 @@ class Attachment:
             self._go_on_handshake(self._handshake)
         elif isinstance(reply, frames.Welcome):
             self.phase = HANDSHAKE
-            self._handshake = Handshake(reply.floor, self._probes)
+            self._handshake = Handshake(reply.floor, self._probes, self.to_send)
             self._go_on_handshake(self._handshake)
         elif not isinstance(reply, (frames.Answer, frames.Settled)):
             raise ProtocolError("a reply that nobody asked for")
         self._probed_at = now
 
     def _go_on_handshake(self, handshake: Handshake) -> None:
-        self.to_send += handshake.to_send
-        handshake.to_send.clear()
         if handshake.new_floor is not None:
             self._outbox.begin(handshake.new_floor)
             self._handshake = None
@@ -218,17 +305,10 @@ class Attachment:
             self.events.since(kind, self._changed_at)
             self._changed_at = self.events.now()
 
-    def _take_settled(self, floor: int) -> None:
-        window = self._outbox.window
-        assert window is not None
-        if self._was_away and floor > window.asked:
-            raise errors.TakenOver(f"another client had session {self.session} in between")
-        self._outbox.settled(floor)
-
     def _take_welcome(self, floor: int, now: float) -> None:
         # While the session is being ended it may be gone, and begun again by this attach.
         if self._leaving is None:
-            self._outbox.welcomed(floor)
+            self._outbox.has_floor(floor, is_welcome=True)
         if self.phase is ATTACHING:
             self.phase = READY
             self._was_away = True
@@ -252,7 +332,10 @@ class Attachment:
         elif code == frames.NOT_ATTACHED:
             self._take_not_attached(number, now)
         elif is_echo:
-            self._take_echo(number, now)
+            self._probes_sent.discard(number)
+            self._probe = None
+            self._probed_at = now
+            self._in_contact = self._in_contact or self.phase is READY
         elif self.phase is ATTACHING:
             self._take_attach_refusal(refusal, now)
         elif self._handshake is not None:
@@ -261,18 +344,9 @@ class Attachment:
         elif not self._outbox.refused(refusal, now, self._leaving is not None):
             self._take_other_refusal(refusal)
 
-    def _take_echo(self, number: int, now: float) -> None:
-        self._probes_sent.discard(number)
-        self._probe = None
-        self._probed_at = now
-        if self.phase is READY:
-            self._in_contact = True
-
     def _take_not_attached(self, number: int, now: float) -> None:
-        """Another connection has the session.
-
-        If this client has asked nothing yet, that may be a late attach of a former process: it attaches again.
-        """
+        """Another connection has the session. If this client has asked nothing yet, that may be a late attach
+        of a former process: it attaches again."""
         if self._outbox.window is not None:
             if not self._is_own or self._fights >= _FIGHTS:
                 raise errors.TakenOver(f"another connection has session {self.session}")

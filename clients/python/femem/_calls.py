@@ -1,42 +1,42 @@
 """What `Client` and `AsyncClient` have in common: each operation stands here once, and two faces run it.
 
-A method marked by `call` makes a request, and one marked by `asking` says what it asks of the core. The face for threads
-returns the answer, and that for asyncio is awaited.
+A method marked by `call` makes a request, and one marked by `asking` says what it asks of the core. `_call`
+and `_perform` of the face for threads return the answer, and those of the one for asyncio an awaitable of it.
 """
 
 from __future__ import annotations
 
 import functools
+import os
 from dataclasses import dataclass
 from functools import partial
 from typing import TYPE_CHECKING, Any, Callable, Dict, Generic, Iterable, List, NamedTuple, Optional, Sequence, Type, TypeVar, Union
 
-from . import requests
-from ._arguments import DEFAULT, Choice, Key, Path, Timeout, choose, key_bytes, request_of, seconds_of, ticket_of
+from . import _registry as registry, requests
+from ._arguments import DEFAULT, MOST, Choice, Key, Path, Timeout, key_bytes, pause_of, request_of, seconds_of
+from ._arguments import ticket_of
 from ._core import Core
 from ._errors import FememError
 from .events import OnEvent
-from ._faces import ForTasks, ForThreads, P, T, faced
+from ._faces import Concatenate, P, T, faced
 from ._jobs import Job, first_of
 from ._reports import Report
-from .requests import Array, ArrayLike, Request
-from ._tickets import Ticket, result_of
+from .requests import Array, ArrayLike, Request, number_of_bits
+from ._sessionfile import SessionFile
+from ._tickets import Ticket, outcomes_of, result_of
 
 if TYPE_CHECKING:
     import asyncio
     from concurrent.futures import Future
-
-    from typing_extensions import Concatenate
 
 C = TypeVar("C", bound="Calls")
 
 
 @dataclass
 class Asking(Generic[T]):
-    """What is asked of the core, the tickets that it then ends, and what the result is.
-
-    A task that is cancelled takes back what can be taken back, and leaves the rest. `ends_client`: it is closed after that.
-    """
+    """What is asked of the core, the tickets that it then ends, and what the result is. A task that is
+    cancelled takes back what can be taken back, and leaves the rest. `ends_client`: it is closed after
+    that."""
 
     tickets: Sequence[Ticket[Any]]
     ask: Callable[[float], object]
@@ -45,20 +45,24 @@ class Asking(Generic[T]):
     ends_client: bool = False
 
 
-class call(faced[P, T]):
-    """An operation of one request."""
+def call(make: Callable[Concatenate[Any, P], Request[T]]) -> faced[P, T]:
+    """An operation of one request. It is a function, since a call through a descriptor takes longer."""
 
-    make: Callable[..., Any]
+    @functools.wraps(make)
+    def run(self: Any, *args: Any, timeout: Timeout = DEFAULT, **more: Any) -> Any:
+        return self._call(make(self, *args, **more), timeout)
 
-    def __init__(self, make: Callable[Concatenate[Any, P], Request[T]]) -> None:
-        self.make = make
+    return run  # type: ignore[return-value]
 
 
-class asking(call[P, T]):
+def asking(make: Callable[Concatenate[Any, P], Asking[T]]) -> faced[P, T]:
     """Another operation that waits for what it asks."""
 
-    def __init__(self, make: Callable[Concatenate[Any, P], Asking[T]]) -> None:
-        self.make = make
+    @functools.wraps(make)
+    def run(self: Any, *args: Any, **more: Any) -> Any:
+        return self._perform(make(self, *args, **more))
+
+    return run  # type: ignore[return-value]
 
 
 class Recovered(NamedTuple):
@@ -87,23 +91,34 @@ class Calls:
     _worker: Any
 
     def __init__(
-        self,
-        path: Path,
-        session: Optional[int] = None,
-        *,
-        sessions: int = 1,
-        session_file: Optional[Path] = None,
-        timeout: Optional[float] = None,
-        reconnect_timeout: Optional[float] = 30.0,
-        probe_interval: float = 5.0,
-        wait_for_server: bool = False,
+        self, path: Path, session: Optional[int] = None, *, sessions: int = 1,
+        session_file: Optional[Path] = None, timeout: Optional[float] = None,
+        reconnect_timeout: Optional[float] = 30.0, probe_interval: float = 5.0, wait_for_server: bool = False,
         on_event: Optional[OnEvent] = None,
     ) -> None:
+        """It has the given session, or the file's, or one chosen at random that ends with it."""
         self.timeout = seconds_of(timeout)
-        more = (reconnect_timeout, probe_interval, wait_for_server, on_event)
-        choice = choose(path, session, sessions, session_file, *more)
-        self.path, self.session = choice.path, choice.session
-        self._begin(choice)
+        patience, pause = seconds_of(reconnect_timeout, "reconnect_timeout"), pause_of(probe_interval)
+        if not isinstance(path, (str, bytes, os.PathLike)):
+            raise TypeError(f"the path of a socket is a str: {path!r}")
+        number = None if session is None else number_of_bits(session, 64, "session")
+        count = number_of_bits(sessions, 16, "sessions")
+        if not 1 <= count <= MOST:
+            raise ValueError(f"sessions is 1 to {MOST}: {count}")
+        if count > 1 and session_file is not None:
+            raise ValueError("a session file holds one session: it can't be used with sessions > 1")
+        self.path, file, is_temporary = os.fsdecode(path), None, False
+        if session_file is not None:
+            file = SessionFile(os.fsdecode(session_file))
+            if number not in (None, file.state.session):
+                file.abandon()
+                raise ValueError(f"{file.path} is of session {file.state.session}, not {number}")
+            number = file.state.session
+        elif number is None:
+            number, is_temporary = registry.temporary(self.path), True
+        self.session = number
+        more = (patience, pause, wait_for_server, on_event)
+        self._begin(Choice(self.path, number, file, is_temporary, count, *more))
 
     @classmethod
     def _of(cls: Type[C], choice: Choice) -> C:
@@ -116,10 +131,6 @@ class Calls:
 
     def _begin(self, choice: Choice) -> None:
         self._make(choice)
-
-    def _make(self, choice: Choice) -> None:
-        """Makes its core and its worker."""
-        raise NotImplementedError
 
     def _may_grow(self, choice: Choice) -> None:
         """A client whose session ends with it opens a further one by itself."""
@@ -134,8 +145,8 @@ class Calls:
 
     def _recover(self) -> None:
         """What the former process with this session file had no answer for."""
-        asked = [(ticket, ticket.request) for ticket in self._core.recovered]
-        self.recovered = [Recovered(request.what, ticket.key, self._future(ticket)) for ticket, request in asked if request is not None]
+        recovered = self._core.recovered
+        self.recovered = [Recovered(each.request.what, each.key, self._future(each)) for each in recovered]
 
     def __repr__(self) -> str:
         failure = self.failure
@@ -155,8 +166,7 @@ class Calls:
         return self._core.failure
 
     def _further(self) -> Sequence[Calls]:
-        """The clients of its further sessions."""
-        return [further for further in self._worker.wait_sessions if further.failure is None]
+        return [further for further in [*self._worker.wait_sessions] if further.failure is None]
 
     # Arrays.
 
@@ -241,7 +251,8 @@ class Calls:
 
     def _together(self, asked: Sequence[Request[Any]], timeout: Timeout) -> Asking[List[Any]]:
         tickets: List[Ticket[Any]] = [Ticket(request) for request in asked]
-        return Asking(tickets, partial(self._core.take, tickets, self._seconds(timeout)), lambda: _outcomes(tickets))
+        ask = partial(self._core.take, tickets, self._seconds(timeout))
+        return Asking(tickets, ask, lambda: outcomes_of(tickets))
 
     @asking
     def wait_any(self, asked: Iterable[Request[Any]], *, timeout: Timeout = DEFAULT) -> Asking[Dict[int, Any]]:
@@ -260,7 +271,7 @@ class Calls:
     @asking
     def report(self) -> Asking[Report]:
         """What waits now, of all sessions. Never waits, and changes nothing. Errors: `NoMemory`."""
-        ticket: Ticket[Report] = Ticket(None)
+        ticket: Ticket[Report] = Ticket()
         ask = partial(self._core.report, ticket=ticket)
         return Asking((ticket,), ask, lambda: result_of(ticket), can_be_taken_back=False)
 
@@ -287,10 +298,7 @@ class Calls:
         """Makes the session file drop the keys' answers: the keys will not be used again."""
         self._with_file()
         for spelled in [key_bytes(key) for key in keys]:
-            self._ask(partial(self._drop, spelled))
-
-    def _drop(self, key: bytes, now: float) -> None:
-        self._core.forget(key)
+            self._ask(partial(self._core.forget, spelled))
 
     @asking
     def bye(self) -> Asking[None]:
@@ -298,22 +306,17 @@ class Calls:
 
         The server then keeps nothing of the session. After a stop of the server the client sends it again until it is done.
         """
-        ticket: Ticket[None] = Ticket(None)
+        ticket: Ticket[None] = Ticket()
         ask = partial(self._core.leave, ticket=ticket)
         return Asking((ticket,), ask, lambda: result_of(ticket), can_be_taken_back=False, ends_client=True)
 
     # What a face does.
 
+    _make: Callable[[Choice], None]  # makes its core and its worker
     # Does something with the core, after what was asked before. It is given the time.
     _ask: Callable[[Callable[[float], object]], None]
-
-    def _catch_up(self) -> None:
-        """Returns once what was asked before is done."""
-        raise NotImplementedError
-
-    def _future(self, ticket: Ticket[Any]) -> Any:
-        """The future of a ticket."""
-        raise NotImplementedError
+    _catch_up: Callable[[], None]  # returns once what was asked before is done
+    _future: Callable[[Ticket[Any]], Any]  # the future of a ticket
 
     # Arguments.
 
@@ -329,39 +332,3 @@ class Calls:
 
     def _seconds(self, timeout: Timeout) -> Optional[float]:
         return self.timeout if timeout is DEFAULT else seconds_of(timeout)
-
-
-def _outcomes(tickets: Sequence[Ticket[Any]]) -> List[Any]:
-    return [ticket.result if ticket.error is None else ticket.error for ticket in tickets]
-
-
-class BlockingCalls(Calls, ForThreads):
-    """The face for threads: `_call` and `_perform` return the result."""
-
-
-class AwaitedCalls(Calls, ForTasks):
-    """The face for asyncio: `_call` and `_perform` return an awaitable of it."""
-
-
-def _call(make: Callable[..., Request[Any]]) -> Callable[..., Any]:
-    @functools.wraps(make)
-    def run(self: Any, *args: Any, timeout: Timeout = DEFAULT, **more: Any) -> Any:
-        return self._call(make(self, *args, **more), timeout)
-
-    return run
-
-
-def _asking(make: Callable[..., Asking[Any]]) -> Callable[..., Any]:
-    @functools.wraps(make)
-    def run(self: Any, *args: Any, **more: Any) -> Any:
-        return self._perform(make(self, *args, **more))
-
-    return run
-
-
-for name, each in list(vars(Calls).items()):
-    # Functions of the faces, since a call through a descriptor takes longer.
-    if isinstance(each, call):
-        run = _asking(each.make) if isinstance(each, asking) else _call(each.make)
-        setattr(BlockingCalls, name, run)
-        setattr(AwaitedCalls, name, run)

@@ -2,58 +2,77 @@
 
 from __future__ import annotations
 
+import errno
+import grp
 import logging
 import os
+import pwd
+import stat
+import time
+import weakref
 from functools import partial
-from typing import TYPE_CHECKING, Any, Callable, Generic, Optional, Sequence, TypeVar
+from typing import Any, Callable, Dict, Optional, Sequence
 
 from . import _errors as errors, _registry as registry
 from ._attachment import ENDED
-from ._connecting import FirstTries, trouble_of
 from ._core import Core
 from ._tickets import Ticket, nobody
-from ._waitsessions import WaitSessions
-
-if TYPE_CHECKING:
-    from ._calls import Calls
-
-C = TypeVar("C", bound="Calls")
 
 log = logging.getLogger("femem")
 
-# How long the end of a temporary session may take when its client is closed, in seconds.
-FAREWELL = 1.0
+FAREWELL = 1.0  # how long the end of a temporary session may take when its client is closed, in seconds
 
 NOT_HERE = "a client is of the process that made it"
 
+# How long a client waits between attempts to connect, in seconds: at first, and at most.
+FIRST_PAUSE = 0.01
+LONGEST_PAUSE = 0.25
 
-class Carrier(Generic[C]):
-    """A core with its connection. `is_temporary`: its session ends with it."""
+# What says that the path can't be a server's.
+_WRONG = (errno.ENOTDIR, errno.ELOOP, errno.EPROTOTYPE, errno.ENOTSOCK)
 
-    def __init__(self, path: str, core: Core, is_temporary: bool, waits_for_server: bool) -> None:
+# For how long a client may have no right to the socket, in seconds: a server's folder belongs to root for a
+# moment while it is made again.
+_DENIED = 1.0
+
+
+# Those of this process. Its children close the ones that they inherit.
+_carriers: weakref.WeakSet[Carrier] = weakref.WeakSet()
+
+
+class Carrier:
+    """A core with its connection. `is_temporary`: its session ends with it. `waits`: a server may come to any
+    path that is not too long.
+
+    The further sessions of a client are for requests that wait. Such a client first makes each request
+    without waiting, over its own session, in order. A request that would wait goes to the further session
+    with the fewest. So numbers of its own session are always free soon.
+    """
+
+    # Does something with the core, given the time, after what was asked before.
+    ask: Callable[[Callable[[float], object]], None]
+    _is_callers: Callable[[], bool]  # whether a caller completes tickets now, who is told of an interruption
+
+    def __init__(self, path: str, core: Core, is_temporary: bool, waits: bool) -> None:
         self.path = path
         self.core = core
         self.is_temporary = is_temporary
         # Whether this process chose the session's number.
         self.is_chosen = is_temporary
         self.entry: Optional[registry.Entry] = None
-        self.wait_sessions: WaitSessions[C] = WaitSessions()
+        # The clients of the further sessions, and how many requests each of them has.
+        self.wait_sessions: Dict[Any, int] = {}
         # Begins a further session for requests that wait, if the client may have one once many of them do.
-        self.further: Optional[Callable[[], C]] = None
+        self.further: Optional[Callable[[], Any]] = None
         self.process = os.getpid()
-        self._first_tries = FirstTries(path, waits_for_server)
+        _carriers.add(self)
+        self._waits = waits
+        # Since when it has had no right to the socket.
+        self._denied_at: Optional[float] = None
         self._has_connected = False
-
-    def ask(self, what: Callable[[float], object]) -> None:
-        """Does something with the core, given the time, after what was asked before."""
-        raise NotImplementedError
 
     def take_back(self, ticket: Ticket[Any], why: errors.Withdrawn) -> None:
         self.ask(lambda now: self.core.withdraw(ticket, now, why))
-
-    def _is_callers(self) -> bool:
-        """Whether a caller completes tickets now, who is told of an interruption."""
-        raise NotImplementedError
 
     def _finish(self, tickets: Sequence[Ticket[Any]]) -> None:
         """Completes all of them, whatever a callback raises."""
@@ -88,7 +107,7 @@ class Carrier(Generic[C]):
         """Opens a further session. Until it is attached, what waits is kept for it."""
         assert self.further is not None
         try:
-            self.wait_sessions.add(self.further())
+            self.wait_sessions[self.further()] = 0
         except RuntimeError:
             self.core.move_waits(False, self.core.clock())  # the interpreter starts no more threads
             return
@@ -97,17 +116,17 @@ class Carrier(Generic[C]):
         self.core.move_waits(True, self.core.clock())
 
     def _move_waits(self) -> None:
-        """Passes requests that have to wait to further sessions."""
         for ticket in self.core.take_moved():
-            further = self.wait_sessions.choose()
+            further = min(self.wait_sessions, key=self.wait_sessions.__getitem__)
+            self.wait_sessions[further] += 1
             asked: Ticket[Any] = Ticket(ticket.request)
             asked.finished = partial(self.ask, partial(self._has_come_back, further, ticket, asked))
             self.core.moved_to(ticket, partial(further._worker.take_back, asked))
             further._worker.ask(partial(further._core.take, (asked,), None))
 
-    def _has_come_back(self, further: C, ticket: Ticket[Any], asked: Ticket[Any], now: float) -> None:
+    def _has_come_back(self, further: Any, ticket: Ticket[Any], asked: Ticket[Any], now: float) -> None:
         """A further session has finished the request. If that session failed, the client ends."""
-        self.wait_sessions.give_back(further)
+        self.wait_sessions[further] -= 1
         failure = further.failure
         if failure is not None and asked.number is None and self.further is not None and self.core.failure is None:
             self.core.move_waits(False, now)  # there is no room for a further session
@@ -119,11 +138,30 @@ class Carrier(Generic[C]):
 
     def _not_connected(self, error: OSError) -> bool:
         """An attempt to connect failed. Whether the first ones show that there will be no server: that ends the client."""
-        self.core.trouble = trouble_of(self.path, error)
-        failure = None if self._has_connected else self._first_tries.failure(error)
+        self.core.trouble = f"{self.path}: {error.strerror or error}"
+        failure = None if self._has_connected else self._no_server(error)
         if failure is not None:
             self.core.fail(failure)
         return failure is not None
+
+    def _no_server(self, error: OSError) -> Optional[errors.ServerUnreachable]:
+        """Why there will be no server, or `None` if one may come. A path that is missing is a server that is
+        away, unless the folder above its folder is missing too."""
+        number, path = error.errno, self.path
+        # (a path that is too long has no error number)
+        is_wrong = number is None or number == errno.ENAMETOOLONG
+        if self._waits and not is_wrong:
+            return None
+        if number in (errno.EACCES, errno.EPERM):
+            self._denied_at = self._denied_at or time.monotonic()
+            return _no_right(path) if time.monotonic() - self._denied_at >= _DENIED else None
+        self._denied_at = None
+        if number == errno.ECONNREFUSED and _is_no_socket(path):
+            return errors.ServerUnreachable(f"{path}: it is no socket")
+        folder = os.path.dirname(os.path.dirname(os.path.abspath(path)))
+        is_missing = number == errno.ENOENT and not os.path.isdir(folder)
+        is_wrong = is_wrong or is_missing or number in _WRONG
+        return errors.ServerUnreachable(self.core.trouble) if is_wrong else None
 
     def _ends_further(self) -> bool:
         """Whether further sessions can be ended, as the client ends. What waits over them is withdrawn in any case."""
@@ -136,9 +174,9 @@ class Carrier(Generic[C]):
         if self.entry is not None:
             (self.entry.remove if has_left else self.entry.release)()
         if self.is_chosen and self._has_connected and not has_left:
-            registry.leave(self.path, self.core.session)
+            registry.left[self.path].append(self.core.session)
 
-    def _forked(self) -> None:
+    def forked(self) -> None:
         """In a child of the process: nothing is sent, and what is the parent's stays."""
         self.core.failure = errors.Closed(NOT_HERE)
         self.core.phase = ENDED
@@ -146,3 +184,47 @@ class Carrier(Generic[C]):
             self.core.file.abandon()
         if self.entry is not None:
             self.entry.release()
+
+
+def _in_child() -> None:
+    registry.left.clear()  # the numbers are the parent's
+    for carrier in list(_carriers):
+        carrier.forked()
+
+
+os.register_at_fork(after_in_child=_in_child)
+
+
+def _is_no_socket(path: str) -> bool:
+    """Whether something else is there. To connect says only that nobody listens."""
+    try:
+        return not stat.S_ISSOCK(os.stat(path).st_mode)
+    except OSError:
+        return False
+
+
+def _user(number: int) -> str:
+    try:
+        return pwd.getpwuid(number).pw_name
+    except KeyError:
+        return str(number)
+
+
+def _no_right(path: str) -> errors.NoRight:
+    """Says who may use the path: whoever may use what of it can be looked at, itself or the deepest folder there."""
+    at = os.path.abspath(path)
+    while True:
+        try:
+            there = os.stat(at)
+            break
+        except OSError:
+            at = os.path.dirname(at)
+    try:
+        group = grp.getgrgid(there.st_gid).gr_name
+    except KeyError:
+        group = str(there.st_gid)
+    if there.st_mode & (stat.S_IXGRP if stat.S_ISDIR(there.st_mode) else stat.S_IWGRP):
+        who = f"members of its group {group} may ('adduser {_user(os.geteuid())} {group}', and a new login)"
+    else:
+        who = f"its owner {_user(there.st_uid)} may"
+    return errors.NoRight(f"may not use {path}: {who}")

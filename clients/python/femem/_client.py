@@ -3,24 +3,25 @@
 from __future__ import annotations
 
 import atexit
-import os
+import functools
 import threading
 import time
 import warnings
 from concurrent.futures import Future
+from contextlib import suppress
 from functools import partial
+from inspect import Parameter, Signature, signature
 from threading import get_ident
-from typing import Any, List, Optional, TypeVar
+from typing import Any, Callable, List, Optional, Type, TypeVar
 
-from . import _errors as errors, _registry as registry, _worker as worker
-from ._arguments import DEFAULT, Choice, Key, Timeout, request_of
-from ._calls import Asking, BlockingCalls
+from . import _errors as errors, _registry as registry, _worker as worker, requests
+from ._arguments import DEFAULT, Choice, Key, Timeout, numbers, request_of
+from ._calls import Asking, Calls
+from ._faces import Concatenate, ForThreads, P
 from ._holdings import ACCESS
 from ._jobs import Batch, Job, Present, Wait
-from ._pipeline import Pipeline
 from .requests import Request
 from ._tickets import Last, Ticket, nobody, result_of
-from ._waitsessions import numbers
 from ._worker import Worker
 
 T = TypeVar("T")
@@ -29,14 +30,12 @@ T = TypeVar("T")
 def end_session(path: str, session: int, sessions: int) -> None:
     """Ends the sessions of a client that was killed."""
     for number in [session, *numbers(session, sessions)]:
-        try:
+        with suppress(errors.SessionLimit):  # it is not kept
             with Client(path, number, reconnect_timeout=worker.SWEEP_PATIENCE) as client:
                 client.bye()
-        except errors.SessionLimit:
-            pass  # it is not kept
 
 
-class Client(BlockingCalls):
+class Client(Calls, ForThreads):
     """A session of a femem server, over its Unix socket.
 
     Several threads of one process may use it at once. One client at a time should have a session. It reconnects by itself
@@ -62,7 +61,6 @@ class Client(BlockingCalls):
     _worker: Worker
 
     def _begin(self, choice: Choice) -> None:
-        """Connects and attaches."""
         try:
             if choice.file is not None and choice.file.state.is_ending:
                 with Client(choice.path, choice.session, reconnect_timeout=choice.patience) as former:
@@ -75,7 +73,7 @@ class Client(BlockingCalls):
             self._opening.result()
             for each in choice.all_further():
                 further = Client._of(each)
-                self._worker.wait_sessions.add(further)
+                self._worker.wait_sessions[further] = 0
                 further._opening.result()
         except BaseException:
             if hasattr(self, "_worker"):
@@ -85,7 +83,6 @@ class Client(BlockingCalls):
             raise
 
     def _make(self, choice: Choice) -> None:
-        """Starts the thread."""
         self._core = core = choice.core(time.monotonic)
         self._worker = Worker(self.path, core, choice.pause, choice.is_temporary, choice.waits_for_server)
         self._ask = self._worker.ask
@@ -168,7 +165,7 @@ class Client(BlockingCalls):
                     return ticket.result if ticket.error is None else result_of(ticket)  # type: ignore[return-value]
             elif get_ident() == worker.own_thread:
                 self._check_thread()
-            gate = _new_gate()
+            gate = threading.Lock()
             gate.acquire()
             self._ask(partial(self._core.take_on, ticket, until, gate.release))
             worker.wait_at(gate)
@@ -189,7 +186,7 @@ class Client(BlockingCalls):
             # What is asked comes first: what mends the caller's last operation may be among it.
             if job.is_light and not worker.asked and worker.lease is not None and self._run_here(job):
                 return job.result if job.error is None else result_of(job)  # type: ignore[return-value]
-            gate = _new_gate()
+            gate = threading.Lock()
             gate.acquire()
             job.finished = gate.release
             self._ask(partial(self._core.start, job))
@@ -301,9 +298,62 @@ class Client(BlockingCalls):
         return future
 
 
-# Makes the lock at which a caller waits for its answer.
-_new_gate = threading.Lock
+def _collecting(make: Callable[P, Request[Any]]) -> Callable[Concatenate[Any, P], Pipeline]:
+    @functools.wraps(make)
+    def collect(self: Any, /, *args: P.args, **more: P.kwargs) -> Pipeline:
+        self._requests.append(make(*args, **more))
+        return self  # type: ignore[no-any-return]
+
+    own = Parameter("self", Parameter.POSITIONAL_OR_KEYWORD)
+    collect.__signature__ = Signature(  # type: ignore[attr-defined]
+        [own, *signature(make).parameters.values()], return_annotation="Pipeline"
+    )
+    return collect
 
 
-os.register_at_fork(after_in_child=worker.in_child)
+class Pipeline:
+    """Requests of one client that are asked together: `submit_many` of what its methods collect.
+
+        with client.pipeline() as pipe:
+            pipe.int_fetch_add(hits, 0, 1)
+            pipe.readff(other, 3)
+        pipe.results
+    """
+
+    def __init__(self, client: Client) -> None:
+        self._client = client
+        self._requests: List[Request[Any]] = []
+        self.results: List[Any] = []  # the answers, once asked; errors are in the list too
+
+    def add(self, request: Request[Any]) -> Pipeline:
+        """Adds a request."""
+        self._requests.append(request_of(request))
+        return self
+
+    create = _collecting(requests.create)
+    find = _collecting(requests.find)
+    remove = _collecting(requests.remove)
+    readfe = _collecting(requests.readfe)
+    readff = _collecting(requests.readff)
+    readxx = _collecting(requests.readxx)
+    writeef = _collecting(requests.writeef)
+    writeff = _collecting(requests.writeff)
+    writexf = _collecting(requests.writexf)
+    purge = _collecting(requests.purge)
+    int_fetch_add = _collecting(requests.int_fetch_add)
+
+    def run(self, *, timeout: Timeout = DEFAULT) -> List[Any]:
+        """Asks what was added since the last time. Returns the answers."""
+        asked, self._requests = self._requests, []
+        self.results = self._client._perform(self._client._together(asked, timeout))
+        return self.results
+
+    def __enter__(self) -> Pipeline:
+        return self
+
+    def __exit__(self, kind: Optional[Type[BaseException]], *failure: object) -> None:
+        if kind is None:
+            self.run()
+
+
 atexit.register(worker.at_exit)

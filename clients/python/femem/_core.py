@@ -13,16 +13,14 @@ from collections import deque
 from typing import Any, Callable, Deque, Dict, List, Optional, Sequence, Tuple, TypeVar
 
 from . import _errors as errors, _frames as frames, _reports as reports
-from ._attachment import ATTACHING, DOWN, ENDED, READY, Attachment
+from ._attachment import ATTACHING, DOWN, ENDED, READY, Attachment, unexpected
 from ._errors import ProtocolError
 from .events import Events, OnEvent
 from ._frames import Answer
-from ._handshake import unexpected
 from ._holdings import Holdings
-from ._jobrunner import JobRunner
-from ._jobs import Job
+from ._jobs import Job, JobRunner
 from ._outbox import PATIENCE, Outbox
-from .requests import Request, number_of_bits
+from .requests import NOTHING, number_of_bits
 from ._sessionfile import SessionFile
 from ._tickets import Ticket
 from ._window import Used
@@ -36,20 +34,13 @@ class Core(JobRunner, Attachment):
     """One session's requests, over any number of connections. Times are in seconds, of one clock."""
 
     def __init__(
-        self,
-        session: int,
-        reconnect_timeout: Optional[float],
-        probe_interval: float = 5.0,
-        file: Optional[SessionFile] = None,
-        clock: Callable[[], float] = time.monotonic,
-        moves_waits: bool = False,
-        is_own: bool = False,
-        on_event: Optional[OnEvent] = None,
+        self, session: int, reconnect_timeout: Optional[float], probe_interval: float = 5.0,
+        file: Optional[SessionFile] = None, clock: Callable[[], float] = time.monotonic,
+        moves_waits: bool = False, is_own: bool = False, on_event: Optional[OnEvent] = None,
     ) -> None:
         number = number_of_bits(session, 64, "session")
         events = None if on_event is None else Events(on_event, number)
-        # What has ended since `take_ended`.
-        self.ended: List[Ticket[Any]] = []
+        self.ended: List[Ticket[Any]] = []  # what has ended since `take_ended`
         # The requests that have to wait, for `take_moved`.
         self.moved: List[Ticket[Any]] = []
         outbox = Outbox(bytearray(), self.ended, file, self.moved if moves_waits else None, events)
@@ -61,13 +52,11 @@ class Core(JobRunner, Attachment):
         Attachment.__init__(self, number, outbox, events, reconnect_timeout, probe_interval, is_own or file is not None)
         self.file = file
         self.clock = clock
-        # Whether requests that wait are made over further sessions.
-        self.moves_waits = moves_waits
+        self.moves_waits = moves_waits  # whether requests that wait are made over further sessions
         # Once the client has failed: whether the server had ended the session, and whether requests could be sent.
         self.has_left = False
         self.was_ready = False
-        # What this client's patterns hold and do.
-        self.holdings = Holdings()
+        self.holdings = Holdings()  # what this client's patterns hold and do
         # The requests made over another session, and how that takes each back.
         self._elsewhere: Dict[Ticket[Any], Callable[[errors.Withdrawn], object]] = {}
         self._reports: Deque[Ticket[reports.Report]] = deque()
@@ -79,7 +68,7 @@ class Core(JobRunner, Attachment):
 
     def open(self, now: float) -> Ticket[None]:
         """A ticket that is done once the session is attached for the first time."""
-        self._opening = Ticket(None)
+        self._opening = Ticket()
         self._admit((self._opening,), now)
         self._asked_at = now
         return self._opening
@@ -93,10 +82,8 @@ class Core(JobRunner, Attachment):
         self._was_away = False
 
     def take(self, tickets: Sequence[Ticket[Any]], timeout: Optional[float], now: float) -> None:
-        """Sends them as soon as the window has room. They are taken back once `timeout` seconds are over.
-
-        If nothing can be asked any more, they end with the error.
-        """
+        """Sends them as soon as the window has room. They are taken back once `timeout` seconds are over. If
+        nothing can be asked any more, they end with the error."""
         admitted = self._admit(tickets, now)
         if timeout is not None:
             self.is_urgent = True
@@ -108,29 +95,26 @@ class Core(JobRunner, Attachment):
     # Numbers that callers use themselves.
 
     def lends(self) -> Tuple[int, int, int, Optional[Ticket[int]]]:
-        """The numbers that may be lent: from the first to before the second. None while the server owes an answer.
-
-        The third is the floor, if callers may raise it too, and otherwise 0. The last one is what shows that this client is
-        there, if it waits: then they move it.
-        """
+        """The numbers that may be lent: from the first to before the second. None while the server owes an
+        answer. The third is the floor, if callers may raise it too, and otherwise 0. The last one is what
+        shows that this client is there, if it waits: then they move it."""
         window, shown = self._outbox.window, self._presence
         if window is None or self.file is not None or self.phase is not READY or self._leaving is not None:
             return 0, 0, 0, None
         if not self.is_idle and (self._reports or not self._outbox.only_waits()):
             return 0, 0, 0, None
         count, floor = window.to_lend(None if shown is None or shown.cancel_sent else shown)
-        first = window.next_number()
+        first = window.next
         return first, first + count, floor, shown if window.unanswered else None
 
     def takes_back(self, used: Used[Ticket[Any]], floor: int, left: int, now: float) -> None:
-        """Notes what lent numbers were used for, and how far the floor was raised, unless that is 0.
-
-        The last ticket may have no answer yet; then it is asked here. So is the reply to the cancel of `left`, unless that is 0.
-        """
+        """Notes what lent numbers were used for, and how far the floor was raised, unless that is 0. The last
+        ticket may have no answer yet; then it is asked here. So is the reply to the cancel of `left`, unless
+        that is 0."""
         window = self._outbox.window
         assert window is not None
         tickets = [ticket if ticket is not None and not ticket.done else None for ticket in used]
-        is_used = window.next_number() < used.first + len(tickets)
+        is_used = window.next < used.first + len(tickets)
         window.lent(used, tickets, floor)
         self._outbox.note_lent(left, now)
         for number, ticket in window.unanswered.items():
@@ -158,7 +142,7 @@ class Core(JobRunner, Attachment):
         self.take((ticket,), timeout, now)
 
     def report(self, now: float, ticket: Optional[Ticket[reports.Report]] = None) -> Ticket[reports.Report]:
-        asked: Ticket[reports.Report] = ticket or Ticket(None)
+        asked: Ticket[reports.Report] = ticket or Ticket()
         if self._admit((asked,), now):
             self._reports.append(asked)
             self._pump(now)
@@ -166,7 +150,7 @@ class Core(JobRunner, Attachment):
 
     def leave(self, now: float, ticket: Optional[Ticket[None]] = None, at_any_rate: bool = False) -> Ticket[None]:
         """Ends the session. `StillWaiting` if something has no answer yet, unless `at_any_rate`."""
-        asked: Ticket[None] = ticket or Ticket(None)
+        asked: Ticket[None] = ticket or Ticket()
         if self.failure is None and self.is_busy() and not at_any_rate:
             error = errors.StillWaiting("a request of this client has no answer yet")
             if ticket is None:
@@ -195,8 +179,7 @@ class Core(JobRunner, Attachment):
             else:
                 self.file.close()
 
-    def forget(self, key: bytes) -> None:
-        """Drops the answer under this key."""
+    def forget(self, key: bytes, now: float) -> None:
         assert self.file is not None
         self.file.forget(key)
 
@@ -206,12 +189,11 @@ class Core(JobRunner, Attachment):
         return [*self.file.keys(), *list(self._outbox.keys)]
 
     def is_open(self, key: bytes) -> bool:
-        """Whether a request under this key has no answer yet."""
         return key in self._outbox.keys
 
     def withdraw(self, ticket: Ticket[Any], now: float, why: Optional[errors.Withdrawn] = None) -> None:
         """Takes a request back, if it waits. It ends with `why`, or with its answer if it has happened."""
-        if ticket.done or ticket.request is None:
+        if ticket.done or ticket.request is NOTHING:
             return
         ticket.taken_back = why or errors.Withdrawn(ticket.request.what)
         if not ticket.taken:
@@ -229,14 +211,13 @@ class Core(JobRunner, Attachment):
         for ticket in tickets:
             if isinstance(ticket, Job):
                 self.abandon(ticket, now)
-            elif ticket.request is not None:
+            else:
                 self.withdraw(ticket, now)
 
     def close(self) -> None:
         self.fail(errors.Closed("the client is closed"))
 
     def fail(self, failure: errors.FememError) -> None:
-        """Ends the client and everything under way."""
         if self.failure is not None:
             return
         self.failure = failure
@@ -359,7 +340,7 @@ class Core(JobRunner, Attachment):
             ticket = self._timeouts.take(now)
             if ticket is None:
                 break
-            if ticket.request is None:
+            if ticket.request is NOTHING:
                 self._pauses.discard(ticket)
                 self._end(ticket)
             else:
@@ -453,28 +434,24 @@ class Core(JobRunner, Attachment):
             if self._outbox.answered(reply):
                 self._heard(now)
         elif isinstance(reply, frames.Settled):
-            self._take_settled(reply.floor)
+            if self._was_away and reply.floor > self._outbox.window.asked:
+                raise errors.TakenOver(f"another client had session {self.session} in between")
+            self._outbox.has_floor(reply.floor)
         elif isinstance(reply, frames.Welcome):
             self._take_welcome(reply.floor, now)
         elif isinstance(reply, frames.Withdrawn):
             self._outbox.withdrawn(reply.number)
             self._heard(now)
         elif isinstance(reply, frames.Report):
-            self._take_report(reply)
-        else:
-            self._take_goodbye(reply)
-
-    def _take_report(self, reply: frames.Report) -> None:
-        if self._report_sent is None:
-            raise ProtocolError("a report that nobody asked for")
-        report = reports.parse(reply.text)
-        self._report_sent = None
-        self._end(self._reports.popleft(), result=report)
-
-    def _take_goodbye(self, reply: frames.Goodbye) -> None:
-        if self._bye_sent is None or reply.session != self.session:
+            if self._report_sent is None:
+                raise ProtocolError("a report that nobody asked for")
+            report = reports.parse(reply.text)
+            self._report_sent = None
+            self._end(self._reports.popleft(), result=report)
+        elif self._bye_sent is None or reply.session != self.session:
             raise ProtocolError("a goodbye that nobody asked for")
-        self._has_left()
+        else:
+            self._has_left()
 
     def _has_left(self) -> None:
         assert self._leaving is not None

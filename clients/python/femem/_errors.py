@@ -5,6 +5,12 @@ What each error of the server means, with the limit and the way out, is in `clie
 
 from __future__ import annotations
 
+# The errors of the server, by their codes of docs/formats.md.
+ANSWER_ERRORS: dict[int, type[AnswerError]] = {}
+REFUSALS: dict[int, type[Refused]] = {}
+
+_IN_USE = "each client needs a session of its own, and another client uses this one"
+
 
 class FememError(Exception):
     """Any error of this package."""
@@ -18,6 +24,10 @@ class AnswerError(FememError):
 
     _text = ""
 
+    def __init_subclass__(cls, code: int = 0, text: str = "") -> None:
+        if code:
+            ANSWER_ERRORS[code], cls._text = cls, text
+
     def __str__(self) -> str:
         """Of a request it is made only when it is wanted: patterns look at many words that are not as they need them."""
         what = getattr(self.args[0], "what", None) if self.args else None
@@ -27,52 +37,40 @@ class AnswerError(FememError):
         return f"{type(self).__name__}({str(self)!r})"
 
 
-class NoArray(AnswerError):
+class NoArray(AnswerError, code=4, text="there is no such array: 'create' makes one"):
     """There is no such array. Also the answer to what waits on an array when it is removed."""
 
-    _text = "there is no such array: 'create' makes one"
 
-
-class BadIndex(AnswerError):
+class BadIndex(AnswerError, code=5, text="the array has fewer words; the first one has the index 0"):
     """The array has no word of that index."""
 
-    _text = "the array has fewer words; the first one has the index 0"
 
-
-class NameTaken(AnswerError):
+class NameTaken(AnswerError, code=6, text="there is an array of that name: 'find' finds it"):
     """Another array has the name."""
 
-    _text = "there is an array of that name: 'find' finds it"
 
-
-class ArrayLimit(AnswerError):
+class ArrayLimit(
+    AnswerError, code=7, text="the server has 64 arrays, which is the most: 'remove' removes one"
+):
     """There are 64 arrays."""
 
-    _text = "the server has 64 arrays, which is the most: 'remove' removes one"
 
-
-class WordLimit(AnswerError):
+class WordLimit(
+    AnswerError, code=8, text="the arrays would have more than 65536 words in all: 'remove' removes one"
+):
     """The arrays would have more than 65,536 words."""
 
-    _text = "the arrays would have more than 65536 words in all: 'remove' removes one"
 
-
-class BadName(AnswerError):
+class BadName(AnswerError, code=9, text="names have a to z, 0 to 9 and _, and 1 to 32 of these"):
     """A name is 1 to 32 bytes of a-z, 0-9 and `_`."""
 
-    _text = "names have a to z, 0 to 9 and _, and 1 to 32 of these"
 
-
-class BadLength(AnswerError):
+class BadLength(AnswerError, code=10, text="a length is 1 to 65536"):
     """An array has 1 to 65,536 words."""
 
-    _text = "a length is 1 to 65536"
 
-
-class NotNow(AnswerError):
+class NotNow(AnswerError, code=11, text="not now: without 'nowait' it waits"):
     """The operation would have to wait, and `nowait` was given."""
-
-    _text = "not now: without 'nowait' it waits"
 
 
 class Refused(FememError):
@@ -80,65 +78,53 @@ class Refused(FememError):
 
     _text = ""
 
+    def __init_subclass__(cls, code: int = 0, text: str = "") -> None:
+        if code:
+            REFUSALS[code], cls._text = cls, text
 
-class NotAttached(Refused):
+
+class NotAttached(
+    Refused, code=1, text="each client needs a session of its own, and another client has taken this one"
+):
     """The connection has no session. Calls of this client raise it as `TakenOver`."""
 
-    _text = "each client needs a session of its own, and another client has taken this one"
 
-
-class SessionLimit(Refused):
+class SessionLimit(
+    Refused, code=2, text="the server has 64 sessions, which is the most: 'femem-cli sessions' lists them"
+):
     """The server keeps 64 sessions, and this one is not among them."""
 
-    _text = "the server has 64 sessions, which is the most: 'femem-cli sessions' lists them"
 
-
-class BelowFloor(Refused):
+class BelowFloor(Refused, code=3, text=_IN_USE):
     """The number is below the session's floor: another client uses the session."""
 
-    _text = "each client needs a session of its own, and another client uses this one"
 
-
-class BeyondWindow(Refused):
+class BeyondWindow(Refused, code=4, text=_IN_USE):
     """The number is beyond the session's window: another client uses the session."""
 
-    _text = "each client needs a session of its own, and another client uses this one"
 
-
-class NumberUsed(Refused):
+class NumberUsed(Refused, code=5, text=_IN_USE):
     """Another request has the number: another client uses the session."""
 
-    _text = "each client needs a session of its own, and another client uses this one"
 
-
-class StillWaiting(Refused):
+class StillWaiting(Refused, code=6, text="a request has no answer yet: wait for it, or take it back"):
     """A request has no answer yet."""
 
-    _text = "a request has no answer yet: wait for it, or take it back"
 
-
-class Closing(Refused):
+class Closing(Refused, code=7, text="the session is being ended: use another one"):
     """The session is being ended; this is not stored yet."""
 
-    _text = "the session is being ended: use another one"
 
-
-class NoMemory(Refused):
+class NoMemory(Refused, code=8, text="the server has no memory for this now: try again later"):
     """The server has no memory for this now."""
 
-    _text = "the server has no memory for this now: try again later"
 
-
-class Spent(Refused):
+class Spent(Refused, code=9, text="the store has no place for further entries, ever: make a new one"):
     """The server's store has no place for further entries, ever."""
 
-    _text = "the store has no place for further entries, ever: make a new one"
 
-
-class NotWaiting(Refused):
+class NotWaiting(Refused, code=10, text="nothing waits under that number"):
     """Nothing waits under the number. This client handles it itself."""
-
-    _text = "nothing waits under that number"
 
 
 class TakenOver(NotAttached):
@@ -202,39 +188,11 @@ class Closed(FememError):
     """The client is closed. A request without an answer happened once or not at all."""
 
 
-# By the codes of docs/formats.md.
-ANSWER_ERRORS: dict[int, type[AnswerError]] = {
-    4: NoArray,
-    5: BadIndex,
-    6: NameTaken,
-    7: ArrayLimit,
-    8: WordLimit,
-    9: BadName,
-    10: BadLength,
-    11: NotNow,
-}
-
-REFUSALS: dict[int, type[Refused]] = {
-    1: NotAttached,
-    2: SessionLimit,
-    3: BelowFloor,
-    4: BeyondWindow,
-    5: NumberUsed,
-    6: StillWaiting,
-    7: Closing,
-    8: NoMemory,
-    9: Spent,
-    10: NotWaiting,
-}
-
-
 def answered(code: int, what: str) -> AnswerError:
     """The error of an answer to what was asked: what is wrong, the limit, the way out."""
-    found = ANSWER_ERRORS[code]
-    return found(f"{what}: {found._text}")
+    return ANSWER_ERRORS[code](f"{what}: {ANSWER_ERRORS[code]._text}")
 
 
 def refused(code: int, what: str) -> Refused:
     """The error of a refusal of what was asked."""
-    found = REFUSALS[code]
-    return found(f"{what}: {found._text}")
+    return REFUSALS[code](f"{what}: {REFUSALS[code]._text}")

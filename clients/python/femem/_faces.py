@@ -1,17 +1,21 @@
-"""What stands once for two faces: a method whose result a `ForThreads` returns, and whose awaitable a `ForTasks` returns."""
+"""What stands once for two faces: a method whose result one for threads returns, and one for tasks awaits.
+
+And under which names classes are shown.
+"""
 
 from __future__ import annotations
 
-from typing import TYPE_CHECKING, Any, Callable, Generic, TypeVar, overload
+import sys
+from functools import partial
+from typing import TYPE_CHECKING, Any, Callable, Coroutine, Generic, Sequence, TypeVar
+from typing import get_type_hints, overload
 
 if TYPE_CHECKING:
-    from typing import Coroutine
-
-    from typing_extensions import ParamSpec
+    from typing_extensions import Concatenate as Concatenate, ParamSpec
 
     P = ParamSpec("P")
 else:
-    P = TypeVar("P")
+    P, Concatenate = TypeVar("P"), Any  # (only types name it)
 
 T = TypeVar("T")
 D = TypeVar("D", bound="faced[Any, Any]")
@@ -38,8 +42,15 @@ class faced(Generic[P, T]):
     def __get__(self: D, owner: None, kind: Any = None) -> D: ...
 
     def __get__(self, owner: Any, kind: Any = None) -> Any:
-        return self if owner is None else self.of(owner)
+        return self if owner is None else partial(owner._perform, self)
 
-    def of(self, owner: Any) -> Any:
-        """What a call of the owner's method calls."""
-        raise NotImplementedError
+
+def show_as(module: str, names: Sequence[str]) -> None:
+    """Tracebacks, `help` and pickles name the classes of private modules as programs do: `femem.NotOwner`."""
+    for name in names:
+        found = vars(sys.modules[module])[name]
+        if isinstance(found, type) and found.__module__.startswith("femem._"):
+            # (what its annotations name is in the private module)
+            own, hints = vars(found).get("__annotations__", {}), get_type_hints(found)
+            own.update((each, hints[each]) for each in own)
+            found.__module__ = module

@@ -7,7 +7,8 @@ sends, and holds at most one frame.
 from __future__ import annotations
 
 import struct
-from typing import List, NamedTuple, Union
+from functools import partial
+from typing import Callable, Dict, List, NamedTuple, Tuple, Union
 
 from ._errors import ProtocolError
 
@@ -32,10 +33,6 @@ def _frame(kind: int, body: bytes = b"") -> bytes:
     return struct.pack(">IB", 1 + len(body), kind) + body
 
 
-def attach(session: int) -> bytes:
-    return _frame(1, struct.pack(">Q", session))
-
-
 def create(number: int, name: bytes, length: int, full: bool) -> bytes:
     """Names of up to 16 bytes and longer ones have different kinds."""
     kind, row = (2, 16) if len(name) <= 16 else (12, 32)
@@ -51,8 +48,7 @@ def remove(number: int, array: int) -> bytes:
     return _frame(4, struct.pack(">QQ", number, array))
 
 
-# Length, kind, number, code, array, index and operand.
-pack_access = struct.Struct(">IBQBQIQ").pack
+pack_access = struct.Struct(">IBQBQIQ").pack  # length, kind, number, code, array, index and operand
 
 
 def access(number: int, code: int, array: int, index: int, operand: int, nowait: bool) -> bytes:
@@ -64,10 +60,8 @@ pack_number = struct.Struct(">Q").pack_into
 
 
 def append_under(stream: bytearray, frame: bytes, number: int, nowait: bool = False) -> None:
-    """Appends the frame of a request, encoded under number 0, under this number.
-
-    `nowait` is for operations that may wait: it then does not wait.
-    """
+    """Appends the frame of a request, encoded under number 0, under this number. `nowait` is for operations
+    that may wait: it then does not wait."""
     at = len(stream) + 5
     stream += frame
     pack_number(stream, at, number)
@@ -75,25 +69,12 @@ def append_under(stream: bytearray, frame: bytes, number: int, nowait: bool = Fa
         stream[at - 1] = NOWAIT
 
 
-def cancel(number: int) -> bytes:
-    return _frame(6, struct.pack(">Q", number))
+def _of_number(kind: int) -> Callable[[int], bytes]:
+    return lambda number: _frame(kind, struct.pack(">Q", number))
 
 
-def settle(floor: int) -> bytes:
-    return _frame(7, struct.pack(">Q", floor))
-
-
-def bye() -> bytes:
-    return _frame(8)
-
-
-def report() -> bytes:
-    return _frame(9)
-
-
-class Welcome(NamedTuple):
-    session: int
-    floor: int
+attach, cancel, settle = _of_number(1), _of_number(6), _of_number(7)
+bye, report = partial(_frame, 8), partial(_frame, 9)
 
 
 class Answer(NamedTuple):
@@ -105,33 +86,21 @@ class Answer(NamedTuple):
     length: int = 0
 
 
-class Withdrawn(NamedTuple):
-    number: int
-
-
-class Settled(NamedTuple):
-    floor: int
-
-
-class Goodbye(NamedTuple):
-    session: int
-
-
-class Refusal(NamedTuple):
-    number: int
-    code: int
-
-
-class Report(NamedTuple):
-    text: str
-
-
+Welcome = NamedTuple("Welcome", [("session", int), ("floor", int)])
+Withdrawn = NamedTuple("Withdrawn", [("number", int)])
+Settled = NamedTuple("Settled", [("floor", int)])
+Goodbye = NamedTuple("Goodbye", [("session", int)])
+Refusal = NamedTuple("Refusal", [("number", int), ("code", int)])
+Report = NamedTuple("Report", [("text", str)])
 Reply = Union[Welcome, Answer, Withdrawn, Settled, Goodbye, Refusal, Report]
 
-# The length of each kind, except a report, which has 2 to 262,145.
-_LENGTHS = {65: 17, 66: 22, 67: 9, 68: 9, 69: 9, 70: 10}
+# The fields of each kind, and what it is, except a report.
+_NUMBER = struct.Struct(">Q")
+_KINDS: Dict[int, Tuple[struct.Struct, Callable[..., Reply]]] = {
+    65: (struct.Struct(">QQ"), Welcome), 66: (struct.Struct(">QBQI"), Answer), 67: (_NUMBER, Withdrawn),
+    68: (_NUMBER, Settled), 69: (_NUMBER, Goodbye), 70: (struct.Struct(">QB"), Refusal),
+}  # fmt: skip
 _REPORT = 71
-
 
 # An answer: length, kind, number, code, value and length of an array.
 ANSWER_BYTES = 26
@@ -140,10 +109,8 @@ unpack_answer = struct.Struct(">IBQBQI").unpack_from
 
 
 def _read_plain_answers(stream: Union[bytes, bytearray], at: int, replies: List[Reply]) -> int:
-    """Appends the *value*, *done* and *not now* answers, the most common, from `at` on. Returns where they end.
-
-    It stops at anything else, correct or not, which the other readers handle.
-    """
+    """Appends the *value*, *done* and *not now* answers, the most common, from `at` on. Returns where they
+    end. It stops at anything else, correct or not, which the other readers handle."""
     end = at + (len(stream) - at) // ANSWER_BYTES * ANSWER_BYTES
     for here in range(at, end, ANSWER_BYTES):
         size, kind, number, code, value, length = unpack_answer(stream, here)
@@ -154,20 +121,16 @@ def _read_plain_answers(stream: Union[bytes, bytearray], at: int, replies: List[
 
 
 class ReplyDecoder:
-    """Reads replies from a stream, in whatever pieces it comes.
-
-    It holds less than a frame between pieces, and a frame has at most 262,149 bytes.
-    """
+    """Reads replies from a stream, in whatever pieces it comes. It holds less than a frame between pieces,
+    and a frame has at most 262,149 bytes."""
 
     def __init__(self) -> None:
         self._rest = bytearray()
         self._offset = 0
 
     def feed(self, piece: bytes) -> List[Reply]:
-        """The replies that the piece completes.
-
-        `ProtocolError` has the offset of the first invalid frame; nothing of that piece is then returned.
-        """
+        """The replies that the piece completes. `ProtocolError` has the offset of the first invalid frame;
+        nothing of that piece is then returned."""
         if len(piece) == ANSWER_BYTES and not self._rest:
             size, kind, number, code, value, length = unpack_answer(piece)
             if size == 22 and kind == 66 and not length and (code == VALUE or code == DONE and not value):
@@ -206,43 +169,27 @@ class ReplyDecoder:
         if have < 5:
             return 0
         kind = stream[at + 4]
-        if kind == _REPORT:
-            right = length >= 2
-        else:
-            right = _LENGTHS.get(kind) == length
-        if not right:
+        if not (length >= 2 if kind == _REPORT else kind in _KINDS and length == 1 + _KINDS[kind][0].size):
             raise self._bad(at, f"kind {kind} of length {length}")
         return at + 4 + length if have >= 4 + length else 0
 
     def _reply(self, stream: Union[bytes, bytearray], at: int, end: int) -> Reply:
         kind = stream[at + 4]
-        body = bytes(stream[at + 5 : end])
-        if kind == 66:
-            return self._answer(at, body)
-        if kind == 65:
-            session, floor = struct.unpack(">QQ", body)
-            if not 1 <= floor <= GREATEST_FLOOR:
-                raise self._bad(at, f"floor {floor}")
-            return Welcome(session, floor)
-        if kind == 70:
-            number, code = struct.unpack(">QB", body)
-            if not 1 <= code <= 10:
-                raise self._bad(at, f"refusal {code}")
-            return Refusal(number, code)
         if kind == _REPORT:
             try:
-                return Report(body.decode("utf-8"))
+                return Report(bytes(stream[at + 5 : end]).decode("utf-8"))
             except UnicodeDecodeError:
                 raise self._bad(at, "a report that is not UTF-8") from None
-        (number,) = struct.unpack(">Q", body)
-        if kind == 67:
-            return Withdrawn(number)
-        return Settled(number) if kind == 68 else Goodbye(number)
-
-    def _answer(self, at: int, body: bytes) -> Answer:
-        number, code, value, length = struct.unpack(">QBQI", body)
-        if not 1 <= code <= 11:
-            raise self._bad(at, f"answer {code}")
-        if code != ARRAY and length or code not in (VALUE, ARRAY) and value:
-            raise self._bad(at, f"answer {code} with an unused field")
-        return Answer(number, code, value, length)
+        layout, make = _KINDS[kind]
+        reply = make(*layout.unpack_from(stream, at + 5))
+        if isinstance(reply, Welcome) and not 1 <= reply.floor <= GREATEST_FLOOR:
+            raise self._bad(at, f"floor {reply.floor}")
+        if isinstance(reply, Refusal) and not 1 <= reply.code <= 10:
+            raise self._bad(at, f"refusal {reply.code}")
+        if isinstance(reply, Answer):
+            _, code, value, length = reply
+            if not 1 <= code <= 11:
+                raise self._bad(at, f"answer {code}")
+            if code != ARRAY and length or code not in (VALUE, ARRAY) and value:
+                raise self._bad(at, f"answer {code} with an unused field")
+        return reply

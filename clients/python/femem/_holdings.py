@@ -4,10 +4,9 @@ from __future__ import annotations
 
 from typing import Dict, List, Optional, Sequence, Set, Tuple
 
-from . import requests
 from ._errors import NotNow
 from ._jobs import Batch, Steps
-from .requests import Array
+from .requests import Array, look
 from ._sessionfile import SessionFile
 
 # The words of the kinds of access that a session file may have under a key: where a frame has its array and index.
@@ -33,7 +32,7 @@ class Leftovers:
         if looked.issuperset(words):
             return
         words = [word for word in words if word not in looked]
-        found = yield Batch([requests.readff(array, word, nowait=True) for word in words])
+        found = yield Batch([look(array, word) for word in words])
         for outcome in found:
             if isinstance(outcome, BaseException) and not isinstance(outcome, NotNow):
                 raise outcome
@@ -58,17 +57,13 @@ class Leftovers:
 
     def take_unkeyed(self, array: Array, words: Sequence[int], file: Optional[SessionFile]) -> List[int]:
         """Takes those of these words that no key of the session file has."""
-        left = self._found.get(array.id)
-        if not left:
+        if not self._found.get(array.id):
             return []
-        keyed = self._keyed(array, file)
-        return [word for word in words if word not in keyed and self.take(array, word)]
-
-    @staticmethod
-    def _keyed(array: Array, file: Optional[SessionFile]) -> Set[int]:
         kept = [file.kept(key) for key in file.keys()] if file is not None else []
         frames = [each[0] for each in kept if each is not None and each[0][4] in ACCESS]
-        return {int.from_bytes(frame[22:26], "big") for frame in frames if int.from_bytes(frame[14:22], "big") == array.id}
+        its = [frame for frame in frames if int.from_bytes(frame[14:22], "big") == array.id]
+        keyed = {int.from_bytes(frame[22:26], "big") for frame in its}
+        return [word for word in words if word not in keyed and self.take(array, word)]
 
 
 class Read:
@@ -77,13 +72,11 @@ class Read:
     def __init__(self, caller: object) -> None:
         self.caller = caller
         self.array: Optional[Array] = None
-        # Whether the server knows of it, so that its caller may read again beside it.
-        self.has_begun = False
+        self.has_begun = False  # whether the server knows of it, so that its caller may read again beside it
         # Over which seat it was counted, and whether that is to be given back: from the moment at which it is to leave.
         self.seat: Optional[int] = None
         self.is_last = False
-        # Who gives it back: the first one that sets this.
-        self.given_by: Dict[int, object] = {}
+        self.given_by: Dict[int, object] = {}  # who gives it back: the first one that sets this
 
 
 class Release:
@@ -114,10 +107,8 @@ class Sitting:
 
 
 class Reads:
-    """Who of this process reads under a read-write lock. They share one seat there.
-
-    What several threads change is changed by one call, `setdefault`: it has happened or not, wherever one is interrupted.
-    """
+    """Who of this process reads under a read-write lock. They share one seat there. What several threads
+    change is changed by one call, `setdefault`: it has happened or not, wherever one is interrupted."""
 
     def __init__(self) -> None:
         self._sittings: Dict[int, Sitting] = {}
@@ -159,5 +150,4 @@ class Holdings:
         self.reads = Reads()
         # The jobs of work queues that this process has, or is just claiming, each with the request that claims it.
         self.jobs: Dict[int, object] = {}
-        # The keys under which an operation of several tries is going on.
-        self.keys: Set[bytes] = set()
+        self.keys: Set[bytes] = set()  # the keys under which an operation of several tries is going on

@@ -7,20 +7,20 @@ task that asked, so that one may be interrupted anywhere and nothing is left hal
 from __future__ import annotations
 
 from dataclasses import dataclass
-from typing import Any, Callable, ClassVar, Dict, Generator, List, Optional, Sequence, TypeVar, Union
+from functools import partial
+from typing import Any, Callable, ClassVar, Dict, Generator, List, Optional, Sequence, Set, TypeVar, Union
 
-from ._errors import Withdrawn
-from .requests import Array, Request
-from ._tickets import Ticket
+from . import _errors as errors, _reports as reports
+from .requests import NOTHING, Array, Request, purge, readff
+from ._tickets import Last, Ticket, Timeouts, nobody, outcomes_of
 
 T = TypeVar("T")
 
 
 class Wait:
-    """A request that may wait, for `seconds` at most. Its result is sent to the generator, or its error raised there.
-
-    After a restart, the next process with the same session file takes it back. With a key, the file keeps its answer.
-    """
+    """A request that may wait, for `seconds` at most. Its result is sent to the generator, or its error
+    raised there. After a restart, the next process with the same session file takes it back. With a key, the
+    file keeps its answer."""
 
     def __init__(self, request: Request[Any], seconds: Optional[float] = None, key: Optional[bytes] = None) -> None:
         self.requests = (request,)
@@ -30,10 +30,8 @@ class Wait:
 
 @dataclass
 class Batch:
-    """Requests that are sent together, in this order. The outcome is a list of results and errors.
-
-    None of them may wait. The key is that of the first one.
-    """
+    """Requests that are sent together, in this order. The outcome is a list of results and errors. None of
+    them may wait. The key is that of the first one."""
 
     requests: Sequence[Request[Any]]
     key: Optional[bytes] = None
@@ -42,10 +40,8 @@ class Batch:
 
 @dataclass
 class First:
-    """Requests that may wait. Once one is answered, or after `seconds`, the others are taken back.
-
-    The outcome is a list as of a batch. Several of them may have happened. The key is that of the first one.
-    """
+    """Requests that may wait. Once one is answered, or after `seconds`, the others are taken back. The
+    outcome is a list as of a batch. Several of them may have happened. The key is that of the first one."""
 
     requests: Sequence[Request[Any]]
     seconds: Optional[float] = None
@@ -95,23 +91,20 @@ class Mended(Generator[Step, Any, T]):
 
 
 def first_of(asked: Sequence[Request[Any]], seconds: Optional[float]) -> Steps[Dict[int, Any]]:
-    """Waits until one of them has happened, and takes the others back. The answers by their places among them.
-
-    `TimedOut` if none happens in time. If all end with errors, the first one's is raised.
-    """
+    """Waits until one of them has happened, and takes the others back. The answers by their places among
+    them. `TimedOut` if none happens in time. If all end with errors, the first one's is raised."""
     outcomes: List[Any] = (yield First(asked, seconds)) if asked else []
     found = {k: outcome for k, outcome in enumerate(outcomes) if not isinstance(outcome, BaseException)}
-    errors = [outcome for outcome in outcomes if isinstance(outcome, BaseException)]
-    if not found and errors:
-        raise next((error for error in errors if not isinstance(error, Withdrawn)), errors[0])
+    failed = [outcome for outcome in outcomes if isinstance(outcome, BaseException)]
+    if not found and failed:
+        raise next((error for error in failed if not isinstance(error, errors.Withdrawn)), failed[0])
     return found
 
 
 class Job(Ticket[T]):
     """An operation of several steps."""
 
-    # The tickets of the current step.
-    asked: Sequence[Ticket[Any]] = ()
+    asked: Sequence[Ticket[Any]] = ()  # the tickets of the current step
     # The step that its caller has begun by itself, with its tickets, and when that is over.
     begun: Optional[Step] = None
     until: Optional[float] = None
@@ -126,8 +119,186 @@ class Job(Ticket[T]):
     is_abandoned = False
 
     def __init__(self, steps: Steps[T], undo: Optional[Callable[[T], Steps[Any]]] = None, gives_back: bool = False) -> None:
-        self.request = None
+        self.request = NOTHING
         self.steps = steps
         # Whether it gives something back: then it is done even for a task that is to be cancelled.
         self.gives_back = gives_back
         self.undo = undo
+
+
+class JobRunner:
+    """The part of a core that runs jobs: it asks what a step wants, and goes on once that is done. The rest
+    of the core has these:"""
+
+    failure: Optional[errors.FememError]
+    clock: Callable[[], float]
+    is_urgent: bool
+    take: Callable[[Sequence[Ticket[Any]], Optional[float], float], None]
+    report: Callable[[float, Ticket[reports.Report]], object]
+    withdraw: Callable[[Ticket[Any], float], None]
+    withdraw_all: Callable[[Sequence[Ticket[Any]], float], None]
+    _check: Callable[[], None]
+    _admit: Callable[[Sequence[Ticket[Any]], float], Sequence[Ticket[Any]]]
+    _failure_again: Callable[[], errors.FememError]
+    _end: Callable[..., None]
+
+    def __init__(self) -> None:
+        self._presence: Optional[Ticket[int]] = None
+        self._pauses: Set[Ticket[None]] = set()
+        self._timeouts = Timeouts()
+
+    def start(self, job: Job[Any], now: float) -> None:
+        """Runs the job. Its caller may have begun a step."""
+        step, job.begun = job.begun, None
+        if self._admit((job,), now):
+            self._advance(job, lambda: next(job.steps) if step is None else step)
+
+    def abandon(self, job: Job[Any], now: float) -> None:
+        """No caller waits for the job any more: takes it back if it waits, and undoes it if it is done. One
+        that gives something back is done in any case."""
+        if job.is_here and not job.taken and job.mend is not None and not (job.done and job.error is None):
+            self._mend(job, job.mend)
+            return
+        if job.gives_back:
+            self.start(job, now)
+            return
+        job.is_abandoned = True
+        if job.done:
+            self._undo(job, now)
+        else:
+            self.interrupt(job, now)
+
+    def interrupt(self, job: Job[Any], now: float) -> None:
+        """Takes back what the job waits for. It ends with `Withdrawn`, or is done if everything had happened."""
+        if not job.taken:
+            job.taken = True
+            self._end(job, error=errors.Withdrawn("it was not begun"))
+        job.is_interrupted = True
+        for ticket in list(job.asked):
+            if ticket in self._pauses:
+                self._pauses.discard(ticket)
+                self._end(ticket, error=errors.Withdrawn("interrupted"))
+            elif ticket.request.may_wait:
+                self.withdraw(ticket, now)
+
+    def _mend(self, job: Job[Any], mend: Callable[[List[Ticket[Any]]], Steps[Any]]) -> None:
+        """Its caller was interrupted within its steps. Their requests say what they did, once all are answered or taken back."""
+        job.taken = True
+        job.steps.close()
+        left = [ticket for ticket in job.log if not ticket.done]
+        if left:
+            Last(left, lambda: self.start(Job(mend(job.log)), self.clock()))
+            self.withdraw_all([ticket for ticket in left if not ticket.taken or not ticket.must_end()], self.clock())
+        else:
+            self.start(Job(mend(job.log)), self.clock())
+
+    def is_present(self) -> bool:
+        return self._presence is not None and not self._presence.done
+
+    def _undo(self, job: Job[Any], now: float) -> None:
+        undo, job.undo = job.undo, None
+        if undo is not None and job.error is None:
+            self.start(Job(undo(job.result)), now)
+
+    def _advance(self, job: Job[Any], go_on: Callable[[], Step]) -> None:
+        while True:
+            try:
+                step = go_on()
+            except StopIteration as end:
+                self._end(job, end.value)
+            except Exception as error:
+                self._end(job, error=error)
+            else:
+                try:
+                    self._ask(job, step)
+                except errors.FememError as error:
+                    go_on = partial(job.steps.throw, error)
+                    continue
+                return
+            if job.is_abandoned:
+                self._undo(job, self.clock())
+            return
+
+    def _ask(self, job: Job[Any], step: Step) -> None:
+        now = self.clock()
+        self._check()
+        may_wait = isinstance(step, (Wait, First))
+        if job.is_interrupted and (may_wait or isinstance(step, Pause)):
+            raise errors.Withdrawn("interrupted")
+        if isinstance(step, (Batch, Wait, First)):
+            # (the tickets of a step that the caller has begun are there)
+            tickets = list(job.asked) or [Ticket(request) for request in step.requests]
+            if may_wait:
+                for ticket in tickets:
+                    ticket.ends_with_process = True
+            if step.key is not None:
+                tickets[0].key = step.key
+            seconds = step.seconds if job.until is None else max(0.0, job.until - now)  # if its caller has begun the step
+            job.until = None
+            if seconds is not None and tickets[0].taken and not tickets[0].done:
+                self._timeouts.add(now + seconds, tickets[0])
+            self._await(job, step, tickets)
+            self.take(tickets, seconds, now)
+            return
+        only: Ticket[Any] = Ticket()
+        self._await(job, step, [only])
+        if isinstance(step, Look):
+            self.report(now, only)
+        elif isinstance(step, Pause):
+            self.is_urgent = True
+            self._pauses.add(only)
+            self._timeouts.add(now + step.seconds, only)
+        else:
+            if isinstance(step, Present) and not self.is_present():
+                self._show(step.array, now)
+            self._end(only)
+
+    def _await(self, job: Job[Any], step: Step, tickets: List[Ticket[Any]]) -> None:
+        """Goes on with the job once its tickets are done."""
+        job.asked = tickets
+        left = sum(not ticket.done for ticket in tickets)
+
+        def finished() -> None:
+            nonlocal left
+            left -= 1
+            if left and isinstance(step, First):
+                waiting = [ticket for ticket in tickets if not ticket.done and ticket.taken_back is None]
+                self.withdraw_all(waiting, self.clock())
+            elif not left:
+                self._answer(job, step, tickets)
+
+        for ticket in tickets:
+            ticket.finished = finished
+        if not left:
+            last: Ticket[Any] = Ticket()
+            last.finished = partial(self._answer, job, step, tickets)
+            self._end(last)
+
+    def _answer(self, job: Job[Any], step: Step, tickets: List[Ticket[Any]]) -> None:
+        job.asked = ()
+        for ticket in tickets:
+            ticket.finished = nobody  # nothing holds itself
+        if isinstance(step, (Batch, First)):
+            outcomes = outcomes_of(tickets)
+            fails, steps = self.failure is not None, job.steps
+            go_on = partial(steps.throw, self._failure_again()) if fails else partial(steps.send, outcomes)
+            self._advance(job, go_on)
+        elif tickets[0].error is not None:
+            self._advance(job, partial(job.steps.throw, tickets[0].error))
+        else:
+            self._advance(job, partial(job.steps.send, tickets[0].result))
+
+    def _show(self, array: Array, now: float) -> None:
+        """Makes a request wait there. Whoever fills the word ends it: then it is emptied, and another one waits."""
+        shown = self._presence = Ticket(readff(array, 0))
+        shown.is_presence = True
+        shown.ends_with_process = True
+        shown.finished = partial(self._is_gone, array)
+        self.take((Ticket(purge(array, 0)), shown), None, now)
+
+    def _is_gone(self, array: Array) -> None:
+        shown = self._presence
+        if shown is not None and shown.done:
+            shown.finished = nobody  # nothing holds itself
+            if shown.error is None and self.failure is None:
+                self._show(array, self.clock())

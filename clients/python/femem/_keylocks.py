@@ -15,7 +15,7 @@ from ._errors import NoArray, NotNow, NotOwner
 from ._jobs import Steps
 from ._locks import Lock
 from ._operations import Absence, Tries, batch, is_full, marked_array, operation_with, size_of
-from .requests import Array
+from .requests import Array, add, empty, fill, look
 
 K = TypeVar("K", bound="KeyLock")
 
@@ -24,33 +24,15 @@ COUNT, SPARES, PLACES = 1, 2, 3
 LARGEST = 29000  # places, with their spares, that fit into a server
 
 
-class Table:
-    """The array of the locks, and where those are that were taken over, as far as this client knows."""
-
-    def __init__(self, name: str, capacity: int) -> None:
-        self.name = name
-        self.capacity = capacity
-        self.spares = max(1, capacity // 8)
-        self.array: Optional[Array] = None
-        self.places: Dict[int, int] = {}
-
-    def find(self) -> Steps[Array]:
-        if self.array is None:
-            length = PLACES + 2 * (self.capacity + self.spares)
-            self.array = yield from marked_array(self.name, length, MARK, (0, 0))
-            self.places = {}
-        return self.array
-
-
 class KeyLock(Lock):
     """The lock of a key, used as a `Lock`. Made by `Locks.of`."""
 
     COUNT = COUNT
     REQUESTS = {"acquire": (24, 24), "try_acquire": (24, 0), "release": (16, 0)}
 
-    def __init__(self, client: Any, table: Table, first: int) -> None:
-        super().__init__(client, table.name)
-        self._table = table
+    def __init__(self, client: Any, locks: Locks[Any], first: int) -> None:
+        super().__init__(client, locks._name)
+        self._locks = locks
         self._first = first
         # The array that it had, and whether only the place was another one.
         self._last: Optional[Array] = None
@@ -63,29 +45,26 @@ class KeyLock(Lock):
 
     def _find(self) -> Steps[Array]:
         if self._array is None:
-            if self._last is not None and self._last is self._table.array and not self._has_moved:
-                self._table.array = None  # it was removed
-            self._array = self._last = yield from self._table.find()
+            if self._last is not None and self._last is self._locks._array and not self._has_moved:
+                self._locks._array = None  # it was removed
+            self._array = self._last = yield from self._locks._find()
             self._has_moved = False
-            self._be_at(self._table.places.get(self._first, self._first))
+            self._be_at(self._locks._places.get(self._first, self._first))
         return self._array
 
     def _follow(self, array: Array, next: Any) -> Steps[None]:
         """`NoArray` if the place is dead. Whoever else waits there goes on too."""
         if is_full(next):
             yield from batch([requests.purge(array, self.OWNER)])
-            self._table.places[self._first] = int(next)
+            self._locks._places[self._first] = int(next)
             self._has_moved = True
             raise NoArray(self._name)
 
     def _own(self, array: Array, end: Optional[float], nowait: bool, patience: Optional[float], tries: Tries) -> Steps[bool]:
-        looks = [requests.readff(array, self._next, nowait=True), requests.int_fetch_add(array, self.COUNT, 1, nowait=True)]
         self._adopted = self._core.holdings.left.take(array, self.OWNER)
-        if not self._adopted:
-            mine = requests.writeef(array, self.OWNER, self._session, nowait=True)
-            done, next, count = yield from batch([mine, *looks], NotNow)
-        else:
-            done, next, count = yield from batch([requests.readff(array, self.OWNER, nowait=True), *looks], NotNow)
+        mine = look(array, self.OWNER) if self._adopted else fill(array, self.OWNER, self._session)
+        asked = [mine, look(array, self._next), add(array, self.COUNT, 1)]
+        done, next, count = yield from batch(asked, NotNow)
         yield from self._follow(array, next)
         if not is_full(done):
             count = None if nowait else (yield from self._wait_there(array, end, patience, tries))
@@ -100,10 +79,8 @@ class KeyLock(Lock):
         while True:
             rest = self._left(end)
             got = yield from self._wait(array, pause if rest is None else min(pause, rest), tries)
-            look = requests.readff(array, self._next, nowait=True)
-            owner = requests.readff(array, self.OWNER, nowait=True)
-            add = requests.int_fetch_add(array, self.COUNT, 1, nowait=True)
-            next, found = yield from batch([look, add if got else owner], NotNow)
+            other = add(array, self.COUNT, 1) if got else look(array, self.OWNER)
+            next, found = yield from batch([look(array, self._next), other], NotNow)
             yield from self._follow(array, next)
             if got:
                 return int(found)
@@ -113,14 +90,12 @@ class KeyLock(Lock):
                 yield from self._break_if_away(array, [int(found)] if is_full(found) else [], absence)
 
     def _owner_of(self, array: Array) -> Steps[Optional[int]]:
-        words = (self.OWNER, self._next)
-        owner, next = yield from batch([requests.readff(array, word, nowait=True) for word in words], NotNow)
+        owner, next = yield from batch([look(array, self.OWNER), look(array, self._next)], NotNow)
         yield from self._follow(array, next)
         return int(owner) if is_full(owner) else None
 
     def _empty(self, array: Array) -> Steps[None]:
-        asked = [requests.readff(array, self._next, nowait=True), requests.readfe(array, self.OWNER, nowait=True)]
-        next, emptied = yield from batch(asked, NotNow)
+        next, emptied = yield from batch([look(array, self._next), empty(array, self.OWNER)], NotNow)
         if not is_full(emptied) or is_full(next):
             raise NotOwner(f"{self._name} was taken over")
 
@@ -129,11 +104,11 @@ class KeyLock(Lock):
         if array is None:
             yield from self._owner()  # goes on from a dead place
             array = yield from self._find()
-        (spare,) = yield from batch([requests.int_fetch_add(array, SPARES, 1, nowait=True)], NoArray)
-        if not is_full(spare) or spare >= self._table.spares:
+        (spare,) = yield from batch([add(array, SPARES, 1)], NoArray)
+        if not is_full(spare) or spare >= self._locks._spares:
             return (yield from super()._break(array))
-        to = requests.writeef(array, self._next, self._table.capacity + spare, nowait=True)
-        done, _ = yield from batch([to, requests.purge(array, self.OWNER)], NotNow, NoArray)
+        moves = fill(array, self._next, self._locks._capacity + spare)
+        done, _ = yield from batch([moves, requests.purge(array, self.OWNER)], NotNow, NoArray)
         self._core.holdings.words.discard((array.id, self.OWNER))
         return is_full(done)
 
@@ -159,15 +134,27 @@ class Locks(Generic[K]):
         if size_of(capacity, "capacity") > LARGEST:
             raise ValueError(f"the capacity is at most {LARGEST}")
         self._client = client
-        self._table = Table(name, capacity)
+        self._name = name
+        self._capacity = capacity
+        self._spares = max(1, capacity // 8)
+        # Their array, and where those are that were taken over, as far as this client knows.
+        self._array: Optional[Array] = None
+        self._places: Dict[int, int] = {}
+
+    def _find(self) -> Steps[Array]:
+        if self._array is None:
+            length = PLACES + 2 * (self._capacity + self._spares)
+            self._array = yield from marked_array(self._name, length, MARK, (0, 0))
+            self._places = {}
+        return self._array
 
     def of(self, key: Union[str, bytes]) -> K:
         """The lock of that key."""
-        return self.LOCK(self._client, self._table, self.place_of(key))
+        return self.LOCK(self._client, self, self.place_of(key))
 
     def place_of(self, key: Union[str, bytes]) -> int:
         """Keys with the same number share a lock."""
-        return zlib.crc32(key.encode() if isinstance(key, str) else key) % self._table.capacity
+        return zlib.crc32(key.encode() if isinstance(key, str) else key) % self._capacity
 
     def shares(self, *keys: Union[str, bytes]) -> bool:
         """Whether two of these keys share a lock."""

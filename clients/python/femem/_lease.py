@@ -16,12 +16,16 @@ from __future__ import annotations
 
 import select
 import socket
+import threading
 import time
-from typing import Any, List, Optional, Sequence
+from collections import deque
+from contextlib import suppress
+from typing import Any, Callable, Deque, List, Optional, Sequence
 
+from ._core import Core
 from ._errors import ProtocolError
-from ._frames import ANSWER_BYTES, NOT_NOW, NOT_WAITING, NOWAIT, READFE, WINDOW, WRITEEF, Answer, Refusal, Reply, ReplyDecoder, Settled, Withdrawn
-from ._frames import append_under, cancel, pack_number, settle
+from ._frames import ANSWER_BYTES, NOT_NOW, NOT_WAITING, NOWAIT, READFE, WINDOW, WRITEEF, Answer, Refusal
+from ._frames import Reply, ReplyDecoder, Settled, Withdrawn, append_under, cancel, pack_number, settle
 from ._tickets import Ticket
 from ._window import LONGEST_STEP, Used
 
@@ -34,29 +38,20 @@ _OFTEN_WAIT = (READFE, WRITEEF)
 
 _READ_BYTES = 4096
 
-# How many requests a holder may send together behind a floor that it asks for.
-MOST_AT_ONCE = WINDOW // 2
+MOST_AT_ONCE = WINDOW // 2  # how many requests a holder may send together behind a floor that it asks for
 
 
 class Lease:
-    """Numbers from `first` on, before `end`.
-
-    What the thread sends to `bell` ends a holder's wait. Without one no request waits: it is asked without waiting.
-    """
+    """Numbers from `first` on, before `end`. What the thread sends to `bell` ends a holder's wait. Without
+    one no request waits: it is asked without waiting."""
 
     __slots__ = (
         "connection", "decoder", "tickets", "rest", "failure", "is_known", "is_over", "floor", "left", "_shown", "_end", "_bell", "_poll"
     )  # fmt: skip
 
     def __init__(
-        self,
-        connection: socket.socket,
-        decoder: ReplyDecoder,
-        first: int,
-        end: int,
-        bell: Optional[socket.socket] = None,
-        floor: int = 0,
-        shown: Optional[Ticket[Any]] = None,
+        self, connection: socket.socket, decoder: ReplyDecoder, first: int, end: int,
+        bell: Optional[socket.socket] = None, floor: int = 0, shown: Optional[Ticket[Any]] = None,
     ) -> None:
         """`shown`: what shows that this client is there, if it waits."""
         self.connection = connection
@@ -66,13 +61,11 @@ class Lease:
         # Those whose numbers were used. An interruption finds these as they were before a floor was asked for, or as behind it.
         self.tickets: Used[Ticket[Any]] = Used(first, floor)
         self._shown = shown
-        # The number that this has left, until the reply to its cancel.
-        self.left = 0
+        self.left = 0  # the number that this has left, until the reply to its cancel
         # The replies that were no answer to a caller, and whether the thread is to go on.
         self.rest: List[Reply] = []
         self.is_over = False
-        # What was wrong with a reply.
-        self.failure: Optional[ProtocolError] = None
+        self.failure: Optional[ProtocolError] = None  # what was wrong with a reply
         # Whether the last frames were sent as a whole, and all that was read was taken.
         self.is_known = True
         self._end = end
@@ -83,10 +76,9 @@ class Lease:
         return self.tickets.first + len(self.tickets)
 
     def call(self, asked: Sequence[Ticket[Any]], until: Optional[float] = None) -> bool:
-        """Sends them together. Whether all are done, and the thread has nothing to do. If not, the thread is to be asked for them.
-
-        One that may wait is asked alone. If it waits, it is left once `until` is over, or when the thread wants its numbers.
-        """
+        """Sends them together. Whether all are done, and the thread has nothing to do. If not, the thread is
+        to be asked for them. One that may wait is asked alone. If it waits, it is left once `until` is over,
+        or when the thread wants its numbers."""
         number, count = self.tickets.first + len(self.tickets), len(asked)
         if self.is_over or not self.is_known:
             return False
@@ -98,7 +90,6 @@ class Lease:
         at, under = len(frames) + 5, number
         for ticket in asked:
             request = ticket.request
-            assert request is not None
             frame = request.frame
             frames += frame
             pack_number(frames, at, under)
@@ -117,16 +108,15 @@ class Lease:
         return is_sent and self._reads(number, under, waits, until)
 
     def _settle(self, number: int) -> bytearray:
-        """Asks for the floor to be raised to this number, or nearly: all below have their answers. Their tickets are dropped.
-
-        What shows that this client is there gets this number before it is taken back: reports show it all the time.
-        """
+        """Asks for the floor to be raised to this number, or nearly: all below have their answers. Their
+        tickets are dropped. What shows that this client is there gets this number before it is taken back:
+        reports show it all the time."""
         used: Used[Ticket[Any]] = Used(number, min(number, self.floor + LONGEST_STEP))
         frames, shown = bytearray(), self._shown
         self.is_known = False
         self._end = used.asked + WINDOW
         if shown is not None:
-            assert shown.request is not None and shown.number is not None
+            assert shown.number is not None
             # It keeps its number until the thread takes the lease back, and is the first ticket once it has moved.
             used.left = self.tickets.first if self.tickets.left else shown.number
             used.append(shown)
@@ -210,3 +200,93 @@ class Lease:
             return False
         self.left = 0
         return True
+
+
+class Lender:
+    """The part of a client's thread that lends numbers while it sleeps at its bell, and takes them back."""
+
+    def __init__(self, core: Core) -> None:
+        self.core = core
+        # What callers ask, in order: the thread calls each with the time. A caller that finds something here asks the thread
+        # too, and so one that finds `lead` locked.
+        self.asked: Deque[Callable[[float], object]] = deque()
+        # A lock is the cheapest way to wake a thread.
+        self._bell = threading.Lock()
+        self._bell.acquire()
+        # Numbers that callers use themselves while the thread is at its bell, and whose turn it is.
+        self.lease: Optional[Lease] = None
+        self.lead = threading.Lock()
+        # The time as the thread last read it, and when it next checks what is due.
+        self._now = time.monotonic()
+        self._look_at = 0.0
+        self._socket: Optional[socket.socket] = None
+        self._given_up: Optional[socket.socket] = None
+        self._waker, self._woken = socket.socketpair()
+        self._waker.setblocking(False)
+        self._woken.setblocking(False)
+
+    def ring(self) -> None:
+        try:
+            self._bell.release()
+        except RuntimeError:
+            pass  # another caller has rung
+
+    def _lend(self) -> Optional[Lease]:
+        """Lets callers ask over the connection themselves, from now on."""
+        first, end, floor, shown = self.core.lends()
+        if first < end and self._socket is not None:
+            # With further sessions, what waits is asked over one of them.
+            bell = None if self.core.moves_waits else self._waker
+            self.lease = Lease(self._socket, self.core.decoder, first, end, bell, floor, shown)
+        return self.lease
+
+    def _await_bell(self, lease: Lease, seconds: float) -> None:
+        """Sleeps until a caller rings, or the lease was not used for a while, or something is due."""
+        used = -1
+        while used != lease.next_number() and not self.asked:
+            used = lease.next_number()
+            if self._bell.acquire(timeout=seconds) or time.monotonic() >= self._look_at:
+                break
+
+    def _take_back(self, lease: Lease) -> None:
+        """Ends the lease, and goes on with what its last caller left."""
+        self.lease = None
+        is_free = self.lead.acquire(blocking=False) or self._calls_back()
+        if not is_free:
+            # Its caller is held up, perhaps within a signal handler that waits for this thread.
+            self.lead = threading.Lock()
+        core = self.core
+        self._now = now = time.monotonic()
+        if not is_free or not lease.is_known:
+            # Before its numbers are noted: a caller that goes on later finds a connection that takes nothing.
+            self._give_up_connection(lease.connection)
+        core.takes_back(lease.tickets, lease.floor, lease.left, now)
+        if is_free:
+            self.lead.release()
+        if lease.failure is not None:
+            core.fail(lease.failure)
+        elif lease.rest:
+            core.replied(lease.rest, now)
+
+    def _calls_back(self) -> bool:
+        """Ends the wait of the caller that has the lease. Whether that has left it in time."""
+        self._signal(self._woken)
+        is_free = self.lead.acquire(timeout=3 * READ_TIME)
+        self._drain(self._waker)
+        return is_free
+
+    def _signal(self, end: socket.socket) -> None:
+        try:
+            end.send(b"w")
+        except OSError:
+            pass  # the other end is awake, or has ended
+
+    def _drain(self, end: socket.socket) -> None:
+        with suppress(OSError):
+            end.recv(4096)
+
+    def _give_up_connection(self, connection: socket.socket) -> None:
+        """The thread reads it no more, reconnects, and all is sent again: what was sent and read is not known."""
+        self._given_up = connection
+        with suppress(OSError):
+            connection.shutdown(socket.SHUT_RDWR)

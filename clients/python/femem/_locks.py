@@ -2,8 +2,9 @@
 
 from __future__ import annotations
 
+from contextlib import suppress
 from functools import partial
-from typing import Any, Dict, Iterable, List, Optional, Sequence, Tuple
+from typing import Any, Callable, Dict, Generic, Iterable, List, Optional, Sequence, Tuple, Type, TypeVar
 
 from . import _frames as frames, requests
 from ._arguments import Key, seconds_of
@@ -12,11 +13,12 @@ from ._holdings import Read, Release
 from ._jobs import Look, Mended, Steps, Wait
 from ._operations import FIRST_LOOK, LAST_LOOK, Absence, Pattern, Tries, batch, done_at, is_full, marked_array
 from ._operations import operation, operation_with, shared_array, size_of
-from .requests import Array, Request
+from .requests import Array, add, empty, fill, look
 from ._tickets import Ticket
 
-# How many acquisitions the generation has room for, in each array of a lock.
-GENERATIONS = 2**40
+K = TypeVar("K", bound="Turn")
+
+GENERATIONS = 2**40  # how many acquisitions the generation has room for, in each array of a lock
 
 
 class Owned(Pattern):
@@ -53,8 +55,7 @@ class Owned(Pattern):
         """A new array is free, and its counts are full."""
         while self._array is None:
             array = yield from self._make()
-            fills = [requests.writeef(array, word, 0, nowait=True) for word in self.COUNTS]
-            filled = yield from batch(fills, NotNow, NoArray)
+            filled = yield from batch([fill(array, word, 0) for word in self.COUNTS], NotNow, NoArray)
             if not any(isinstance(each, NoArray) for each in filled):  # nobody broke it in between
                 self._array = array
         return self._array
@@ -71,10 +72,6 @@ class Owned(Pattern):
     def _session_words(self) -> Sequence[int]:
         """Those that may have this session."""
         return (self.OWNER,)
-
-    def _one_try(self) -> Tries:
-        """Without a key."""
-        return Tries(self._core, None, frames.WRITEEF, self._session)
 
     def _acquire(self, end: Optional[float], nowait: bool, patience: Optional[float], key: Optional[Key]) -> Steps[bool]:
         """Returns whether it was acquired in time."""
@@ -100,13 +97,13 @@ class Owned(Pattern):
     def _take_again(self, id: int) -> Steps[bool]:
         """It was acquired under the key before: by this process, or by an earlier one that had not released it."""
         array = yield from self._begin()
-        (owner,) = yield from batch([requests.readff(array, self.OWNER, nowait=True)], NotNow, NoArray)
+        (owner,) = yield from batch([look(array, self.OWNER)], NotNow, NoArray)
         if array.id != id or owner != self._session:
             raise NotOwner(f"{self._name} was acquired under this key, and is not held any more")
         self._adopted = self._core.holdings.left.take(array, self.OWNER)
         if self._adopted:
             # (the earlier process may have been killed before it counted)
-            (count,) = yield from batch([requests.int_fetch_add(array, self.COUNT, 1, nowait=True)], NoArray)
+            (count,) = yield from batch([add(array, self.COUNT, 1)], NoArray)
             if not is_full(count):
                 raise NotOwner(f"{self._name} was acquired under this key, and was broken")
             self._hold(array, int(count))
@@ -114,13 +111,13 @@ class Owned(Pattern):
 
     def _own(self, array: Array, end: Optional[float], nowait: bool, patience: Optional[float], tries: Tries) -> Steps[bool]:
         """Fills word OWNER. Whether in time."""
-        add = requests.int_fetch_add(array, self.COUNT, 1, nowait=True)
+        counts = add(array, self.COUNT, 1)
         if (yield from self._adopt(array, tries)):
             self._adopted = True
-            done, count = None, (yield from batch([add]))[0]
+            done, count = None, (yield from batch([counts]))[0]
         else:
-            mine = requests.writeef(array, self.OWNER, self._session, nowait=True)
-            done, count = yield from batch([mine, add], NotNow, key=tries.next())
+            mine = fill(array, self.OWNER, self._session)
+            done, count = yield from batch([mine, counts], NotNow, key=tries.next())
         if not is_full(done):
             if nowait:
                 return False
@@ -130,7 +127,7 @@ class Owned(Pattern):
                 got = yield from self._watch(array, end, patience, tries)
             if not got:
                 return False
-            (count,) = yield from batch([add])
+            (count,) = yield from batch([counts])
         self._hold(array, int(count))
         return True
 
@@ -139,7 +136,7 @@ class Owned(Pattern):
         if not self._core.holdings.left.take_unkeyed(array, (self.OWNER,), self._core.file):
             return False
         if tries.key is not None:
-            yield from batch([requests.readfe(array, self.OWNER, nowait=True)], NotNow)
+            yield from batch([empty(array, self.OWNER)], NotNow)
             return False
         return (yield from self._owner_of(array)) == self._session
 
@@ -177,7 +174,7 @@ class Owned(Pattern):
             raise NoArray(self._name)
 
     def _owner_of(self, array: Array) -> Steps[Optional[int]]:
-        (owner,) = yield from batch([requests.readff(array, self.OWNER, nowait=True)], NotNow)
+        (owner,) = yield from batch([look(array, self.OWNER)], NotNow)
         return int(owner) if is_full(owner) else None
 
     def _owner(self) -> Steps[Optional[int]]:
@@ -188,10 +185,9 @@ class Owned(Pattern):
                 self._array = None
 
     def _release(self, of: Optional[Array] = None) -> Steps[None]:
-        """`NotOwner` if this session does not hold it. Only a session's own process empties a word with that session.
-
-        `of`: the array that was acquired. If it was broken, another thread of this client may have the next one.
-        """
+        """`NotOwner` if this session does not hold it. Only a session's own process empties a word with that
+        session. `of`: the array that was acquired. If it was broken, another thread of this client may have
+        the next one."""
         holdings = self._core.holdings
         try:
             array = of or (yield from self._begin())
@@ -208,32 +204,26 @@ class Owned(Pattern):
             raise NotOwner(f"{self._name} was taken over") from None
 
     def _empty(self, array: Array) -> Steps[None]:
-        yield from batch([requests.readfe(array, self.OWNER, nowait=True)])
+        yield from batch([empty(array, self.OWNER)])
 
     def _mend(self, array: Array, gives_back: bool, asked: Sequence[Ticket[Any]]) -> Steps[None]:
         filled, emptied = (done_at(asked, code).count(self.OWNER) for code in (frames.WRITEEF, frames.READFE))
         if emptied if gives_back else filled <= emptied:
             return  # it is released, or was not acquired
-        try:
+        with suppress(NoArray):  # it was broken
             if (yield from self._owner_of(array)) == self._session:
                 self._core.holdings.words.discard((array.id, self.OWNER))
-                yield from batch([requests.readfe(array, self.OWNER, nowait=True)], NotNow)
-        except NoArray:
-            pass  # it was broken
+                yield from batch([empty(array, self.OWNER)], NotNow)
 
     def _release_if_got(self, got: object, of: Optional[Array] = None) -> Steps[None]:
         """Releases it after an acquisition that no caller waits for any more."""
         if got:
-            try:
+            with suppress(NotOwner):
                 yield from self._release(of)
-            except NotOwner:
-                pass
 
     def _break(self, array: Optional[Array] = None) -> Steps[bool]:
-        """Removes the array, and with it whatever its owner may still do to it. Whether this client removed it.
-
-        Waiting clients go to the next array.
-        """
+        """Removes the array, and with it whatever its owner may still do to it. Whether this client removed
+        it. Waiting clients go to the next array."""
         if array is None:
             array = yield from self._find()
         (done,) = yield from batch([requests.remove(array)], NoArray)
@@ -312,7 +302,7 @@ class Election(Owned):
         return (yield from self._owner())
 
 
-class ReadWriteLock(Owned):
+class ReadWriteLock(Owned, Generic[K]):
     """Held by one writer, or by up to `readers` clients that read, at most 64. A writer that waits is next: nobody comes
     before it, except a thread or task that reads and reads again.
 
@@ -321,6 +311,7 @@ class ReadWriteLock(Owned):
     an earlier process of this session left, a writer adopts OWNER; a seat, or OWNER where one reads, is given back.
     """
 
+    TURN: Type[K]
     MARK = b"fe_rwlk2"
     OWNER, COUNT, READERS, DOOR, SEATS = range(1, 6)
     COUNTS = (COUNT, READERS)
@@ -333,8 +324,15 @@ class ReadWriteLock(Owned):
         first = 26 + 2 * len(self._seats)
         self.REQUESTS = {"acquire_read": (first, first), "release_read": (4, 0), "release_write": (1, 0)}
         self.REQUESTS["acquire_write"] = (first - 1, first)
-        # The reads by this handle, in their order.
-        self._reads: Dict[Read, None] = {}
+        self._reads: Dict[Read, None] = {}  # the reads by this handle, in their order
+
+    def read(self, timeout: Optional[float] = None, *, takeover_after: Optional[float] = None) -> K:
+        """A `with` or `async with` block that reads. `TimedOut` as it begins if it may not in time."""
+        return self.TURN(self._client, self, False, timeout, takeover_after)
+
+    def write(self, timeout: Optional[float] = None, *, takeover_after: Optional[float] = None) -> K:
+        """A `with` or `async with` block that writes. `TimedOut` as it begins if it may not in time."""
+        return self.TURN(self._client, self, True, timeout, takeover_after)
 
     def _make(self) -> Steps[Array]:
         return (yield from marked_array(self._name, self._seats.stop, self.MARK))
@@ -345,7 +343,7 @@ class ReadWriteLock(Owned):
     def _begin(self) -> Steps[Array]:
         array = yield from super()._begin()
         for seat in self._core.holdings.left.take_unkeyed(array, self._seats, None):
-            (bits,) = yield from batch([requests.readff(array, self.READERS, nowait=True)])
+            (bits,) = yield from batch([look(array, self.READERS)])
             yield from self._stand_up(array, seat, bool(bits & self._bit(seat)))
         return array
 
@@ -364,7 +362,7 @@ class ReadWriteLock(Owned):
             try:
                 array = yield from self._begin()
                 if self._core.holdings.left.take(array, self.OWNER):  # it may have to wait for a seat
-                    yield from batch([requests.readfe(array, self.OWNER, nowait=True)], NotNow)
+                    yield from batch([empty(array, self.OWNER)], NotNow)
                 read.seat, read.is_last, read.array = None, False, array
                 again = self._core.holdings.reads.add(array, read, None, again=True)
                 if again is None and not (yield from self._enter(array, read, end, patience)):
@@ -395,8 +393,7 @@ class ReadWriteLock(Owned):
         absence, pause = None if patience is None else Absence(patience), FIRST_LOOK
         while True:
             seat = self._seats[self._next_seat % len(self._seats)]
-            mine = requests.writeef(array, seat, self._session, nowait=True)
-            if is_full((yield from batch([mine], NotNow))[0]):
+            if is_full((yield from batch([fill(array, seat, self._session)], NotNow))[0]):
                 return seat
             holders = yield from self._holders(array, self._seats)
             if len(holders) < len(self._seats):
@@ -415,22 +412,28 @@ class ReadWriteLock(Owned):
 
     def _turn(self, array: Array, seat: Optional[int], end: Optional[float], patience: Optional[float]) -> Steps[bool]:
         """Fills the word OWNER, or gives the seat back."""
+        tries = Tries(self._core, None, frames.WRITEEF, self._session)
+        owns = super()._own(array, end, False, patience, tries)
+        return (yield from self._or_else(owns, lambda: self._stand_up(array, seat, False)))
+
+    @staticmethod
+    def _or_else(steps: Steps[bool], undo: Callable[[], Steps[Any]]) -> Steps[bool]:
+        """What the steps return. If that is false, or an error is raised, those of `undo` come behind."""
         try:
-            got = yield from self._own(array, end, False, patience, self._one_try())
+            got = yield from steps
         except FememError:
-            yield from self._stand_up(array, seat, False)
+            yield from undo()
             raise
         if not got:
-            yield from self._stand_up(array, seat, False)
+            yield from undo()
         return got
 
     def _read(self, array: Array, seat: Optional[int], read: Read) -> Steps[bool]:
         """Begins to read, with the word OWNER, and empties that. False if a seat is needed: the one who had it has left."""
-        asked: List[Request[Any]] = [requests.readfe(array, self.OWNER, nowait=True)]
+        asked = [empty(array, self.OWNER)]
         over = self._core.holdings.reads.add(array, read, seat)
         if seat is not None:
-            begins = requests.int_fetch_add(array, self.READERS, self._bit(seat), nowait=True)
-            asked.insert(0, begins if over == seat else requests.readfe(array, seat, nowait=True))
+            asked.insert(0, add(array, self.READERS, self._bit(seat)) if over == seat else empty(array, seat))
         self._core.holdings.words.discard((array.id, self.OWNER))
         yield from batch(asked)
         return over is not None
@@ -442,19 +445,17 @@ class ReadWriteLock(Owned):
         """Gives a seat back, and before it its bit. The last one that reads tells a writer. Whether the lock is there yet."""
         if seat is None:
             return True
-        bit, asked = self._bit(seat), [requests.readfe(array, seat, nowait=True)]
+        bit, asked = self._bit(seat), [empty(array, seat)]
         if reads:
-            asked.insert(0, requests.int_fetch_add(array, self.READERS, -bit % 2**64, nowait=True))
-            asked.append(requests.readff(array, self.OWNER, nowait=True))
+            asked.insert(0, add(array, self.READERS, -bit % 2**64))
+            asked.append(look(array, self.OWNER))
         outcomes = yield from batch(asked, NotNow, NoArray)
         if reads and outcomes[0] == bit and is_full(outcomes[2]):
             yield from batch([requests.writexf(array, self.DOOR, 0)], NoArray)
         return not isinstance(outcomes[0], NoArray)
 
-    def _holders(self, array: Array, seats: Iterable[int]) -> Steps[Dict[int, int]]:
-        """The sessions of those seats that are taken."""
-        seats = list(seats)
-        found = yield from batch([requests.readff(array, seat, nowait=True) for seat in seats], NotNow)
+    def _holders(self, array: Array, seats: Sequence[int]) -> Steps[Dict[int, int]]:
+        found = yield from batch([look(array, seat) for seat in seats], NotNow)
         return {seat: int(holder) for seat, holder in zip(seats, found) if is_full(holder)}
 
     @operation_with(gives_back=True, light=True)
@@ -478,7 +479,7 @@ class ReadWriteLock(Owned):
             raise NotOwner(f"{self._name} is not held for reading")
         array, seat = read.array, self._core.holdings.reads.leave(read.array, read)
         if seat is None:  # others of this client read yet
-            is_there = is_full((yield from batch([requests.readff(array, self.READERS, nowait=True)], NoArray))[0])
+            is_there = is_full((yield from batch([look(array, self.READERS)], NoArray))[0])
         else:
             is_there = yield from self._stand_up(array, seat, True)
         if not is_there:
@@ -507,7 +508,7 @@ class ReadWriteLock(Owned):
             return
         self._reads.pop(read, None)
         seat = self._core.holdings.reads.leave(array, read)
-        asked = [each for each in asked if each.request is not None and int.from_bytes(each.request.frame[14:22], "big") == array.id]
+        asked = [each for each in asked if int.from_bytes(each.request.frame[14:22], "big") == array.id]
         yield from self._mend(array, False, asked)
         filled, emptied = (done_at(asked, code) for code in (frames.WRITEEF, frames.READFE))
         own = next((each for each in self._seats if filled.count(each) > emptied.count(each)), None)
@@ -521,35 +522,21 @@ class ReadWriteLock(Owned):
     @operation_with(undo="_release_if_got", light=True)
     def acquire_write(self, timeout: Optional[float] = None, *, takeover_after: Optional[float] = None) -> Steps[bool]:
         """Waits until only this client may read and write. Returns whether it may, in time."""
-        end, patience = self._deadline(timeout), seconds_of(takeover_after, "takeover_after")
-        self._broke, self._adopted = None, False
-        yield from self._show()
-        while True:
-            try:
-                array = yield from self._begin()
-                if not (yield from self._own(array, end, False, patience, self._one_try())):
-                    return False
-                return (yield from self._be_alone(array, end, patience))
-            except NoArray:
-                self._array = None  # it was broken
+        patience = seconds_of(takeover_after, "takeover_after")
+        return (yield from self._acquire(self._deadline(timeout), False, patience, None))
 
-    def _be_alone(self, array: Array, end: Optional[float], patience: Optional[float]) -> Steps[bool]:
-        """Waits until nobody reads, with the word OWNER, or gives that back."""
-        try:
-            is_alone = yield from self._wait_for_readers(array, end, patience)
-        except FememError:
-            yield from self._release_if_got(True, array)
-            raise
-        if not is_alone:
-            yield from self._release_if_got(True, array)
-        return is_alone
+    def _own(self, array: Array, end: Optional[float], nowait: bool, patience: Optional[float], tries: Tries) -> Steps[bool]:
+        """Fills word OWNER, and then waits until nobody reads, or gives that back."""
+        if not (yield from super()._own(array, end, nowait, patience, tries)):
+            return False
+        is_alone = self._wait_for_readers(array, end, patience)
+        return (yield from self._or_else(is_alone, lambda: self._release_if_got(True, array)))
 
     def _wait_for_readers(self, array: Array, end: Optional[float], patience: Optional[float]) -> Steps[bool]:
         """The last one that reads fills the word DOOR. With patience, one that is absent loses its seat with all."""
         absence, pause = None if patience is None else Absence(patience), self._pause(patience)
         while True:
-            looks = [requests.purge(array, self.DOOR), requests.readff(array, self.READERS, nowait=True)]
-            bits = (yield from batch(looks))[1]
+            _, bits = yield from batch([requests.purge(array, self.DOOR), look(array, self.READERS)])
             if not bits:
                 return True
             if absence is not None:
@@ -558,10 +545,8 @@ class ReadWriteLock(Owned):
             rest = self._left(end)
             if rest == 0.0:
                 return False
-            try:
+            with suppress(TimedOut):
                 yield Wait(requests.readfe(array, self.DOOR), pause if rest is None else min(pause, rest))
-            except TimedOut:
-                pass
 
     def _reading(self, bits: int) -> List[int]:
         return [seat for seat in self._seats if bits & self._bit(seat)]
@@ -578,7 +563,7 @@ class ReadWriteLock(Owned):
             array = yield from self._find()
             try:
                 writer = yield from self._owner_of(array)
-                (bits,) = yield from batch([requests.readff(array, self.READERS, nowait=True)])
+                (bits,) = yield from batch([look(array, self.READERS)])
                 return writer, [*(yield from self._holders(array, self._reading(bits))).values()]
             except NoArray:
                 self._array = None  # it was broken
@@ -593,7 +578,10 @@ class Turn(Pattern):
     """A `with` block that reads or writes, made by `ReadWriteLock.read` and `write`. `TimedOut` as it begins, and nothing is held,
     if its time is over before its turn comes."""
 
-    def __init__(self, client: Any, lock: ReadWriteLock, writes: bool, timeout: Optional[float], takeover_after: Optional[float]) -> None:
+    def __init__(
+        self, client: Any, lock: ReadWriteLock[Any], writes: bool, timeout: Optional[float],
+        takeover_after: Optional[float],
+    ) -> None:
         super().__init__(client, lock._name)
         self._lock = lock
         self._writes = writes

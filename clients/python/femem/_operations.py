@@ -8,20 +8,17 @@ from __future__ import annotations
 
 from functools import partial
 from threading import get_ident
-from typing import TYPE_CHECKING, Any, Callable, Dict, Iterable, List, Optional, Sequence, Tuple
+from typing import Any, Callable, Dict, Iterable, List, Optional, Sequence, Tuple
 
 from . import _frames as frames, requests
 from ._arguments import Key, key_bytes, seconds_of
 from ._core import Core
 from ._errors import NameTaken, NoArray, NotNow, OtherPattern
-from ._faces import P, T, faced
+from ._faces import Concatenate, P, T, faced
 from ._jobs import Batch, Pause, Present, Steps, Wait
 from ._reports import Report
-from .requests import Array, Request, number_of_bits
+from .requests import Array, Request, fill, look, number_of_bits
 from ._tickets import Ticket
-
-if TYPE_CHECKING:
-    from typing_extensions import Concatenate
 
 # Each client that uses a lock or a work queue waits at this array's word, so that reports show that it is there.
 PRESENCE = "presence"
@@ -39,6 +36,12 @@ class Pattern:
     # How many requests its operations ask at most, and how many more for each time that they wait. Those that an array's
     # first use takes are among them: to find or make it, and to see what was left there.
     REQUESTS: Dict[str, Tuple[int, int]] = {}
+    # What a face has: the client, if it is of this face, and how it runs an operation's steps.
+    _checked: Callable[[Any], Any]
+    _perform: Callable[..., Any]
+    # After a caller was interrupted within the steps: by what it had asked, undoes what it had taken, or
+    # gives back what it was giving back. All that it asked is answered or taken back.
+    _mend: Callable[..., Steps[None]]
 
     def __init__(self, client: Any, name: str) -> None:
         self._client = self._checked(client)
@@ -47,13 +50,10 @@ class Pattern:
         self._array: Optional[Array] = None
         self._presence: Optional[Array] = None
 
-    def _checked(self, client: Any) -> Any:
-        """The client, if it is of this face."""
-        raise NotImplementedError
-
-    def _perform(self, done: Any, *args: Any, **more: Any) -> Any:
-        """Runs an operation's steps."""
-        raise NotImplementedError
+    def __init_subclass__(cls) -> None:
+        """A pattern of a face has the text of what both faces have, the last of its bases."""
+        super().__init_subclass__()
+        cls.__doc__ = cls.__doc__ or cls.__bases__[-1].__doc__
 
     def _find(self) -> Steps[Array]:
         if self._array is None:
@@ -81,11 +81,6 @@ class Pattern:
         """Whether `_mend` can do its work: the array is known, and an earlier process left nothing in it."""
         return self._array is not None and self._core.holdings.left.is_clear(self._array)
 
-    def _mend(self, array: Array, gives_back: bool, asked: Sequence[Ticket[Any]]) -> Steps[None]:
-        """After a caller was interrupted within the steps: by what it had asked, undoes what it had taken, or gives back what
-        it was giving back. All that it asked is answered or taken back."""
-        raise NotImplementedError
-
     # Times, by the client's clock, in seconds.
 
     def _now(self) -> float:
@@ -108,12 +103,8 @@ class operation(faced[P, T]):
     """
 
     def __init__(
-        self,
-        steps: Callable[Concatenate[Any, P], Steps[T]],
-        undo: str = "",
-        gives_back: bool = False,
-        light: bool = False,
-        call: str = "",
+        self, steps: Callable[Concatenate[Any, P], Steps[T]], undo: str = "", gives_back: bool = False,
+        light: bool = False, call: str = "",
     ) -> None:
         self.steps = steps
         self.undo = undo
@@ -122,9 +113,6 @@ class operation(faced[P, T]):
         self.call = call
         self.__doc__ = steps.__doc__
         self.__wrapped__ = steps
-
-    def of(self, owner: Pattern) -> Any:
-        return partial(owner._perform, self)
 
 
 def operation_with(
@@ -163,9 +151,8 @@ def marked_array(name: str, length: int, mark: bytes, first: Sequence[int] = ())
     wanted = int.from_bytes(mark, "big")
     while True:
         array = yield from shared_array(name, length, False)
-        fills = [requests.writeef(array, 1 + k, value, nowait=True) for k, value in enumerate(first)]
-        looks = [requests.writeef(array, 0, wanted, nowait=True), requests.readff(array, 0, nowait=True)]
-        _, found = yield from batch(looks, NotNow, NoArray)
+        fills = [fill(array, 1 + k, value) for k, value in enumerate(first)]
+        _, found = yield from batch([fill(array, 0, wanted), look(array, 0)], NotNow, NoArray)
         if not isinstance(found, NoArray) and found != wanted:
             raise OtherPattern(f"{name} is the array of another pattern")
         filled = yield from batch(fills, NotNow, NoArray)
@@ -194,7 +181,7 @@ class Absence:
 
 def done_at(asked: Sequence[Ticket[Any]], code: int) -> List[int]:
     """The words at which such an operation, of these requests, has happened."""
-    done = [each.request.frame for each in asked if each.done and each.error is None and each.request is not None]
+    done = [each.request.frame for each in asked if each.done and each.error is None]
     return [int.from_bytes(frame[22:26], "big") for frame in done if frame[4] in (frames.ACCESS, frames.NOWAIT) and frame[13] == code]
 
 
@@ -241,10 +228,9 @@ class Tries:
             raise ValueError("a key needs a client with a session file")
 
     def begin(self) -> Steps[Optional[bytes]]:
-        """The request that has happened under the key, or `None`. Waits while another call tries, or has its last answer due.
-
-        No try of an earlier process waits: one that might is taken back, and the others are answered at once.
-        """
+        """The request that has happened under the key, or `None`. Waits while another call tries, or has its
+        last answer due. No try of an earlier process waits: one that might is taken back, and the others are
+        answered at once."""
         if self.key is None:
             return None
         file = self.core.file

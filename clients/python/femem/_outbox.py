@@ -11,7 +11,7 @@ from .events import Events
 from ._frames import NOWAIT, Answer, append_under, pack_number
 from .requests import of_frame, read_done, read_value
 from ._sessionfile import SessionFile
-from ._sessionrecords import Asked, Contradiction
+from ._sessionstate import Asked, Contradiction
 from ._tickets import Ticket
 from ._window import Window
 
@@ -30,18 +30,12 @@ _OF_SETTLE = (frames.BELOW_FLOOR, frames.BEYOND_WINDOW, frames.STILL_WAITING, fr
 
 
 class Outbox:
-    """Appends what it sends to `to_send`, and tickets that end to `ended`.
-
-    There is no window, and nothing is sent, until `begin`. Requests that would wait go to `moved`, if it is a list.
-    """
+    """Appends what it sends to `to_send`, and tickets that end to `ended`. There is no window, and nothing is
+    sent, until `begin`. Requests that would wait go to `moved`, if it is a list."""
 
     def __init__(
-        self,
-        to_send: bytearray,
-        ended: List[Ticket[Any]],
-        file: Optional[SessionFile] = None,
-        moved: Optional[List[Ticket[Any]]] = None,
-        events: Optional[Events] = None,
+        self, to_send: bytearray, ended: List[Ticket[Any]], file: Optional[SessionFile] = None,
+        moved: Optional[List[Ticket[Any]]] = None, events: Optional[Events] = None,
     ) -> None:
         self._moved = moved
         # Whether a further session may be had for requests that wait, and is wanted.
@@ -110,20 +104,19 @@ class Outbox:
         for ticket in tickets:
             if ticket.key is None or not self._is_known(ticket, ticket.key):
                 if self._moved is not None:
-                    may_wait = ticket.request is not None and ticket.request.may_wait
                     # A presence stays in the client's own session, for reports to show.
-                    ticket.asks_first = may_wait and not ticket.is_presence
+                    ticket.asks_first = ticket.request.may_wait and not ticket.is_presence
                 self._queue.append(ticket)
 
     def _is_known(self, ticket: Ticket[Any], key: bytes) -> bool:
         """Whether the key was used before. Then the ticket ends like the earlier one."""
-        assert self._file is not None and ticket.request is not None
+        assert self._file is not None
         first = self.keys.get(key)
         known = self._file.kept(key)
         if first is None and known is None:
             self.keys[key] = ticket
             return False
-        frame = first.request.frame if first is not None and first.request is not None else known[0] if known else b""
+        frame = first.request.frame if first is not None else known[0] if known else b""
         if frame != ticket.request.frame:
             self._end(ticket, error=ValueError(f"another request was asked under the key {key!r}"))
         elif first is not None:
@@ -194,8 +187,9 @@ class Outbox:
         if self.may_grow and len(window.unanswered) > _CROWD:
             self.is_crowded = self._is_crowded(window)
         # What waits gets new numbers before the room is used up, so that no other request waits for that.
+        # (What has moved is known to wait: the others in the queue were not sent yet.)
         for ticket in self.in_the_way():
-            if ticket.sent_at + PATIENCE <= now or self._has_new():
+            if ticket.sent_at + PATIENCE <= now or any(not each.has_moved for each in self._queue):
                 self._cancel(ticket, now)
         for ticket in window.holding():
             self._cancel(ticket, now)
@@ -223,7 +217,6 @@ class Outbox:
         number = window.give(tickets)
         if self._file is not None:
             for at, ticket in enumerate(tickets, number):
-                assert ticket.request is not None
                 self._file.asked(at, Asked(ticket.request.frame, ticket.key, ticket.ends_with_process))
         for ticket in tickets:
             ticket.number = number
@@ -231,25 +224,21 @@ class Outbox:
             if ticket.cancel_sent:
                 ticket.cancel_sent = False
             here = len(to_send)
-            to_send += ticket.request.frame  # type: ignore[union-attr]
+            to_send += ticket.request.frame
             pack_number(to_send, here + 5, number)
             if ticket.asks_first:
                 to_send[here + 4] = NOWAIT
             number += 1
 
-    def _has_new(self) -> bool:
-        """Whether the queue has a request that was not sent yet. The others are known to wait."""
-        return any(not ticket.has_moved for ticket in self._queue)
-
     def in_the_way(self) -> List[Ticket[Any]]:
-        """The requests that hold up the queue: those that wait under the window's lowest numbers.
-
-        They are cancelled and sent again under new numbers, since a withdrawn request has not happened. So long
-        waits do not keep other requests from being sent.
-        """
-        if not self._queue or self._passes or self.window is None or not self.window.is_stuck():
+        """The requests that hold up the queue: those that wait under the window's lowest numbers. They are
+        cancelled and sent again under new numbers, since a withdrawn request has not happened. So long waits
+        do not keep other requests from being sent."""
+        window = self.window
+        if not self._queue or self._passes or window is None or not window.is_stuck():
             return []
-        return [ticket for ticket in self.window.lower_half() if not ticket.cancel_sent]
+        half = window.floor + frames.WINDOW // 2
+        return [it for number, it in window.unanswered.items() if number < half and not it.cancel_sent]
 
     def send_again(self, now: float) -> None:
         """Sends the settle that is due, every unanswered request under its old number, and the cancels.
@@ -265,7 +254,7 @@ class Outbox:
             ticket.cancel_sent = False
         for number, new in self._moved_to.items():
             if number >= window.floor and new in window.unanswered:
-                append_under(self.to_send, window.unanswered[new].request.frame, number)  # type: ignore[union-attr]
+                append_under(self.to_send, window.unanswered[new].request.frame, number)
                 self._cancel_number(number)
                 self._asked_again.add(number)
         if window.left >= window.floor:
@@ -311,8 +300,9 @@ class Outbox:
             self._passes = False
             self._moved_to.clear()
             self._send_all([ticket for ticket in window.unanswered.values() if ticket.taken_back is None], now)
-            for ticket in [*window.unanswered.values()]:
-                self._end_if_taken_back(window, ticket)
+            for number, ticket in [*window.unanswered.items()]:
+                if ticket.taken_back is not None:
+                    self._end(self._end_number(window, number), error=ticket.taken_back)
         elif self._withdrawn.issuperset(earlier):
             self._move(window, [*earlier], now)
 
@@ -328,11 +318,6 @@ class Outbox:
         window.asked = floor
         self._file.settling(floor)
         self._settle(floor, now)
-
-    def _end_if_taken_back(self, window: Window[Ticket[Any]], ticket: Ticket[Any]) -> None:
-        if ticket.taken_back is not None and ticket.number is not None:
-            self._end_number(window, ticket.number)
-            self._end(ticket, error=ticket.taken_back)
 
     def _send_all(self, tickets: Iterable[Ticket[Any]], now: float) -> None:
         """Sends them under their old numbers, and the cancels of those that are taken back."""
@@ -367,7 +352,7 @@ class Outbox:
         self.to_send += frames.settle(floor)
 
     def _send(self, ticket: Ticket[Any], now: float) -> None:
-        assert ticket.request is not None and ticket.number is not None
+        assert ticket.number is not None
         ticket.sent_at = now
         ticket.cancel_sent = False
         append_under(self.to_send, ticket.request.frame, ticket.number, ticket.asks_first)
@@ -382,11 +367,6 @@ class Outbox:
     def _cancel_number(self, number: int) -> None:
         self._cancelled[number] += 1
         self.to_send += frames.cancel(number)
-
-    def _cancel_had_reply(self, number: int) -> None:
-        self._cancelled[number] -= 1
-        if not self._cancelled[number]:
-            del self._cancelled[number]
 
     def _end(self, ticket: Ticket[Any], result: Any = None, error: Optional[BaseException] = None) -> None:
         ticket.end(result, error)
@@ -432,7 +412,7 @@ class Outbox:
                 return at, is_heard
             number, code, value, _ = answer
             ticket = unanswered.get(number) if is_plain else None
-            read = ticket.request.read if ticket is not None and ticket.request is not None else None
+            read = ticket.request.read if ticket is not None else None
             if ticket is not None and (code == frames.VALUE and read is read_value or code == frames.DONE and read is read_done):
                 # As `answered`, for nearly all there are.
                 del unanswered[number]
@@ -488,7 +468,7 @@ class Outbox:
         is_late = window is not None and number < window.asked
         if window is None or number not in self._cancelled or number not in window.unanswered and not is_late:
             raise ProtocolError(f"number {number} is withdrawn, which nobody asked for")
-        self._cancel_had_reply(number)
+        self._cancelled -= Counter((number,))
         if is_late:
             self._asked_again.discard(number)
             return
@@ -497,7 +477,7 @@ class Outbox:
             return
         ticket = self._end_number(window, number)
         if self._file is not None:
-            window.pass_soon(number)
+            window.soon = number + 1
         if ticket.taken_back is not None:
             self._end(ticket, error=ticket.taken_back)
         else:
@@ -512,17 +492,10 @@ class Outbox:
             self._file.has_ended(number)
         return window.end(number)
 
-    def settled(self, floor: int) -> None:
-        assert self.window is not None
-        self.window.settled(floor)
-        self._note_floor(self.window)
-
-    def welcomed(self, floor: int) -> None:
-        assert self.window is not None
-        self.window.welcomed(floor)
-        self._note_floor(self.window)
-
-    def _note_floor(self, window: Window[Ticket[Any]]) -> None:
+    def has_floor(self, floor: int, is_welcome: bool = False) -> None:
+        window = self.window
+        assert window is not None
+        (window.welcomed if is_welcome else window.settled)(floor)
         if window.asked == window.floor:
             self._settle_sent = None
         if self._file is not None:
@@ -535,9 +508,11 @@ class Outbox:
         if window is None:
             return False
         is_floor = number in window.floors()
+        # Whether the message is refused only because a settle before it was.
+        is_beyond = code == frames.BEYOND_WINDOW and number >= window.floor + frames.WINDOW
         if code == frames.NOT_WAITING and number in self._cancelled:
-            self._cancel_had_reply(number)  # the request has happened, and its answer comes
-        elif self._is_above_refused_settle(window, refusal) and (is_floor or number in window.unanswered):
+            self._cancelled -= Counter((number,))  # the request has happened, and its answer comes
+        elif is_beyond and self._clearings > 0 and (is_floor or number in window.unanswered):
             pass  # it was sent again behind that settle
         elif is_floor and code in _OF_SETTLE:
             if code != frames.STILL_WAITING or self._file is None or self._clearings == _CLEARINGS:
@@ -547,22 +522,15 @@ class Outbox:
                 self._clear(window, now)
         elif number in window.unanswered and code in _OF_CALL:
             ticket = self._end_number(window, number)
-            assert ticket.request is not None
             self._end(ticket, error=errors.refused(code, ticket.request.what))
         else:
             return False
         return True
 
-    def _is_above_refused_settle(self, window: Window[Ticket[Any]], refusal: frames.Refusal) -> bool:
-        """Whether the message is refused only because a settle before it was."""
-        is_above = refusal.number >= window.floor + frames.WINDOW
-        return refusal.code == frames.BEYOND_WINDOW and is_above and self._clearings > 0
-
     def _clear(self, window: Window[Ticket[Any]], now: float) -> None:
-        """Takes back what waits below the floor that is asked for, and sends again what depends on that floor.
-
-        An earlier process sent it, and the server read it late, after this client or an earlier one had taken it back.
-        """
+        """Takes back what waits below the floor that is asked for, and sends again what depends on that
+        floor. An earlier process sent it, and the server read it late, after this client or an earlier one
+        had taken it back."""
         for number in range(window.floor, window.asked):
             self._cancel_number(number)
         self._settle_all(window, now)

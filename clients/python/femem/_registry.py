@@ -13,12 +13,14 @@ import fcntl
 import logging
 import os
 import secrets
-from typing import Callable, Dict, Iterator, List, Optional
+from collections import defaultdict
+from contextlib import suppress
+from typing import Callable, DefaultDict, Iterator, List, Optional
 
 log = logging.getLogger("femem")
 
-# The numbers that this process may have left, by the path of the server's socket.
-_left: Dict[str, List[int]] = {}
+# The numbers of temporary sessions that this process may have left, by the path of the socket.
+left: DefaultDict[str, List[int]] = defaultdict(list)
 
 
 class Entry:
@@ -43,10 +45,8 @@ class Entry:
     def remove(self) -> None:
         """The session is ended."""
         if self._file >= 0:
-            try:
+            with suppress(OSError):
                 os.unlink(self._path)
-            except OSError:
-                pass
             self.release()
 
     def release(self) -> None:
@@ -55,26 +55,15 @@ class Entry:
             file, self._file = self._file, -1
             os.close(file)
 
-    def __del__(self) -> None:
-        self.release()
+    __del__ = release
 
 
 def temporary(path: str) -> int:
     """The number of a new temporary session: one that an earlier client of this process may have left, if there is one."""
     try:
-        return _left[path].pop()
-    except (KeyError, IndexError):
+        return left[path].pop()
+    except IndexError:
         return secrets.randbits(63)
-
-
-def leave(path: str, session: int) -> None:
-    """Notes that a client of this process ended, perhaps without ending its temporary session."""
-    _left.setdefault(path, []).append(session)
-
-
-def forget_all() -> None:
-    """In a child of the process: the numbers are the parent's."""
-    _left.clear()
 
 
 def enter(path: str, session: int, sessions: int) -> Optional[Entry]:

@@ -24,10 +24,9 @@ from ._errors import NoArray, NotNow, TimedOut, Withdrawn
 from ._jobs import Batch, First, Steps, Wait
 from ._operations import FIRST_LOOK, LAST_LOOK, Tries, batch, is_full, left
 from ._frames import INT_FETCH_ADD, READFE, READFF, WRITEEF
-from .requests import Array, Request, made, made_before
+from .requests import Array, Request, empty, fill, look, made, made_before
 
-# How long a client waits for one that has a ticket and may be late, or gone, in seconds.
-SOON = 0.005
+SOON = 0.005  # how long a client waits for one that has a ticket and may be late, or gone, in seconds
 
 # How long a client that does not wait trusts the tickets, in seconds, before it looks at all slots.
 TRUST = 1.0
@@ -77,8 +76,7 @@ class Ring:
         # Tickets that were not used.
         self._puts: Deque[int] = deque()
         self._gets: Deque[int] = deque()
-        # What TAIL of which array has, at least: it never falls.
-        self._tail = (0, 0)
+        self._tail = (0, 0)  # what TAIL of which array has, at least: it never falls
         # Whether the taker of the last value that was put had its ticket: it is so often in a row.
         self._are_takers_ahead = False
         self._looked_at = 0.0
@@ -95,7 +93,7 @@ class Ring:
             if (yield from self._put_at(words, ticket, value, tries)):
                 return
             clock = clock or Clock(end, self._now)
-            (head,) = yield from batch([requests.readff(words, HEAD, nowait=True)])
+            (head,) = yield from batch([look(words, HEAD)])
             is_late = head > ticket - self.slots  # the taker of the value there has its ticket
             if not nowait and (yield from self._wait_at(words, ticket, value, clock.pause(is_late), tries)):
                 return
@@ -116,7 +114,7 @@ class Ring:
         """A ticket that was kept, if its taker has not gone on, or a new one."""
         while self._puts:
             ticket = self._puts.popleft()
-            (head,) = yield from batch([requests.readff(words, HEAD, nowait=True)])
+            (head,) = yield from batch([look(words, HEAD)])
             if head <= ticket:
                 return ticket
         return (yield from self._new_ticket(words, TAIL))
@@ -132,7 +130,7 @@ class Ring:
     def _put_at(self, words: Array, ticket: int, value: int, tries: Tries) -> Steps[bool]:
         """Puts the value into its slot, if that is empty."""
         slot = self.slot(ticket)
-        asked: List[Request[object]] = [made(WRITEEF, words.id, slot, value, True), made_before(READFF, words.id, HEAD, 0, True)]
+        asked = [made(WRITEEF, words.id, slot, value, True), made_before(READFF, words.id, HEAD, 0, True)]
         if self._are_takers_ahead:
             asked.insert(1, made_before(READFF, words.id, slot, 0, True))
         done, *looks = yield from batch(asked, NotNow, key=tries.next())
@@ -155,7 +153,7 @@ class Ring:
         yield from self._tell_if_left(words, ticket, (yield from batch(self._looks(words, slot), NotNow)))
         return True
 
-    def _looks(self, words: Array, slot: int) -> List[Request[object]]:
+    def _looks(self, words: Array, slot: int) -> List[Request[Any]]:
         """What a putter looks at once its value is in."""
         return [made_before(READFF, words.id, word, 0, True) for word in (slot, HEAD)]
 
@@ -169,19 +167,17 @@ class Ring:
         """Puts the value into an empty slot, one whose next ticket comes late. Whoever waits is told."""
         for slot, there in (yield from self._look(words, ticket + self.slots // 2)):
             if not is_full(there):
-                (done,) = yield from batch([requests.writeef(words, slot, value, nowait=True)], NotNow, key=tries.next())
+                (done,) = yield from batch([fill(words, slot, value)], NotNow, key=tries.next())
                 if is_full(done):
                     yield from self.tell(words, slot)
                     return True
         return False
 
     def leave(self, words: Array, ticket: int, value: int) -> Steps[Any]:
-        """Puts the value into the ticket's slot, or drops it if that is full. One that waits is told if it has to look.
-
-        Returns what HEAD has then.
-        """
+        """Puts the value into the ticket's slot, or drops it if that is full. One that waits is told if it
+        has to look. Returns what HEAD has then."""
         slot = self.slot(ticket)
-        asked: List[Request[object]] = [requests.writeef(words, slot, value, nowait=True), *self._looks(words, slot)]
+        asked = [fill(words, slot, value), *self._looks(words, slot)]
         done, *looks = yield from batch(asked, NotNow, NoArray)
         if is_full(done):
             yield from self._tell_if_left(words, ticket, looks)
@@ -191,7 +187,7 @@ class Ring:
 
     def tell(self, words: Array, slot: int) -> Steps[None]:
         """Makes one that waits for a value look at this slot, or at all if another signal is there."""
-        (told,) = yield from batch([requests.writeef(words, SIGNAL, slot, nowait=True)], NotNow)
+        (told,) = yield from batch([fill(words, SIGNAL, slot)], NotNow)
         if not is_full(told):
             yield from batch([requests.writexf(words, SIGNAL, ALL)])
 
@@ -216,7 +212,7 @@ class Ring:
                 if is_full(value):
                     return int(value)
             elif is_full(*signal):
-                signal = yield from batch([requests.readfe(words, SIGNAL, nowait=True)], NotNow)
+                signal = yield from batch([empty(words, SIGNAL)], NotNow)
             is_over = nowait or clock.is_over()
             is_due = clock.is_over() or clock.is_due() or nowait and (is_late or self._now() - self._looked_at > TRUST)
             found = yield from self._get_told(words, ticket, signal, is_due, tries)
@@ -238,7 +234,7 @@ class Ring:
         """Takes the slot's value, if there is one, and looks at TAIL if need be. The signal too, if nothing waits."""
         asked = [made_before(READFE, words.id, slot, 0, True)]
         if nowait:
-            asked.append(requests.readff(words, SIGNAL, nowait=True))
+            asked.append(look(words, SIGNAL))
         if self._is_put(words, ticket):
             return (yield from batch(asked, NotNow, key=tries.next()))
         asked.append(made_before(READFF, words.id, TAIL, 0, True))
@@ -263,7 +259,7 @@ class Ring:
         """Takes the value that a signal tells of, if it is there, or any value if it tells of all slots or a look is due."""
         told = [slot for slot in signal if is_full(slot)]
         if told and told[0] != ALL:
-            (value,) = yield from batch([requests.readfe(words, told[0], nowait=True)], NotNow, key=tries.next())
+            (value,) = yield from batch([empty(words, told[0])], NotNow, key=tries.next())
             if is_full(value):
                 return int(value)
         return (yield from self._get_anywhere(words, ticket, tries)) if is_due or ALL in told else None
@@ -272,7 +268,7 @@ class Ring:
         """Takes a value from any slot, that of the lowest ticket first."""
         full = [slot for slot, there in (yield from self._look(words, ticket, purges=True)) if is_full(there)]
         while full:
-            asked: List[Request[object]] = [requests.readfe(words, full.pop(0), nowait=True)]
+            asked = [empty(words, full.pop(0))]
             if full:
                 asked.append(requests.writexf(words, SIGNAL, ALL))  # for another one that waits
             value, *_ = yield from batch(asked, NotNow, key=tries.next())
@@ -283,8 +279,8 @@ class Ring:
     def _look(self, words: Array, ticket: int, purges: bool = False) -> Steps[List[tuple[int, object]]]:
         """Each slot and what it has, that of the ticket first. Purges the signal before: what is put later fills it again."""
         slots = [self.slot(ticket + k) for k in range(self.slots)]
-        asked: List[Request[object]] = [requests.purge(words, SIGNAL)] if purges else []
-        asked += [requests.readff(words, slot, nowait=True) for slot in slots]
+        asked: List[Request[Any]] = [requests.purge(words, SIGNAL)] if purges else []
+        asked += [look(words, slot) for slot in slots]
         found = yield from batch(asked, NotNow)
         if purges:
             self._looked_at = self._now()

@@ -4,13 +4,13 @@ from __future__ import annotations
 
 from typing import Any, Dict, List, Optional, Sequence
 
-from . import _frames as frames, requests
+from . import _frames as frames
 from ._arguments import Key
 from ._errors import NoArray, NotNow, NotOwner, TimedOut
 from ._jobs import Steps
 from ._operations import FIRST_LOOK, LAST_LOOK, Pattern, Tries, batch, done_at, is_full
 from ._operations import marked_array, operation, operation_with, size_of
-from .requests import Array, Request
+from .requests import Array, add, empty, fill, look
 from ._ring import HEAD, SLOTS, TAIL, TRUST, Ring
 from ._tickets import Ticket
 
@@ -54,11 +54,10 @@ class Semaphore(Pattern):
         """At first the ring has all numbers."""
         if self._array is None:
             array = yield from marked_array(self._name, self._words.stop, self.MARK)
-            (head,) = yield from batch([requests.readff(array, 1, nowait=True)], NotNow)
+            (head,) = yield from batch([look(array, 1)], NotNow)
             if not is_full(head):
-                fills = [requests.writeef(array, SLOTS + k, k, nowait=True) for k in range(self._permits)]
-                counts = [requests.writeef(array, 2, self._permits, nowait=True), requests.writeef(array, 1, 0, nowait=True)]
-                yield from batch([*fills, *counts], NotNow)
+                fills = [fill(array, SLOTS + k, k) for k in range(self._permits)]
+                yield from batch([*fills, fill(array, 2, self._permits), fill(array, 1, 0)], NotNow)
             self._array = array
         return self._array
 
@@ -124,8 +123,7 @@ class Semaphore(Pattern):
         self._held.append(word - self._words.start)
 
     def _take(self, array: Array, permit: int, tries: Tries) -> Steps[bool]:
-        """Takes this permit, if it is free."""
-        mine = requests.writeef(array, self._words[permit], self._session, nowait=True)
+        mine = fill(array, self._words[permit], self._session)
         (done,) = yield from batch([mine], NotNow, key=tries.next())
         if is_full(done):
             self._held.append(permit)
@@ -136,15 +134,14 @@ class Semaphore(Pattern):
         permit, self._last = self._last, None
         if permit is None:
             return False
-        asked = [requests.writeef(array, self._words[permit], self._session, nowait=True), requests.readff(array, HEAD, nowait=True)]
-        done, head = yield from batch(asked, NotNow)
+        mine = fill(array, self._words[permit], self._session)
+        done, head = yield from batch([mine, look(array, HEAD)], NotNow)
         if is_full(done):
             self._heads[permit] = head
             self._held.append(permit)
         return is_full(done)
 
     def _take_any(self, array: Array, tries: Tries) -> Steps[bool]:
-        """Takes any free permit."""
         self._looked_at = self._now()
         for permit, holder in enumerate((yield from self._look(array))):
             if holder is None and (yield from self._take(array, permit, tries)):
@@ -154,7 +151,7 @@ class Semaphore(Pattern):
     def _take_again(self, array: Array, frame: bytes) -> Steps[bool]:
         """The permit was acquired under the key before."""
         id, word = int.from_bytes(frame[14:22], "big"), int.from_bytes(frame[22:26], "big")
-        (holder,) = yield from batch([requests.readff(array, word, nowait=True)], NotNow)
+        (holder,) = yield from batch([look(array, word)], NotNow)
         if id != array.id or holder != self._session:
             raise NotOwner(f"the permit of {self._name} under this key is not held any more")
         if self._core.holdings.left.take(array, word):
@@ -162,15 +159,12 @@ class Semaphore(Pattern):
         return True
 
     def _look(self, array: Array) -> Steps[List[Optional[int]]]:
-        looks = [requests.readff(array, word, nowait=True) for word in self._words]
-        return [holder if is_full(holder) else None for holder in (yield from batch(looks, NotNow))]
+        found = yield from batch([look(array, word) for word in self._words], NotNow)
+        return [holder if is_full(holder) else None for holder in found]
 
     @operation_with(gives_back=True, light=True)
     def release(self, holder: Optional[int] = None) -> Steps[None]:
         """Gives a permit back: this client's, or that of the session `holder`. `NotOwner` if it has none."""
-        yield from self._release(holder)
-
-    def _release(self, holder: Optional[int] = None) -> Steps[None]:
         array = yield from self._find()
         is_mine = holder is None or holder == self._session
         while is_mine and self._held:
@@ -185,23 +179,19 @@ class Semaphore(Pattern):
     def _give(self, array: Array, permit: int, holder: int) -> Steps[bool]:
         """Empties the permit's word if it has this session, and says in the ring that it is free, unless it still says so."""
         word, head = self._words[permit], self._heads.pop(permit, None)
-        asked: List[Request[Any]] = [requests.readff(array, word, nowait=True)]
-        if head is None:
-            asked.append(requests.int_fetch_add(array, TAIL, 1, nowait=True))
+        asked = [look(array, word)] if head is not None else [look(array, word), add(array, TAIL, 1)]
         found, *ticket = yield from batch(asked, NotNow, NoArray)
         if found != holder:
             self._core.holdings.left.take(array, word)
             return False
-        asked = [requests.readfe(array, word, nowait=True)]
-        if head is not None:
-            asked.append(requests.readff(array, HEAD, nowait=True))
+        asked = [empty(array, word)] if head is None else [empty(array, word), look(array, HEAD)]
         given, *now = yield from batch(asked, NotNow, NoArray)
         self._core.holdings.left.take(array, word)
         if not is_full(given):
             return False
         is_quiet = now == [head]  # nobody has drawn a ticket since the permit was taken
         if not is_quiet:
-            ticket = ticket or (yield from batch([requests.int_fetch_add(array, TAIL, 1, nowait=True)], NoArray))
+            ticket = ticket or (yield from batch([add(array, TAIL, 1)], NoArray))
             if is_full(ticket[0]):
                 drawn = yield from self._ring.leave(array, int(ticket[0]), permit)
                 is_quiet = is_full(drawn) and drawn <= ticket[0]  # nobody waits for it
@@ -210,12 +200,12 @@ class Semaphore(Pattern):
 
     def _release_if_got(self, got: bool) -> Steps[None]:
         if got:
-            yield from self._release()
+            yield from Semaphore.release.steps(self)
 
     def _mend(self, array: Array, gives_back: bool, asked: Sequence[Ticket[Any]]) -> Steps[None]:
         if gives_back:
             if not any(word in self._words for word in done_at(asked, frames.READFE)):
-                yield from self._release()
+                yield from Semaphore.release.steps(self)
             return
         for permit in [word - self._words.start for word in done_at(asked, frames.WRITEEF) if word in self._words]:
             if permit in self._held:

@@ -13,13 +13,14 @@ import fcntl
 import os
 import secrets
 import stat
+from contextlib import suppress
 from typing import Dict, List, Optional, Tuple
 
-from . import _sessionblocks as sessionblocks, _sessionrecords as sessionrecords
+from . import _sessionstate as sessionstate
 from ._errors import SessionFileError, SessionInUse
 from ._frames import Answer
-from ._sessionrecords import ANSWER, Asked, Contradiction
-from ._sessionstate import State
+from ._sessionstate import ANSWER, ANSWERED_KIND, ENDED_KIND, FORGOTTEN_KIND, KEPT, LEAVING_KIND, LENGTH
+from ._sessionstate import MOVED_KIND, NUMBER, PAIR, Asked, Contradiction, State
 
 # The file is rewritten once it has `_SHORT` bytes, and `_GROWTH` times what it must hold.
 _SHORT = 65536
@@ -62,7 +63,6 @@ class SessionFile:
         return {number: new for number, new in self.state.moved.items() if number >= self.state.floor}
 
     def keys(self) -> List[bytes]:
-        """The keys that have an answer."""
         return [*self.state.keyed]
 
     def kept(self, key: bytes) -> Optional[Tuple[bytes, Answer]]:
@@ -80,34 +80,27 @@ class SessionFile:
                 fcntl.flock(self._file, fcntl.LOCK_EX | fcntl.LOCK_NB)
             except BlockingIOError:
                 raise SessionInUse(f"{self.path} is another client's") from None
-            try:
+            with suppress(FileNotFoundError):
                 own = os.fstat(self._file)
                 if os.path.samestat(os.stat(self.path), own):
                     if own.st_nlink > 1:
                         raise SessionFileError(f"{self.path} has another name too, which would become a copy")
                     return
-            except FileNotFoundError:
-                pass
             os.close(self._file)
 
     def close(self) -> None:
         """Writes what is not yet written, and releases the file to other clients."""
         if self._file >= 0:
-            try:
+            with suppress(OSError):  # unwritten answers, which the server gives again
                 if (self._pending or self._noted != self._numbers()) and not self._is_broken:
-                    self._write(self._file, sessionblocks.block(self.state, bytes(self._pending)))
-            except OSError:
-                pass  # unwritten answers, which the server gives again
+                    self._write(self._file, sessionstate.block(self.state, bytes(self._pending)))
             fcntl.flock(self._file, fcntl.LOCK_UN)  # a child may still have it open for a moment
             self.abandon()
 
     def remove(self) -> None:
-        """Removes the file, since the session is ended."""
         if self._file >= 0:
-            try:
+            with suppress(OSError):  # the next process finds that the session was being ended
                 os.unlink(self.path)
-            except OSError:
-                pass  # the next process finds that the session was being ended
             self.abandon()
 
     def abandon(self) -> None:
@@ -116,10 +109,7 @@ class SessionFile:
             file, self._file = self._file, -1
             os.close(file)
 
-    def __del__(self) -> None:
-        """If a client's constructor fails, nothing else closes it."""
-        if self._file >= 0:
-            os.close(self._file)
+    __del__ = abandon  # if a client's constructor fails, nothing else closes it
 
     def start_over(self) -> None:
         """Begins with another session, after the end of this one."""
@@ -134,7 +124,7 @@ class SessionFile:
         if not content:
             self.start_over()
             return
-        self.state, end = sessionblocks.read(content)
+        self.state, end = sessionstate.read(content)
         if end < len(content):
             os.ftruncate(self._file, end)
         # A process may have ended without a sync of its last block, or of the file's new name.
@@ -143,19 +133,22 @@ class SessionFile:
         os.lseek(self._file, end, os.SEEK_SET)
         self._noted = self._numbers()
         self._size = end
-        self._limit = max(_SHORT, _GROWTH * sessionblocks.size_of_keys(self.state))
+        keyed = self.state.keyed
+        keys = sum(map(len, keyed)) + sum(map(len, keyed.values())) + (1 + KEPT.size) * len(keyed)
+        self._limit = max(_SHORT, _GROWTH * keys)
 
     # Writing: what happens is noted at once, and is in the file after the next `commit`.
 
     def begin(self, floor: int) -> None:
         self.state.numbers(floor, floor, floor)
 
-    def _note(self, record: bytes) -> None:
+    def _note(self, kind: int, *fields: bytes) -> None:
+        record = sessionstate.record(kind, *fields)
         self.state.take(record)
         self._pending += record
 
     def asked(self, number: int, asked: Asked) -> None:
-        self._note(sessionrecords.asked(number, asked))
+        self._note(sessionstate.ASKED_KIND, *sessionstate.fields_of(number, asked))
         self.state.next = number + 1
         self.must_sync = True
 
@@ -165,17 +158,16 @@ class SessionFile:
         self.must_sync = True
 
     def answered(self, answer: Answer) -> None:
-        self._note(sessionrecords.answered(answer.number, answer))
+        self._note(ANSWERED_KIND, NUMBER.pack(answer.number), ANSWER.pack(*answer[1:]))
 
     def has_moved(self, number: int, new: int) -> None:
-        """Notes that the request was withdrawn, and has a new number."""
-        self._note(sessionrecords.moved(number, new))
+        self._note(MOVED_KIND, PAIR.pack(number, new))
         self.state.next = new + 1
         self.must_sync = True
 
     def has_ended(self, number: int) -> None:
         """Notes that the request was withdrawn or refused: nothing of it happened."""
-        self._note(sessionrecords.ended(number))
+        self._note(ENDED_KIND, NUMBER.pack(number))
         self.must_sync = True  # its caller learns this, and the next process must not ask it again
 
     def settled(self, floor: int) -> None:
@@ -184,10 +176,10 @@ class SessionFile:
 
     def forget(self, key: bytes) -> None:
         if key in self.state.keyed:
-            self._note(sessionrecords.forgotten(key))
+            self._note(FORGOTTEN_KIND, LENGTH.pack(len(key)), key)
 
     def ending(self) -> None:
-        self._note(sessionrecords.leaving())
+        self._note(LEAVING_KIND)
         self.must_sync = True
 
     def commit(self) -> None:
@@ -196,10 +188,12 @@ class SessionFile:
             raise SessionFileError(f"{self.path} could not be written")
         try:
             # (a rewritten file would not say which requests were moved)
-            if self._size + len(self._pending) > self._limit and not self.moved and not self._has_other_name():
-                self.compact()
-                return
-            block = sessionblocks.block(self.state, bytes(self._pending))
+            if self._size + len(self._pending) > self._limit and not self.moved:
+                # (with a hard link that it got since, a new file in its place would be a copy nobody locks)
+                if os.fstat(self._file).st_nlink == 1:
+                    self.compact()
+                    return
+            block = sessionstate.block(self.state, bytes(self._pending))
             self._write(self._file, block)
             os.fdatasync(self._file)
         except OSError as error:
@@ -210,21 +204,15 @@ class SessionFile:
         self._pending.clear()
         self.must_sync = False
 
-    def _has_other_name(self) -> bool:
-        """Whether it got a hard link since it was opened. In a new file's place, that would be a copy that nobody locks."""
-        return os.fstat(self._file).st_nlink > 1
-
     def compact(self) -> None:
         """Writes what must be kept into a new file, and replaces the old one with it."""
         new = f"{self.path}.new"
-        try:
+        with suppress(FileNotFoundError):
             os.unlink(new)
-        except FileNotFoundError:
-            pass
         file = os.open(new, os.O_RDWR | os.O_CREAT | os.O_EXCL | os.O_NOFOLLOW | os.O_CLOEXEC, 0o600)
         try:
             fcntl.flock(file, fcntl.LOCK_EX | fcntl.LOCK_NB)
-            content = sessionblocks.snapshot(self.state)
+            content = sessionstate.snapshot(self.state)
             self._write(file, content)
             os.fsync(file)
             self.replace(new)

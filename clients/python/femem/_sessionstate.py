@@ -1,25 +1,125 @@
-"""What a session file holds. A `Contradiction` is what no client writes (docs/session-file.md, "What is refused")."""
+"""What a session file holds, and the whole file as bytes (docs/session-file.md, "Bytes").
+
+A `Contradiction` is what no client writes (docs/session-file.md, "What is refused").
+"""
 
 from __future__ import annotations
 
+import re
 import struct
-from typing import Callable, Dict, Set, Tuple
+import zlib
+from typing import Callable, Dict, NamedTuple, Optional, Set, Tuple
 
 from . import _frames as frames
-from ._sessionrecords import ANSWER, ASKED, ENDS_WITH_PROCESS, FRAME_LENGTH, KEPT, LENGTH, LONGEST_KEY, NUMBER, PAIR
-from ._sessionrecords import Asked, Contradiction, check_answer, check_request, has_happened, is_access
 
 _NO_NUMBER: int = 2**64
-# With so many answers, those below the floor are dropped.
-_MANY = 4 * frames.WINDOW
+_MANY = 4 * frames.WINDOW  # with so many answers, those below the floor are dropped
+
+
+class Contradiction(Exception):
+    """No client writes this."""
+
+
+class Asked(NamedTuple):
+    """A request in the file: its frame under number 0, its key if any, and whether it ends with its process."""
+
+    frame: bytes
+    key: Optional[bytes]
+    ends_with_process: bool
+
+
+# The kinds of records.
+ASKED_KIND, ENDED_KIND, ANSWERED_KIND, MOVED_KIND, FORGOTTEN_KIND, KEPT_KIND, LEAVING_KIND = range(1, 8)
+
+NUMBER = struct.Struct(">Q")
+PAIR = struct.Struct(">QQ")
+LENGTH = struct.Struct(">H")
+FRAME_LENGTH = struct.Struct(">I")
+ANSWER = struct.Struct(">BQI")
+# As far as the key.
+ASKED = struct.Struct(">QQBH")
+KEPT = struct.Struct(">QH")
+
+MAGIC = b"FEMEMSF2"
+_NUMBERS = struct.Struct(">IQQQ")
+_SUM = struct.Struct(">I")
+_HEADER = len(MAGIC) + NUMBER.size + _SUM.size
+
+ENDS_WITH_PROCESS = 1
+LONGEST_KEY = 1024
+
+
+def record(kind: int, *fields: bytes) -> bytes:
+    return bytes((kind,)) + b"".join(fields)
+
+
+def fields_of(number: int, asked: Asked) -> Tuple[bytes, bytes, bytes]:
+    key = asked.key or b""
+    return ASKED.pack(number, number, ENDS_WITH_PROCESS * asked.ends_with_process, len(key)), key, asked.frame
+
+
+# The length of each kind of request, without its own 4 bytes.
+_LENGTHS = {2: 31, 3: 26, 4: 17, 5: 30, 11: 30, 12: 47, 13: 42}
+_GIVE_VALUES = (frames.READFE, frames.READFF, frames.READXX, frames.INT_FETCH_ADD)
+
+# An access under number 0: length, kind and number; then operation, array, index and operand, which is 0 where it is not used.
+_HEAD = rb"\0\0\0\x1e[\x05\x0b]\0{8}"
+_GIVES = rb"(?:[\x10-\x12].{12}\0{8}|\x17.{20})"
+_DOES = rb"(?:[\x13-\x15].{20}|\x16.{12}\0{8})"
+is_access = re.compile(_HEAD + b"(?:" + _GIVES + b"|" + _DOES + b")", re.DOTALL).match
+# Nearly all that a file has of keys: an access with the answer that it happened, the value if it gives one.
+has_happened = re.compile(_HEAD + b"(?:" + _GIVES + rb"\x01.{8}\0{4}|" + _DOES + rb"\x02\0{12})", re.DOTALL).match
+
+
+def check_request(frame: bytes) -> None:
+    if is_access(frame) and len(frame) == 34:
+        return
+    _must(len(frame) >= 13, "a request that is too short")
+    kind = frame[4]
+    _must(_LENGTHS.get(kind, 0) + 4 == len(frame) == 4 + int.from_bytes(frame[:4], "big"), "a request of no kind")
+    _must(kind not in (frames.ACCESS, frames.NOWAIT), "a request of no operation, or with an operand that is not used")
+    _must(not any(frame[5:13]), "a request with a number")
+    if kind != 4:
+        row = 16 if kind in (2, 3) else 32
+        size = frame[13]
+        _must(size <= 16 if row == 16 else 17 <= size <= 32, "a name of another length")
+        _must(not any(frame[14 + size : 14 + row]), "a name with more behind it")
+        _must(kind in (3, 13) or frame[-1] in (0, 1), "a tag")
+
+
+def check_answer(frame: bytes, answer: bytes) -> None:
+    code, value, length = ANSWER.unpack(answer)
+    if code not in _codes(frame):
+        raise Contradiction(f"answer {code} to a request of kind {frame[4]}")
+    if code == frames.ARRAY:
+        _must(value > 0 and 1 <= length <= 65536, "an array of no words, of too many, or without an id")
+        is_create = frame[4] in (2, 12)
+        _must(not is_create or length == int.from_bytes(frame[-5:-1], "big"), "an array of another length")
+    elif length or (value and code != frames.VALUE):
+        raise Contradiction(f"answer {code} with a value or a length")
+
+
+def _codes(frame: bytes) -> Tuple[int, ...]:
+    kind = frame[4]
+    if kind in (2, 12):
+        return frames.ARRAY, frames.BAD_NAME, frames.BAD_LENGTH, frames.NAME_TAKEN, frames.ARRAY_LIMIT, frames.WORD_LIMIT
+    if kind in (3, 13):
+        return frames.ARRAY, frames.BAD_NAME, frames.NO_ARRAY
+    if kind == 4:
+        return frames.DONE, frames.NO_ARRAY
+    done = frames.VALUE if frame[13] in _GIVE_VALUES else frames.DONE
+    return (done, frames.NO_ARRAY, frames.BAD_INDEX) + ((frames.NOT_NOW,) if kind == frames.NOWAIT else ())
+
+
+def _must(holds: bool, otherwise: str) -> None:
+    if not holds:
+        raise Contradiction(otherwise)
 
 
 class State:
-    """A session's numbers, its requests without an answer, and the answers of keys. Before its first request all numbers are 0.
-
-    It changes by the bytes of records, as they are in the file. A file may have hundreds of thousands of keys, so nothing is
-    made of a key but these bytes.
-    """
+    """A session's numbers, its requests without an answer, and the answers of keys. Before its first request
+    all numbers are 0. It changes by the bytes of records, as they are in the file. A file may have hundreds
+    of thousands of keys, so nothing is made of a key but these bytes."""
 
     def __init__(self, session: int) -> None:
         self.session = session
@@ -27,23 +127,18 @@ class State:
         self.is_ending = False
         # Each request without an answer, in the order of their numbers, in which they are given.
         self.unanswered: Dict[int, Asked] = {}
-        # The request of each key that has an answer, followed by that.
-        self.keyed: Dict[bytes, bytes] = {}
+        self.keyed: Dict[bytes, bytes] = {}  # the request of each key that has an answer, followed by that
         # The answers of numbers from the floor on, without a key or with one; and some of numbers below.
         self.answers: Dict[int, bytes] = {}
-        # The new number of each request that was moved, by its former one.
-        self.moved: Dict[int, int] = {}
-        # The keys of `unanswered`.
-        self._open: Set[bytes] = set()
-        # The greatest number that a request was given.
-        self._greatest = 0
+        self.moved: Dict[int, int] = {}  # the new number of each request that was moved, by its former one
+        self._open: Set[bytes] = set()  # the keys of `unanswered`
+        self._greatest = 0  # the greatest number that a request was given
         # By the kind of a record: takes the one whose fields begin at a place, and returns where it ends.
         self._takes: Tuple[Callable[[bytes, int], int], ...] = (
             self._none, self._asked, self._ended, self._answered, self._moved, self._forgotten, self._kept, self._leaving
         )  # fmt: skip
 
     def take(self, payload: bytes) -> None:
-        """Takes these records."""
         at, end, takes = 0, len(payload), self._takes
         try:
             while at < end:
@@ -163,3 +258,72 @@ class State:
         if asked.key is not None:
             self._open.discard(asked.key)
         return asked
+
+
+def header(session: int) -> bytes:
+    head = MAGIC + NUMBER.pack(session)
+    return head + _SUM.pack(zlib.crc32(head))
+
+
+def block(state: State, payload: bytes) -> bytes:
+    head = _NUMBERS.pack(len(payload), state.floor, state.asked_floor, state.next)
+    return head + payload + _SUM.pack(zlib.crc32(payload, zlib.crc32(head, _seed(state.session))))
+
+
+def snapshot(state: State) -> bytes:
+    """The shortest file that holds this state."""
+    records = [record(KEPT_KIND, KEPT.pack(0, len(key)), key, kept) for key, kept in state.keyed.items()]
+    records += [record(ASKED_KIND, *fields_of(*each)) for each in state.unanswered.items()]
+    if state.is_ending:
+        records.append(record(LEAVING_KIND))
+    return header(state.session) + block(state, b"".join(records))
+
+
+def read(content: bytes) -> Tuple[State, int]:
+    """What a file holds, and where its whole blocks end. `Contradiction` if no client wrote it. What follows
+    the whole blocks was being written when a process ended, and nothing of it was sent."""
+    state = State(_session_of(content))
+    seed, at = _seed(state.session), _HEADER
+    while True:
+        end = _block_end(content, at, seed)
+        if end is None:
+            break
+        _, floor, asked, upcoming = _NUMBERS.unpack_from(content, at)
+        state.take(content[at + _NUMBERS.size : end - _SUM.size])
+        state.numbers(floor, asked, upcoming)
+        at = end
+    # A whole block after one that is not whole means damage.
+    for behind in range(at + 1, len(content) - _NUMBERS.size - _SUM.size + 1):
+        if _block_end(content, behind, seed) is not None:
+            raise Contradiction(f"damaged at byte {at}")
+    return state, at
+
+
+def _seed(session: int) -> int:
+    """With which the sums of a session's blocks begin."""
+    return zlib.crc32(NUMBER.pack(session))
+
+
+def _session_of(content: bytes) -> int:
+    if not content.startswith(MAGIC):
+        if content[:7] == MAGIC[:7]:
+            raise Contradiction(f"a file of the C client's version {content[7:8]!r}: open it with that client first")
+        raise Contradiction("it is no session file")
+    if len(content) < _HEADER:
+        raise Contradiction("it is damaged: its header is not whole")
+    (session,) = NUMBER.unpack_from(content, len(MAGIC))
+    if content[:_HEADER] != header(session):
+        raise Contradiction("it is damaged in its header")
+    return int(session)
+
+
+def _block_end(content: bytes, at: int, seed: int) -> Optional[int]:
+    """Where the block at `at` ends, if it is whole."""
+    if len(content) - at < _NUMBERS.size + _SUM.size:
+        return None
+    (length,) = _SUM.unpack_from(content, at)
+    end: int = at + _NUMBERS.size + length
+    if end + _SUM.size > len(content):
+        return None
+    (checksum,) = _SUM.unpack_from(content, end)
+    return end + _SUM.size if zlib.crc32(content[at:end], seed) == checksum else None

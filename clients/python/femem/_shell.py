@@ -12,13 +12,13 @@ import os
 import re
 import signal
 import sys
+import threading
 import time
-from typing import Any, Callable, Dict, List, Optional, Tuple
+from typing import Any, List, Optional, Tuple
 
 from . import observer
 from ._errors import FememError, ServerUnreachable
 from .observer import Look, Observer, overview
-from ._signals import end_on_signals
 
 HELP = """\
 report                              what waits, as the server reports it
@@ -30,6 +30,9 @@ femem-cli has operations, patterns and a prompt.
 """
 
 Words = List[str]
+
+# The commands, and how many words may follow each at most.
+COMMANDS = {"report": 0, "watch": 1, "graph": 1, "metrics": 0}
 
 # What femem-cli does.
 REMOVED = (
@@ -45,8 +48,10 @@ class Usage(Exception):
 # The statuses of the program `femem`, and 1 for what can't be shown.
 FAILED, USAGE, SOCKET = 1, 2, 4
 
-# How long the shell waits for an unresponsive server, in seconds.
-PATIENCE = 30.0
+# The signals that end the shell, and how long the main thread has before one is sent to it again, in seconds.
+ENDING, PAUSE = (signal.SIGTERM, signal.SIGHUP), 0.05
+
+PATIENCE = 30.0  # how long the shell waits for an unresponsive server, in seconds
 
 
 def main(arguments: Optional[Words] = None) -> int:
@@ -67,6 +72,36 @@ def main(arguments: Optional[Words] = None) -> int:
     finally:
         shell.close()
     return 0
+
+
+def end_on_signals() -> None:
+    """Makes the first SIGTERM or SIGHUP raise SystemExit in the main thread, with status 128 plus its number.
+
+    Python runs a handler between two of its own steps. A signal that comes after the last of them and before `read` blocks is
+    noticed only when `read` returns, so a thread sends the signal again until the handler has run.
+    """
+    taken: List[int] = []
+    main = threading.get_ident()
+    reader, writer = os.pipe()
+    os.set_blocking(writer, False)
+
+    def end(number: int, _: Any) -> None:
+        if not taken:
+            taken.append(number)
+            sys.exit(128 + number)
+
+    def send_again() -> None:
+        while True:
+            number = os.read(reader, 1)[0]
+            while number in ENDING and not taken:
+                time.sleep(PAUSE)
+                if not taken:
+                    signal.pthread_kill(main, number)
+
+    for number in ENDING:
+        signal.signal(number, end)
+    signal.set_wakeup_fd(writer, warn_on_full_buffer=False)
+    threading.Thread(target=send_again, daemon=True).start()
 
 
 def read(words: Words) -> Tuple[str, Words, argparse.Namespace]:
@@ -115,7 +150,6 @@ def fail(text: str, status: int) -> int:
 
 
 def describe(error: BaseException) -> str:
-    """An error's name in the server's spelling, and its text."""
     name = re.sub(r"(?<!^)(?=[A-Z])", "-", type(error).__name__).lower()
     return f"{name}: {error}" if str(error) else name
 
@@ -132,10 +166,13 @@ class Shell:
         self._observer.close()
 
     def run(self, words: Words) -> None:
-        command = COMMANDS.get(words[0])
-        if command is None:
-            raise Usage(f"there is no {words[0]}")
-        command(self, words[1:])
+        command, *rest = words
+        most = COMMANDS.get(command)
+        if most is None:
+            raise Usage(f"there is no {command}")
+        if len(rest) > most:
+            raise Usage(f"{rest[most]} is a word too many")
+        getattr(self, command)(rest)
 
     def _look(self) -> Look:
         """What `femem look` shows. If it shows nothing, prints why, once."""
@@ -146,7 +183,6 @@ class Shell:
         return look
 
     def report(self, rest: Words) -> None:
-        at_most(0, rest)
         report = self._observer.report()
         if self._given.json:
             waiters = [waiter.__dict__ for waiter in report.waiters]
@@ -155,7 +191,6 @@ class Shell:
             print(report.text, end="", flush=True)
 
     def watch(self, rest: Words) -> None:
-        at_most(1, rest)
         pause, file = seconds_of(rest[0]) if rest else 1.0, self._given.html
         while True:
             report = self._observer.report()
@@ -167,7 +202,6 @@ class Shell:
             time.sleep(pause)
 
     def graph(self, rest: Words) -> None:
-        at_most(1, rest)
         report = self._observer.report()
         owners = self._observer.owners(report) if self._given.owners else {}
         text = observer.graph(report, self._look(), owners)
@@ -182,21 +216,7 @@ class Shell:
             write(rest[0], text)
 
     def metrics(self, rest: Words) -> None:
-        at_most(0, rest)
         print(observer.metrics(self._observer.report(), self._look()), end="", flush=True)
-
-
-COMMANDS: Dict[str, Callable[[Any, Words], None]] = {
-    "report": Shell.report,
-    "watch": Shell.watch,
-    "graph": Shell.graph,
-    "metrics": Shell.metrics,
-}
-
-
-def at_most(count: int, words: Words) -> None:
-    if len(words) > count:
-        raise Usage(f"{words[count]} is a word too many")
 
 
 def seconds_of(word: str) -> float:

@@ -14,8 +14,7 @@ from ._errors import ProtocolError, SessionLost, TakenOver
 
 T = TypeVar("T")
 
-# The floor is raised once this many numbers are answered, or earlier.
-_STEP = 16
+_STEP = 16  # the floor is raised once this many numbers are answered, or earlier
 
 # The floor is raised by less than a whole window. A client that takes the session over raises it by a whole one, so the
 # floor shows that it was there.
@@ -39,11 +38,9 @@ _NOT_KEPT = "not kept"
 
 
 class Used(List[Optional[T]]):
-    """What callers used lent numbers for, in order, from `first` on. `None`: its answer was read, as of all before.
-
-    `asked`: the floor that they asked for last, unless it is 0. `left`: the number that what waits all the time had before it
-    became the first of these, or 0.
-    """
+    """What callers used lent numbers for, in order, from `first` on. `None`: its answer was read, as of all
+    before. `asked`: the floor that they asked for last, unless it is 0. `left`: the number that what waits
+    all the time had before it became the first of these, or 0."""
 
     __slots__ = ("first", "asked", "left")
 
@@ -60,22 +57,19 @@ class Window(Generic[T]):
         self.floor = floor
         self.asked = floor
         self.unanswered: Dict[int, T] = {}  # ascending, since numbers are given in order
-        self._next = floor
+        self.next = floor  # the number that the next request gets
         # What ended each number from the floor on that has no request now.
         self.answers: Dict[int, Union[frames.Answer, str]] = {}
-        # Whether floors between the current one and the one asked for may be reported.
-        self._several = False
-        # The floor is raised to here as soon as it can be.
-        self._soon = 0
-        # The last number that callers cancelled.
-        self.left = 0
+        self._several = False  # whether floors between the current one and the one asked for may be reported
+        self.soon = 0  # the floor is raised to here as soon as nothing below waits
+        self.left = 0  # the last number that callers cancelled
 
     @classmethod
     def of_file(cls, floor: int, asked: int, next: int, unanswered: Dict[int, T], answers: Dict[int, frames.Answer]) -> Window[T]:
         """The window as a former process left it. That may have asked for several floors, one after the other."""
         window: Window[T] = cls(floor)
         window.asked = asked
-        window._next = next
+        window.next = next
         window._several = asked > floor
         window.unanswered = unanswered
         for number in range(floor, next):
@@ -85,20 +79,18 @@ class Window(Generic[T]):
 
     def room(self) -> int:
         """How many more requests it has numbers for."""
-        return self.asked + _WINDOW - self._next
+        return self.asked + _WINDOW - self.next
 
     def give(self, items: Sequence[T]) -> int:
         """The next numbers, for these requests. Returns the first one. There must be room."""
-        first = self._next
-        self._next = end = first + len(items)
+        first = self.next
+        self.next = end = first + len(items)
         self.unanswered.update(zip(range(first, end), items))
         return first
 
     def to_lend(self, may_move: Optional[T]) -> Tuple[int, int]:
-        """How many numbers callers may use themselves, and the floor, if they may raise it too, or 0.
-
-        They may if nothing waits, or only one that they may move: a number is kept for that.
-        """
+        """How many numbers callers may use themselves, and the floor, if they may raise it too, or 0. They
+        may if nothing waits, or only one that they may move: a number is kept for that."""
         waiting = [*self.unanswered.values()]
         if self.asked != self.floor or waiting and waiting != [may_move]:
             return self.room() - (_NOT_LENT if waiting else 0), 0
@@ -106,29 +98,25 @@ class Window(Generic[T]):
 
     def lent(self, used: Used[T], tickets: Sequence[Optional[T]], floor: int) -> None:
         """Notes what lent numbers were used for, and that the floor was raised, unless that is 0. `tickets`: as `used` is now."""
-        self._next = max(self._next, used.first)
+        self.next = max(self.next, used.first)
         if used.left:
             self.unanswered.clear()  # (it is among these)
             self.left = used.left
             self.answers[used.left] = _NOT_KEPT
         for item in tickets:
             if item is None:
-                self.answers[self._next] = _SETTLED_OTHERWISE
+                self.answers[self.next] = _SETTLED_OTHERWISE
             else:
-                self.unanswered[self._next] = item
-            self._next += 1
+                self.unanswered[self.next] = item
+            self.next += 1
         if floor:
             self.asked = floor
             self.settled(floor)
             self.asked = used.asked
 
-    def next_number(self) -> int:
-        """The number that the next request gets."""
-        return self._next
-
     def lowest(self) -> int:
         """The lowest number without an answer, or the next number if there is none."""
-        return next(iter(self.unanswered), self._next)
+        return next(iter(self.unanswered), self.next)
 
     def answer(self, answer: frames.Answer) -> Optional[T]:
         """The request of this answer, or `None` if it came before. `ProtocolError` if none is due, or if it differs."""
@@ -151,16 +139,12 @@ class Window(Generic[T]):
         self.answers[number] = _NOT_KEPT
         return self.give([self.unanswered.pop(number)])
 
-    def pass_soon(self, number: int) -> None:
-        """The floor is to stand above this number as soon as nothing below waits."""
-        self._soon = number + 1
-
     def next_floor(self) -> Optional[int]:
         """The floor to ask for now, or `None`. Only one is asked for at a time."""
-        if self.asked != self.floor or self._next - self.floor < _STEP and self._soon <= self.floor:
+        if self.asked != self.floor or self.next - self.floor < _STEP and self.soon <= self.floor:
             return None
-        floor = min(self.lowest(), self.floor + LONGEST_STEP, frames.GREATEST_FLOOR)
-        is_soon = self.floor < self._soon <= floor
+        floor = self.floor_towards(self.lowest())
+        is_soon = self.floor < self.soon <= floor
         if floor - self.floor < _STEP and not is_soon and (self.room() or floor == self.floor):
             return None
         self.asked = floor
@@ -179,19 +163,12 @@ class Window(Generic[T]):
         return not self.room() and self.asked == self.floor == self.lowest()
 
     def holding(self) -> List[T]:
-        """The requests that wait under old numbers while others come and go, once they keep the floor from rising.
-
-        The server answers in order, so a request below an answered number waits.
-        """
-        if len(self.unanswered) > _MOST_HOLDING or self._next - self.lowest() < _HELD_BACK:
+        """The requests that wait under old numbers while others come and go, once they keep the floor from
+        rising. The server answers in order, so a request below an answered number waits."""
+        if len(self.unanswered) > _MOST_HOLDING or self.next - self.lowest() < _HELD_BACK:
             return []
-        low = min(self._next - _RECENT, max(self.answers, default=0))
+        low = min(self.next - _RECENT, max(self.answers, default=0))
         return [item for number, item in self.unanswered.items() if number < low]
-
-    def lower_half(self) -> List[T]:
-        """The unanswered requests in the lower half of the window's numbers."""
-        half = self.floor + frames.WINDOW // 2
-        return [item for number, item in self.unanswered.items() if number < half]
 
     def settled(self, floor: int) -> None:
         """The server reports that this is the floor."""
@@ -205,10 +182,8 @@ class Window(Generic[T]):
             del self.answers[number]
 
     def welcomed(self, floor: int) -> None:
-        """The session was attached again, with this floor.
-
-        `SessionLost` if it fell, which no kept session's does; `TakenOver` if another client raised it.
-        """
+        """The session was attached again, with this floor. `SessionLost` if it fell, which no kept session's
+        does; `TakenOver` if another client raised it."""
         if floor < self.floor:
             raise SessionLost(f"the floor was {self.floor} and is {floor}")
         if floor not in (self.floor, self.asked) and not (self._several and floor < self.asked):

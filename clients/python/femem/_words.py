@@ -11,7 +11,7 @@ from ._errors import BrokenBarrier, NameTaken, NoArray, NotNow, OtherPattern, Ti
 from ._jobs import Steps, Wait, first_of
 from ._operations import Pattern, batch, is_full, once
 from ._operations import operation, operation_with, shared_array, size_of
-from .requests import Array
+from .requests import Array, add, empty, fill, look
 
 
 class Counter(Pattern):
@@ -33,7 +33,7 @@ class Counter(Pattern):
     @operation_with(light=True)
     def value(self) -> Steps[int]:
         """The number now."""
-        (value,) = yield from batch([requests.readff((yield from self._find()), 0, nowait=True)])
+        (value,) = yield from batch([look((yield from self._find()), 0)])
         return int(value)
 
 
@@ -50,7 +50,7 @@ class Future(Pattern):
         """Sets the value. Returns whether this call set it, or with a key the first call under that key."""
         word = yield from self._find()
         try:
-            yield from once(self._core, key, requests.writeef(word, 0, value, nowait=True))
+            yield from once(self._core, key, fill(word, 0, value))
         except NotNow:
             return False
         return True
@@ -65,7 +65,7 @@ class Future(Pattern):
     @operation_with(light=True)
     def is_set(self) -> Steps[bool]:
         """Whether the value is set."""
-        (value,) = yield from batch([requests.readff((yield from self._find()), 0, nowait=True)], NotNow)
+        (value,) = yield from batch([look((yield from self._find()), 0)], NotNow)
         return is_full(value)
 
 
@@ -91,48 +91,41 @@ class Once(Pattern):
                 self._array = None  # it was removed
 
     def _do_or_get(self, array: Array, end: Optional[float]) -> Steps[Tuple[Optional[Array], int]]:
-        mine = requests.writeef(array, self.DOER, self._session, nowait=True)
-        look = requests.readff(array, self.RESULT, nowait=True)
         yield from self._core.holdings.left.look_up(array, (self.DOER,), self._session)
         is_left = self._core.holdings.left.take(array, self.DOER)
-        done, result = yield from batch([mine, look], NotNow)
+        asked = [fill(array, self.DOER, self._session), look(array, self.RESULT)]
+        done, result = yield from batch(asked, NotNow)
         does = is_left or is_full(done)
         while not does and not is_full(result):
-            asked = [requests.readff(array, self.RESULT), requests.writeef(array, self.DOER, self._session)]
-            found = yield from first_of(asked, self._left(end))
+            waits = [requests.readff(array, self.RESULT), requests.writeef(array, self.DOER, self._session)]
+            found = yield from first_of(waits, self._left(end))
             does = 1 in found
-            (result,) = [found[0]] if 0 in found else (yield from batch([look], NotNow))
+            (result,) = [found[0]] if 0 in found else (yield from batch(asked[1:], NotNow))
         if not is_full(result):
             return array, 0
         if does:
-            yield from self._give_back(array)
+            yield from Once._give_up.steps(self, array)
         return None, int(result)
-
-    def _give_back(self, array: Array) -> Steps[None]:
-        """Another client may do it."""
-        yield from batch([requests.readfe(array, self.DOER, nowait=True)], NotNow, NoArray)
 
     @operation_with(gives_back=True)
     def _give_up(self, array: Array) -> Steps[None]:
-        yield from self._give_back(array)
+        """Another client may do it."""
+        yield from batch([empty(array, self.DOER)], NotNow, NoArray)
 
     def _give_up_if_begun(self, begun: Tuple[Optional[Array], int]) -> Steps[None]:
         if begun[0] is not None:
-            yield from self._give_back(begun[0])
+            yield from Once._give_up.steps(self, begun[0])
 
     @operation_with(gives_back=True)
     def _finish(self, array: Array, result: int) -> Steps[int]:
         """The result that all get: this one, or what `done` has set meanwhile."""
-        return (yield from self._set(array, result))
-
-    def _set(self, array: Array, result: int) -> Steps[int]:
-        asked = [requests.writeef(array, self.RESULT, result, nowait=True), requests.readff(array, self.RESULT, nowait=True)]
-        return int((yield from batch(asked, NotNow))[1])
+        _, found = yield from batch([fill(array, self.RESULT, result), look(array, self.RESULT)], NotNow)
+        return int(found)
 
     @operation
     def done(self, result: int) -> Steps[int]:
         """Sets the result, if the client that began is gone. Returns the one that all get: this one, or what was set before."""
-        return (yield from self._set((yield Wait(requests.find(self._name))), result))
+        return (yield from Once._finish.steps(self, (yield Wait(requests.find(self._name))), result))
 
 
 class Barrier(Pattern):
@@ -179,20 +172,14 @@ class Barrier(Pattern):
         self._array = None
 
     def _decide(self, array: Array, how: int) -> Steps[int]:
-        """Decides the round, unless it is decided. Returns how."""
-        asked = [requests.writeef(array, self.GATE, how, nowait=True), requests.readff(array, self.GATE, nowait=True)]
-        _, decided = yield from batch(asked, NotNow, NoArray)
+        _, decided = yield from batch([fill(array, self.GATE, how), look(array, self.GATE)], NotNow, NoArray)
         return int(decided) if is_full(decided) else self.BROKEN
 
     def _arrive(self) -> Steps[Tuple[Array, int]]:
         """The array of a round that is not full, and the number of this arrival."""
         while True:
             array = yield from self._find()
-            asked = [
-                requests.writeef(array, self.ARRIVED, 0, nowait=True),
-                requests.readff(array, self.GATE, nowait=True),
-                requests.int_fetch_add(array, self.ARRIVED, 1, nowait=True),
-            ]
+            asked = [fill(array, self.ARRIVED, 0), look(array, self.GATE), add(array, self.ARRIVED, 1)]
             _, decided, number = yield from batch(asked, NotNow, NoArray)
             if isinstance(number, NoArray):
                 self._array = None
@@ -241,7 +228,7 @@ class Barrier(Pattern):
                     if (yield from self._decide(array, self.BROKEN)) == self.BROKEN:
                         raise
                     return self.OPEN
-            (arrived,) = yield from batch([requests.readff(array, self.ARRIVED, nowait=True)], NoArray)
+            (arrived,) = yield from batch([look(array, self.ARRIVED)], NoArray)
             if is_full(arrived) and arrived >= self._parties:
                 return (yield from self._decide(array, self.OPEN))
 

@@ -4,23 +4,25 @@ from __future__ import annotations
 
 import math
 from collections import deque
-from typing import Any, Callable, Deque, Dict, List, Optional, Sequence, Set, Tuple
+from contextlib import suppress
+from itertools import takewhile
+from typing import Any, Callable, Deque, Dict, Generic, List, Optional, Sequence, Set, Tuple, TypeVar
 
 from . import requests
 from ._arguments import Key
 from ._errors import BadName, FememError, NoArray, NotNow, NotOwner, TimedOut, Withdrawn, WordLimit
 from ._frames import INT_FETCH_ADD, NOWAIT, READFF, WRITEEF
-from ._jobs import Hand, Look, Steps, Wait
-from ._moves import Moves
+from ._jobs import Hand, Job, Look, Steps, Wait
 from ._operations import FIRST_LOOK, LAST_LOOK, Pattern, Tries, batch, done_at, is_full
 from ._operations import operation, operation_with, size_of
-from .requests import Array, Request, made, made_before, number_of_bits
+from .requests import Array, Request, add, fill, look, made, made_before, number_of_bits
 from ._tickets import Ticket
 from ._workpages import CHUNK, DONE, DROPPED, FINISHED, FIRST_SLOT, HEAD, JOBS, LARGEST, MOST_ATTEMPTS
-from ._workpages import NOTHING, PAGES, ROOM, TAIL, Page
+from ._workpages import NOTHING, PAGES, ROOM, TAIL, Moves, Page
 
-# How long a slot whose ticket a taker has may be without a value, in seconds.
-EMPTY_FOR = 1.0
+J = TypeVar("J", bound="WorkJob")
+
+EMPTY_FOR = 1.0  # how long a slot whose ticket a taker has may be without a value, in seconds
 
 # When a taker looks for jobs that nobody has: so many seconds later for each request of a look. How many ENDs and how many
 # open slots of a page it reads in one look, and after how many seconds it looks for pages again.
@@ -48,20 +50,18 @@ class WorkJob(Pattern):
     @operation_with(gives_back=True, light=True)
     def done(self) -> Steps[None]:
         """The job is done. `NotOwner` if another attempt has ended it, since this client was away."""
-        if not self.has_moved:
-            yield from self._done()
-
-    @operation
-    def move(self, next: WorkQueue, value: int, timeout: Optional[float] = None) -> Steps[None]:
-        """Puts the value into the next queue, and is done, in one step: `next.put(value, timeout, for_job=job)`."""
-        yield from next._put_for(self, number_of_bits(value, 64, "value"), next._deadline(timeout))
-
-    def _done(self) -> Steps[None]:
+        if self.has_moved:
+            return
         self.has_ended = True
         try:
             yield from self._queue._end_job(self.number, DONE)
         finally:
             self._queue._let_go(self.number)
+
+    @operation
+    def move(self, next: WorkQueue, value: int, timeout: Optional[float] = None) -> Steps[None]:
+        """Puts the value into the next queue, and is done, in one step: `next.put(value, timeout, for_job=job)`."""
+        yield from next._put_for(self, number_of_bits(value, 64, "value"), next._deadline(timeout))
 
     def _can_mend(self) -> bool:
         return not self.has_moved
@@ -81,9 +81,6 @@ class WorkJob(Pattern):
     @operation_with(gives_back=True)
     def fail(self) -> Steps[None]:
         """The attempt has failed. The job is given to another taker, or set aside if this was its last attempt."""
-        yield from self._fail()
-
-    def _fail(self) -> Steps[None]:
         self.has_ended = True
         yield from self._queue._give_up(self.number, self.attempt - 1)
 
@@ -91,7 +88,34 @@ class WorkJob(Pattern):
     def _leave(self, is_done: bool) -> Steps[None]:
         """At the end of its `with`: done, or failed, unless that was said before."""
         if not self.has_ended:
-            yield from self._done() if is_done else self._fail()
+            yield from (WorkJob.done if is_done else WorkJob.fail).steps(self)
+
+    def _end_by(self, is_done: bool) -> Job[None]:
+        return Job(WorkJob._leave.steps(self, is_done), None, True)
+
+
+class Loop(Generic[J]):
+    """A loop over jobs: takes one after the other from the queue, and ends that of its body."""
+
+    _job: Optional[J] = None  # that of the body
+
+    def __init__(self, queue: Any, timeout: Optional[float]) -> None:
+        self._queue = queue
+        self._timeout = timeout
+
+    def __del__(self) -> None:
+        try:
+            self._leave()
+        except BaseException:
+            self._leave()  # a signal came; twice has the effect of once
+            raise
+
+    def _leave(self) -> None:
+        """The attempt of a body that was left has failed. The client says so without this thread or task."""
+        job = self._job
+        if job is not None and not job.has_ended and job._client.failure is None:
+            job._client._abandon(job._end_by(False))
+        self._job = None
 
 
 class WorkQueue(Moves):
@@ -102,7 +126,7 @@ class WorkQueue(Moves):
     process of this session had is given out again at once.
     """
 
-    JOB: Callable[..., Any] = WorkJob
+    JOB: Callable[..., WorkJob] = WorkJob
 
     def __init__(self, client: Any, name: str, capacity: int, *, attempts: int = 3, away_after: float = 5.0) -> None:
         """`capacity`, at most 65,532, and `attempts`, at most 16, are the same for all who share it. `name` has 1 to 30 bytes.
@@ -116,12 +140,10 @@ class WorkQueue(Moves):
             raise ValueError(f"a work queue has {LARGEST} jobs and {MOST_ATTEMPTS} attempts at most")
         super().__init__(client, name, capacity, attempts)
         self._away_after = float(away_after)
-        look = 2 * PAGES + min(capacity, LOOK_ENDS) + LOOK_OPEN * (3 + attempts)
-        self.REQUESTS = {"put": (64, 4 * PAGES), "take": (64 + look, 16 + look)}
-        # Tickets whose put had no room in time.
-        self._kept: Deque[Tuple[Page, int]] = deque()
-        # The page from which this client takes.
-        self._taking: Optional[Page] = None
+        most = 2 * PAGES + min(capacity, LOOK_ENDS) + LOOK_OPEN * (3 + attempts)
+        self.REQUESTS = {"put": (64, 4 * PAGES), "take": (64 + most, 16 + most)}
+        self._kept: Deque[Tuple[Page, int]] = deque()  # tickets whose put had no room in time
+        self._taking: Optional[Page] = None  # the page from which this client takes
         # When it looks again, and may do so soonest; when pages were looked for, and how many requests this look has made.
         self._look_at, self._soonest, self._found_at, self._cost = -math.inf, -math.inf, -math.inf, 0
         self._is_first = True
@@ -344,14 +366,14 @@ class WorkQueue(Moves):
         """Draws a ticket of the page, and takes its job if it is there."""
         asked = [made_before(INT_FETCH_ADD, page.id, HEAD, 1, True)]
         if page.head >= page.tail:
-            asked.append(requests.readff(page.id, TAIL, nowait=True))
+            asked.append(look(page.id, TAIL))
         ticket, *tail = yield from batch(asked, NoArray)
         self._taking = None
         if not is_full(ticket):
             self._forget_page(page)
             return None
         if not tail and ticket >= page.tail:
-            tail = yield from batch([requests.readff(page.id, TAIL, nowait=True)], NoArray)
+            tail = yield from batch([look(page.id, TAIL)], NoArray)
         page.head, page.tail = max(page.head, ticket + 1), max([page.tail, *filter(is_full, tail)])
         if ticket >= min(page.tail, self._slots):
             return None
@@ -379,13 +401,13 @@ class WorkQueue(Moves):
                 value = NOTHING
             (source,) = yield from batch(looks[1:], NotNow, NoArray)
         if not is_full(value) or value == NOTHING:
-            self._let_go(self._number(page, slot))
+            self._let_go(page.id << 16 | slot)
             return None
         return (yield from self._given(page, slot, int(value), 0, source))
 
     def _claim(self, page: Page, slot: int, attempt: int, *looks: Request[Any]) -> Steps[Optional[List[Any]]]:
         """Claims an attempt of the job, and looks. `None` if another client has it. It is noted before it is sent."""
-        number, jobs = self._number(page, slot), self._core.holdings.jobs
+        number, jobs = page.id << 16 | slot, self._core.holdings.jobs
         claim = made(WRITEEF, page.id, self._claim_at(slot, attempt), self._session, True)  # (a thread knows its note by it)
         is_mine = False
         try:
@@ -403,15 +425,13 @@ class WorkQueue(Moves):
 
     def _given(self, page: Page, slot: int, value: int, attempt: int, source: Any = 0) -> Steps[Optional[WorkJob]]:
         """The job of a slot that this client has claimed, if it counts."""
-        number = self._number(page, slot)
+        number = page.id << 16 | slot
         if (yield from self._settle(page, slot, source)):
-            job: WorkJob = type(self).JOB(self, number, value, attempt + 1)
-            return job
+            return type(self).JOB(self, number, value, attempt + 1)
         self._let_go(number)
         return None
 
     def _look_at_signal(self, number: int, presence: int) -> Steps[Optional[WorkJob]]:
-        """Looks at the job of a signal."""
         if number == NOTHING:
             return (yield from self._rescue(presence))
         id, slot = number >> 16, number & 0xFFFF
@@ -421,8 +441,7 @@ class WorkQueue(Moves):
         if page is None or slot >= self._slots:
             return None
         words = self._value_at(slot), self._end_at(slot), self._source_at(slot)
-        looks = [requests.readff(id, word, nowait=True) for word in words]
-        found = yield from self._claim(page, slot, 0, *looks)
+        found = yield from self._claim(page, slot, 0, *[look(id, word) for word in words])
         if found is None:
             yield Hand()
             self._there = None
@@ -486,7 +505,7 @@ class WorkQueue(Moves):
     def _end_tickets(self, page: Page) -> Steps[None]:
         """Ends the slots of a page that is not the newest and has tickets left: no putter draws them."""
         rest = self._slots - page.tail
-        (old,) = yield from batch([requests.int_fetch_add(page.id, TAIL, rest, nowait=True)], NoArray)
+        (old,) = yield from batch([add(page.id, TAIL, rest)], NoArray)
         if is_full(old):
             page.tail = old + rest
             for slot in range(old, self._slots):
@@ -508,7 +527,7 @@ class WorkQueue(Moves):
         """Those of these slots that have not ended, with their values, claims and sources."""
         each = 3 + self._attempts
         first = [self._value_at(slot) for slot in slots]
-        looks = [requests.readff(page.id, word + k, nowait=True) for word in first for k in range(each)]
+        looks = [look(page.id, word + k) for word in first for k in range(each)]
         found = yield from batch(looks, NoArray, NotNow)
         self._cost += len(looks)
         is_open = []
@@ -522,7 +541,7 @@ class WorkQueue(Moves):
 
     def _take_over(self, page: Page, slot: int, words: Sequence[Any], presence: int) -> Steps[Optional[WorkJob]]:
         """Takes the job of an open slot below HEAD if nobody has it."""
-        value, number = words[0], self._number(page, slot)
+        value, number = words[0], page.id << 16 | slot
         if isinstance(value, NotNow) or value == NOTHING:
             now = self._now()
             if value == NOTHING or now - self._empty.setdefault(number, now) >= EMPTY_FOR:
@@ -539,8 +558,7 @@ class WorkQueue(Moves):
             return None
         if claims and not (yield from self._is_over(number, claims[-1], presence)):
             return None
-        look = requests.readff(page.id, self._end_at(slot), nowait=True)
-        found = yield from self._claim(page, slot, len(claims), look)
+        found = yield from self._claim(page, slot, len(claims), look(page.id, self._end_at(slot)))
         if found is None:
             return None
         if isinstance(found[0], NotNow):
@@ -548,13 +566,9 @@ class WorkQueue(Moves):
         self._let_go(number)
         return None
 
-    def _claims(self, words: Sequence[Any]) -> List[int]:
-        claims: List[int] = []
-        for claim in words[1:-1]:
-            if not is_full(claim):
-                break
-            claims.append(int(claim))
-        return claims
+    @staticmethod
+    def _claims(words: Sequence[Any]) -> List[int]:
+        return [int(claim) for claim in takewhile(is_full, words[1:-1])]
 
     def _is_over(self, number: int, session: int, presence: int) -> Steps[bool]:
         """Whether the attempt of a session may be taken over."""
@@ -595,13 +609,13 @@ class WorkQueue(Moves):
         self._let_go(number)
         if not is_full(given):
             raise NotOwner(f"job {number} was ended by another attempt")
-        (told,) = yield from batch([requests.writeef(self._root, JOBS, number, nowait=True)], NotNow)
+        (told,) = yield from batch([fill(self._root, JOBS, number)], NotNow)
         if not is_full(told):
             yield from self._tell_all()
 
     def _give_up_job(self, job: WorkJob) -> Steps[None]:
         """After a `take` whose caller does not wait any more."""
-        yield from job._fail()
+        return WorkJob.fail.steps(job)
 
     def _can_mend(self) -> bool:
         return bool(self._root)
@@ -611,7 +625,7 @@ class WorkQueue(Moves):
         jobs = self._core.holdings.jobs
         for ticket in asked:
             request = ticket.request
-            if request is None or request.frame[4] != NOWAIT or request.frame[13] != WRITEEF:
+            if request.frame[4] != NOWAIT or request.frame[13] != WRITEEF:
                 continue
             id, word = int.from_bytes(request.frame[14:22], "big"), int.from_bytes(request.frame[22:26], "big")
             if word < FIRST_SLOT:
@@ -630,10 +644,8 @@ class WorkQueue(Moves):
         if (yield from self._void(self._pages.get(id) or Page(id), slot)) == NOTHING:
             self._let_go(id << 16 | slot)
             return
-        try:
+        with suppress(NotOwner):  # its page is gone
             yield from self._give_up(id << 16 | slot, attempt)
-        except NotOwner:
-            pass  # its page is gone
 
     @operation
     def aside(self) -> Steps[List[Tuple[int, int]]]:
@@ -651,7 +663,7 @@ class WorkQueue(Moves):
             for at in range(0, below, CHUNK):
                 slots = [slot for slot in range(at, min(below, at + CHUNK)) if slot not in page.ended]
                 for slot, words in (yield from self._read_slots(page, slots)):
-                    claims, number = self._claims(words), self._number(page, slot)
+                    claims, number = self._claims(words), page.id << 16 | slot
                     if len(claims) < self._attempts or not is_full(words[0]) or words[0] == NOTHING:
                         continue
                     if not (yield from self._settle(page, slot, words[-1])):

@@ -16,26 +16,19 @@ import threading
 import time
 import weakref
 from threading import get_ident
-from typing import TYPE_CHECKING, Callable, Optional, Set
+from typing import Callable, Optional, Set
 
-from . import _errors as errors, _registry as registry
+from . import _errors as errors
 from ._attachment import READY
-from ._carrier import FAREWELL, NOT_HERE, Carrier
-from ._connecting import FIRST_PAUSE, LONGEST_PAUSE, trouble_of
+from ._carrier import FAREWELL, FIRST_PAUSE, LONGEST_PAUSE, NOT_HERE, Carrier
 from ._core import Core
-from ._lease import READ_TIME
-from ._lending import Lender
-
-if TYPE_CHECKING:
-    from ._client import Client
+from ._lease import READ_TIME, Lender
 
 log = logging.getLogger("femem")
 
-# How long a client waits for its server to end the session of a killed one, in seconds.
-SWEEP_PATIENCE = 5.0
+SWEEP_PATIENCE = 5.0  # how long a client waits for its server to end the session of a killed one, in seconds
 
-# How long an attempt to connect may take, in seconds.
-_CONNECT_TIME = 1.0
+_CONNECT_TIME = 1.0  # how long an attempt to connect may take, in seconds
 
 _READ_BYTES = 65536
 
@@ -58,7 +51,7 @@ _LOOK_AFTER = 0.02
 _IN_AND_OUT = select.POLLIN | select.POLLOUT
 
 
-class Worker(Lender, Carrier["Client"]):
+class Worker(Lender, Carrier):
     """With a thread."""
 
     def __init__(self, path: str, core: Core, longest_sleep: float, is_temporary: bool, waits_for_server: bool) -> None:
@@ -74,8 +67,7 @@ class Worker(Lender, Carrier["Client"]):
         # The locks at which callers wait for their answers, for a child to open them, and whether this is the child.
         self._gates: Set[threading.Lock] = set()
         self._is_forked = False
-        # The thread's number while it runs.
-        self.own_thread = 0
+        self.own_thread = 0  # the thread's number while it runs
         # Once the thread has ended, callers do its work in its place, one at a time.
         self._ending = threading.RLock()
         self._woken_number = self._woken.fileno()
@@ -181,7 +173,7 @@ class Worker(Lender, Carrier["Client"]):
     def _close_wait_sessions(self) -> None:
         """Ends the further sessions, if the server is there; what waits over them is withdrawn in any case."""
         is_there = self._ends_further()
-        for further in self.wait_sessions:
+        for further in [*self.wait_sessions]:
             further._worker.is_temporary = is_there
             further.close()
             is_there = further._core.has_left
@@ -208,8 +200,7 @@ class Worker(Lender, Carrier["Client"]):
     def _end(self) -> None:
         core = self.core
         core.fail(errors.Closed("the client's thread ended"))
-        if core.file is not None:
-            core.close_file()
+        core.close_file()
         self._sign_off()
         with self._ending:
             self.is_over = True
@@ -220,26 +211,25 @@ class Worker(Lender, Carrier["Client"]):
         self._woken.close()
 
     def _connect(self) -> Optional[socket.socket]:
-        connection: Optional[socket.socket] = None
         try:
             connection = socket.socket(socket.AF_UNIX, socket.SOCK_STREAM)
+        except OSError as error:
+            self.core.trouble = f"{self.path}: {error.strerror}"  # too many files are open
+            return None
+        try:
             connection.settimeout(_CONNECT_TIME)
             connection.connect(self.path)
             # Blocking, since callers read too; the thread itself never waits here.
             connection.settimeout(None)
             connection.setsockopt(socket.SOL_SOCKET, socket.SO_RCVTIMEO, _TIMEVAL.pack(0, int(1e6 * READ_TIME)))
         except OSError as error:
-            if connection is None:
-                self.core.trouble = trouble_of(self.path, error)  # too many files are open
-            else:
-                connection.close()
-                self._not_connected(error)
+            connection.close()
+            self._not_connected(error)
             return None
         self._has_connected = True
         return connection
 
     def _sleep(self, seconds: float) -> None:
-        """Waits without a connection, until the next attempt."""
         end = time.monotonic() + seconds
         while self._tick() and time.monotonic() < end:
             self._select(end)
@@ -345,7 +335,7 @@ class Worker(Lender, Carrier["Client"]):
 
     def forked(self) -> None:
         """In a child of the process: closes what it inherited, which is the parent's, without sending anything."""
-        self._forked()
+        super().forked()
         self.core.to_send = bytearray()  # the thread may have been sending from the old one
         self.is_over = True
         self.own_thread = 0
@@ -363,14 +353,7 @@ class Worker(Lender, Carrier["Client"]):
         self._socket = None
 
 
-# The workers of this process. Its children close the ones that they inherit.
 _workers: weakref.WeakSet[Worker] = weakref.WeakSet()
-
-
-def in_child() -> None:
-    registry.forget_all()
-    for worker in list(_workers):
-        worker.forked()
 
 
 def at_exit() -> None:

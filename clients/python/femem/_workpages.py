@@ -5,11 +5,11 @@ from __future__ import annotations
 from typing import Any, Dict, Iterable, List, Optional, Set
 
 from . import requests
-from ._errors import NameTaken, NoArray, NotNow, OtherPattern
-from ._frames import INT_FETCH_ADD, WRITEEF
-from ._jobs import Steps
+from ._errors import NameTaken, NoArray, NotNow, NotOwner, OtherPattern
+from ._frames import INT_FETCH_ADD, READFF, WRITEEF
+from ._jobs import Hand, Steps
 from ._operations import Pattern, batch, is_full, shared_array
-from .requests import Request, made, made_before
+from .requests import Request, add, fill, look, made, made_before
 
 PAGES = 8
 MOST_ATTEMPTS = 16
@@ -23,18 +23,15 @@ JOBS, ROOM, CAPACITY, ATTEMPTS, LAYOUT, ROOT_LENGTH = range(6)
 TAIL, HEAD, FINISHED, FIRST_SLOT = range(4)
 DONE, VOID, DROPPED = range(3)
 
-# An END from here on is the address of a word: the job moved there.
-LEAST_ADDRESS = 2**16
+LEAST_ADDRESS = 2**16  # an END from here on is the address of a word: the job moved there
 
-# What the root's word LAYOUT has.
-THIS_LAYOUT = 3
+THIS_LAYOUT = 3  # what the root's word LAYOUT has
 
 # In VALUE: nothing was put here. In a claim: the attempt failed. In JOBS: look at all slots.
 NOTHING = 2**64 - 1
 
 
 def address(array: int, index: int) -> int:
-    """Of a word of the server."""
     return array << 16 | index
 
 
@@ -81,20 +78,17 @@ class Pages(Pattern):
     # Pages.
 
     def _open(self) -> Steps[None]:
-        if not self._root:
-            root = yield from shared_array(self._name, ROOT_LENGTH, False)
-            yield from self._begin_root(root.id)
-            yield from self._find_pages()
-            self._root = root.id
-
-    def _begin_root(self, root: int) -> Steps[None]:
         """Fills the root's last words, or compares them with what other clients gave."""
+        if self._root:
+            return
+        root = yield from shared_array(self._name, ROOT_LENGTH, False)
         given = {CAPACITY: self._capacity, ATTEMPTS: self._attempts, LAYOUT: THIS_LAYOUT}
-        fills = [requests.writeef(root, word, value, nowait=True) for word, value in given.items()]
-        looks = [requests.readff(root, word, nowait=True) for word in given]
-        found = (yield from batch([*fills, *looks], NotNow))[len(fills) :]
-        if found != [*given.values()]:
-            raise OtherPattern(f"{self._name} has {found[0]} jobs and {found[1]} attempts, not {[*given.values()][:2]}")
+        asked = [*(fill(root, *each) for each in given.items()), *(look(root, word) for word in given)]
+        found, wanted = (yield from batch(asked, NotNow))[len(given) :], [*given.values()]
+        if found != wanted:
+            raise OtherPattern(f"{self._name} has {found[0]} jobs and {found[1]} attempts, not {wanted[:2]}")
+        yield from self._find_pages()
+        self._root = root.id
 
     def _length(self) -> int:
         return FIRST_SLOT + self._slots * (3 + self._attempts)
@@ -109,10 +103,9 @@ class Pages(Pattern):
 
     def _begin_page(self, id: int) -> Steps[None]:
         """Fills the first words of a page: whoever makes it, or finds that its maker did not."""
-        yield from batch([requests.writeef(id, k, 0, nowait=True) for k in range(FIRST_SLOT)], NotNow, NoArray)
+        yield from batch([fill(id, k, 0) for k in range(FIRST_SLOT)], NotNow, NoArray)
 
     def _by_age(self) -> List[Page]:
-        """The pages, oldest first."""
         return sorted(self._pages.values(), key=lambda page: page.id)  # (a copy at once: several threads may run steps)
 
     def _newest(self) -> Optional[Page]:
@@ -136,8 +129,7 @@ class Pages(Pattern):
         return True
 
     def _count(self, pages: List[Page], *words: int) -> Steps[None]:
-        """Reads these counts of these pages."""
-        found = yield from batch([requests.readff(page.id, k, nowait=True) for page in pages for k in words], NoArray, NotNow)
+        found = yield from batch([look(page.id, k) for page in pages for k in words], NoArray, NotNow)
         for n, page in enumerate(pages):
             counts = dict(zip(words, found[n * len(words) :]))
             if not all(map(is_full, counts.values())):
@@ -179,9 +171,7 @@ class Pages(Pattern):
         return True
 
     def _ends(self, page: Page, slots: List[int]) -> Steps[List[int]]:
-        """Those of these slots that have ended."""
-        looks = [requests.readff(page.id, self._end_at(slot), nowait=True) for slot in slots]
-        found = yield from batch(looks, NotNow, NoArray)
+        found = yield from batch([look(page.id, self._end_at(slot)) for slot in slots], NotNow, NoArray)
         ended = [slot for slot, end in zip(slots, found) if not isinstance(end, NotNow)]
         self._note_ends(page, slots, found)
         return ended
@@ -196,9 +186,6 @@ class Pages(Pattern):
                 page.ended.add(slot)
 
     # Slots.
-
-    def _number(self, page: Page, slot: int) -> int:
-        return page.id << 16 | slot
 
     def _end(self, id: int, slot: int, how: int) -> Steps[bool]:
         """Ends a slot, once. Removes its page if this was the last one there."""
@@ -235,12 +222,77 @@ class Pages(Pattern):
     def _void(self, page: Page, slot: int) -> Steps[Any]:
         """Ends a slot without a value. The value, if there is one after all, or `NOTHING`."""
         at = self._value_at(slot)
-        asked: List[Request[Any]] = [
-            requests.writeef(page.id, at, NOTHING, nowait=True),
-            requests.readff(page.id, at, nowait=True),
-        ]
-        _, value = yield from batch(asked, NoArray, NotNow)
+        _, value = yield from batch([fill(page.id, at, NOTHING), look(page.id, at)], NoArray, NotNow)
         if is_full(value) and value != NOTHING:
             return value
         yield from self._end(page.id, slot, VOID)
         return NOTHING
+
+
+class Moves(Pages):
+    """What a work queue does to be the next one of a job, which moves once. docs/work-queue.md has the steps.
+
+    The new job is put first, with the address of the word END of the job from which it comes. Whoever fills
+    that END with the address of the new job's word SOURCE ends the one and lets the other count, in one step.
+    """
+
+    def _settle(self, page: Page, slot: int, source: Any) -> Steps[bool]:
+        """Whether the job of a slot counts, by its word SOURCE. One that a move put there is moved, unless its END is full."""
+        if not is_full(source) or source == 0:
+            return True
+        yield Hand()
+        mine, old = address(page.id, self._source_at(slot)), (source >> 16, source & 0xFFFF)
+        # (SOURCE is 0 if the old page is gone and this one counted)
+        asked = [fill(*old, mine), look(*old), look(page.id, self._source_at(slot))]
+        filled, end, now = yield from batch(asked, NotNow, NoArray)
+        if end != mine and now != 0:
+            yield from self._end(page.id, slot, VOID)
+            return False
+        asked = [self._confirm(mine)]
+        if is_full(filled):
+            asked.append(add(old[0], FINISHED, 1))
+        yield from batch(asked, NotNow, NoArray)
+        return True
+
+    def _move(self, job: Any, value: int, page: Page, slot: int) -> Steps[bool]:
+        """Moves a job to a slot whose ticket this client has. False if the slot was voided. `NotOwner` if the job has ended."""
+        source: Pages = job._queue
+        id, old = job.number >> 16, job.number & 0xFFFF
+        mine, end = address(page.id, self._source_at(slot)), source._end_at(old)
+        comes = fill(page.id, self._source_at(slot), address(id, end))
+        _, put = yield from batch([comes, fill(page.id, self._value_at(slot), value)], NotNow, NoArray)
+        if not is_full(put):
+            if isinstance(put, NoArray):
+                self._forget_page(page)
+            return False
+        filled, found = yield from batch([fill(id, end, mine), look(id, end)], NotNow, NoArray)
+        if found != mine:
+            yield from self._end(page.id, slot, VOID)
+            raise NotOwner(f"job {job.number} was ended by another attempt")
+        yield from self._offer(page, slot, self._confirm(mine))
+        source._note_end(id, old)
+        if is_full(filled):
+            yield from source._finished(id)
+        return True
+
+    # The signal of a put.
+
+    _is_told = True
+
+    def _offer(self, page: Page, slot: int, offers: Request[None], key: Optional[bytes] = None) -> Steps[Any]:
+        """Makes this request, after which the slot has a job, with the signal for takers. The request's outcome."""
+        looks = made_before(READFF, page.id, HEAD, 0, True)
+        asked: List[Request[Any]] = [offers, made(WRITEEF, self._root, JOBS, page.id << 16 | slot, True)]
+        if not self._is_told:
+            asked.append(looks)
+        done, told, *head = yield from batch(asked, NotNow, NoArray, key=key)
+        if is_full(done):
+            self._is_told = is_full(told)
+            if not self._is_told:
+                (last,) = head or (yield from batch([looks], NotNow, NoArray))
+                if is_full(last) and last > slot:  # no ticket finds it
+                    yield from self._tell_all()
+        return done
+
+    def _tell_all(self) -> Steps[None]:
+        yield from batch([requests.writexf(self._root, JOBS, NOTHING)])

@@ -16,26 +16,32 @@ import asyncio
 import atexit
 import os
 import warnings
+import weakref
 from functools import partial
-from typing import Any, Callable, Optional, Sequence, TypeVar
+from typing import TYPE_CHECKING, Any, Awaitable, Callable, Coroutine, Optional, Sequence, Type, TypeVar
 
-from . import _aioworker as aioworker, _errors as errors, _registry as registry
+from . import _aioworker as aioworker, _errors as errors, _keylocks as keylocks, _locks as locks
+from . import _operations as operations, _queues as queues, _registry as registry, _semaphore as semaphore
+from . import _words as words, _work as work
 from ._aioworker import AsyncWorker, now
-from ._arguments import DEFAULT, Choice, Key, Timeout, request_of
-from ._calls import Asking, AwaitedCalls
-from ._cancels import is_owed, is_seen, owe, owed
+from ._arguments import DEFAULT, Choice, Key, Timeout, request_of, seconds_of
+from ._calls import Asking, Calls
 from ._carrier import NOT_HERE
 from ._client import end_session
 from ._jobs import Job
-from ._public import show_as
-from .requests import Request
+from ._faces import ForTasks, show_as
+from .requests import Array, Request, number_of_bits
 from ._sessionfile import SessionFile
 from ._tickets import Last, Ticket, nobody
 
 T = TypeVar("T")
+C = TypeVar("C", bound="Held")
+
+# The tasks that were cancelled while their operation happened. They got its result, and are still to be cancelled.
+_owed: weakref.WeakSet[Any] = weakref.WeakSet()
 
 
-class AsyncClient(AwaitedCalls):
+class AsyncClient(Calls, ForTasks):
     """A session of a femem server, for the tasks of one event loop. `femem.Client` says what the arguments are.
 
     It connects at the start of `async with`, or by `await client.open()`.
@@ -53,7 +59,7 @@ class AsyncClient(AwaitedCalls):
     @classmethod
     def _grown(cls, choice: Choice) -> AsyncClient:
         further = cls._of(choice)
-        asyncio.get_running_loop().create_task(further.open()).add_done_callback(is_seen)
+        asyncio.get_running_loop().create_task(further.open()).add_done_callback(_is_seen)
         return further
 
     def __del__(self) -> None:
@@ -85,7 +91,7 @@ class AsyncClient(AwaitedCalls):
             for each in self._choice.all_further():
                 further = AsyncClient._of(each)
                 await further.open()
-                worker.wait_sessions.add(further)
+                worker.wait_sessions[further] = 0
         except BaseException:
             await self.close()
             raise
@@ -134,7 +140,7 @@ class AsyncClient(AwaitedCalls):
             raise self.failure or RuntimeError("the client is not open: use `async with`, or await its `open`")
         if connecting.get_loop() is not asyncio.get_running_loop():
             raise RuntimeError("the client is of another event loop")
-        if owed and not in_any_case and is_owed(asyncio.current_task()):
+        if _owed and not in_any_case and _is_owed(asyncio.current_task()):
             raise asyncio.CancelledError
 
     def _submit(self, ticket: Ticket[T], timeout: Timeout) -> asyncio.Future[T]:
@@ -189,7 +195,7 @@ class AsyncClient(AwaitedCalls):
         except asyncio.CancelledError:
             if future.cancelled():
                 raise
-            future.add_done_callback(is_seen)
+            future.add_done_callback(_is_seen)
             self._take_back(tickets, False)
             try:
                 await asyncio.wait([future])
@@ -200,7 +206,9 @@ class AsyncClient(AwaitedCalls):
                 raise
             if all(isinstance(ticket.error, errors.Withdrawn) for ticket in tickets):
                 raise
-            owe(asyncio.current_task())
+            # The task is cancelled at its next operation, or at the next `await` that suspends it.
+            _owed.add(asyncio.current_task())
+            asyncio.get_running_loop().call_soon(_cancel_again, asyncio.current_task())
             return future.result()
 
     def _abandon(self, job: Job[Any]) -> None:
@@ -240,16 +248,163 @@ class AsyncClient(AwaitedCalls):
         return future
 
 
+def _is_owed(task: Any) -> bool:
+    """Whether the task is still to be cancelled, from now on by the caller. `timeout` and `wait_for` take it back."""
+    if task not in _owed:
+        return False
+    _owed.discard(task)
+    return not hasattr(task, "cancelling") or task.cancelling() > 0
+
+
+def _cancel_again(task: Any) -> None:
+    if _is_owed(task):
+        if hasattr(task, "uncancel"):
+            task.uncancel()  # `cancel` counts it again
+        task.cancel()
+
+
+def _is_seen(future: asyncio.Future[Any]) -> None:
+    """Its error is not logged even if it is never awaited."""
+    if not future.cancelled():
+        future.exception()
+
+
 def _is_done(future: asyncio.Future[None]) -> None:
     if not future.cancelled():
         future.set_result(None)
 
 
-os.register_at_fork(after_in_child=aioworker.in_child)
 atexit.register(aioworker.at_exit)
 
-from ._aiopatterns import Barrier, BoundedQueue, Channel, Counter, Election, Future, JobLoop, KeyLock, Lock, Locks  # noqa: E402
-from ._aiopatterns import Once, ReadWriteLock, Semaphore, Turn, WorkJob, WorkQueue, shared_array  # noqa: E402
+# The patterns: those of `femem.patterns`, with operations to be awaited. The first operation makes or finds
+# their arrays. A task that is cancelled within an operation takes it back, or gets its result if it is done.
+
+
+class Awaiting(operations.Pattern, ForTasks):
+    """The face for asyncio: an operation is awaited."""
+
+    def __init__(self, client: AsyncClient, name: Any, *sizes: Any, **more: Any) -> None:
+        super().__init__(client, name, *sizes, **more)
+
+    def _checked(self, client: Any) -> AsyncClient:
+        if not isinstance(client, AsyncClient):
+            raise TypeError(f"not a femem.aio.AsyncClient: {client!r}")
+        return client
+
+    def _perform(self, done: Any, *args: Any, **more: Any) -> Any:
+        """The steps are made where it is called: a task that `asyncio.wait_for` makes is not its caller."""
+        undo = getattr(self, done.undo) if done.undo else None
+        return self._run(Job(done.steps(self, *args, **more), undo, done.gives_back))
+
+    async def _run(self, job: Job[Any]) -> Any:
+        return await self._client._run_job(job)
+
+    def _caller(self) -> object:
+        try:
+            return asyncio.current_task()
+        except RuntimeError:
+            return None  # it is called before its event loop runs
+
+
+class Held(Awaiting):
+    """What an `async with` holds."""
+
+    async def __aenter__(self: C) -> C:
+        await self.acquire()  # type: ignore[attr-defined]
+        return self
+
+    async def __aexit__(self, *failure: object) -> None:
+        await self.release()  # type: ignore[attr-defined]
+
+
+class Lock(Held, locks.Lock): ...
+class KeyLock(Held, keylocks.KeyLock): ...
+class Semaphore(Held, semaphore.Semaphore): ...
+class Turn(Held, locks.Turn): ...
+class Election(Awaiting, locks.Election): ...
+class BoundedQueue(Awaiting, queues.BoundedQueue): ...
+class Channel(Awaiting, queues.Channel): ...
+class Barrier(Awaiting, words.Barrier): ...
+class Counter(Awaiting, words.Counter): ...
+class Future(Awaiting, words.Future): ...
+
+
+class Locks(keylocks.Locks[KeyLock]):
+    __doc__ = keylocks.Locks.__doc__
+    LOCK = KeyLock
+
+    def __init__(self, client: AsyncClient, name: str, capacity: int = 4096) -> None:
+        super().__init__(client, name, capacity)
+
+
+class ReadWriteLock(Awaiting, locks.ReadWriteLock[Turn]):
+    TURN = Turn
+
+
+class Once(Awaiting, words.Once):
+    async def run(self, work: Callable[[], Awaitable[int]], timeout: Optional[float] = None) -> int:
+        """As of threads; `work` is a coroutine function."""
+        array, result = await self._begin(timeout)
+        if array is None:
+            return result
+        try:
+            return await self._finish(array, number_of_bits(await work(), 64, "result"))
+        except BaseException:
+            await self._give_up(array)  # (once the result is set, nobody looks)
+            raise
+
+
+class WorkJob(Awaiting, work.WorkJob):
+    def __init__(self, queue: Any, number: int, value: int, attempt: int) -> None:
+        work.WorkJob.__init__(self, queue, number, value, attempt)
+
+    async def __aenter__(self) -> WorkJob:
+        return self
+
+    async def __aexit__(self, kind: Optional[Type[BaseException]], *failure: object) -> None:
+        await self._leave(kind is None)
+
+
+class JobLoop(work.Loop[WorkJob]):
+    """As that of threads, for `async for`. A task that is cancelled within the body leaves it."""
+
+    def __aiter__(self) -> JobLoop:
+        self._leave()  # an earlier loop left its body
+        return self
+
+    async def __anext__(self) -> WorkJob:
+        if self._job is not None:
+            await self._job._leave(True)
+            self._job = None
+        try:
+            self._job = await self._queue.take(self._timeout)
+        except errors.TimedOut:
+            raise StopAsyncIteration from None
+        return self._job
+
+
+class WorkQueue(Awaiting, work.WorkQueue):
+    JOB = WorkJob
+
+    def jobs(self, timeout: Optional[float] = None) -> JobLoop:
+        """`async for job in queue.jobs(timeout=60):` takes job after job, until none comes for that many seconds."""
+        return JobLoop(self, seconds_of(timeout))
+
+    def __aiter__(self) -> JobLoop:
+        """`async for job in queue:` takes job after job, without end."""
+        return self.jobs()
+
+    if TYPE_CHECKING:
+
+        def take(self, timeout: Optional[float] = None) -> Coroutine[Any, Any, WorkJob]:  # type: ignore[override]
+            ...
+
+
+async def shared_array(client: AsyncClient, name: str, length: int, full: bool) -> Array:
+    """As `patterns.shared_array`."""
+    array: Array = await client._run_job(Job(operations.shared_array(name, length, full)))
+    return array
+
 
 __all__ = [
     "AsyncClient", "Barrier", "BoundedQueue", "Channel", "Counter", "Election", "Future", "JobLoop", "KeyLock", "Lock", "Locks",

@@ -46,6 +46,4 @@ class Events:
         """Something that began at this time, of `now`."""
         self.emit(kind, max(0.0, self.now() - begin))
 
-    @staticmethod
-    def now() -> float:
-        return time.monotonic()
+    now = staticmethod(time.monotonic)

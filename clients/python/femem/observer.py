@@ -15,20 +15,19 @@ import subprocess
 import threading
 import time
 from collections import Counter
+from contextlib import suppress
 from dataclasses import dataclass, field, replace
 from typing import Dict, List, Optional, Tuple
 
-from . import _errors as errors, _frames as frames, _reports as reports
-from ._arguments import Path, seconds_of
+from . import _errors as errors, _frames as frames, _reports as reports, requests
+from ._arguments import MOST, Path, numbers, seconds_of
 from ._client import Client
 from ._reports import Report, Waiter
-from ._waitsessions import MOST, numbers
 from ._operations import PRESENCE, end_of, left
 
 __all__ = ["Look", "Observer", "all_wait", "blocked", "graph", "metrics", "overview", "page", "parse_look", "svg"]
 
-# The longest time that a socket or a process can be waited for, in seconds.
-_LONGEST = 1e9
+_LONGEST = 1e9  # the longest time that a socket or a process can be waited for, in seconds
 
 _ARRAY = re.compile(r"array ([0-9]+) ([a-z0-9_]+) ([0-9]+)")
 _SESSION = re.compile(r"session ([0-9]+) floor [0-9]+ kept ([0-9]+)")
@@ -110,15 +109,12 @@ class Observer:
         """What waits now. Errors: `ServerUnreachable`, also if it takes longer than the timeout; `NoMemory`."""
         with self._asking:
             end = end_of(self._timeout, time.monotonic())
-            was_connected = self._socket is not None
             try:
-                try:
-                    return self._ask(end)
-                except OSError:
-                    if not was_connected:
-                        raise
-                # The server was restarted since the last time.
-                self._disconnect()
+                if self._socket is not None:
+                    try:
+                        return self._ask(end)
+                    except OSError:
+                        self._disconnect()  # the server was restarted since the last time
                 return self._ask(end)
             except OSError as error:
                 self._disconnect()
@@ -146,13 +142,6 @@ class Observer:
                 if reply == frames.Refusal(0, frames.NO_MEMORY):
                     raise errors.NoMemory("report")
                 raise errors.ProtocolError("a reply that nobody asked for")
-
-    @staticmethod
-    def _find_presence(client: Client) -> Optional[int]:
-        try:
-            return client.find(PRESENCE).id
-        except errors.AnswerError:
-            return None
 
     def look(self) -> Look:
         """What the store has, if `femem look` shows it. Otherwise only the array at which clients show that they are
@@ -182,17 +171,14 @@ class Observer:
         found: Dict[int, int] = {}
         if not locks:
             return found
-        try:
-            with Client(self.path, reconnect_timeout=self._timeout) as client:
-                self._presence = self._find_presence(client)
-                for array in sorted(locks):
-                    try:
-                        client.readxx(array, 1)  # the count of a lock
-                        found[array] = client.readff(array, 0, nowait=True)
-                    except errors.AnswerError:
-                        pass
-        except (errors.SessionLimit, errors.ServerUnreachable):
-            pass
+        is_away = suppress(errors.SessionLimit, errors.ServerUnreachable)
+        with is_away, Client(self.path, reconnect_timeout=self._timeout) as client:
+            (presence,) = client.submit_many([requests.find(PRESENCE)])
+            self._presence = presence.id if isinstance(presence, requests.Array) else None
+            for array in sorted(locks):
+                with suppress(errors.AnswerError):
+                    client.readxx(array, 1)  # the count of a lock
+                    found[array] = client.readff(array, 0, nowait=True)
         return found
 
 
@@ -219,8 +205,7 @@ def overview(report: Report, look: Optional[Look] = None) -> str:
         words.setdefault((waiter.array, waiter.index), []).append(waiter)
     for (array, index), here in words.items():
         who = ", ".join(f"session {w.session} ({w.operation}, number {w.number})" for w in here)
-        name = known.arrays[array][0] if array in known.arrays else f"array {array}"
-        lines.append(f"  word {index} of {name} is to become {here[0].needs} for {who}")
+        lines.append(f"  word {index} of {known.name(array)} is to become {here[0].needs} for {who}")
     waiting = {w.session for w in waiters}
     for session, kept in known.sessions.items():
         lines.append(f"  session {session}: {kept} answers kept" + (", waits" if session in waiting else ""))
@@ -273,11 +258,7 @@ def metrics(report: Report, look: Optional[Look] = None) -> str:
     """What waits, in the text format of Prometheus."""
     known = look or Look()
     waiters = blocked(report, known)
-    by_array: Dict[int, int] = {}
-    by_session: Dict[int, int] = {}
-    for waiter in waiters:
-        by_array[waiter.array] = by_array.get(waiter.array, 0) + 1
-        by_session[waiter.session] = by_session.get(waiter.session, 0) + 1
+    by_array, by_session = Counter(w.array for w in waiters), Counter(w.session for w in waiters)
     lines = _gauge("femem_waiting", "Requests that wait.", {"": len(waiters)})
     arrays = {f'{{array="{array}",name="{known.name(array)}"}}': count for array, count in by_array.items()}
     lines += _gauge("femem_array_waiting", "Requests that wait, by array.", arrays)
@@ -287,8 +268,8 @@ def metrics(report: Report, look: Optional[Look] = None) -> str:
     if look is not None and (look.arrays or look.sessions):
         lines += _gauge("femem_sessions", "Sessions that are kept, of 64.", {"": len(look.sessions)})
         lines += _gauge("femem_arrays", "Arrays, of 64.", {"": len(look.arrays)})
-        words = sum(length for _, length in look.arrays.values())
-        lines += _gauge("femem_words", "Words of all arrays, of 65,536.", {"": words})
+        words = {"": sum(length for _, length in look.arrays.values())}
+        lines += _gauge("femem_words", "Words of all arrays, of 65,536.", words)
     return "\n".join(lines) + "\n"
 
 
@@ -299,10 +280,10 @@ def _gauge(name: str, what: str, values: Dict[str, int]) -> List[str]:
 def page(report: Report, look: Look, owners: Dict[int, int], refresh: float) -> str:
     """A self-contained page that refreshes itself: the picture, and the waits as a table."""
     picture = svg(graph(report, look, owners))
-    rows = "".join(
-        "<tr>" + "".join(f"<td>{html.escape(str(cell))}</td>" for cell in _row(w, look)) + "</tr>\n"
-        for w in blocked(report, look)
-    )
+    waits = blocked(report, look)
+    cells = [(look.name(w.array), w.index, w.session, w.number, w.operation, w.needs) for w in waits]
+    shown = ["".join(f"<td>{html.escape(str(cell))}</td>" for cell in row) for row in cells]
+    rows = "".join(f"<tr>{row}</tr>\n" for row in shown)
     head = "".join(f"<th>{cell}</th>" for cell in ("array", "word", "session", "number", "operation", "needs"))
     state = "not every attached session waits"
     if all_wait(report, look):
@@ -317,8 +298,3 @@ def page(report: Report, look: Look, owners: Dict[int, int], refresh: float) -> 
         + (picture or "<p>No picture: the program dot is not installed.</p>\n")
         + f"<table><thead><tr>{head}</tr></thead>\n<tbody>{rows}</tbody></table>\n</body></html>\n"
     )
-
-
-def _row(waiter: Waiter, look: Look) -> Tuple[object, ...]:
-    name = look.name(waiter.array)
-    return name, waiter.index, waiter.session, waiter.number, waiter.operation, waiter.needs

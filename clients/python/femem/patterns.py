@@ -15,8 +15,7 @@ from __future__ import annotations
 import functools
 import weakref
 from threading import get_ident
-from types import TracebackType
-from typing import TYPE_CHECKING, Any, Callable, Dict, Optional, Type, TypeVar, overload
+from typing import TYPE_CHECKING, Any, Callable, Dict, Optional, TypeVar
 
 from . import _keylocks as keylocks, _locks as locks, _operations as operations, _queues as queues
 from . import _semaphore as semaphore, _words as words, _work as work
@@ -28,10 +27,6 @@ from ._jobs import Job, Mended, Steps
 from .requests import Array, number_of_bits
 
 C = TypeVar("C", bound="Held")
-
-Kind = Optional[Type[BaseException]]
-Error = Optional[BaseException]
-Trace = Optional[TracebackType]
 
 
 class Blocking(operations.Pattern, ForThreads):
@@ -106,15 +101,12 @@ class Block:
     def __init__(self, client: Client) -> None:
         self._client = client
         self._job: Optional[Job[None]] = None
-        self._watch: Optional[weakref.ref[Any]] = None
+        # Set from when it is entered until its `__exit__` has begun.
+        self.watch: Optional[weakref.ref[Any]] = None
 
     def begins(self, leave: Callable[..., None], job: Job[None]) -> None:
         self._job = job
-        self._watch = weakref.ref(leave, self._is_dropped)
-
-    def ends(self) -> None:
-        """Its `__exit__` has begun, or it was not entered after all."""
-        self._watch = None
+        self.watch = weakref.ref(leave, self._is_dropped)
 
     def job(self) -> Optional[Job[None]]:
         """The job, if it is still to be begun."""
@@ -128,12 +120,6 @@ class Block:
 
 class Exit:
     """Gives each `with` block an `__exit__` of its own, which Python asks for before it calls `__enter__`."""
-
-    @overload
-    def __get__(self, pattern: None, kind: Any = None) -> Callable[..., None]: ...
-
-    @overload
-    def __get__(self, pattern: Entered, kind: Any = None) -> Callable[[Kind, Error, Trace], None]: ...
 
     def __get__(self, pattern: Optional[Entered], kind: Any = None) -> Callable[..., None]:
         if pattern is None:
@@ -149,10 +135,8 @@ class Entered(Blocking):
     __exit__ = Exit()
     # The `__exit__` of the block that each thread is about to enter.
     _entering: Dict[int, weakref.ref[functools.partial[None]]]
-
-    def _end_of(self, block: Optional[Block], is_done: bool) -> Job[None]:
-        """What ends the block. One that was left before, or is none, ends what this client has."""
-        raise NotImplementedError
+    # What ends the block, done or failed. One that was left before, or is none, ends what this client has.
+    _end_of: Callable[[Optional[Block], bool], Job[None]]
 
     def _entry(self) -> Optional[functools.partial[None]]:
         """The `__exit__` that Python has for the block that this thread enters."""
@@ -160,17 +144,13 @@ class Entered(Blocking):
         return None if entering is None else entering()
 
     def _exit(
-        self,
-        kind: Kind,
-        error: Error,
-        trace: Trace,
-        block: Optional[Block] = None,
+        self, kind: Any, error: Any, trace: Any, block: Optional[Block] = None,
         job: Optional[Job[None]] = None,  # no caller gives it
     ) -> None:
         try:
             job = self._end_of(block, kind is None)
             if block is not None:
-                block.ends()
+                block.watch = None
             self._client._run_job(job)
         except FememError:
             raise
@@ -198,7 +178,7 @@ class Held(Entered):
             raise
         except BaseException:
             if leave is not None:
-                leave.keywords["block"].ends()
+                leave.keywords["block"].watch = None
             self._client._abandon(job)
             raise
 
@@ -206,12 +186,16 @@ class Held(Entered):
         return (None if block is None else block.job()) or _job(self, self._operations["release"])
 
 
-class Lock(Opened, Held, locks.Lock):
-    __doc__ = locks.Lock.__doc__
-
-
-class KeyLock(Held, keylocks.KeyLock):
-    __doc__ = keylocks.KeyLock.__doc__
+class Lock(Opened, Held, locks.Lock): ...
+class KeyLock(Held, keylocks.KeyLock): ...
+class Semaphore(Opened, Held, semaphore.Semaphore): ...
+class Turn(Held, locks.Turn): ...
+class Election(Opened, locks.Election): ...
+class BoundedQueue(Opened, queues.BoundedQueue): ...
+class Channel(Opened, queues.Channel): ...
+class Barrier(Opened, words.Barrier): ...
+class Counter(Opened, words.Counter): ...
+class Future(Opened, words.Future): ...
 
 
 class Locks(keylocks.Locks[KeyLock]):
@@ -222,53 +206,11 @@ class Locks(keylocks.Locks[KeyLock]):
         super().__init__(client, name, capacity)
 
 
-class Semaphore(Opened, Held, semaphore.Semaphore):
-    __doc__ = semaphore.Semaphore.__doc__
-
-
-class Turn(Held, locks.Turn):
-    __doc__ = locks.Turn.__doc__
-
-
-class ReadWriteLock(Opened, locks.ReadWriteLock):
-    __doc__ = locks.ReadWriteLock.__doc__
-
-    def read(self, timeout: Optional[float] = None, *, takeover_after: Optional[float] = None) -> Turn:
-        """`with lock.read():` reads in its block. `TimedOut` as the block begins if it may not in time."""
-        return Turn(self._client, self, False, timeout, takeover_after)
-
-    def write(self, timeout: Optional[float] = None, *, takeover_after: Optional[float] = None) -> Turn:
-        """`with lock.write():` writes in its block. `TimedOut` as the block begins if it may not in time."""
-        return Turn(self._client, self, True, timeout, takeover_after)
-
-
-class Election(Opened, locks.Election):
-    __doc__ = locks.Election.__doc__
-
-
-class BoundedQueue(Opened, queues.BoundedQueue):
-    __doc__ = queues.BoundedQueue.__doc__
-
-
-class Channel(Opened, queues.Channel):
-    __doc__ = queues.Channel.__doc__
-
-
-class Barrier(Opened, words.Barrier):
-    __doc__ = words.Barrier.__doc__
-
-
-class Counter(Opened, words.Counter):
-    __doc__ = words.Counter.__doc__
-
-
-class Future(Opened, words.Future):
-    __doc__ = words.Future.__doc__
+class ReadWriteLock(Opened, locks.ReadWriteLock[Turn]):
+    TURN = Turn
 
 
 class Once(Blocking, words.Once):
-    __doc__ = words.Once.__doc__
-
     def run(self, work: Callable[[], int], timeout: Optional[float] = None) -> int:
         """The result of `work`, which one client calls. The others wait for it: `TimedOut` if it does not come in time. If it
         raises, this call does, and one of the others calls its own."""
@@ -283,8 +225,6 @@ class Once(Blocking, words.Once):
 
 
 class WorkJob(Entered, work.WorkJob):
-    __doc__ = work.WorkJob.__doc__
-
     def __init__(self, queue: Any, number: int, value: int, attempt: int) -> None:
         self._entering = {}
         work.WorkJob.__init__(self, queue, number, value, attempt)
@@ -299,10 +239,10 @@ class WorkJob(Entered, work.WorkJob):
         """It fails where Python drops its `__exit__`. Once the job has ended, another end of it does nothing."""
         if is_done and not self.has_ended:
             return _job(self, self._operations["done"])
-        return Job(work.WorkJob._leave.steps(self, is_done), None, True)
+        return self._end_by(is_done)
 
 
-class JobLoop:
+class JobLoop(work.Loop[WorkJob]):
     """The jobs of a `for` loop, made by `WorkQueue.jobs`: each is ended before the next one is taken, and with the loop.
 
     A body that comes to its end, by `continue` too, has done its job, unless it called `done`, `fail` or `move` itself. If an
@@ -311,12 +251,6 @@ class JobLoop:
     loop in a name, `jobs = queue.jobs()`, has its last job until that name is gone or the loop is used again. `NotOwner` comes out
     of the loop where another attempt has ended the job. A job of a process that is killed is given to another one.
     """
-
-    _job: Optional[WorkJob] = None  # that of the body
-
-    def __init__(self, queue: WorkQueue, timeout: Optional[float]) -> None:
-        self._queue = queue
-        self._timeout = timeout
 
     def __iter__(self) -> JobLoop:
         self._leave()  # an earlier loop left its body
@@ -344,23 +278,8 @@ class JobLoop:
         self._job = job
         return job
 
-    def __del__(self) -> None:
-        try:
-            self._leave()
-        except BaseException:
-            self._leave()  # a signal came; twice has the effect of once
-            raise
-
-    def _leave(self) -> None:
-        """The attempt of a body that was left has failed. The client says so without this thread."""
-        job = self._job
-        if job is not None and not job.has_ended and job._client.failure is None:
-            job._client._abandon(job._end_of(None, False))
-        self._job = None
-
 
 class WorkQueue(Blocking, work.WorkQueue):
-    __doc__ = work.WorkQueue.__doc__
     JOB = WorkJob
 
     def jobs(self, timeout: Optional[float] = None) -> JobLoop:

@@ -8,7 +8,7 @@ from __future__ import annotations
 import operator
 import struct
 from dataclasses import dataclass
-from functools import lru_cache
+from functools import lru_cache, partial
 from typing import Any, Callable, Dict, Generic, SupportsIndex, Tuple, TypeVar, Union
 
 from . import _frames as frames
@@ -31,8 +31,7 @@ class Array:
     length: int
 
 
-# An array, or its id.
-ArrayLike = Union[Array, int]
+ArrayLike = Union[Array, int]  # an array, or its id
 
 
 class Request(Generic[T_co]):
@@ -70,6 +69,10 @@ def read_array(answer: frames.Answer) -> Array:
     if answer.code != frames.ARRAY:
         raise ProtocolError(f"answer {answer.code} to a request for an array")
     return Array(answer.value, answer.length)
+
+
+# What has no request of its own: a report, the end of a session, a pause.
+NOTHING: Request[Any] = Request(b"", read_done)
 
 
 def _name_bytes(name: Union[str, bytes]) -> bytes:
@@ -144,6 +147,13 @@ def made(code: int, id: int, index: int, operand: int, nowait: bool) -> Request[
     if nowait is not False and nowait is not True:
         nowait = _flag(nowait, "nowait")
     return Request(pack_access(30, NOWAIT if nowait else ACCESS, 0, code, id, index, operand), read, may_wait and not nowait)
+
+
+# What patterns ask most: requests that do not wait, for an array, an index and a value.
+look = partial(access, frames.READFF, nowait=True)
+empty = partial(access, frames.READFE, nowait=True)
+fill = partial(access, frames.WRITEEF, nowait=True)
+add = partial(access, frames.INT_FETCH_ADD, nowait=True)
 
 
 @lru_cache(maxsize=1024, typed=True)

@@ -20,8 +20,7 @@ import subprocess
 import tempfile
 import threading
 import time
-from types import TracebackType
-from typing import Any, Dict, Iterator, Optional, Tuple, Type, TypeVar
+from typing import Any, Dict, Iterator, Optional, Tuple, TypeVar
 
 from . import _model
 
@@ -29,15 +28,9 @@ __all__ = ["ModelServer", "Server", "femem_server"]
 
 _MODEL: Any = _model
 
-# How long a start may take, in seconds.
-START = 20.0
+START = 20.0  # how long a start may take, in seconds
 
 S = TypeVar("S", bound="_Served")
-
-
-def _program() -> Optional[str]:
-    """The path of the program: FEMEM_PROGRAM, or `femem` on the PATH, or `None`."""
-    return os.environ.get("FEMEM_PROGRAM") or shutil.which("femem")
 
 
 class _Served:
@@ -65,9 +58,7 @@ class _Served:
     def __enter__(self: S) -> S:
         return self.start()
 
-    def __exit__(
-        self, kind: Optional[Type[BaseException]], error: Optional[BaseException], trace: Optional[TracebackType]
-    ) -> None:
+    def __exit__(self, *failure: object) -> None:
         self.close()
 
 
@@ -76,7 +67,7 @@ class Server(_Served):
 
     def __init__(self, program: Optional[str] = None) -> None:
         """`FileNotFoundError` if there is no program."""
-        found = program or _program()
+        found = program or os.environ.get("FEMEM_PROGRAM") or shutil.which("femem")
         if found is None:
             raise FileNotFoundError("no program femem on the PATH, and no FEMEM_PROGRAM")
         self._program = found

@@ -12,11 +12,11 @@ has to wait costs nothing, nor which of several waiting requests the server answ
 decisions, by their numbers. With `--coarse` nobody comes between the requests that a client sends together.
 
 Each schedule is run from its start, since a generator cannot be copied. One that comes to a state that was reached before
-for the same price, or less, ends there: a state is the server's words and all that each client was told, and when.
+for the same price, or less, ends there (`World.state`). It is not even run where that state can be foreseen: the server's
+steps are tried and taken back, and what a client does is known if it has been in the same place before (`World.question`).
 """
 
 import argparse
-import functools
 import random
 import sys
 import time
@@ -24,25 +24,7 @@ from collections import namedtuple
 
 import paths  # noqa: F401
 import stepping
-
-
-class Price(namedtuple("Price", "preemptions kills stops early cuts")):
-    """What the unusual decisions of a schedule cost, or may cost at most."""
-
-    @functools.lru_cache(maxsize=None)
-    def plus(self, other):
-        return Price._make([a + b for a, b in zip(self, other)])
-
-    @functools.lru_cache(maxsize=None)
-    def is_within(self, other):
-        return all([a <= b for a, b in zip(self, other)])
-
-    def __str__(self):
-        return ", ".join(f"{count} {what}" for count, what in zip(self, self._fields) if count) or "nothing"
-
-
-FREE = Price(0, 0, 0, 0, 0)
-PREEMPTS, KILLS, STOPS, EARLY, CUTS = [Price._make([int(k == at) for k in range(5)]) for at in range(5)]
+from prices import CUTS, EARLY, FREE, KILLS, PREEMPTS, STOPS, Price, Seen
 
 
 class Fault(Exception):
@@ -63,6 +45,15 @@ class Point:
 
 POINT = Point()
 
+# A request as `Shown` has it.
+Numbered = namedtuple("Numbered", "number")
+
+# The steps in which a client's own code runs.
+OWN = frozenset(("_hear", "_go", "_tick", "_cut", "_take_back", "_pass_time", "_pass_early"))
+
+# The state of a client that has nothing more to do.
+ENDED = ("ended",)
+
 
 class Caller:
     """A thread or task of a client. Its script yields jobs (`stepping.run`) and points."""
@@ -76,8 +67,12 @@ class Caller:
         self.job = None
         self.is_done = False
 
-    def can_go(self):
-        return not self.is_done and self.job is None
+    def shown(self):
+        """What choices go by."""
+        other = Caller(self.client, self.k, None)
+        other.client, other.is_done = None, self.is_done
+        other.steps, other.job = self.steps and POINT, self.job and POINT
+        return other
 
     def go(self, send=None, error=None):
         """Runs the script to its next call or point."""
@@ -109,6 +104,31 @@ class Caller:
         self.go(job.result, job.error)
 
 
+class Shown:
+    """What `choices` and `state` see after a step in which a client's own code ran. It stands there for the client's core."""
+
+    def __init__(self, world, client):
+        core = client._core
+        self.told, self.time = core.told, core.next_time()
+        self.unsent = [Numbered(ticket.number) for ticket in core.unsent]
+        self.inbox = [(Numbered(ticket.number), answer) for ticket, answer in core.inbox]
+        self.callers = [caller.shown() for caller in client.callers]
+        self.answers = client.file.answers.copy()
+        self.waiting = [ticket.number for session, ticket, _ in world.server.waiting if session == client.session]
+        names = ("current", "now", "progress_at", "noted_hash", "inside", "cuts", "early")
+        self.world = {name: getattr(world, name) for name in names}
+        self.world["inside"] = world.inside.copy()
+
+    def next_time(self):
+        return self.time
+
+    def put(self, world, client):
+        client._core, client.callers, client.file.answers = self, self.callers, self.answers
+        waiting, mine = world.server.waiting, client.session
+        world.server.waiting = [each for each in waiting if each[0] != mine or each[1].number in self.waiting]
+        world.__dict__.update(self.world)
+
+
 class Client:
     """A process: a session, and what its patterns hold. All but the session begins anew after a kill."""
 
@@ -125,7 +145,21 @@ class Client:
         self.dead_until = self.stalled_until = None
         self._core = stepping.Core(world.server, self.session, world.clock, self.file)
         self.callers = [Caller(self, k, script) for k, script in enumerate(self.scripts)]
-        self.told = hash((self.session, self.life))
+        self._core.tell(self.life)
+
+    def state(self, is_busy):
+        """What its next steps go by. `is_busy`: whether a request of its calls waits at the server."""
+        if self.dead_until is not None:
+            return (self.dead_until, self.life, self.file.told())
+        core = self._core
+        if core.unsent or core.inbox:
+            unsent = [ticket.number for ticket in core.unsent]
+            inbox = [(ticket.number, stepping.compared(answer)) for ticket, answer in core.inbox]
+        elif not is_busy and core.next_time() is None and all([caller.is_done for caller in self.callers]):
+            return ENDED
+        else:
+            unsent = inbox = ()
+        return (core.told, self.stalled_until, *unsent, *inbox, self.file.told() if self.file.answers else None)
 
     def wakes_at(self):
         """When the clock has something for it."""
@@ -150,7 +184,7 @@ class World:
         self.now = 0.0
         self.progress_at = 0.0
         self.server = stepping.Server(scenario.made.copy() if scenario.made is not None else None)
-        self.notes = []
+        self.noted, self.noted_hash = [], 0
         self.asked = []  # the sessions whose requests the server took, in this order
         self.inside = {}
         self.current = None
@@ -158,6 +192,8 @@ class World:
         self.steps = self.kills = self.stops = self.cuts = self.early = 0
         self._buried = []
         self._must_serve = False
+        self.known = {}  # what is seen after steps of clients, by their questions
+        self._is_able = False  # whether the current client can go on
         self.clients = [Client(self, k + 1, scripts) for k, scripts in enumerate(scenario.clients)]
 
     # For scripts.
@@ -168,8 +204,16 @@ class World:
     def make(self, kind, client, *sizes, **more):
         return stepping.stepped(kind)(client, *sizes, **more)
 
+    @property
+    def notes(self):
+        """What was noted so far. The client whose script reads it is told."""
+        if self.caller is not None:
+            self.caller.client._core.tell(self.noted_hash)
+        return self.noted
+
     def note(self, *what):
-        self.notes.append(what)
+        self.noted.append(what)
+        self.noted_hash = hash((self.noted_hash, what))
         self.progress()
 
     def progress(self):
@@ -192,6 +236,7 @@ class World:
         if self._must_serve:
             ready = self.server.ready()
             if ready:
+                self._is_able = True
                 return [(self._serve, k, FREE) for k in range(len(ready))]
             self._must_serve = False
         goes, able = self._goes()
@@ -215,15 +260,14 @@ class World:
 
     def _goes(self):
         """Who can go on, the current client first, and how many there are."""
-        count = len(self.clients)
-        first = self.current or 0
-        goes = []
-        for k in range(count):
-            at = (first + k) % count
+        first, goes = self.current or 0, []
+        for at in (*range(first, len(self.clients)), *range(first)):
             goes += self._of_client(at, self.clients[at])
-        is_able = bool(goes) and goes[0][1][0] == self.current and self.clients[self.current].dead_until is None
-        price = PREEMPTS if is_able else FREE
-        return [(how, at, FREE if k == 0 else price) for k, (how, at) in enumerate(goes)], bool(goes)
+        self._is_able = bool(goes) and goes[0][1][0] == self.current and self.clients[self.current].dead_until is None
+        price = PREEMPTS if self._is_able else FREE
+        able = [(how, at, price) for how, at in goes]
+        able[:1] = [(how, at, FREE) for how, at in goes[:1]]
+        return able, bool(able)
 
     def _of_client(self, at, client):
         """What this client can do."""
@@ -241,7 +285,9 @@ class World:
             due = core.next_time()
             if due is not None and due <= self.now:
                 goes.append((self._tick, (at,)))
-        goes += [(self._go, (at, k)) for k, caller in enumerate(client.callers) if caller.can_go()]
+        for caller in client.callers:
+            if caller.job is None and not caller.is_done:
+                goes.append((self._go, (at, caller.k)))
         return goes
 
     def _times(self, all_of_them=False):
@@ -251,7 +297,9 @@ class World:
             time = client.wakes_at()
             if time is not None and (time > self.now or client.stalled_until is not None):
                 times.append((time, at))
-        first = min(times, default=(0.0, 0))[0]
+        if not times:
+            return times
+        first = min(times)[0]
         return [(self._pass_time, at, FREE) for time, at in sorted(times) if all_of_them or time == first]
 
     def _may_be_killed(self, at, client, is_able):
@@ -282,28 +330,26 @@ class World:
             if self.says is not None:
                 got = core.inbox[-1][1] if len(core.inbox) > before else "waits"
                 self._say(f"client {core.session}: {ticket.request.what if ticket.request else 'report'} -> {got}")
-            self._must_serve = ticket.request is not None and bool(self.server.waiting)
+            self._must_serve = self.server.is_changed and bool(self.server.waiting)
             if not self.is_coarse or self._must_serve and self.server.ready():
                 break
 
     def _hear(self, at):
         self.current = at[0]
-        client = self.clients[at[0]]
-        core = client._core
+        core = self.clients[at[0]]._core
         while core.inbox and not core.unsent:
-            client.told = hash((client.told, _compared(core.hear()), self.now))
+            core.hear()
 
     def _tick(self, at):
         self.current = at[0]
         client = self.clients[at[0]]
-        client.told = hash((client.told, "time", self.now))
         self._say(f"client {client.session}: its time is over")
         client._core.tick()
 
     def _go(self, at):
         self.current = at[0]
         client = self.clients[at[0]]
-        client.told = hash((client.told, at[1], self.now))
+        client._core.tell("goes on", at[1])
         self._say(f"client {client.session} goes on (caller {at[1]})")
         client.callers[at[1]].go()
 
@@ -363,7 +409,7 @@ class World:
         self.cuts += 1
         job.finished = lambda: None
         self._say(f"client {at[0] + 1}: its call is interrupted")
-        caller.client.told = hash((caller.client.told, "cut", at, self.now))
+        caller.client._core.tell("cut", at[1])
         caller.client._core.abandon(job, self.now)
         caller.client._core.run_ended()
         self._waits_no_more(job)
@@ -375,7 +421,7 @@ class World:
         client = self.clients[at[0]]
         self.cuts += 1
         self._say(f"client {at[0] + 1}: its task is cancelled")
-        client.told = hash((client.told, "take back", at, self.now))
+        client._core.tell("take back", at[1])
         job = client.callers[at[1]].job
         client._core.interrupt(job, self.now)
         client._core.run_ended()
@@ -390,34 +436,60 @@ class World:
     # A schedule.
 
     def state(self):
-        waiting = tuple([(session, ticket.request.frame) for session, ticket, _ in self.server.waiting])
-        clients = []
-        for client in self.clients:
-            inbox = tuple([_compared(answer) for _, answer in client._core.inbox])
-            clients.append((client.told, client.dead_until, client.stalled_until, len(client._core.unsent), inbox))
+        """The same for two worlds only if whatever may come, and what the checks make of it, is the same.
+
+        A client does the same whenever it gets the same, and `told` has all that it gets, in order and when: which request
+        an answer is to, that a caller goes on or is cut off, a time that is over, that something was taken back, and what it
+        reads of its session file and of the notes. Scripts read nothing else. The rest is here as it is: what is under way,
+        the words, files, notes, the clock, and who is inside. A client that has ended does nothing more, and one that was
+        killed begins anew from its file, so that their pasts don't count. Nor does the order in which requests of several
+        clients began to wait: the server may answer any of them. Last, who went on, and whether it can (`prices.Seen`).
+        """
+        waiting = self.server.waiting
+        busy = [session for session, ticket, _ in waiting if not ticket.is_presence]
+        clients = tuple([client.state(client.session in busy) for client in self.clients])
+        if waiting:
+            ended = [client.session for client, state in zip(self.clients, clients) if state is ENDED]
+            waiting = sorted([(s, ticket.request.frame if s in ended else ticket.number) for s, ticket, _ in waiting], key=_first)
         counts = (self.kills, self.stops, self.cuts, self.early > 0, self.server.state.next_id)
-        said = (tuple(self.inside.items()), tuple(self.notes))
-        return hash((self.current, self.now, self.progress_at, counts, waiting, tuple(clients), said, self.server.words()))
+        said = (*sorted(self.inside.items()), self.noted_hash)
+        whole = hash((self.now, self.progress_at, counts, clients, said, tuple(waiting), self.server.words()))
+        return whole, self.current, self._is_able
+
+    def question(self, how, at):
+        """All that a step goes by in which a client's own code runs, and that it may change. `None` for other steps."""
+        if how not in OWN:
+            return None
+        client = self.clients[at if type(at) is int else at[0]]
+        if client.dead_until is not None or client.stalled_until is not None:
+            return None
+        waiting = [ticket.number for session, ticket, _ in self.server.waiting if session == client.session]
+        world = (self.now, self.progress_at, self.noted_hash, self.cuts, self.early, *self.inside.items())
+        return how, at, client.state(True), tuple(waiting), world
 
     def foresee(self, choice):
-        """The state at which a choice is next looked at, if that runs no script and is not the end. All stays as it is."""
+        """The state at which a choice is next looked at, if that needs no script and is not the end. All stays as it is."""
         how, at = choice[0].__name__, choice[1]
-        if how not in ("_move", "_kill", "_restart"):
+        shown = self.known.get(self.question(how, at)) if how in OWN else None
+        if shown is None and how not in ("_move", "_kill", "_restart"):
             return None
-        client, server = self.clients[at if how == "_kill" else at[0]], self.server
+        client, server = self.clients[at if type(at) is int else at[0]], self.server
         core, words = client._core, []
         if how == "_move":
             words = server.words_of(core.unsent if self.is_coarse else [core.unsent[0]])
             if words is None:
                 return None
-        mine, its, shown, waiting = self.__dict__.copy(), client.__dict__.copy(), server._shown.copy(), server.waiting.copy()
+        mine, its, hashes, waiting = self.__dict__.copy(), client.__dict__.copy(), server._shown.copy(), server.waiting.copy()
         unsent, kept, counts = core.unsent.copy(), client.file.answers.copy(), (len(self.asked), len(self._buried), len(core.inbox))
-        choice[0](at)
+        if shown is not None:
+            shown.put(self, client)
+        else:
+            choice[0](at)
         choices = self.choices()
         state = self.state() if choices is not None and len(choices) > 1 else None
         self.__dict__.update(mine)
         client.__dict__.update(its)
-        core.unsent, client.file.answers, server._shown, server.waiting = unsent, kept, shown, waiting
+        core.unsent, client.file.answers, server._shown, server.waiting = unsent, kept, hashes, waiting
         for word, was in words:
             word[:] = was
         del self.asked[counts[0] :], self._buried[counts[1] :]
@@ -455,8 +527,8 @@ class World:
         return f"{', '.join(open_calls)}; at the server: {', '.join(waits) or 'nothing'}"
 
 
-def _compared(answer):
-    return answer if type(answer) is tuple else tuple([(w.array, w.index, w.session) for w in answer.waiters])
+def _first(pair):
+    return pair[0]
 
 
 def name_of(world, choice):
@@ -476,11 +548,12 @@ def name_of(world, choice):
 class Run:
     """One schedule: the first choices as given, then the usual ones."""
 
-    def __init__(self, scenario, first=(), spent=FREE, seen=None, limit=None, is_coarse=False, bounds=()):
+    def __init__(self, scenario, first=(), spent=FREE, seen=None, limit=None, is_coarse=False, bounds=(), known=None):
         self.world = World(scenario, limit, is_coarse)
+        self.world.known = known
         self.bounds = bounds
         self.first = first
-        self.spent = spent
+        self.spent, self._totals = spent, {}
         self.seen = seen
         # What was done, with its place among the choices; and from where it was free to: what else there was to choose within
         # the bounds, with its price and the state to which it leads, as far as that is known.
@@ -491,9 +564,9 @@ class Run:
         """`Fault`, or `Known`."""
         world = self.world
         try:
+            self.done += self.first
+            world.steps = len(self.first)
             for step in self.first:
-                self.done.append(step)
-                world.steps += 1
                 getattr(world, step[0])(step[1])
             while True:
                 choices = world.choices()
@@ -502,24 +575,35 @@ class Run:
                 if len(choices) > 1:
                     self._look(choices)
                 how, at, _ = choices[0]
-                self.done.append((how.__name__, at, 0))
+                name = how.__name__
+                question = world.question(name, at) if world.known is not None else None
+                self.done.append((name, at, 0))
                 world.steps += 1
                 how(at)
+                if question is not None and question not in world.known:
+                    world.known[question] = Shown(world, world.clients[world.current])
         except stepping.TooMuch as much:
             raise Fault(str(much)) from None
 
     def _look(self, choices):
         if self.seen is not None:
-            key = self.world.state()
-            prices = self.seen.get(key, ())
-            if any([price.is_within(self.spent) for price in prices]):
+            state = self.world.state()
+            if self.seen.has(state, self.spent):
                 raise Known()
-            self.seen[key] = (*prices, self.spent)
-        for k, choice in enumerate(choices):
-            total = self.spent.plus(choice[2])
-            if k and any([total.is_within(bound) for bound in self.bounds]):
+            self.seen.add(state, self.spent)
+        for k in range(1, len(choices)):
+            choice = choices[k]
+            total = self._total(choice[2])
+            if total is not None:
                 state = None if self.seen is None else self.world.foresee(choice)
                 self.left.append((len(self.done), (choice[0].__name__, choice[1], k), total, state))
+
+    def _total(self, price):
+        """What is spent with this price, if that is within the bounds."""
+        if price not in self._totals:
+            total = self.spent.plus(price)
+            self._totals[price] = total if any([total.is_within(bound) for bound in self.bounds]) else None
+        return self._totals[price]
 
 
 class Found:
@@ -555,7 +639,7 @@ def explore(scenario, bounds, seconds=None, most=None, merges=True, is_coarse=Fa
     bounds = [Price._make(bound) for bound in bounds]
     found = Found(scenario, ("by whole steps, " if is_coarse else "") + "within " + " or ".join(f"({b})" for b in bounds), is_coarse)
     began = time.process_time()
-    seen = {} if merges else None
+    seen, known = (Seen(scenario, bounds), {}) if merges else (None, None)
     levels = [[] for _ in range(1 + max(sum(bound) for bound in bounds))]
     levels[0].append(((), 0, None, FREE, None))
     for level in levels:
@@ -564,10 +648,10 @@ def explore(scenario, bounds, seconds=None, most=None, merges=True, is_coarse=Fa
             if is_late or found.schedules == most or found.fault is not None:
                 break
             before, at, choice, spent, state = level.pop()
-            if state is not None and any([price.is_within(spent) for price in seen.get(state, ())]):
+            if state is not None and seen.has(state, spent):
                 found.schedules, found.known, found.steps = found.schedules + 1, found.known + 1, found.steps + at + 1
                 continue  # it would end as `Known` after its last decision
-            run = Run(scenario, [*before[:at], choice] if choice else [], spent, seen, None, is_coarse, bounds)
+            run = Run(scenario, [*before[:at], choice] if choice else [], spent, seen, None, is_coarse, bounds, known)
             _try(run, found)
             for place, *other in run.left:
                 levels[sum(other[1])].append((run.done, place, *other))
@@ -576,7 +660,7 @@ def explore(scenario, bounds, seconds=None, most=None, merges=True, is_coarse=Fa
         break
     else:
         found.is_whole = found.fault is None
-    found.states = len(seen or ())
+    found.states = len(seen.states) if merges else 0
     found.seconds = time.process_time() - began
     return found
 

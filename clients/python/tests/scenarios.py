@@ -222,7 +222,7 @@ POST, FREE_POST = made(locks.Election, "e"), is_empty("e", locks.Election.OWNER)
 
 
 def key_lock(world, client):
-    table = client.__dict__.setdefault(f"table {client.life}", keylocks.Table("k", 2))
+    table = client.__dict__.setdefault(f"table {client.life}", keylocks.Locks(client, "k", 2))
     return world.make(keylocks.KeyLock, client, table, 0)
 
 
@@ -464,7 +464,7 @@ def putting(values, make, has_key=False, **more):
             except Interrupted:
                 world.note("may be put", value)
             else:
-                world.note("put", value, world.now, world.steps)
+                world.note("put", value, world.now)
 
     return script
 
@@ -479,11 +479,11 @@ def getting(count, make, timeout=3.0, has_key=False):
             return
         while len({note[1] for note in world.notes if note[0] == "got"}) < count:
             own = {"key": b"get %d" % had} if has_key else {}
-            since, step, had = world.now, world.steps, had + 1
+            since, before, had = world.now, [note[1] for note in world.notes if note[0] == "put"], had + 1
             try:
                 value = yield from queue.get(timeout=timeout, **own)
             except errors.TimedOut:
-                world.note("none", step, since + timeout)
+                world.note("none", tuple(before), since + timeout)
                 return
             except (Interrupted, errors.Withdrawn):
                 return
@@ -503,7 +503,7 @@ def values_are_there(array, first, has_keys=False, cuts_lose=False, looks=True):
     def check(world):
         got = [note[1] for note in world.notes if note[0] == "got"]
         there = [word[0] for word in world.server.array(array)[first:] if word[1]]
-        put = {note[1]: note[2:] for note in world.notes if note[0] == "put"}
+        put = {note[1]: note[2] for note in world.notes if note[0] == "put"}
         lost = [value for value in put if value not in got and value not in there]
         got = [*{*got}] if has_keys else got
         if len({*got, *there}) < len(got + there):
@@ -513,7 +513,7 @@ def values_are_there(array, first, has_keys=False, cuts_lose=False, looks=True):
         if len(lost) > (world.kills if not has_keys else 0) + (world.cuts if cuts_lose else 0):
             raise Fault(f"lost {lost}: got {got}, there {there}")
         for note in world.notes:
-            if looks and note[0] == "none" and any(v in put and (put[v][1] < note[1] or put[v][0] < note[2] - 1.2) for v in there):
+            if looks and note[0] == "none" and any(v in put and (v in note[1] or put[v] < note[2] - 1.2) for v in there):
                 raise Fault(f"a get timed out beside a value: {world.notes}, there {there}")
 
     return check

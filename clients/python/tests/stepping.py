@@ -6,14 +6,18 @@ client does (`JobRunner`), and keeps requests and answers in the order of one co
 """
 
 import functools
+import itertools
 from collections import deque
 
 import model
 
 from femem import _errors as errors, _frames as frames, _reports as reports
 from femem._holdings import Holdings
-from femem._jobrunner import JobRunner
-from femem._jobs import First, Job, Pause, Wait
+from femem._jobs import First, Job, JobRunner, Pause, Wait
+
+
+# The codes of requests that only look.
+READS = (frames.READFF, frames.READXX)
 
 
 @functools.lru_cache(maxsize=None)
@@ -28,6 +32,7 @@ class Server:
     def __init__(self, state=None):
         self.state = state or model.State()
         self.waiting = []  # (session, ticket, request)
+        self.is_changed = False  # whether the last request has changed words
         self._shown = {}  # what `words` has of each array
 
     def ask(self, session, ticket):
@@ -72,17 +77,21 @@ class Server:
         return reports.Report("", waiters, {}, False)
 
     def words_of(self, tickets):
-        """The words that these requests may change, each with what it has. None if one does more."""
+        """The words that these requests may change, each with what it has. None if one does more, or asks for a report."""
         words = []
         for ticket in tickets:
-            request = None if ticket.request is None else parsed(ticket.request.frame)
-            if request is None or request[0] != "access":
+            request = parsed(ticket.request.frame) if ticket.request.frame else ("report",)
+            if request[0] == "access":
+                array = self.state.arrays.get(request[2], (b"", []))[1]
+                words += [(word, list(word)) for word in array[request[3] : request[3] + 1]]
+            elif request[0] != "find" and (request[0] != "create" or self.state.answer(request)[0] == model.ARRAY):
                 return None
-            array = self.state.arrays.get(request[2], (b"", []))[1]
-            words += [(word, list(word)) for word in array[request[3] : request[3] + 1]]
         return words
 
     def _perform(self, request, answer):
+        if request[0] == "find" or request[0] == "access" and (answer[0] == model.NOT_NOW or request[1] in READS):
+            return
+        self.is_changed = True
         self.state.perform(request, answer)
         self._shown.pop(request[2] if request[0] == "access" else answer[1] if request[0] == "create" else request[1], None)
 
@@ -95,8 +104,19 @@ class Server:
         shown = self._shown
         for id, (_, words) in self.state.arrays.items():
             if id not in shown:
-                shown[id] = hash(tuple([value if full else ~value for value, full in words]))
+                shown[id] = hash(str(words))
         return tuple([(id, shown[id]) for id in self.state.arrays])
+
+
+def compared(answer):
+    """An answer as it is told: numbers that Python gives one hash differ above bit 60."""
+    if type(answer) is tuple:
+        return answer if answer[1] < 2**60 else (*answer, answer[1] >> 60)
+    return tuple(answer.waiters)
+
+
+def _told(known):
+    return None if known is None else (known[0], compared(known[1][1:]))
 
 
 class Keys:
@@ -104,18 +124,24 @@ class Keys:
 
     def __init__(self):
         self.answers = {}
+        self.tell = None  # what its client reads of it is told
 
     def keep(self, key, frame, answer):
         self.answers[key] = frame, frames.Answer(0, *answer)
 
     def kept(self, key):
+        self.tell(key, _told(self.answers.get(key)))
         return self.answers.get(key)
 
     def forget(self, key):
         self.answers.pop(key, None)
 
     def keys(self):
+        self.tell("keys", *self.answers)
         return [*self.answers]
+
+    def told(self):
+        return tuple([(key, _told(known)) for key, known in self.answers.items()])
 
 
 class TooMuch(Exception):
@@ -156,6 +182,10 @@ class Core(JobRunner):
         self.failure = None
         self.is_urgent = False
         self.unsent, self.inbox, self._ended = deque(), deque(), deque()
+        self._numbers = itertools.count(1)
+        self.told = hash(session)
+        if file is not None:
+            file.tell = self.tell
         # Who calls now.
         self.caller = None
 
@@ -179,6 +209,7 @@ class Core(JobRunner):
 
     def take(self, tickets, timeout, now):
         for ticket in self._admit(tickets, now):
+            ticket.number = next(self._numbers)
             known = self.file.kept(ticket.key) if ticket.key is not None else None
             if known is not None:
                 self._end_as(ticket, known)
@@ -200,17 +231,19 @@ class Core(JobRunner):
         self._ended.append(ticket)
 
     def report(self, now, ticket=None):
+        ticket.number = next(self._numbers)
         self.unsent.append(ticket)
         return ticket
 
     def withdraw(self, ticket, now, why=None):
-        if ticket.done or ticket.request is None:
+        if ticket.done or not ticket.request.frame:
             return
         ticket.taken_back = why or errors.Withdrawn(ticket.request.what)
         is_unsent = not ticket.taken or ticket in self.unsent
         if ticket in self.unsent:
             self.unsent.remove(ticket)
         if is_unsent or self.server.withdraw(ticket):
+            self.tell("withdrawn", ticket.number)
             ticket.taken = True
             self._end(ticket, error=ticket.taken_back)
 
@@ -220,7 +253,13 @@ class Core(JobRunner):
 
     def is_open(self, key):
         waiting = [ticket for _, ticket, _ in self.server.waiting]
-        return any(ticket.key == key for ticket in (*self.unsent, *waiting))
+        is_open = any(ticket.key == key for ticket in (*self.unsent, *waiting))
+        self.tell("open", is_open)
+        return is_open
+
+    def tell(self, *what):
+        """Takes in what the client goes by: `told` stands for all of it, in its order, and when."""
+        self.told = hash((self.told, self.clock(), what))
 
     # What is asked of each call.
 
@@ -242,7 +281,8 @@ class Core(JobRunner):
     def move(self):
         """The server takes the first request that it has not had."""
         ticket = self.unsent.popleft()
-        if ticket.request is None:
+        self.server.is_changed = False
+        if not ticket.request.frame:
             self.inbox.append((ticket, self.server.report()))
             return
         answer = self.server.ask(self.session, ticket)
@@ -255,14 +295,14 @@ class Core(JobRunner):
         self.inbox.append((ticket, answer))
 
     def hear(self):
-        """The client reads the first answer, and goes on. Returns the answer, to compare."""
+        """The client reads the first answer, and goes on."""
         ticket, answer = self.inbox.popleft()
-        if ticket.request is None:
+        self.tell(ticket.number, compared(answer))
+        if not ticket.request.frame:
             self._end(ticket, answer)
         else:
             self._end_with(ticket, frames.Answer(0, *answer))
         self.run_ended()
-        return answer
 
     def next_time(self):
         """When `tick` has something to do."""
@@ -270,11 +310,12 @@ class Core(JobRunner):
 
     def tick(self):
         now = self.clock()
+        self.tell("time")
         while True:
             ticket = self._timeouts.take(now)
             if ticket is None:
                 break
-            if ticket.request is None:
+            if not ticket.request.frame:
                 self._pauses.discard(ticket)
                 self._end(ticket)
             else:

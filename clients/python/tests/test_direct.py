@@ -218,7 +218,7 @@ class Direct(WithFolder):
                 self.assertEqual(client.readfe(word, 1, timeout=LONG), turn)
                 giver.join()
 
-    @mock.patch("femem._lending.READ_TIME", LONG)
+    @mock.patch("femem._lease.READ_TIME", LONG)
     def test_a_caller_that_waits_lets_others_call(self):
         """It waits by itself, and leaves the connection to the thread when that has something to do, however late."""
         model = self.server().model

@@ -285,7 +285,7 @@ class Closes(WithFolder):
                 self.assertIsInstance(self.ends(lambda: asyncio.run(main())), femem.ServerUnreachable)
         error = self.ends(lambda: Client("/" + 300 * "x", reconnect_timeout=None, wait_for_server=True))
         self.assertIsInstance(error, femem.ServerUnreachable)
-        self.assertFalse(registry._left.get(self.path))
+        self.assertFalse(registry.left.get(self.path))
 
     def test_a_path_that_is_missing_is_a_server_that_is_away(self):
         """Also with its folder, as systemd has it, which belongs to root for a moment when it is made again."""

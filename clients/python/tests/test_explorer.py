@@ -124,6 +124,9 @@ class Checks(unittest.TestCase):
         with self.assertRaises(Fault) as again:
             replay(one, found.schedule)
         self.assertEqual(str(again.exception), found.fault)
+        whole = explore(one, one.bounds, merges=False)
+        self.assertEqual(whole.price, found.price)
+        self.assertIn(text, whole.fault)
         return found
 
     def test_two_inside(self):
@@ -290,6 +293,41 @@ class Checks(unittest.TestCase):
             replay(one, found.schedule)
 
 
+# Scenarios in which known states end many schedules, each with a bound within which all of them are tried without that too.
+MERGED = [
+    ("lock_threads", (1, 0, 0, 0, 0)), ("lock_numbers", (0, 1, 0, 0, 0)), ("lock_timeout", (1, 0, 0, 1, 0)), ("lock_cut", (0, 0, 0, 0, 1)),
+    ("semaphore_key", (0, 1, 0, 0, 0)), ("semaphore_of_one", (1, 0, 0, 0, 0)), ("rw_three", (1, 0, 0, 0, 0)), ("once", (1, 1, 0, 0, 0)),
+    ("queue_timeout", (0, 0, 0, 1, 0)), ("queue", (1, 0, 0, 0, 0)), ("queue_two_get", (1, 0, 0, 0, 0)), ("channel_key", (0, 1, 0, 0, 0)),
+    ("channel", (0, 0, 1, 0, 0)), ("lock_takeover", (0, 0, 0, 1, 0)), ("moves_of_one", (0, 1, 0, 0, 0)), ("any", (1, 0, 1, 0, 0)),
+    ("barrier", (2, 0, 0, 0, 0)), ("lock_stranger", (3, 0, 0, 0, 0)),
+]  # fmt: skip
+
+
+class Merging(unittest.TestCase):
+    def ends(self, scenario, bound, merges):
+        """All that can be there at the end, with what was noted, and when."""
+        ends = set()
+
+        def check(world):
+            counts = world.kills, world.stops, world.cuts
+            ends.add((str(world.server.state.arrays), tuple(world.noted), world.now, counts))
+
+        with mock.patch.object(scenario, "check", check):
+            found = explore(scenario, [bound], merges=merges, is_coarse=True)
+        self.assertTrue(found.is_whole)
+        return ends, found.schedules
+
+    def test_the_ends_are_the_same_without(self):
+        count = 0
+        for name, bound in MERGED:
+            with self.subTest(name):
+                merged, schedules = self.ends(ALL[name], bound, True)
+                whole, more = self.ends(ALL[name], bound, False)
+                self.assertEqual(merged, whole)
+                count += more - schedules
+        self.assertGreater(count, 1000)  # so many schedules end early
+
+
 class Foreseeing(unittest.TestCase):
     """A schedule whose state is foreseen to be known is not run: no state is left out, and the world stays as it is."""
 
@@ -298,34 +336,44 @@ class Foreseeing(unittest.TestCase):
         return found.is_whole, found.schedules, found.known, found.steps, found.states
 
     def test_as_many_schedules_and_states_as_without(self):
-        for name in ("lock_key", "lock_absent", "semaphore_both", "keys_making", "queue_making"):
+        for name in ("lock_key", "lock_absent", "lock_cut", "semaphore_both", "keys_making", "queue_making", "channel_timeout"):
             with self.subTest(name):
                 numbers = self.numbers(name)
                 with mock.patch.object(explorer.World, "foresee", lambda world, choice: None):
                     self.assertEqual(numbers, self.numbers(name))
 
+    def world(self, name, count):
+        """After so many steps."""
+        world = explorer.World(ALL[name], ALL[name].limit)
+        for _ in range(count):
+            choices = world.choices()
+            if choices is None:
+                break
+            choices[0][0](choices[0][1])
+        return world
+
     def test_a_state_that_is_foreseen_comes(self):
         """At each choice of a schedule: the world is as before, and then has that state."""
-        count = 0
-        for name in ("lock_key", "rw_full", "queue_making"):
-            for at in range(60):
-                world = explorer.World(ALL[name], ALL[name].limit)
-                for _ in range(at):
-                    choices = world.choices()
-                    if choices is None:
-                        break
-                    choices[0][0](choices[0][1])
-                for k in range(len(world.choices() or ())):
-                    before, choice = world.state(), world.choices()[k]
+        kinds = {}
+        for name in ("lock_key", "lock_cut", "rw_full", "queue_making", "channel_timeout"):
+            for count in range(60):
+                for k in range(len(self.world(name, count).choices() or ())):
+                    other = self.world(name, count)
+                    (how, at, _), question = other.choices()[k], other.question(other.choices()[k][0].__name__, other.choices()[k][1])
+                    how(at)
+                    world = self.world(name, count)
+                    if question is not None:
+                        world.known = {question: explorer.Shown(other, other.clients[other.current])}
+                    choice = world.choices()[k]
+                    before = world.state()
                     foreseen = world.foresee(choice)
                     self.assertEqual(world.state(), before)
-                    if foreseen is not None and choice[0].__name__ == "_move":
-                        choice[0](choice[1])
-                        world.choices()
-                        self.assertEqual(world.state(), foreseen)
-                        count += 1
-                        break
-        self.assertGreater(count, 20)
+                    if foreseen is not None:
+                        other.choices()
+                        self.assertEqual(other.state(), foreseen)
+                        kinds[how.__name__] = kinds.get(how.__name__, 0) + 1
+        self.assertGreaterEqual({*kinds}, {"_move", "_kill", "_hear", "_go", "_cut", "_take_back", "_pass_early"})
+        self.assertGreater(sum(kinds.values()), 100)
 
 
 class Undoing(unittest.TestCase):
@@ -348,6 +396,7 @@ class Undoing(unittest.TestCase):
 
         self.assertTrue(tried(scenario([locking], check, [(0, 0, 0, 0, 1)])).is_whole)
         self.assertGreater(sum(cuts), 3)
+
 
 if __name__ == "__main__":
     unittest.main()

@@ -12,7 +12,7 @@ from world import Core, World, run
 from femem import _errors as errors, _frames as frames, requests
 from femem._attachment import Phase
 from femem._sessionfile import SessionFile
-from femem._sessionrecords import Asked
+from femem._sessionstate import Asked
 from femem._tickets import Ticket
 
 

@@ -22,7 +22,7 @@ from femem import Client, aio, _core as core, _frames as frames, requests, _sess
 from femem.aio import AsyncClient
 from femem._arguments import key_bytes
 from femem._sessionfile import SessionFile
-from femem._sessionrecords import Asked
+from femem._sessionstate import Asked
 from femem._worker import Worker
 
 POINTS = {

@@ -16,9 +16,9 @@ from serving import WithFolder
 from test_ends import FOLDER, LONG
 
 import femem
-from femem import Client, _frames as frames, requests, _sessionrecords as sessionrecords
+from femem import Client, _frames as frames, requests, _sessionstate as sessionstate
 from femem._sessionfile import SessionFile
-from femem._sessionrecords import Asked
+from femem._sessionstate import Asked
 
 SESSION = 0x8000000000000007
 ADD = requests.int_fetch_add(1, 0, 1).frame
@@ -265,11 +265,11 @@ class Format(WithFolder):
         for kind, code, operand in itertools.product((4, 5, 6, 11), range(14, 26), (0, 1)):
             frame = struct.pack(">IBQBQIQ", 30, kind, 0, code, 1, 2, operand)
             is_one = kind in (5, 11) and code in range(16, 24) and (operand == 0 or code in (19, 20, 21, 23))
-            self.assertEqual(bool(sessionrecords.is_access(frame)), is_one)
+            self.assertEqual(bool(sessionstate.is_access(frame)), is_one)
             for told, value, length in itertools.product((0, 1, 2, 3, 4, 11), (0, 1), (0, 1)):
                 gives = code in (16, 17, 18, 23)
                 has_happened = is_one and told == (1 if gives else 2) and length == 0 and (gives or value == 0)
-                found = sessionrecords.has_happened(frame + answer(told, value, length))
+                found = sessionstate.has_happened(frame + answer(told, value, length))
                 self.assertEqual(bool(found), has_happened, (kind, code, operand, told, value, length))
 
     def test_a_key_costs_few_steps_to_read(self):
