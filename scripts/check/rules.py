@@ -11,6 +11,10 @@ PRODUCT = sorted(it for it in os.listdir(os.path.join(TOP, "crates")) if it.star
 MEMBER = r"\b[A-Z]\w*\.(?:size|failures|calls|honest|seen|may_leave|moment|left_since)\b"
 HANDED = re.compile(rf"{MEMBER}\s+{MEMBER}")
 TYPE = re.compile(r"^\s*(?:pub(?:\([a-z]+\))? )?(?:struct|enum|trait) (\w+)", re.M)
+# What an `OutOfMemory` is made from, and the files that name it: the crate that makes them, the command line, whose crate of the kit
+# wants std's error, and the one call of the system whose error is a number.
+MADE_FROM = re.compile(r"\b(?:AllocError|AllocFailed|fmt::Error|ErrorKind::OutOfMemory|from_raw_os_error)\b")
+MAKERS = ("crates/fe_memory/", "crates/fe_options/", "crates/femem/", "crates/fe_disk/src/system_file.rt")
 USED = re.compile(r"^\s*(?:pub )?use (fe_\w+)::(?:\{([^}]*)\}|(\w+));", re.M)
 
 
@@ -52,4 +56,16 @@ def types(_place):
     return told(wrong, count, 400, "types taken from other crates")
 
 
-CHECKS = (device, types)
+def memory(_place):
+    """no file makes an error from which an OutOfMemory can be made, but those that MAKERS names"""
+    count, wrong = 0, []
+    for crate in PRODUCT:
+        for path in files_of(crate):
+            text = text_of(path)
+            count += len(re.findall(r"\bOutOfMemory\b", text))
+            if not path.startswith(MAKERS):
+                wrong += [f"{path}:{text[: it.start()].count(chr(10)) + 1}: {it[0]}" for it in MADE_FROM.finditer(text)]
+    return told(wrong, count, 200, "uses of OutOfMemory")
+
+
+CHECKS = (device, types, memory)

@@ -2,6 +2,7 @@
 use Rattle.std.proofs.Common.{◌≡◌, ℕ, ◌+◌, ◌≤◌, List, [], ◌∷◌, ◌++◌, length, refl, sym, ap, ◌∙◌, subst, append_assoc, append-nil, add-zero, arith, inl, inr}
 use Rattle.std.proofs.lemmas.List.{length-append}
 use Rattle.std.proofs.lemmas.List.Concat.{flat_map-append}
+use Rattle.fe_memory.specs.Memory.{out_of_memory}
 use Rattle.fe_wire.specs.declared.client_message.ClientMessage.{ClientMessage}
 use Rattle.fe_client.specs.declared.fault.CallFault.{CallFault}
 use Rattle.fe_client.specs.declared.fault.CallFault.TheVariants as fault
@@ -154,7 +155,7 @@ last_broke leads joins end because s t u v kept line n m reads so takes next d =
     }
 
 -- before anything was read
-pub no_memory : {S : Type 0} (leads : S → List Event → S → Type 0) (end : CallFault) (because : Cause → Type 0) (s : S) → leads s [] s → end ≡ fault.Memory → TalksUntil leads end because s s
+pub no_memory : {S : Type 0} (leads : S → List Event → S → Type 0) (end : CallFault) (because : Cause → Type 0) (s : S) → leads s [] s → end ≡ fault.Memory out_of_memory → TalksUntil leads end because s s
 no_memory leads end because s stays short = record {
   lines = 0;
   so = [];

@@ -2,6 +2,7 @@
 use Rattle.std.proofs.Common.{◌≡◌, ◌⊎◌, inl, inr, ℕ, ◌+◌, ◌≤◌, List, [], ◌∷◌, ◌++◌, Some, None, Result, Ok, Err, length, take, take_all, refl, sym, ap, ◌∙◌, arith}
 use Rattle.std.specs.Prelude.{OnErr}
 use Rattle.std.proofs.lemmas.Option.{none-some}
+use Rattle.fe_memory.specs.Memory.{out_of_memory}
 use Rattle.fe_wire.specs.Spelling.{spelling, reply_spelling, ReplyFits}
 use Rattle.fe_wire.specs.declared.client_message.ClientMessage.{ClientMessage}
 use Rattle.fe_wire.specs.declared.server_message.ServerMessage.{ServerMessage}
@@ -44,7 +45,7 @@ printing_ends leads joins end because earlier m reply s t u v front asks fits ca
 }
 
 -- why the text is not printed, by the fault of the stream
-pub unprinted : (end : CallFault) (because : Cause → Type 0) (why : StreamFault) → end ≡ of_stream why → (why ≡ stream.Memory) ⊎ because (Cause.Unwritable why) → Unprinted end because
+pub unprinted : (end : CallFault) (because : Cause → Type 0) (why : StreamFault) → end ≡ of_stream why → (why ≡ stream.Memory out_of_memory) ⊎ because (Cause.Unwritable why) → Unprinted end because
 unprinted end because why is (inl short) = inl (is ∙ ap of_stream short)
 unprinted end because why is (inr failed) = inr (why, failed, is)
 

@@ -1,5 +1,6 @@
 -- How a conversation with a server breaks off (`docs/commands.md`, "Commands").
 use Rattle.std.specs.Prelude.{◌≡◌, ◌≢◌, ◌⊎◌, ℕ, ◌+◌, ◌^◌, ◌<◌, ◌≤◌, List, [], ◌∷◌, ◌++◌, length, take, Option, None, Some}
+use Rattle.fe_memory.specs.Memory.{out_of_memory}
 use Rattle.fe_text.specs.declared.fault.StreamFault.{StreamFault}
 use Rattle.fe_text.specs.declared.fault.StreamFault.TheVariants as stream
 use Rattle.fe_client.specs.declared.fault.CallFault.{CallFault}
@@ -15,7 +16,7 @@ use Rattle.fe_client.specs.Streams.{Known, known, ReadLeast}
 -- the fault of a call for a fault of a stream
 abbrev pub of_stream : StreamFault → CallFault
 of_stream stream.Input = fault.Input
-of_stream stream.Memory = fault.Memory
+of_stream (stream.Memory error) = fault.Memory error
 
 -- why a conversation may break off
 pub data Cause : Type 0 where
@@ -38,7 +39,7 @@ causes over input output was_read (Cause.Unwritable why) = output why
 
 -- the fault is that of the output, which failed, or memory ran out
 abbrev pub Unprinted : CallFault → (Cause → Type 0) → Type 0
-Unprinted end because = (end ≡ fault.Memory) ⊎ ((why : StreamFault) × because (Cause.Unwritable why) × (end ≡ of_stream why))
+Unprinted end because = (end ≡ fault.Memory out_of_memory) ⊎ ((why : StreamFault) × because (Cause.Unwritable why) × (end ≡ of_stream why))
 
 -- the first bytes are some from the front of the second
 abbrev pub IsFrontOf : List ℕ → List ℕ → Type 0
@@ -61,15 +62,15 @@ pub data Unread (end : CallFault) (because : Cause → Type 0) (number : ℕ) (l
   Failed : (why : StreamFault) → because (Cause.Unreadable why) → end ≡ of_stream why → Unread end because number left
   Often : (count : ℕ) → because (Cause.ReadTimes count) → 2 ^ 40 ≤ count → end ≡ fault.Input → Unread end because number left
   Many : end ≡ fault.Input → 2 ^ 64 ≤ number → Unread end because number left
-  NoMemory : end ≡ fault.Memory → Unread end because number left
+  NoMemory : end ≡ fault.Memory out_of_memory → Unread end because number left
 
 -- the line of that number is longer than any line of the syntax, or memory is at fault
 abbrev pub IsTooLong : CallFault → ℕ → List ℕ → Type 0
-IsTooLong end number line = ((end ≡ fault.Line number) × (94 < length line)) ⊎ (end ≡ fault.Memory)
+IsTooLong end number line = ((end ≡ fault.Line number) × (94 < length line)) ⊎ (end ≡ fault.Memory out_of_memory)
 
 -- why a message is not sent; `because` says which causes there are
 abbrev pub Unsent : CallFault → (Cause → Type 0) → Type 0
-Unsent end because = ((end ≡ fault.Socket) × because Cause.Over) ⊎ (end ≡ fault.Memory)
+Unsent end because = ((end ≡ fault.Socket) × because Cause.Over) ⊎ (end ≡ fault.Memory out_of_memory)
 
 -- Why no more bytes come after these: the connection is over, or it was read 2^40 times, each time for a byte at least. At most `earlier`
 -- of the reads were made before these bytes.
@@ -80,7 +81,7 @@ Unreceived end because earlier bytes = ((end ≡ fault.Socket) × because Cause.
 pub data Unanswered (end : CallFault) (because : Cause → Type 0) (earlier : ℕ) (bytes : List ℕ) : Type 0 where
   Incomplete : Unreceived end because earlier bytes → Unanswered end because earlier bytes
   BadFrame : end ≡ fault.Socket → BeginsNoReply bytes → Unanswered end because earlier bytes
-  NoMemory : end ≡ fault.Memory → Unanswered end because earlier bytes
+  NoMemory : end ≡ fault.Memory out_of_memory → Unanswered end because earlier bytes
 
 -- ---- how far the last exchange came
 

@@ -1,3 +1,4 @@
+use fe_memory::OutOfMemory;
 use fe_text::StreamFault;
 
 /// Why a call, that is a run of `femem call`, did not do all that its input asks.
@@ -10,7 +11,7 @@ pub enum CallFault {
     /// The input can't be read or the output can't be written; or after 2^40 reads of a stream, 2^40 writes of one text, or 2^64 - 1 lines.
     Input,
     /// Memory ran out.
-    Memory,
+    Memory(OutOfMemory),
 }
 
 impl From<StreamFault> for CallFault {
@@ -22,7 +23,7 @@ impl From<StreamFault> for CallFault {
     fn from(before: StreamFault) -> CallFault {
         match before {
             StreamFault::Input => CallFault::Input,
-            StreamFault::Memory => CallFault::Memory,
+            StreamFault::Memory(error) => CallFault::Memory(error),
         }
     }
 }

@@ -1,11 +1,13 @@
 //! The lines of a conversation's input (`docs/commands.md`, "Commands").
 
 ghost use Rattle.std.specs.Prelude.{◌≤◌, ◌<◌, ◌≡◌, ◌++◌, length, IfErr, OnOk};
+ghost use Rattle.fe_memory.specs.Memory.{out_of_memory};
 ghost use Rattle.fe_client.specs.Ends.{IsTooLong};
 
 use crate::asking::LONGEST_ASKED;
 use crate::fault::CallFault;
 use crate::streams::Streams;
+use fe_memory::OutOfMemory;
 use fe_text::{PIECE, READS, StreamFault, buffer, first_line};
 use std::alloc::Global;
 
@@ -40,7 +42,7 @@ impl Input {
         ensures kept { IfOk result (λ input. kept_of input ≡ []) }
         ensures number { IfOk result (λ input. input.number ≡ 0) }
         ensures reads { IfOk result (λ input. input.reads ≡ 0) }
-        ensures err { IfErr result (λ fault. fault ≡ CallFault.Memory) }
+        ensures err { IfErr result (λ fault. fault ≡ CallFault.Memory out_of_memory) }
     {
         let piece = buffer(alloc, PIECE)?;
         Ok(Input {
@@ -166,6 +168,6 @@ fn add(line: &mut Vec<u8>, bytes: &[u8], number: u64) -> Result<(), CallFault>
     }
     match line.extend_from_slice(bytes) {
         Ok(()) => Ok(()),
-        Err(_) => Err(CallFault::Memory),
+        Err(error) => Err(CallFault::Memory(OutOfMemory::from(error))),
     }
 }

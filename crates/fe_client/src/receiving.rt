@@ -107,6 +107,6 @@ pub(crate) fn receive_reply<E: Streams>(
     match read_reply(alloc, &room[..end]) {
         Ok(Some(reply)) => Ok(reply),
         Ok(None) => Err(CallFault::Socket),
-        Err(_) => Err(CallFault::Memory),
+        Err(error) => Err(CallFault::Memory(error)),
     }
 }

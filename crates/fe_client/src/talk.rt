@@ -2,6 +2,7 @@
 //! "Commands"). A frame is the bytes of a message or of a reply (`docs/formats.md`, "Frames").
 
 ghost use Rattle.std.specs.Prelude.{◌≡◌, ◌⊎◌, ◌+◌, ◌≤◌, ◌∷◌, ◌++◌, [], ℕ, List, length, IfOk, IfErr, OnOk, OnErr};
+ghost use Rattle.fe_memory.specs.Memory.{out_of_memory};
 ghost use Rattle.fe_wire.specs.Spelling.{spelling, reply_spelling, ReplyFits};
 ghost use Rattle.fe_client.specs.Events.{Event, sent, received, written, reply_text};
 ghost use Rattle.fe_client.specs.Ends.{Cause, ExchangeEnds, IsFrontOf, LineEnds, Unanswered, Unsent};
@@ -34,7 +35,7 @@ impl Talk {
     /// A conversation before its first exchange.
     pub fn new(alloc: Global) -> Result<Talk, CallFault>
         ensures reads { IfOk result (λ talk. talk.reads ≡ 0) }
-        ensures err { IfErr result (λ fault. fault ≡ CallFault.Memory) }
+        ensures err { IfErr result (λ fault. fault ≡ CallFault.Memory out_of_memory) }
     {
         let frame = buffer(alloc, REPLY_BYTES)?;
         Ok(Talk {
@@ -94,8 +95,8 @@ impl Talk {
         ensures err { IfErr result (λ end. Unsent end (E.because streams.new)) }
     {
         self.message.clear();
-        if put_message(&mut self.message, message).is_err() {
-            return Err(CallFault::Memory);
+        if let Err(error) = put_message(&mut self.message, message) {
+            return Err(CallFault::Memory(error));
         }
         send_all(streams, self.message.as_slice())
     }
@@ -126,12 +127,12 @@ impl Talk {
         ensures err { OnErr result ((front : List ℕ) × IsFrontOf front (reply_text reply.now)
             × E.leads streams.old (written front) streams.new) }
         ensures fails { IfErr result
-            (λ why. (why ≡ StreamFault.Memory) ⊎ E.because streams.new (Cause.Unwritable why)) }
+            (λ why. (why ≡ StreamFault.Memory out_of_memory) ⊎ E.because streams.new (Cause.Unwritable why)) }
         ensures reads { self.new.reads ≡ self.old.reads }
     {
         self.text.clear();
-        if print_reply(&mut self.text, None, reply).is_err() {
-            return Err(StreamFault::Memory);
+        if let Err(error) = print_reply(&mut self.text, None, reply) {
+            return Err(StreamFault::Memory(error));
         }
         streams.write(self.text.as_bytes())?;
         streams.flush()

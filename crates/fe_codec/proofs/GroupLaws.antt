@@ -2,7 +2,7 @@
 use Rattle.std.proofs.Common.{◌≡◌, ℕ, true, false, ◌+◌, ◌*◌, ◌≤◌, List, [], ◌∷◌, ◌++◌, length, Result, Ok, Err, IsOk, refl, sym, ap, subst, ◌∙◌, append_assoc, arith}
 use Rattle.std.specs.Prelude.{OnOk}
 use Rattle.std.specs.List.{AllByRecursion}
-use Rattle.std.specs.declared.alloc.AllocError.{AllocError}
+use Rattle.fe_memory.specs.declared.OutOfMemory.{OutOfMemory}
 use Rattle.std.proofs.lemmas.List.{length-append}
 use Rattle.std.proofs.Math.Nat.{add-mul}
 use Rattle.fe_state.specs.declared.entry.Entry.{Entry}
@@ -40,7 +40,7 @@ pub record IsPutting (format : Format) (before out : List ℕ) (entries left : L
   pub fits : FitsGroup format left → FitsGroup format entries
 
 -- one entry more, for which there is room
-pub puts_one : (format : Format) (before out more : List ℕ) (entries left rest : List Entry) (entry : Entry) (len len' old_capacity capacity capacity' : ℕ) (r : Result (Unit {0}) AllocError)
+pub puts_one : (format : Format) (before out more : List ℕ) (entries left rest : List Entry) (entry : Entry) (len len' old_capacity capacity capacity' : ℕ) (r : Result (Unit {0}) OutOfMemory)
     → left ≡ entry ∷ rest → OnOk r (more ≡ out ++ entry_spelling format entry) → (len + record_bytes format ≤ capacity → IsOk r) → len ≡ length out → len' ≡ length more → capacity ≤ capacity'
     → FitsRecord format entry → IsPutting format before out entries left len old_capacity capacity → IsPutting format before more entries rest len' old_capacity capacity'
 puts_one format before out more entries left rest entry len len' old_capacity capacity capacity' r is ok room len_is len'_is grows fits h =
@@ -57,6 +57,6 @@ puts_one format before out more entries left rest entry len len' old_capacity ca
       fits = λ g. h'.fits (fits, g);
     }
   where
-    done : (r : Result (Unit {0}) AllocError) → OnOk r (more ≡ out ++ entry_spelling format entry) → IsOk r → more ≡ out ++ entry_spelling format entry
+    done : (r : Result (Unit {0}) OutOfMemory) → OnOk r (more ≡ out ++ entry_spelling format entry) → IsOk r → more ≡ out ++ entry_spelling format entry
     done (Ok u) ok is_ok = ok
     done (Err e) ok is_ok = let clash : false ≡ true = is_ok in absurd cc

@@ -15,7 +15,7 @@ module _ {X : Type 0} (step : X → Result X ℕ) (count i : ℕ) (x : X) (total
 
   pub stops : (fault : Fault) → i < count → GivesFault fault (step x) → GivesFault fault total
   unfolding repeated
-  stops NoMemory lt h = tt
+  stops (NoMemory error) lt h = tt
   stops (Left left) lt h =
       let k : count - i ≡ suc (count - (i + 1)) = omega arith in
       let one : repeated step (count - i) x ≡ Err left = rw (k, h) refl in
@@ -30,7 +30,7 @@ module _ {X : Type 0} (step : X → Result X ℕ) (count i : ℕ) (x : X) (total
 
 -- a fault in the first of two steps is the fault of both
 pub stopped : {A B : Type 0} (fault : Fault) (given : Result A ℕ) (f : A → Result B ℕ) → GivesFault fault given → GivesFault fault (given followed_by f)
-stopped NoMemory given f h = tt
+stopped (NoMemory error) given f h = tt
 stopped (Left left) given f h = rw h refl
 
 -- before the first step

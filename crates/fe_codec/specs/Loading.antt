@@ -42,7 +42,7 @@ pub record AddsArray (id : ℕ) (old new : ServerState) : Type 0 where
 
 -- a fault is the one that the rule gives, unless memory ran out
 abbrev pub GivesFault : {Y : Type 0} → Fault → Result Y ℕ → Type 0
-GivesFault NoMemory given = Unit {0}
+GivesFault (NoMemory error) given = Unit {0}
 GivesFault (Left left) given = given ≡ Err left
 
 -- what a step returned, seen through `view`, is what the rule gives, unless memory ran out
@@ -52,7 +52,7 @@ Gives view (Err fault) given = GivesFault fault given
 
 -- a fault is the one that the rule gives, where no memory is taken
 abbrev pub ReadsFault : {Y : Type 0} → Fault → Result Y ℕ → Type 0
-ReadsFault NoMemory given = ⊥
+ReadsFault (NoMemory error) given = ⊥
 ReadsFault (Left left) given = given ≡ Err left
 
 -- what a step that takes no memory returned, seen through `view`, is what the rule gives
@@ -67,7 +67,7 @@ ReadsNumberIn w least limit result bytes =
 
 -- the fault of a whole image, an offset, is the one that the rule gives, unless memory ran out
 abbrev pub ImageFails : {Y : Type 0} → ImageFault → Result Y ℕ → Type 0
-ImageFails image.NoMemory given = Unit {0}
+ImageFails (image.NoMemory error) given = Unit {0}
 ImageFails (image.Damaged offset) given = given ≡ Err offset
 
 abbrev pub ImageGives : {Y : Type 0} → Result Y ImageFault → Result Y ℕ → Type 0

@@ -9,22 +9,23 @@ ghost use Rattle.fe_codec.specs.Image.{word_spelling};
 
 use fe_codes::tag_code;
 use fe_fields::{Fields, u32_bytes, u64_bytes};
+use fe_memory::OutOfMemory;
 use fe_words::Word;
-use std::alloc::AllocError;
 
 /// How many bytes a word has in an image: its tag and its value.
 const WORD_BYTES: usize = 9;
 
 /// Appends the bytes.
-pub fn put_bytes(out: &mut Vec<u8>, bytes: &[u8]) -> Result<(), AllocError>
+pub fn put_bytes(out: &mut Vec<u8>, bytes: &[u8]) -> Result<(), OutOfMemory>
     ensures { Appends out.old.items out.new.items (vec_capacity out.old) (vec_capacity out.new)
         (is_ok result) bytes.now }
 {
-    out.extend_from_slice(bytes)
+    out.extend_from_slice(bytes)?;
+    Ok(())
 }
 
 /// Appends a number as four bytes, big-endian.
-pub fn put_u32(out: &mut Vec<u8>, value: u32) -> Result<(), AllocError>
+pub fn put_u32(out: &mut Vec<u8>, value: u32) -> Result<(), OutOfMemory>
     ensures { Appends out.old.items out.new.items (vec_capacity out.old) (vec_capacity out.new) (is_ok result)
         (to_be_bytes w32 value) }
 {
@@ -32,7 +33,7 @@ pub fn put_u32(out: &mut Vec<u8>, value: u32) -> Result<(), AllocError>
 }
 
 /// Appends a number as eight bytes, big-endian.
-pub fn put_u64(out: &mut Vec<u8>, value: u64) -> Result<(), AllocError>
+pub fn put_u64(out: &mut Vec<u8>, value: u64) -> Result<(), OutOfMemory>
     ensures { Appends out.old.items out.new.items (vec_capacity out.old) (vec_capacity out.new) (is_ok result)
         (to_be_bytes w64 value) }
 {
@@ -40,7 +41,7 @@ pub fn put_u64(out: &mut Vec<u8>, value: u64) -> Result<(), AllocError>
 }
 
 /// Appends a word: its tag in one byte, and its value in eight, big-endian.
-pub fn put_word(out: &mut Vec<u8>, word: Word) -> Result<(), AllocError>
+pub fn put_word(out: &mut Vec<u8>, word: Word) -> Result<(), OutOfMemory>
     ensures appends { Appends out.old.items out.new.items (vec_capacity out.old) (vec_capacity out.new) (is_ok result)
         (word_spelling word) }
     ensures fits { word.value < 2 ^ 64 }
@@ -52,7 +53,7 @@ pub fn put_word(out: &mut Vec<u8>, word: Word) -> Result<(), AllocError>
 }
 
 /// Appends words, one after another.
-pub fn put_words(out: &mut Vec<u8>, words: &[Word]) -> Result<(), AllocError>
+pub fn put_words(out: &mut Vec<u8>, words: &[Word]) -> Result<(), OutOfMemory>
     ensures appends { Appends out.old.items out.new.items (vec_capacity out.old) (vec_capacity out.new) (is_ok result)
         (flat_map word_spelling words.now) }
     ensures fits { OnOk result (AllByRecursion (λ w. w.value < 2 ^ 64) words.now) }

@@ -9,15 +9,15 @@ ghost use Rattle.fe_state.specs.declared.entry.Entry.{Entry as Step};
 use crate::Format;
 use crate::record::record_of;
 use crate::record_bytes::RecordBytes;
+use fe_memory::OutOfMemory;
 use fe_state::Entry;
-use std::alloc::AllocError;
 
 /// Numbers and floors are below this.
 const NUMBER_LIMIT: u64 = 1 << 63;
 
 /// Appends the record of an entry. It must have one in the format: the format has room for it, and its number or floor is below 2^63.
-/// Returns `AllocError`, with nothing appended, if the vector's spare room doesn't hold the record and memory runs out.
-pub fn put_entry(format: Format, entry: &Entry, out: &mut Vec<u8>) -> Result<(), AllocError>
+/// Returns `OutOfMemory`, with nothing appended, if the vector's spare room doesn't hold the record and memory runs out.
+pub fn put_entry(format: Format, entry: &Entry, out: &mut Vec<u8>) -> Result<(), OutOfMemory>
     requires { CanPut format entry.now }
     ensures ok { OnOk result (out.new.items ≡ out.old.items ++ entry_spelling format entry.now) }
     ensures err { OnErr result (out.new.items ≡ out.old.items) }
@@ -27,7 +27,8 @@ pub fn put_entry(format: Format, entry: &Entry, out: &mut Vec<u8>) -> Result<(),
     // The entry has a record in the grammar, so it can be read again.
     ensures fits { FitsRecord format entry.now }
 {
-    out.extend_from_slice(record_of(format, entry).bytes())
+    out.extend_from_slice(record_of(format, entry).bytes())?;
+    Ok(())
 }
 
 /// Whether the number or floor is below 2^63.

@@ -10,12 +10,13 @@ ghost use Rattle.fe_state.specs.declared.entry.Entry.{Entry as Step};
 
 use crate::Format;
 use crate::entries::{put_entry, read_entry};
+use fe_memory::OutOfMemory;
 use fe_state::Entry;
-use std::alloc::{AllocError, Global};
+use std::alloc::Global;
 
 /// Appends the records of at most `group_records` entries, one after another. Each must have a record in the format, as for `put_entry`.
-/// Returns `AllocError`, with nothing appended, if the vector's spare room doesn't hold them and memory runs out.
-pub fn put_group(format: Format, entries: &[Entry], out: &mut Vec<u8>) -> Result<(), AllocError>
+/// Returns `OutOfMemory`, with nothing appended, if the vector's spare room doesn't hold them and memory runs out.
+pub fn put_group(format: Format, entries: &[Entry], out: &mut Vec<u8>) -> Result<(), OutOfMemory>
     requires each { AllByRecursion (CanPut format) entries.now }
     requires most { length entries.now ≤ group_records format }
     ensures ok { OnOk result (out.new.items ≡ out.old.items ++ group_spelling format entries.now) }
@@ -55,12 +56,12 @@ fn next_entry(format: Format, bytes: &[u8]) -> Option<(Entry, &[u8])>
 }
 
 /// The entries of a group: 1 to `group_records` records of the format, one after another. `None` if the bytes are no
-/// group. `AllocError` if memory runs out.
+/// group. `OutOfMemory` if memory runs out.
 pub fn read_group(
     alloc: Global,
     format: Format,
     bytes: &[u8],
-) -> Result<Option<Vec<Entry>>, AllocError>
+) -> Result<Option<Vec<Entry>>, OutOfMemory>
     // What is read has these bytes.
     ensures found { IfOk result (λ read. IfSome read (λ entries. IsGroupOf format entries.items bytes.now)) }
     // The bytes of every group are read, so `None` means that these are no group's.

@@ -1,6 +1,7 @@
 //! Reading a server state from its image (`docs/formats.md`, "Image").
 
 ghost use Rattle.std.specs.Prelude.{◌≡◌, ℕ, ◌≤◌, length, Err, IsOk, IfOk};
+ghost use Rattle.fe_memory.specs.Memory.{out_of_memory};
 ghost use Rattle.fe_codec.specs.FirstFault.{header_at, state_at, image_at};
 ghost use Rattle.fe_codec.specs.Loading.{Gives, ImageGives};
 ghost use Rattle.fe_codec.specs.Image.{image_spelling, FitsImage};
@@ -18,7 +19,7 @@ use std::alloc::Global;
 fn state_at(alloc: Global, format: Format, bytes: &[u8]) -> Result<State, Fault>
     ensures given { Gives (λ state. state) result (state_at format bytes.now) }
     ensures limits { IfOk result IsWithinLimits }
-    ensures memory { result ≡ Err Fault.NoMemory → IsOk (header_at bytes.now) }
+    ensures memory { result ≡ Err (Fault.NoMemory out_of_memory) → IsOk (header_at bytes.now) }
 {
     let (header, rest) = header_at(bytes)?;
     let mut state = State::starting(alloc, header.place, header.next_id)?;
@@ -48,7 +49,7 @@ pub fn read_image(alloc: Global, format: Format, bytes: &[u8]) -> Result<State, 
     // The offset of a fault lies within the image, or at its end.
     ensures within { (offset : ℕ) → result ≡ Err (ImageFault.Damaged offset) → offset ≤ length bytes.now }
     // Memory can run out only if the first four fields are right.
-    ensures memory { result ≡ Err ImageFault.NoMemory → IsOk (header_at bytes.now) }
+    ensures memory { result ≡ Err (ImageFault.NoMemory out_of_memory) → IsOk (header_at bytes.now) }
 {
     match state_at(alloc, format, bytes) {
         Ok(state) => Ok(state),
@@ -56,6 +57,6 @@ pub fn read_image(alloc: Global, format: Format, bytes: &[u8]) -> Result<State, 
             let offset = bytes.len().saturating_sub(left);
             Err(ImageFault::Damaged { offset })
         }
-        Err(Fault::NoMemory) => Err(ImageFault::NoMemory),
+        Err(Fault::NoMemory(error)) => Err(ImageFault::NoMemory(error)),
     }
 }

@@ -11,9 +11,9 @@ ghost use Rattle.fe_codec.specs.Image.{array_spelling, kept_spelling, session_sp
 use crate::Format;
 use crate::appending::{put_bytes, put_u32, put_u64, put_words};
 use crate::record::{name_record, record_of};
+use fe_memory::OutOfMemory;
 use fe_state::{Entry, Kept, KeptAnswers, Name, State};
 use fe_words::Word;
-use std::alloc::AllocError;
 
 fn put_array(
     format: Format,
@@ -21,7 +21,7 @@ fn put_array(
     name: &Name,
     words: &[Word],
     out: &mut Vec<u8>,
-) -> Result<(), AllocError>
+) -> Result<(), OutOfMemory>
     requires name { ArrayOfFormat format (id, record { name = name.now; words = words.now }) }
     requires few { length words.now < 2 ^ 32 }
     ensures appends { Appends out.old.items out.new.items (vec_capacity out.old) (vec_capacity out.new) (is_ok result)
@@ -34,7 +34,7 @@ fn put_array(
     put_words(out, words)
 }
 
-fn put_arrays(format: Format, state: &State, out: &mut Vec<u8>) -> Result<(), AllocError>
+fn put_arrays(format: Format, state: &State, out: &mut Vec<u8>) -> Result<(), OutOfMemory>
     requires { AllByRecursion (ArrayOfFormat format) (entries state.now.arrays) }
     ensures appends { Appends out.old.items out.new.items (vec_capacity out.old) (vec_capacity out.new) (is_ok result)
         (flat_map (array_spelling format) (entries state.now.arrays)) }
@@ -54,7 +54,7 @@ fn put_kept(
     number: u64,
     kept: &Kept,
     out: &mut Vec<u8>,
-) -> Result<(), AllocError>
+) -> Result<(), OutOfMemory>
     requires { KeptOfFormat format session (number, kept.now) }
     ensures appends { Appends out.old.items out.new.items (vec_capacity out.old) (vec_capacity out.new) (is_ok result)
         (kept_spelling format session (number, kept.now)) }
@@ -76,7 +76,7 @@ fn put_answers(
     session: u64,
     answers: KeptAnswers<'_>,
     out: &mut Vec<u8>,
-) -> Result<(), AllocError>
+) -> Result<(), OutOfMemory>
     requires { AllByRecursion (KeptOfFormat format session) (entries answers) }
     ensures appends { Appends out.old.items out.new.items (vec_capacity out.old) (vec_capacity out.new) (is_ok result)
         (flat_map (kept_spelling format session) (entries answers.entry)) }
@@ -94,7 +94,7 @@ fn put_session(
     floor: u64,
     answers: KeptAnswers<'_>,
     out: &mut Vec<u8>,
-) -> Result<(), AllocError>
+) -> Result<(), OutOfMemory>
     requires { SessionOfFormat format (session, record { floor = floor; kept = answers }) }
     ensures appends { Appends out.old.items out.new.items (vec_capacity out.old) (vec_capacity out.new) (is_ok result)
         (session_spelling format (session, record { floor = floor; kept = answers.entry })) }
@@ -106,7 +106,7 @@ fn put_session(
     put_answers(format, session, answers, out)
 }
 
-fn put_sessions(format: Format, state: &State, out: &mut Vec<u8>) -> Result<(), AllocError>
+fn put_sessions(format: Format, state: &State, out: &mut Vec<u8>) -> Result<(), OutOfMemory>
     requires { AllByRecursion (SessionOfFormat format) (entries state.now.sessions) }
     ensures appends { Appends out.old.items out.new.items (vec_capacity out.old) (vec_capacity out.new) (is_ok result)
         (flat_map (session_spelling format) (entries state.now.sessions)) }
@@ -120,7 +120,7 @@ fn put_sessions(format: Format, state: &State, out: &mut Vec<u8>) -> Result<(), 
     Ok(())
 }
 
-fn put_state(format: Format, state: &State, out: &mut Vec<u8>) -> Result<(), AllocError>
+fn put_state(format: Format, state: &State, out: &mut Vec<u8>) -> Result<(), OutOfMemory>
     requires { HasRoomForState format state.now }
     ensures appends { Appends out.old.items out.new.items (vec_capacity out.old) (vec_capacity out.new) (is_ok result)
         (image_spelling format state.now) }
@@ -134,9 +134,9 @@ fn put_state(format: Format, state: &State, out: &mut Vec<u8>) -> Result<(), All
     put_sessions(format, state, out)
 }
 
-/// Appends the image of a state. The format must have room for it, as format 2 always has. Returns `AllocError`, with nothing appended, if
+/// Appends the image of a state. The format must have room for it, as format 2 always has. Returns `OutOfMemory`, with nothing appended, if
 /// the vector's spare room doesn't hold it and memory runs out.
-pub fn put_image(format: Format, state: &State, out: &mut Vec<u8>) -> Result<(), AllocError>
+pub fn put_image(format: Format, state: &State, out: &mut Vec<u8>) -> Result<(), OutOfMemory>
     requires { StateOfFormat format state.now }
     ensures ok { OnOk result (out.new.items ≡ out.old.items ++ image_spelling format state.now) }
     ensures err { OnErr result (out.new.items ≡ out.old.items) }

@@ -1,6 +1,7 @@
 -- What a step does before the boxes are emptied, from the call that it makes.
 use Rattle.std.proofs.Common.{◌≡◌, ℕ, Vec, Global, true, false, List, [], Result, Ok, Err, refl, sym, ap, subst, ◌∙◌}
 use Rattle.std.specs.Prelude.{OnOk, MatchResult}
+use Rattle.fe_memory.specs.Memory.{out_of_memory}
 use Rattle.fe_disk.specs.declared.disk.Disk.{Ghosts}
 use Rattle.fe_keeper.specs.Ends as keeper
 use Rattle.fe_keeper.specs.Keeper.{KeeperState}
@@ -53,7 +54,7 @@ module _ {D : Type 0} {k : Ghosts D} {y : Step} {a b : DeskState D} where
         fine = fine;
       }
 
-  pub act_short : OnlyNow k → IsReady k a → b ≡ a → Lacks false y a b → GoesAct k a y (Err (desk.NoMemory false)) b
+  pub act_short : OnlyNow k → IsReady k a → b ≡ a → Lacks false y a b → GoesAct k a y (Err (desk.NoMemory out_of_memory false)) b
   act_short only_now ready same lacks =
       let still : Stays k a b = stays_same same in
       record { desk = still.desk ready.desk; owes = still.owes; advances = advances_as k only_now a b ready.desk still.store; ends = lacking same (fine_as k a b ready.works still.store) lacks }
@@ -79,7 +80,7 @@ module _ {D : Type 0} {k : Ghosts D} {a b : DeskState D} where
         advances = h.advances;
         ends = (h.ends.0, record { breaks = record { last = h.ends.1.last; stops = h.ends.1.until; tears = h.ends.1.tears }; silent = silent; failed = h.ends.1.failed });
       }
-      by (Err (desk.NoMemory false)) h = record {
+      by (Err (desk.NoMemory error false)) h = record {
         desk = h.desk;
         owes = h.owes;
         advances = h.advances;
@@ -91,7 +92,7 @@ module _ {D : Type 0} {k : Ghosts D} {a b : DeskState D} where
           fine = h.ends.0.fine;
         };
       }
-      by (Err (desk.NoMemory true)) h = record {
+      by (Err (desk.NoMemory error true)) h = record {
         desk = h.desk;
         owes = h.owes;
         advances = h.advances;
@@ -103,7 +104,7 @@ module _ {D : Type 0} {k : Ghosts D} {a b : DeskState D} where
           fine = h.ends.0.fine;
         };
       }
-      by (Err desk.Unwritten) h = absurd h.ends
+      by (Err (desk.Unwritten error)) h = absurd h.ends
 
   -- ---- the batch at hand is stored
 
@@ -117,7 +118,7 @@ module _ {D : Type 0} {k : Ghosts D} {a b : DeskState D} where
         advances = h.advances;
         ends = (refl, record { breaks = subst (λ (s : DeskRunState). Tears s b) h.ends.until h.ends.tears; silent = ap outputs h.ends.tears.run_state ∙ ap outputs h.ends.until; failed = h.ends.failed });
       }
-      of NoMemory h = record { desk = h.desk; owes = h.owes; advances = h.advances; ends = lacking h.ends.1.same h.ends.0.fine (h.ends.1.at_hand, h.ends.1.same) }
+      of (NoMemory error) h = record { desk = h.desk; owes = h.owes; advances = h.advances; ends = lacking h.ends.1.same h.ends.0.fine (h.ends.1.at_hand, h.ends.1.same) }
       of Failed h = absurd h.ends
       of (Mismatch place) h = absurd h.ends
       of (Damaged offset) h = absurd h.ends
@@ -135,7 +136,7 @@ with_keeper d new = record d { keeper = new }
 module _ {D : Type 0} {k : Ghosts D} (y : Step) (d : DeskState D) (new : KeeperState D) where
   -- A step makes a call of the keeper that keeps the replica.
   pub act_check : {T : Type 0} {q : Result (Unit {0}) DeskFault} (r : Result T Fault) (Cause : Fault → Type 0) → CountsNow k → IsReady k d → keeper.Rests k d.keeper new
-      → Acts d.run_state y d.run_state → OnOk r (Checks y d (with_keeper d new)) → (Cause NoMemory → with_keeper d new ≡ d → Lacks false y d (with_keeper d new)) → ((place : ℕ) → Cause (Mismatch place) → ⊥)
+      → Acts d.run_state y d.run_state → OnOk r (Checks y d (with_keeper d new)) → (Cause (NoMemory out_of_memory) → with_keeper d new ≡ d → Lacks false y d (with_keeper d new)) → ((place : ℕ) → Cause (Mismatch place) → ⊥)
       → (BreaksOff d (with_keeper d new) → TearsStep y d (with_keeper d new)) → IsTold r q → keeper.Ends k Cause r d.keeper new → GoesAct k d y q (with_keeper d new)
   act_check {T} {q} r Cause counts_now ready rests acts checked lacks mismatch breaks written_out h = by r checked written_out h
     where
@@ -151,7 +152,7 @@ module _ {D : Type 0} {k : Ghosts D} (y : Step) (d : DeskState D) (new : KeeperS
       of : (f : Fault) → keeper.Fails k Cause d.keeper new f → GoesAct k d y (Err (desk_fault_of f false)) (with_keeper d new)
       of Device h = record { desk = still; owes = refl; advances = advances; ends = (refl, record { breaks = breaks (record { run_state = refl; synced = refl }); silent = refl; failed = h.1 }) }
       of Failed h = let had = h.0 in absurd (cc (had, works))
-      of NoMemory h =
+      of (NoMemory error) h =
           let same : new ≡ d.keeper = h.1.same in
           let is : with_keeper d new ≡ d = ap (λ (j : KeeperState D). record d { keeper = j }) same in
           record {

@@ -170,11 +170,11 @@ module _ {D : Type 0} (begun : ServerState) (asked : ℕ → ℕ → Bool) where
             (emptied_holds begun asked ends.took.last (acts_hold begun asked below (discharged old.run_state) x ends.took.last mine ends.took.acts there)))
         by (Err (Store cause)) ends =
             breaks_acknowledged x (discharged_desk old) new mine ends.1.breaks ends.1.failed.failed (all ∙ ap (λ (gs : List (List Entry)). length gs) (sym (discharged_groups old.run_state))) there
-        by (Err (NoMemory fed)) ends = acknowledged_by new ends.sound.stored (elim ends.finds [
+        by (Err (NoMemory error fed)) ends = acknowledged_by new ends.sound.stored (elim ends.finds [
           | inl still ↦ some_holds begun asked old.run_state new.run_state still.1.writes h
           | inr lacks ↦ lacks_hold fed x (discharged_desk old) new mine lacks there
         ])
-        by (Err Unwritten) ends =
+        by (Err (Unwritten error)) ends =
             acknowledged_by new ends.sound.stored (some_holds begun asked ends.last new.run_state ends.writes (acts_hold begun asked below (discharged old.run_state) x ends.last mine ends.acts there))
 
     pub step_acknowledged : (old : DeskState D) (x : Step) (r : Result (Unit {0}) DeskFault) (new : DeskState D) → StepAsksFor asked old x → IsStep model old x r new → IsAcknowledged begun asked old

@@ -365,8 +365,20 @@ replaced f ports at q lt =
     ap (λ (ps : List Port). map f ps) whole ∙ map-append f (take at ports) (q ∷ drop (at + 1) ports)
 
 -- the port at the place is the first of those from there on
-from_here : {B : Type 0} (f : Port → B) (ports : List Port) (at : ℕ) (p : Port) → at < length ports → p ≡ get_or ports at p → map f (drop at ports) ≡ f p ∷ map f (drop (at + 1) ports)
+pub from_here : {B : Type 0} (f : Port → B) (ports : List Port) (at : ℕ) (p : Port) → at < length ports → p ≡ get_or ports at p → map f (drop at ports) ≡ f p ∷ map f (drop (at + 1) ports)
 from_here f ports at p lt is = ap (λ (ps : List Port). map f ps) (drop_more ports at p lt ∙ ap (λ (x : Port). x ∷ drop (at + 1) ports) (sym is))
+
+-- there is a port at each index
+pub port_there : (ports : List Port) (at : ℕ) → at < length ports → (p : Port) × (p ≡ get_or ports at p)
+port_there [] at lt = absurd (omega (arith, lt))
+port_there (p ∷ ports) zero lt = (p, refl)
+port_there (p ∷ ports) (suc at) lt = port_there ports at (omega (arith, lt))
+
+-- a port in its own place
+pub same_set : (ports : List Port) (at : ℕ) (p : Port) → at < length ports → p ≡ get_or ports at p → slice_set ports at p ≡ ports
+same_set [] at p lt is = absurd (omega (arith, lt))
+same_set (q ∷ ports) zero p lt is = ap (λ (x : Port). x ∷ ports) is
+same_set (q ∷ ports) (suc at) p lt is = ap (λ (ps : List Port). q ∷ ps) (same_set ports at p (omega (arith, lt)) is)
 
 -- what a port and the one in its place have alike, all ports have as before
 pub all_alike : {B : Type 0} (f : Port → B) (ports : List Port) (at : ℕ) (p q : Port) → at < length ports → p ≡ get_or ports at p → f q ≡ f p → map f (slice_set ports at q) ≡ map f ports

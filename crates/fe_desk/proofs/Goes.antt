@@ -3,6 +3,7 @@ use Rattle.std.proofs.Common.{◌≡◌, ℕ, ◌≤◌, false, List, Result, Ok
 use Rattle.std.specs.Prelude.{eqb, Bool, true, Option, None, Some, nat_eq, ⊤, IsErrAnd, MatchResult}
 use Rattle.std.specs.Option.{option_eq, option_map_or}
 use Rattle.std.proofs.lemmas.Bool.Decides.{nat_tests}
+use Rattle.fe_memory.specs.Memory.{out_of_memory}
 use Rattle.fe_disk.specs.Disk.{Rises}
 use Rattle.fe_disk.specs.declared.disk.Disk.{Ghosts}
 use Rattle.fe_keeper.specs.declared.fault.Fault.{Fault}
@@ -41,7 +42,7 @@ module _ {D : Type 0} (k : Ghosts D) where
     failed = record { before = ab.fine.before; failed = bc.failed.failed; rises = subst (λ (n : ℕ). Rises n (k.failures (disk_of c))) ab.fine.still bc.failed.rises };
   }
   faults_then Short Until a b c Failed ab bc = bc
-  faults_then Short Until a b c NoMemory ab bc = (both a b c ab bc.0, bc.1)
+  faults_then Short Until a b c (NoMemory error) ab bc = (both a b c ab bc.0, bc.1)
   faults_then Short Until a b c (Mismatch place) ab bc = bc
   faults_then Short Until a b c (Damaged offset) ab bc = bc
   faults_then Short Until a b c Unformatted ab bc = bc
@@ -55,7 +56,7 @@ module _ {D : Type 0} (k : Ghosts D) where
       → Faults k Short Until a b fault → Faults k Less Before a b fault
   faults_weaker Short Less Until Before a b Device short until h = record { last = h.last; until = until h.last h.until h.tears; tears = h.tears; failed = h.failed }
   faults_weaker Short Less Until Before a b Failed short until h = h
-  faults_weaker Short Less Until Before a b NoMemory short until h = (h.0, short h.1)
+  faults_weaker Short Less Until Before a b (NoMemory error) short until h = (h.0, short h.1)
   faults_weaker Short Less Until Before a b (Mismatch place) short until h = h
   faults_weaker Short Less Until Before a b (Damaged offset) short until h = h
   faults_weaker Short Less Until Before a b Unformatted short until h = h
@@ -65,7 +66,7 @@ module _ {D : Type 0} (k : Ghosts D) where
       → Faults k Short Until a b fault → PieceFaults k Less Before a b (desk_fault_of fault fed)
   faults_given Short Less Until Before a b Device fed short until h = (refl, record { last = h.last; until = until h.last h.until; tears = h.tears; failed = h.failed })
   faults_given Short Less Until Before a b Failed fed short until h = absurd h
-  faults_given Short Less Until Before a b NoMemory fed short until h = (h.0, short h.1)
+  faults_given Short Less Until Before a b (NoMemory error) fed short until h = (h.0, short h.1)
   faults_given Short Less Until Before a b (Mismatch place) fed short until h = absurd h
   faults_given Short Less Until Before a b (Damaged offset) fed short until h = absurd h
   faults_given Short Less Until Before a b Unformatted fed short until h = absurd h
@@ -109,7 +110,7 @@ module _ {D : Type 0} {k : Ghosts D} where
   }
 
   -- memory was short for the batch at hand, and nothing was done
-  pub unstored : {Done Until : DeskRunState → Type 0} {fault : Fault} {a b : DeskState D} → OnlyNow k → fault ≡ NoMemory → IsReady k a
+  pub unstored : {Done Until : DeskRunState → Type 0} {fault : Fault} {a b : DeskState D} → OnlyNow k → fault ≡ NoMemory out_of_memory → IsReady k a
       → HasCut a.run_state → b ≡ a → Goes k Done (IsUnstored a) Until (Err fault) a b
   unstored {Done} {Until} {fault} {a} {b} only_now is ready cut same =
       let still : Stays k a b = stays_same same in
@@ -191,7 +192,7 @@ module _ {D : Type 0} {k : Ghosts D} where
 
   -- memory was short after it was done
   pub piece_short : {P : DeskRunState → Type 0} {Q : DeskState D → Type 0} {R : DeskRunState → Type 0} {x : Unit {0}} {Done : DeskRunState → Type 0} {Short : Bool → DeskRunState → Type 0} {Until : DeskRunState → Type 0} {a b : DeskState D} {fed : Bool}
-      → Goes k P Q R (Ok x) a b → Short fed b.run_state → GoesPiece k Done Short Until (Err (desk.NoMemory fed)) a b
+      → Goes k P Q R (Ok x) a b → Short fed b.run_state → GoesPiece k Done Short Until (Err (desk.NoMemory out_of_memory fed)) a b
   piece_short h is = record { desk = h.desk; owes = h.owes; advances = h.advances; ends = (h.ends.0, is) }
 
   pub piece_faulty : {P : DeskRunState → Type 0} {Q : DeskState D → Type 0} {R Done : DeskRunState → Type 0} {Short : Bool → DeskRunState → Type 0} {Until : DeskRunState → Type 0} {fault : Fault} {written_out : DeskFault} {a b : DeskState D} (fed : Bool)

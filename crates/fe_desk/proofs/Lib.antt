@@ -32,6 +32,7 @@ pub mod Answering
 pub mod Given
 pub mod ManyStops
 pub mod WithMail
-pub mod Spans
-pub mod Spanned
+pub mod Bits
+pub mod Placing
+pub mod Walking
 pub mod Silence

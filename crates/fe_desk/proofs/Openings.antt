@@ -4,6 +4,7 @@ use Rattle.std.specs.Prelude.{◌≢◌, ◌↔◌, Option, Result, Ok, Err, IfO
 use Rattle.std.specs.Ordering.{nat_cmp}
 use Rattle.std.specs.FinMap.{FinMap, get, get-empty}
 use Rattle.std.specs.Option.{option_map_or}
+use Rattle.fe_memory.specs.Memory.{out_of_memory}
 use Rattle.fe_mail.specs.Connections.{mails_on}
 use Rattle.fe_mail.specs.declared.connection.Connection.{Connection}
 use Rattle.fe_state.specs.State.{ServerState, after_all}
@@ -58,7 +59,7 @@ first_quiet begun s first = record {
 }
 
 -- lack of memory is no fault of the store
-none_both : (fault : DeskFault) {cause : Fault} → fault ≡ NoMemory false → fault ≡ Store cause → ⊥
+none_both : (fault : DeskFault) {cause : Fault} → fault ≡ NoMemory out_of_memory false → fault ≡ Store cause → ⊥
 none_both fault {cause} short is = cc
 
 module _ {D : Type 0} where
@@ -100,10 +101,10 @@ module _ {D : Type 0} (r : Result (DeskState D) (DeskFault × D)) (k : KeeperSta
       by (Err e) none same = same
 
   -- and the device has the size of a store
-  pub size_faulty : (A : Type 0) → A → IfErr r (λ e. e.0 ≡ NoMemory false) → IfErr r (λ e. (e.0 ≡ Store keeper.Unformatted) ↔ (A → ⊥))
+  pub size_faulty : (A : Type 0) → A → IfErr r (λ e. e.0 ≡ NoMemory out_of_memory false) → IfErr r (λ e. (e.0 ≡ Store keeper.Unformatted) ↔ (A → ⊥))
   size_faulty A size = by r
     where
-      by : (x : Result (DeskState D) (DeskFault × D)) → IfErr x (λ e. e.0 ≡ NoMemory false) → IfErr x (λ e. (e.0 ≡ Store keeper.Unformatted) ↔ (A → ⊥))
+      by : (x : Result (DeskState D) (DeskFault × D)) → IfErr x (λ e. e.0 ≡ NoMemory out_of_memory false) → IfErr x (λ e. (e.0 ≡ Store keeper.Unformatted) ↔ (A → ⊥))
       by (Ok d) fault = tt
       by (Err e) fault = (λ is. absurd (none_both e.0 fault is), λ none. absurd (none size))
 
@@ -126,18 +127,18 @@ asks_as {model = model} {other = other} {old = old} s again is same asks =
 device_fault : (f : Fault) → (desk_fault_of f false ≡ Store keeper.Device) ↔ (f ≡ keeper.Device)
 device_fault keeper.Device = (λ e. refl, λ e. refl)
 device_fault keeper.Failed = (λ e. cc, λ e. cc)
-device_fault keeper.NoMemory = (λ e. cc, λ e. cc)
+device_fault (keeper.NoMemory error) = (λ e. cc, λ e. cc)
 device_fault (keeper.Mismatch place) = (λ e. cc, λ e. cc)
 device_fault (keeper.Damaged offset) = (λ e. cc, λ e. cc)
 device_fault keeper.Unformatted = (λ e. cc, λ e. cc)
 
 module _ {D : Type 0} {model : Ghosts D} {old : D} where
   -- over a keeper that was opened, whether there was memory for the desk or not
-  pub asks_over : (r : Result (DeskState D) (DeskFault × D)) (k : KeeperState D) → IfOk r (λ d. d.keeper ≡ k) → IfErr r (λ e. e.0 ≡ NoMemory false) → IfErr r (λ e. e.1 ≡ k.store.disk)
+  pub asks_over : (r : Result (DeskState D) (DeskFault × D)) (k : KeeperState D) → IfOk r (λ d. d.keeper ≡ k) → IfErr r (λ e. e.0 ≡ NoMemory out_of_memory false) → IfErr r (λ e. e.1 ≡ k.store.disk)
       → AsksToOpen model keeper.Device (Ok k) old k.store.disk → AsksToOpen model (Store keeper.Device) (without_disk r) old (disk_after r)
   asks_over r k = by r
     where
-      by : (x : Result (DeskState D) (DeskFault × D)) → IfOk x (λ d. d.keeper ≡ k) → IfErr x (λ e. e.0 ≡ NoMemory false) → IfErr x (λ e. e.1 ≡ k.store.disk)
+      by : (x : Result (DeskState D) (DeskFault × D)) → IfOk x (λ d. d.keeper ≡ k) → IfErr x (λ e. e.0 ≡ NoMemory out_of_memory false) → IfErr x (λ e. e.1 ≡ k.store.disk)
           → AsksToOpen model keeper.Device (Ok k) old k.store.disk → AsksToOpen model (Store keeper.Device) (without_disk x) old (disk_after x)
       by (Ok d) same short disk asks = asks_as (Ok d) (disk_of d) (ap (λ (x : KeeperState D). x.store.disk) same) (λ e. cc, λ e. cc) asks
       by (Err e) same short disk asks = asks_as (Err e.0) e.1 disk (λ is. let fault : e.0 ≡ Store keeper.Device = cc in absurd (none_both e.0 short fault), λ is. cc) asks
@@ -168,12 +169,12 @@ is_trace p = record { groups = refl; written = written_as p.trace.ports.items; s
 pub tells_opening : (image : List ℕ) (before now : Calls) (fault : Fault) → store.TellsStore fault image before now → TellsOpening (desk_fault_of fault false) image before now
 tells_opening image before now keeper.Device tells = tells
 tells_opening image before now keeper.Failed tells = tells
-tells_opening image before now keeper.NoMemory tells = tells
+tells_opening image before now (keeper.NoMemory error) tells = tells
 tells_opening image before now (keeper.Mismatch place) tells = tells
 tells_opening image before now (keeper.Damaged offset) tells = tells
 tells_opening image before now keeper.Unformatted tells = tells
 
 -- the store stands for a state, and there was no memory for its desk
-pub short_opening : {T D : Type 0} (model : Ghosts D) (before : Calls) (r : Result T (DeskFault × D)) (image : List ℕ) (s : ServerState) → StandsFor image s → IfErr r (λ e. e.0 ≡ NoMemory false) → IfErr r (λ e. TellsOpening e.0 image before (model.calls e.1))
+pub short_opening : {T D : Type 0} (model : Ghosts D) (before : Calls) (r : Result T (DeskFault × D)) (image : List ℕ) (s : ServerState) → StandsFor image s → IfErr r (λ e. e.0 ≡ NoMemory out_of_memory false) → IfErr r (λ e. TellsOpening e.0 image before (model.calls e.1))
 short_opening model before (Ok desk) image s stands short = tt
 short_opening model before (Err e) image s stands short = subst (λ (f : DeskFault). TellsOpening f image before (model.calls e.1)) (sym short) (lacks_standing image before (model.calls e.1) s stands)

@@ -60,7 +60,7 @@ number_here clients conn at c p is = same_Some _ _ (ap (λ (o : Option Client). 
 
 -- ---- a place is one by the numbers alone
 
-client_number_at-numbers : (clients : List Client) (i : ℕ) → client_number_at clients i ≡ slice_get (numbers clients) i
+pub client_number_at-numbers : (clients : List Client) (i : ℕ) → client_number_at clients i ≡ slice_get (numbers clients) i
 client_number_at-numbers clients i = sym (slice_get-map (λ (c : Client). c.conn) clients i)
 
 pub first_by_numbers : (clients others : List Client) (conn at : ℕ) → numbers others ≡ numbers clients → IsFirstAt clients conn at → IsFirstAt others conn at

@@ -1,7 +1,7 @@
 -- Where nothing is to be written, writing all of it changes nothing; and the steps that make no mail keep it so.
 use Rattle.std.proofs.Common.{◌≡◌, ℕ, Bool, true, false, List, [], ◌∷◌, ◌++◌, Option, Some, None, refl, sym, ap, ◌∙◌, subst, append-nil, Result, Ok, Err, OnOk, if◌then◌else◌}
 use Rattle.std.specs.Prelude.{nat_eq, is_some, is_err, map, OnErr, MatchBool}
-use Rattle.std.specs.declared.alloc.AllocError.{AllocError}
+use Rattle.fe_memory.specs.declared.OutOfMemory.{OutOfMemory}
 use Rattle.fe_mail.specs.Connections.{mails_on}
 use Rattle.fe_front.specs.Front.{FrontState, is_connected}
 use Rattle.fe_desk.specs.declared.desk_inner.DeskInner.{DeskInner}
@@ -46,7 +46,7 @@ none_waits f [] = tt
 none_waits f (c ∷ cs) = (refl, none_waits (emptied_box f c.conn) cs)
 
 -- nothing is left where the boxes were emptied
-pub all_quiet : {D : Type 0} (p q : DeskInner D) (r : Result (Unit {0}) AllocError) → OnOk r ((conn : ℕ) → mails_on q.front.connections conn ≡ [])
+pub all_quiet : {D : Type 0} (p q : DeskInner D) (r : Result (Unit {0}) OutOfMemory) → OnOk r ((conn : ℕ) → mails_on q.front.connections conn ≡ [])
     → OnOk r (map client_of q.trace.ports.items ≡ all_written_out p.front (map client_of p.trace.ports.items)) → q.owes ≡ is_err r → OnOk r (HasNoMail (run_state_of q))
 all_quiet p q (Ok x) boxes written_out owes = record {
   boxes = boxes;
@@ -56,7 +56,7 @@ all_quiet p q (Ok x) boxes written_out owes = record {
 all_quiet p q (Err e) boxes written_out owes = tt
 
 -- how the boxes were emptied
-pub empties : {D : Type 0} (p q : DeskInner D) (r : Result (Unit {0}) AllocError) → ((conn : ℕ) → is_connected p.front conn ≡ true → is_some (find conn (map client_of p.trace.ports.items)) ≡ true) → KeepsFront p.front q.front
+pub empties : {D : Type 0} (p q : DeskInner D) (r : Result (Unit {0}) OutOfMemory) → ((conn : ℕ) → is_connected p.front conn ≡ true → is_some (find conn (map client_of p.trace.ports.items)) ≡ true) → KeepsFront p.front q.front
     → OnOk r (map client_of q.trace.ports.items ≡ all_written_out p.front (map client_of p.trace.ports.items)) → OnOk r (q.front ≡ all_emptied p.front (map client_of p.trace.ports.items))
     → OnErr r (AreWrittenOutLater p.front (map client_of p.trace.ports.items) q.front (map client_of q.trace.ports.items)) → OnErr r (WritesFirst p.front (map client_of p.trace.ports.items) q.front (map client_of q.trace.ports.items))
     → q.owes ≡ is_err r → q.handed ≡ p.handed → q.making ≡ p.making → q.trace.groups ≡ p.trace.groups → Empties r (run_state_of p) (run_state_of q)

@@ -1,7 +1,7 @@
 -- What emptying the boxes keeps of a desk, and how the parts of a step come together.
 use Rattle.std.proofs.Common.{◌≡◌, ℕ, Bool, true, false, true≢false, List, [], ◌∷◌, refl, sym, ap, subst, ◌∙◌}
 use Rattle.std.specs.Prelude.{nat_eq, is_some, is_err, map, Some, Result, Ok, Err, OnOk, OnErr, if◌then◌else◌}
-use Rattle.std.specs.declared.alloc.AllocError.{AllocError}
+use Rattle.fe_memory.specs.declared.OutOfMemory.{OutOfMemory}
 use Rattle.fe_mail.specs.Connections.{mails_on}
 use Rattle.fe_front.specs.Front.{FrontState, is_connected}
 use Rattle.fe_keeper.specs.Keeper.{KeeperState}
@@ -82,12 +82,12 @@ module _ {D : Type 0} (p q : DeskInner D) where
       (λ conn there.
       found_as conn (clients_in p) (clients_in q) (numbers_as p.trace.ports.items q.trace.ports.items numbers) ∙ desk.known conn (kept.none_comes conn there))
 
-  pub all_written : (r : Result (Unit {0}) AllocError) → OnOk r (clients_in q ≡ all_written_out p.front (clients_in p)) → OnOk r (q.front ≡ all_emptied p.front (clients_in p))
+  pub all_written : (r : Result (Unit {0}) OutOfMemory) → OnOk r (clients_in q ≡ all_written_out p.front (clients_in p)) → OnOk r (q.front ≡ all_emptied p.front (clients_in p))
       → q.owes ≡ is_err r → q.handed ≡ p.handed → q.making ≡ p.making → q.trace.groups ≡ p.trace.groups → OnOk r (run_state_of q ≡ emptied (run_state_of p))
   all_written (Ok x) written_out front owes handed making groups = cc
   all_written (Err e) written_out front owes handed making groups = tt
 
-  pub some_written : (r : Result (Unit {0}) AllocError) → OnErr r (AreWrittenOutLater p.front (clients_in p) q.front (clients_in q))
+  pub some_written : (r : Result (Unit {0}) OutOfMemory) → OnErr r (AreWrittenOutLater p.front (clients_in p) q.front (clients_in q))
       → q.owes ≡ is_err r → q.handed ≡ p.handed → q.making ≡ p.making → q.trace.groups ≡ p.trace.groups
       → OnErr r ((emptied (run_state_of q) ≡ emptied (run_state_of p)) × (q.owes ≡ true))
   some_written (Ok x) later owes handed making groups = tt
@@ -95,14 +95,14 @@ module _ {D : Type 0} (p q : DeskInner D) where
       (emptied_later (run_state_of p) (run_state_of q) later handed making (ap (λ gs. map (λ g. g.items) gs.items) groups), owes)
 
   -- what is written goes on from what was
-  pub written_more : (r : Result (Unit {0}) AllocError) → OnOk r (clients_in q ≡ all_written_out p.front (clients_in p)) → OnErr r (AreWrittenOutLater p.front (clients_in p) q.front (clients_in q))
+  pub written_more : (r : Result (Unit {0}) OutOfMemory) → OnOk r (clients_in q ≡ all_written_out p.front (clients_in p)) → OnErr r (AreWrittenOutLater p.front (clients_in p) q.front (clients_in q))
       → Extends (outputs (run_state_of p)) (outputs (run_state_of q))
   written_more (Ok x) written_out later =
       subst (λ (cs : List Client). Extends (map output_of (clients_in p)) (map output_of cs)) (sym written_out) (all_written_out-extends p.front (clients_in p))
   written_more (Err e) written_out later = later.output
 
   -- no box has a mail: those of connections were emptied, and there is no other
-  pub none_boxed : (r : Result (Unit {0}) AllocError) → ((conn : ℕ) → is_connected p.front conn ≡ true → is_some (find conn (clients_in p)) ≡ true) → KeepsFront p.front q.front
+  pub none_boxed : (r : Result (Unit {0}) OutOfMemory) → ((conn : ℕ) → is_connected p.front conn ≡ true → is_some (find conn (clients_in p)) ≡ true) → KeepsFront p.front q.front
       → OnOk r (q.front ≡ all_emptied p.front (clients_in p)) → OnOk r ((conn : ℕ) → mails_on q.front.connections conn ≡ [])
   none_boxed (Ok x) known kept front = λ conn. by conn (is_connected q.front conn) refl
     where
@@ -123,24 +123,24 @@ when_err (Ok x) some p = absurd (true≢false (sym some))
 when_err (Err e) some p = p
 
 -- the same of how the boxes were emptied
-pub settles_ok : (r : Result (Unit {0}) AllocError) (s t : DeskRunState) → is_err r ≡ false → Settles r s t → t ≡ discharged s
+pub settles_ok : (r : Result (Unit {0}) OutOfMemory) (s t : DeskRunState) → is_err r ≡ false → Settles r s t → t ≡ discharged s
 settles_ok (Ok x) s t none h = h
 settles_ok (Err e) s t none h = absurd (true≢false none)
 
-pub settles_err : (r : Result (Unit {0}) AllocError) (s t : DeskRunState) → is_err r ≡ true → Settles r s t → (s.owes ≡ true) × StillHolds s t
+pub settles_err : (r : Result (Unit {0}) OutOfMemory) (s t : DeskRunState) → is_err r ≡ true → Settles r s t → (s.owes ≡ true) × StillHolds s t
 settles_err (Ok x) s t some h = absurd (true≢false (sym some))
 settles_err (Err e) s t some h = h
 
-pub empties_ok : (r : Result (Unit {0}) AllocError) (s t : DeskRunState) → is_err r ≡ false → Empties r s t → HasEmptied s t
+pub empties_ok : (r : Result (Unit {0}) OutOfMemory) (s t : DeskRunState) → is_err r ≡ false → Empties r s t → HasEmptied s t
 empties_ok (Ok x) s t none h = h
 empties_ok (Err e) s t none h = absurd (true≢false none)
 
-pub empties_err : (r : Result (Unit {0}) AllocError) (s t : DeskRunState) → is_err r ≡ true → Empties r s t → StillHolds s t
+pub empties_err : (r : Result (Unit {0}) OutOfMemory) (s t : DeskRunState) → is_err r ≡ true → Empties r s t → StillHolds s t
 empties_err (Ok x) s t some h = absurd (true≢false (sym some))
 empties_err (Err e) s t some h = h
 
 -- mails that were owed are written, where all are
-pub settles_all : (r : Result (Unit {0}) AllocError) (s t : DeskRunState) → s.owes ≡ true → Empties r s t → Settles r s t
+pub settles_all : (r : Result (Unit {0}) OutOfMemory) (s t : DeskRunState) → s.owes ≡ true → Empties r s t → Settles r s t
 settles_all (Ok x) s t owing h = h.after ∙ sym (discharged_owing s owing)
 settles_all (Err e) s t owing h = (owing, h)
 

@@ -1,6 +1,7 @@
 -- A step, from what its parts came to.
 use Rattle.std.proofs.Common.{◌≡◌, ℕ, Bool, true, false, true≢false, Result, Ok, Err, inl, inr, refl, sym, ap, subst, ◌∙◌}
 use Rattle.std.specs.Prelude.{MatchBool, IsErrAnd, OnOk}
+use Rattle.fe_memory.specs.Memory.{out_of_memory}
 use Rattle.fe_disk.specs.declared.disk.Disk.{Ghosts}
 use Rattle.fe_keeper.specs.Keeper.{KeeperState}
 use Rattle.fe_keeper.specs.declared.fault.Fault.TheVariants as keeper
@@ -54,10 +55,10 @@ module _ {D : Type 0} (k : Ghosts D) (x : Step) (a : DeskState D) where
 
   -- memory was short for mails that were owed
   pub step_settling : {b : DeskState D} → a.keeper.store.has_failed ≡ false → IsDesk k b → HasStore a b → (a.run_state.owes ≡ true) × StillHolds a.run_state b.run_state
-      → IsStep k a x (Err (NoMemory false)) b
+      → IsStep k a x (Err (NoMemory out_of_memory false)) b
   step_settling {b} works desk same still =
       let later : discharged b.run_state ≡ discharged a.run_state = discharged_owing b.run_state still.1.owes ∙ still.1.later ∙ sym (discharged_owing a.run_state still.0) in
-      step_at (Err (NoMemory false)) b works (record {
+      step_at (Err (NoMemory out_of_memory false)) b works (record {
         finds = inl (refl, record { owed = still.0; writes = still.1.writes; keeper = same.keeper; synced = same.synced });
         read = settling_reads a.run_state b.run_state later;
         again = λ next t again h. stepped_settling a.run_state b.run_state t x later (subst (λ (y : Step). DeskStep b.run_state y t) again h);
@@ -75,14 +76,14 @@ module _ {D : Type 0} (k : Ghosts D) (x : Step) (a : DeskState D) where
 
       of : (f : DeskFault) → ActEnds k (discharged_desk a) x b (Err f) → Ends k a x (Err f) b
       of (Store cause) h = (h.0, record { breaks = h.1.breaks; silent = h.1.silent; failed = record { before = h.1.failed.before; failed = h.1.failed.failed; rises = h.1.failed.rises } })
-      of (NoMemory fed) h = record {
+      of (NoMemory error fed) h = record {
         finds = inr h.lacks;
         read = fed_discharged fed a.run_state (discharged a.run_state) x b.run_state refl h.read;
         again = λ next t again d. stepped_again a.run_state (discharged a.run_state) b.run_state t x next refl none (λ last. h.again next last again) d;
         silent = λ clear. h.silent ∙ ap outputs (discharged_at a.run_state clear);
         sound = sound goes.desk (record { before = h.fine.before; after = h.fine.after; still = h.fine.still });
       }
-      of Unwritten h = absurd h
+      of (Unwritten error) h = absurd h
 
       by : (r : Result (Unit {0}) DeskFault) → IsErrAnd r (λ f. f ≡ fault) → IsStep k a x r b
       by (Ok y) refused_so = absurd refused_so
@@ -94,17 +95,17 @@ module _ {D : Type 0} (k : Ghosts D) (x : Step) (a : DeskState D) where
     where
       by : (f : DeskFault) → ActEnds k a x b (Err f) → outputs b.run_state ≡ outputs a.run_state
       by (Store cause) h = h.1.silent
-      by (NoMemory fed) h = h.silent
-      by Unwritten h = absurd h
+      by (NoMemory error fed) h = h.silent
+      by (Unwritten error) h = absurd h
 
   fine_to : {mid last b : DeskState D} → a.keeper.store.has_failed ≡ false → HasStore a mid → Works k mid.keeper last.keeper → HasStore last b → Works k a.keeper b.keeper
   fine_to {mid} {last} {b} works before fine behind = fine_both k a last b (fine_both k a mid last (fine_as k a mid works before) fine) (fine_as k last b fine.after behind)
 
   -- memory was short for its mails
   pub step_owing : {mid last b : DeskState D} {y : Unit {0}} → a.keeper.store.has_failed ≡ false → mid.run_state ≡ discharged a.run_state → HasStore a mid → GoesAct k mid x (Ok y) last
-      → HasStore last b → StillHolds last.run_state b.run_state → IsDesk k b → IsStep k a x (Err Unwritten) b
+      → HasStore last b → StillHolds last.run_state b.run_state → IsDesk k b → IsStep k a x (Err (Unwritten out_of_memory)) b
   step_owing {mid} {last} {b} works is before goes behind still desk =
-      step_at (Err Unwritten) b works (record {
+      step_at (Err (Unwritten out_of_memory)) b works (record {
         last = last.run_state;
         acts = subst (λ (s : DeskRunState). Acts s x last.run_state) is goes.ends.acts;
         writes = still.writes;

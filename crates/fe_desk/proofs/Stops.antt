@@ -105,7 +105,7 @@ stops-keep s t conn (inr begins) = by begins.1 ∙ ap (λ (u : DeskRunState). u.
 pub room_keeps : {D : Type 0} {k : Ghosts D} {a b : DeskState D} (conn : ℕ) (r : Result (Unit {0}) Fault) → GoesTo k (roomy a.run_state conn) (StopsMaking a.run_state conn) r a b → b.run_state.clients ≡ a.run_state.clients
 room_keeps {D} {k} {a} {b} conn (Ok x) h = ap (λ (u : DeskRunState). u.clients) h.ends.1 ∙ roomy-keeps a.run_state conn
 room_keeps {D} {k} {a} {b} conn (Err Device) h = ap (λ (u : DeskRunState). u.clients) h.ends.tears.run_state ∙ stops-keep a.run_state h.ends.last conn h.ends.until
-room_keeps {D} {k} {a} {b} conn (Err NoMemory) h = stops-keep a.run_state b.run_state conn h.ends.1.until
+room_keeps {D} {k} {a} {b} conn (Err (NoMemory error)) h = stops-keep a.run_state b.run_state conn h.ends.1.until
 room_keeps {D} {k} {a} {b} conn (Err Failed) h = absurd h.ends
 room_keeps {D} {k} {a} {b} conn (Err (Mismatch place)) h = absurd h.ends
 room_keeps {D} {k} {a} {b} conn (Err (Damaged offset)) h = absurd h.ends

@@ -1,5 +1,5 @@
 -- Which connections may have a mail.
-use Rattle.std.proofs.Common.{◌≡◌, ◌≢◌, ℕ, zero, suc, ◌+◌, ◌<◌, Bool, true, false, true≢false, List, [], ◌∷◌, length, take, drop, Option, Some, None, is_some, nat_lt, nat_eq, if◌then◌else◌, ◌⊎◌, inl, inr, ⊎_elim, refl, sym, ap, ◌∙◌, subst, arith, rules, add-one}
+use Rattle.std.proofs.Common.{◌≡◌, ◌≢◌, ℕ, zero, suc, ◌+◌, ◌<◌, Bool, true, false, true≢false, List, [], ◌∷◌, length, Option, Some, nat_lt, ◌⊎◌, inl, inr, ⊎_elim, refl, sym, ap, ◌∙◌, subst, arith, rules}
 use Rattle.std.specs.Prelude.{IsTrue}
 use Rattle.std.specs.Option.{option_map_or}
 use Rattle.std.specs.FinMap.{remove}
@@ -14,13 +14,13 @@ use Rattle.fe_front.specs.Front.{FrontState}
 use Rattle.fe_front.specs.declared.connection_set.ConnectionSet.{ConnectionSet}
 use Rattle.fe_desk.specs.declared.step.Step.{Step}
 use Rattle.fe_desk.specs.declared.step.Step.TheVariants as step
-use Rattle.fe_desk.specs.DeskRunState.{Client, all_emptied}
-use Rattle.fe_desk.specs.Steps.{AreWritten, find}
-use Rattle.fe_desk.specs.declared.span.Span.{Span}
-use Rattle.fe_desk.specs.within.Desk.{AreQuiet, HasAllWithMail, IsAll, IsFirstAt, IsMailed, KeepsEmpty, client_number_at}
-use Rattle.fe_desk.proofs.Emptying.{all_emptied-empty, boxes_empty}
-use Rattle.fe_desk.proofs.Places.{behind, head_same}
-use Rattle.fe_desk.proofs.Quiets.{are_quiet}
+use Rattle.fe_desk.specs.DeskRunState.{Client, emptied_box}
+use Rattle.fe_desk.specs.Steps.{AreWritten}
+use Rattle.fe_desk.specs.declared.port_set.PortSet.{PortSet}
+use Rattle.fe_desk.specs.within.Desk.{HasAllWithMail, IsFirstAt, IsMailedFrom, KeepsEmpty, client_number_at, port_bit}
+use Rattle.fe_desk.proofs.Emptying.{box_emptied, emptied_box-empty}
+use Rattle.fe_desk.proofs.Places.{behind}
+use Rattle.std.proofs.lemmas.Option.{same_Some}
 
 -- those whose boxes a post changed, where no box had a mail
 pub changed_since : (f g : FrontState) (set : ConnectionSet) → ((conn : ℕ) → mails_on f.connections conn ≡ []) → ((conn : ℕ) → IsTrue (may_have set conn) ⊎ HasItsBox f g conn) → HasAllWithMail g set
@@ -54,60 +54,43 @@ lone f conn one some other ne =
     let none : mails_on (remove m conn) other ≡ [] = none_of (mails_on (remove m conn) other) (omega (arith, one, least, without, next)) in
     sym (ap (λ (o : Option Connection). option_map_or (λ (c : Connection). c.mails) o []) (get_left m conn other ne)) ∙ none
 
--- nothing is to be written before the connection's client
-quiet_before : (f : FrontState) (cs : List Client) (conn at : ℕ) → AreWritten cs → ((other : ℕ) → other ≢ conn → mails_on f.connections other ≡ []) → ((i : ℕ) → i < at → client_number_at cs i ≢ Some conn)
-    → AreQuiet f (take at cs)
-quiet_before f [] conn zero replies boxes first = tt
-quiet_before f [] conn (suc at) replies boxes first = tt
-quiet_before f (c ∷ cs) conn zero replies boxes first = tt
-quiet_before f (c ∷ cs) conn (suc at) replies boxes first = (
-  record { reply = replies.0; box = boxes c.conn (λ e. first 0 (omega arith) (ap (λ (n : ℕ). Some n) e)) },
-  quiet_before f cs conn at replies.1 boxes (λ i lt. first (suc i) (omega (arith, lt))),
+-- nothing is to be written where each box is empty and no reply waits
+none_mailed : (at : ℕ) (f : FrontState) (cs : List Client) (set : PortSet) → AreWritten cs → ((q : ℕ) → mails_on f.connections q ≡ []) → IsMailedFrom at f cs set
+none_mailed at f [] set replies boxes = tt
+none_mailed at f (c ∷ cs) set replies boxes = (
+  inr (record { reply = replies.0; box = boxes c.conn }),
+  none_mailed (suc at) (emptied_box f c.conn) cs set replies.1 (λ q. (emptied_box-empty f c.conn).empty q (boxes q)),
 )
 
-written_behind : (n : ℕ) (cs : List Client) → AreWritten cs → AreWritten (drop n cs)
-written_behind zero cs all = all
-written_behind (suc n) [] all = tt
-written_behind (suc n) (c ∷ cs) all = written_behind n cs all.1
-
-found_taken : (cs : List Client) (conn at : ℕ) → IsFirstAt cs conn at → is_some (find conn (take (suc at) cs)) ≡ true
-found_taken [] conn at p = let within = p.within in absurd (omega (arith, within))
-found_taken (c ∷ cs) conn zero p = ap (λ (b : Bool). is_some (if b then Some c else None)) (head_same c cs conn p)
-found_taken (c ∷ cs) conn (suc at) p = by (nat_eq c.conn conn) (found_taken cs conn at (behind c cs conn at p))
-  where
-    by : (b : Bool) → is_some (find conn (take (suc at) cs)) ≡ true → is_some (if b then Some c else find conn (take (suc at) cs)) ≡ true
-    by true rest = refl
-    by false rest = rest
-
--- nor to another than that client
-pub lone_mailed : (f : FrontState) (cs : List Client) (conn at : ℕ) → AreWritten cs → ((other : ℕ) → other ≢ conn → mails_on f.connections other ≡ []) → IsFirstAt cs conn at
-    → IsMailed f cs (record { from = at; to = at + 1 })
-lone_mailed f cs conn at replies boxes p =
-    let within = p.within in
-    let g : FrontState = all_emptied f (take (suc at) cs) in
+-- nor to another than the connection's client
+pub lone_mailed : (k : ℕ) (f : FrontState) (cs : List Client) (set : PortSet) (conn at : ℕ) → AreWritten cs → ((other : ℕ) → other ≢ conn → mails_on f.connections other ≡ []) → IsFirstAt cs conn at
+    → port_bit set (at + k) ≡ 1 → IsMailedFrom k f cs set
+lone_mailed k f [] set conn at replies boxes p bit = let within = p.within in absurd (omega (arith, within))
+lone_mailed k f (c ∷ cs) set conn zero replies boxes p bit =
+    let same : c.conn ≡ conn = same_Some _ _ p.here in
+    let g : FrontState = emptied_box f c.conn in
     let empty : (q : ℕ) → mails_on g.connections q ≡ [] = λ q. elim (same_or_other q conn) [
-      | inl e ↦ ap (λ (n : ℕ). mails_on g.connections n) e ∙ boxes_empty f (take (suc at) cs) conn (found_taken cs conn at p)
-      | inr ne ↦ (all_emptied-empty f (take (suc at) cs)).empty q (boxes q ne)
+      | inl e ↦ ap (λ (n : ℕ). mails_on g.connections n) (e ∙ sym same) ∙ box_emptied f c.conn
+      | inr ne ↦ (emptied_box-empty f c.conn).empty q (boxes q ne)
     ] in
-    subst (λ (n : ℕ). IsMailed f cs (record { from = at; to = n })) (sym (add-one at)) (record {
-      ordered = omega arith;
-      within = omega (arith, within);
-      before = quiet_before f cs conn at replies boxes p.first;
-      behind = are_quiet g (drop (suc at) cs) empty (written_behind (suc at) cs replies);
-    })
+    (inl (subst (λ (n : ℕ). port_bit set n ≡ 1) (omega arith) bit), none_mailed (suc k) g cs set replies.1 empty)
+lone_mailed k f (c ∷ cs) set conn (suc at) replies boxes p bit = (
+  inr (record { reply = replies.0; box = boxes c.conn (λ e. p.first 0 (omega arith) (ap (λ (n : ℕ). Some n) e)) }),
+  lone_mailed (suc k) (emptied_box f c.conn) cs set conn at replies.1 (λ q ne. (emptied_box-empty f c.conn).empty q (boxes q ne)) (behind c cs conn at p)
+      (subst (λ (n : ℕ). port_bit set n ≡ 1) (omega arith) bit),
+)
 
--- all clients
-pub all_mailed : (f : FrontState) (cs : List Client) (span : Span) → IsAll span (length cs) → IsMailed f cs span
-all_mailed f cs span all =
-    let from = all.from in
-    let to = all.to in
-    record {
-      ordered = omega (arith, from);
-      within = omega (arith, to);
-      before = subst (λ (n : ℕ). AreQuiet f (take n cs)) (sym from) tt;
-      behind = subst (λ (n : ℕ). AreQuiet (all_emptied f (take n cs)) (drop n cs)) (sym to) (nothing_behind (all_emptied f (take (length cs) cs)) cs);
-    }
-  where
-    nothing_behind : (g : FrontState) (ds : List Client) → AreQuiet g (drop (length ds) ds)
-    nothing_behind g [] = tt
-    nothing_behind g (d ∷ ds) = nothing_behind g ds
+-- a set with all ports says nothing
+pub all_mailed : (at : ℕ) (f : FrontState) (cs : List Client) (set : PortSet) → ((i : ℕ) → port_bit set i ≡ 1) → IsMailedFrom at f cs set
+all_mailed at f [] set all = tt
+all_mailed at f (c ∷ cs) set all = (inl (all at), all_mailed (suc at) (emptied_box f c.conn) cs set all)
+
+-- one with the ports of all connections that may have a mail
+pub some_mailed : (k : ℕ) (f : FrontState) (cs : List Client) (set : PortSet) (mailed : ConnectionSet) → AreWritten cs → HasAllWithMail f mailed
+    → ((at conn : ℕ) → client_number_at cs at ≡ Some conn → IsTrue (may_have mailed conn) → port_bit set (at + k) ≡ 1) → IsMailedFrom k f cs set
+some_mailed k f [] set mailed replies all added = tt
+some_mailed k f (c ∷ cs) set mailed replies all added = (
+  ⊎_elim (λ is. inl (subst (λ (n : ℕ). port_bit set n ≡ 1) (omega arith) (added 0 c.conn refl is))) (λ none. inr (record { reply = replies.0; box = none })) (all c.conn),
+  some_mailed (suc k) (emptied_box f c.conn) cs set mailed replies.1 (still_all f (emptied_box f c.conn) mailed (emptied_box-empty f c.conn) all)
+      (λ at conn is has. subst (λ (n : ℕ). port_bit set n ≡ 1) (omega arith) (added (suc at) conn is has)),
+)

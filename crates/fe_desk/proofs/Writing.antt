@@ -2,7 +2,7 @@
 use Rattle.std.proofs.Common.{◌≡◌, ◌≢◌, ℕ, zero, suc, ◌+◌, ◌<◌, List, [], ◌∷◌, ◌++◌, Some, None, length, drop, take, map, get_or, slice_set, refl, sym, ap, ◌∙◌, subst, arith, append_assoc, append-nil, add-one, inl, inr, Result, Ok, Err, OnErr}
 use Rattle.std.specs.Prelude.{slice_get, is_err}
 use Rattle.std.specs.Option.{option_map_or}
-use Rattle.std.specs.declared.alloc.AllocError.{AllocError}
+use Rattle.fe_memory.specs.declared.OutOfMemory.{OutOfMemory}
 use Rattle.std.proofs.lemmas.List.{length-append, drop_more, drop-set-lt, map-append, take_more_set}
 use Rattle.std.proofs.lemmas.List.Concat.{flat_map-append}
 use Rattle.fe_wire.specs.Spelling.{reply_spelling}
@@ -173,7 +173,7 @@ port_stops f cs h g ports at p q lt is far stops =
 abbrev clients_in : {D : Type 0} → DeskInner D → List Client
 clients_in p = map client_of p.trace.ports.items
 
-pub writes_some : {D : Type 0} (p q : DeskInner D) (r : Result (Unit {0}) AllocError) → OnErr r (WritesFirst p.front (clients_in p) q.front (clients_in q)) → q.owes ≡ is_err r
+pub writes_some : {D : Type 0} (p q : DeskInner D) (r : Result (Unit {0}) OutOfMemory) → OnErr r (WritesFirst p.front (clients_in p) q.front (clients_in q)) → q.owes ≡ is_err r
     → q.handed ≡ p.handed → q.making ≡ p.making → q.trace.groups ≡ p.trace.groups → OnErr r (WritesSome (run_state_of p) (run_state_of q))
 writes_some p q (Ok x) writes owes handed making groups = tt
 writes_some p q (Err e) writes owes handed making groups = record {

@@ -52,7 +52,7 @@ pub record Advances {D : Type 0} (model : Ghosts D) (old new : DeskState D) : Ty
 abbrev pub TellsCall : {D : Type 0} → Ghosts D → DeskState D → DeskState D → Fault → Type 0
 TellsCall model old new keeper.Device = Breaks model old.keeper new.keeper
 TellsCall model old new keeper.Failed = ⊥
-TellsCall model old new keeper.NoMemory = Works model old.keeper new.keeper
+TellsCall model old new (keeper.NoMemory error) = Works model old.keeper new.keeper
 TellsCall model old new (keeper.Mismatch place) = ⊥
 TellsCall model old new (keeper.Damaged offset) = ⊥
 TellsCall model old new keeper.Unformatted = ⊥
@@ -60,8 +60,8 @@ TellsCall model old new keeper.Unformatted = ⊥
 -- what a step's fault says, if the keeper had not failed before
 abbrev pub TellsStep : {D : Type 0} → Ghosts D → DeskState D → DeskState D → DeskFault → Type 0
 TellsStep model old new (desk.Store cause) = (cause ≡ keeper.Device) × Breaks model old.keeper new.keeper
-TellsStep model old new (desk.NoMemory fed) = Works model old.keeper new.keeper
-TellsStep model old new desk.Unwritten = Works model old.keeper new.keeper
+TellsStep model old new (desk.NoMemory error fed) = Works model old.keeper new.keeper
+TellsStep model old new (desk.Unwritten error) = Works model old.keeper new.keeper
 
 -- ---- a desk whose trace begins anew
 

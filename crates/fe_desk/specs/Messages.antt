@@ -39,7 +39,7 @@ outputs s = map (λ c. (c.conn, c.written)) s.clients
 
 -- the fault of a step for this fault of the keeper; `fed` says whether the step's piece was read
 abbrev pub desk_fault_of : Fault → Bool → DeskFault
-desk_fault_of keeper.NoMemory fed = desk.NoMemory fed
+desk_fault_of (keeper.NoMemory error) fed = desk.NoMemory error fed
 desk_fault_of fault fed = desk.Store fault
 
 -- the decoder of a connection number, which says what was read of its stream; None if the number never came

@@ -1,5 +1,6 @@
 -- What a whole run of a desk returns: the desk is opened over a store, and takes steps (`docs/model.md`, "The desk").
-use Rattle.std.specs.Prelude.{◌≡◌, ◌⊎◌, ℕ, false, List, Result, Ok, Err, map, Bool, [], ◌∷◌, length, MatchBool, ◌≢◌, ◌↔◌, ⊤, zero, suc, ◌++◌, take, slice_get, Option, Some, None}
+use Rattle.std.specs.Prelude.{◌≡◌, ◌⊎◌, ℕ, false, List, Result, Ok, Err, map, Bool, [], ◌∷◌, length, MatchBool, ◌≢◌, ◌↔◌, ⊤, zero, suc, ◌++◌, ◌<◌, ◌≤◌, ◌-◌, take, drop, slice_get, Option, Some, None}
+use Rattle.fe_memory.specs.Memory.{out_of_memory}
 use Rattle.fe_disk.specs.declared.calls.Calls.{Calls}
 use Rattle.fe_keeper.specs.declared.fault.Fault.TheVariants as keeper
 use Rattle.fe_desk.specs.declared.fault.DeskFault.{DeskFault}
@@ -9,7 +10,6 @@ use Rattle.fe_desk.specs.Crash.{DeskState, disk_of}
 use Rattle.fe_state.specs.declared.entry.Entry.{Entry}
 use Rattle.fe_desk.specs.Messages.{outputs, TellsFed}
 use Rattle.fe_desk.specs.DeskRunState.{DeskRunState, discharged, IsFirstRunState}
-use Rattle.fe_desk.specs.declared.port.Port.{Port}
 use Rattle.fe_desk.specs.declared.trace.Trace.{Trace}
 use Rattle.fe_mail.specs.Connections.{mails_on}
 use Rattle.fe_desk.specs.declared.step.Step.{Step}
@@ -33,13 +33,13 @@ disk_after (Err refused) = refused.1
 -- the faults of opening
 abbrev pub IsOpenFault : DeskFault → Type 0
 IsOpenFault fault =
-    (fault ≡ Store keeper.Device) ⊎ ((fault ≡ NoMemory false) ⊎ ((fault ≡ Store keeper.Unformatted) ⊎ ((offset : ℕ) × (fault ≡ Store (keeper.Damaged offset)))))
+    (fault ≡ Store keeper.Device) ⊎ ((fault ≡ NoMemory out_of_memory false) ⊎ ((fault ≡ Store keeper.Unformatted) ⊎ ((offset : ℕ) × (fault ≡ Store (keeper.Damaged offset)))))
 
 -- what a fault of opening says of the image that the disk reads, between these counts of calls
 abbrev pub TellsOpening : DeskFault → List ℕ → Calls → Calls → Type 0
 TellsOpening (Store fault) image before now = store.TellsStore fault image before now
-TellsOpening (NoMemory fed) image before now = store.TellsStore keeper.NoMemory image before now
-TellsOpening Unwritten image before now = ⊥
+TellsOpening (NoMemory error fed) image before now = store.TellsStore (keeper.NoMemory error) image before now
+TellsOpening (Unwritten error) image before now = ⊥
 
 -- ---- traces
 
@@ -56,13 +56,11 @@ abbrev pub AreSilent : List (ℕ × List ℕ) → Type 0
 AreSilent [] = Unit {0}
 AreSilent (o ∷ os) = (o.1 ≡ []) × AreSilent os
 
--- what was written to these ports is all that was written: nothing was to the connection numbers before and behind them
-pub record AreWrittenTo (ports : List Port) (outs : List (ℕ × List ℕ)) : Type 0 where
-  pub before : List (ℕ × List ℕ)
-  pub behind : List (ℕ × List ℕ)
-  pub all : outs ≡ before ++ (map (λ p. (p.conn, p.written)) ports ++ behind)
-  pub none_before : AreSilent before
-  pub none_behind : AreSilent behind
+-- from an index on, nothing was written to the connection numbers before another index, which is that of one
+pub record IsNextWritten (outs : List (ℕ × List ℕ)) (from at : ℕ) : Type 0 where
+  pub reached : from ≤ at
+  pub within : at < length outs
+  pub silent : AreSilent (take (at - from) (drop from outs))
 
 -- the trace is that of a run with this state and this many groups stored
 pub record IsTraceOf (t : Trace) (s : DeskRunState) (synced : ℕ) : Type 0 where
@@ -112,8 +110,8 @@ pub record EndsByDevice {D : Type 0} (model : Ghosts D) (old : DeskState D) (ste
 abbrev pub Ends : {D : Type 0} → Ghosts D → DeskState D → Step → Result (Unit {0}) DeskFault → DeskState D → Type 0
 Ends model old step (Ok done) new = EndsWhole model old step new
 Ends model old step (Err (Store cause)) new = (cause ≡ keeper.Device) × EndsByDevice model old step new
-Ends model old step (Err (NoMemory fed)) new = EndsByMemory model fed old step new
-Ends model old step (Err Unwritten) new = EndsOwing model old step new
+Ends model old step (Err (NoMemory error fed)) new = EndsByMemory model fed old step new
+Ends model old step (Err (Unwritten error)) new = EndsOwing model old step new
 
 -- A step. After a failure of the device each step is refused, and does nothing.
 abbrev pub IsStep : {D : Type 0} → Ghosts D → DeskState D → Step → Result (Unit {0}) DeskFault → DeskState D → Type 0
@@ -152,7 +150,7 @@ IsPastOpening (Some (suc n, fault)) = ⊤
 pub record IsNotOpened {D : Type 0} (model : Ghosts D) (disk : D) (ran : Ran D) (fault : DeskFault) : Type 0 where
   pub is_fault : IsOpenFault fault
   pub says : model.honest disk → TellsOpening fault (model.seen disk) (model.calls disk) (model.calls ran.disk)
-  pub refused : model.honest disk → (s : ServerState) → StandsFor (model.seen disk) s → (fault ≡ Store keeper.Device) ⊎ (fault ≡ NoMemory false)
+  pub refused : model.honest disk → (s : ServerState) → StandsFor (model.seen disk) s → (fault ≡ Store keeper.Device) ⊎ (fault ≡ NoMemory out_of_memory false)
   pub unformatted : model.honest disk → IsUnformatted (model.seen disk) → (fault ≡ Store keeper.Unformatted) ⊎ (fault ≡ Store keeper.Device)
   pub device : (fault ≡ Store keeper.Device) ↔ Rises (model.failures disk) (model.failures ran.disk)
   pub still : fault ≢ Store keeper.Device → model.failures ran.disk ≡ model.failures disk

@@ -5,23 +5,23 @@ ghost use Rattle.std.specs.Prelude.{◌≡◌, ◌≢◌, ℕ, true, [], map, On
 ghost use Rattle.fe_mail.specs.Connections.{mails_on};
 ghost use Rattle.fe_desk.specs.DeskRunState.{all_written_out, all_emptied};
 ghost use Rattle.fe_desk.specs.Ends.{WritesFirst};
-ghost use Rattle.fe_desk.specs.within.Desk.{AreBeyond, IsMailed, HasAllWithMail, client_of, KeepsFront, AreWrittenOutLater};
+ghost use Rattle.fe_desk.specs.within.Desk.{IsMailedFrom, HasAllWithMail, client_of, KeepsFront, AreWrittenOutLater};
 
 use crate::port::{Port, has_no_mail};
-use crate::span::Span;
+use crate::port_set::PortSet;
 use fe_front::{ConnectionSet, Front};
-use std::alloc::AllocError;
+use fe_memory::OutOfMemory;
 
-/// Writes the replies that wait at these ports, and the mails of each connection in the set; no other connection has a mail, and nothing
-/// is to be written to another port. If memory is short, what is not written stays.
+/// Writes the replies that wait at the ports of the set, and the mails of each connection that is in `mailed`. No other connection has a
+/// mail, and nothing is to be written to another port. If memory is short, what is not written stays.
 pub(crate) fn empty_boxes(
     front: &mut Front,
     ports: &mut Vec<Port>,
     mailed: &ConnectionSet,
-    span: Span,
-) -> Result<(), AllocError>
+    written: &PortSet,
+) -> Result<(), OutOfMemory>
     requires mailed { HasAllWithMail front.old mailed.now }
-    requires span { IsMailed front.old (map client_of ports.old.items) span }
+    requires written { IsMailedFrom 0 front.old (map client_of ports.old.items) written.now }
     ensures written_out { OnOk result (map client_of ports.new.items
         ≡ all_written_out front.old (map client_of ports.old.items)) }
     ensures emptied { OnOk result (front.new ≡ all_emptied front.old (map client_of ports.old.items)) }
@@ -31,10 +31,11 @@ pub(crate) fn empty_boxes(
         (WritesFirst front.old (map client_of ports.old.items) front.new (map client_of ports.new.items)) }
     ensures numbers { map (λ p. p.conn) ports.new.items ≡ map (λ p. p.conn) ports.old.items }
     ensures front { KeepsFront front.old front.new }
-    ensures others { AreBeyond span ports.old.items ports.new.items }
 {
-    for at in span.from..span.to {
+    let mut at = written.next(0, ports.len());
+    while at < ports.len() {
         ports[at].take_mails(front, mailed)?;
+        at = written.next(at + 1, ports.len());
     }
     Ok(())
 }

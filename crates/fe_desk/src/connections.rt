@@ -11,11 +11,12 @@ use crate::desk_inner::DeskInner;
 use crate::port::Port;
 use fe_disk::Disk;
 use fe_front::Front;
-use std::alloc::{AllocError, Global};
+use fe_memory::OutOfMemory;
+use std::alloc::Global;
 
 impl<D: Disk> DeskInner<D> {
     /// A connection comes, where its number is not connected. If memory is short, nothing is done.
-    pub(crate) fn connect(&mut self, conn: u64) -> Result<(), AllocError>
+    pub(crate) fn connect(&mut self, conn: u64) -> Result<(), OutOfMemory>
         ensures connected { OnOk result
             (MatchBool (is_connected self.old.front conn) (run_state_of self.new
             ≡ run_state_of self.old) (Connects (run_state_of self.old) conn (run_state_of self.new))) }
@@ -59,7 +60,7 @@ fn join(
     front: &mut Front,
     ports: &mut Vec<Port>,
     conn: u64,
-) -> Result<(), AllocError>
+) -> Result<(), OutOfMemory>
     requires { is_connected front.old conn ≡ false }
     ensures joined { OnOk result
         (Joins front.old (map client_of ports.old.items) conn front.new (map client_of ports.new.items)) }
@@ -68,17 +69,15 @@ fn join(
 {
     match place_of(ports, conn) {
         Some(at) => {
-            if front.connect(conn).is_err() {
-                return Err(AllocError);
-            }
+            front.connect(conn)?;
             ports[at].restart();
             Ok(())
         }
         None => {
             ports.push(Port::new(alloc, conn))?;
-            if front.connect(conn).is_err() {
+            if let Err(error) = front.connect(conn) {
                 let _ = ports.pop();
-                return Err(AllocError);
+                return Err(error);
             }
             Ok(())
         }

@@ -1,24 +1,23 @@
 //! The desk: a server in one thread, which takes steps, one at a time (`docs/model.md`, "The desk"). Its front has the state, the
 //! sessions, and mails, replies on their way out, in a box for each connection ("The front"); its keeper has the store ("The keeper").
 
-ghost use Rattle.std.specs.Prelude.{◌≡◌, ◌≤◌, ℕ, Bool, false, List, length, IfOk, IfErr};
+ghost use Rattle.std.specs.Prelude.{◌≡◌, ◌≤◌, ℕ, Bool, false, List, drop, length, IfOk, IfErr, IfSome, IfNone};
+ghost use Rattle.fe_memory.specs.Memory.{out_of_memory};
 ghost use Rattle.fe_state.specs.State.{ServerState, IsWithinLimits};
 ghost use Rattle.fe_journal.specs.Layout.{device_bytes};
 ghost use Rattle.fe_keeper.specs.Stands.{EachStandsFor, LeavesPrefix};
 ghost use Rattle.fe_desk.specs.DeskRunState.{Extends, IsFirstRunState};
 ghost use Rattle.fe_desk.specs.Messages.{outputs};
 ghost use Rattle.fe_desk.specs.Crash.{DeskState, Advances, IsFrom, disk_of, desk_anew};
-ghost use Rattle.fe_desk.specs.Runs.{AreWrittenTo, IsStep, IsTraceOf};
-ghost use Rattle.fe_desk.specs.within.Desk.{IsSilentBeyond};
+ghost use Rattle.fe_desk.specs.Runs.{AreSilent, IsNextWritten, IsStep, IsTraceOf};
 ghost use Rattle.fe_desk.specs.Acknowledged.{IsAcknowledged, StepAsksFor, HasToldAll};
 ghost use Rattle.fe_desk.specs.declared.fault.DeskFault.TheVariants.{NoMemory};
 
 use crate::desk_inner::DeskInner;
 use crate::fault::DeskFault;
 use crate::handed::Handed;
-use crate::port::Port;
 use crate::port_places::PortPlaces;
-use crate::span::Span;
+use crate::port_set::PortSet;
 use crate::step::Step;
 use crate::trace::Trace;
 use fe_disk::Disk;
@@ -33,10 +32,10 @@ use std::marker::Model;
 /// is short, in a later one.
 pub struct Desk<D: Disk> {
     inner: DeskInner<D>,
-    /// No box has a mail, no reply waits, and nothing was written to a port out of the span `written` since the trace was cleared. False
-    /// where that is not known.
+    /// No box has a mail, and no reply waits. False where that is not known.
     quiet: bool,
-    written: Span,
+    /// The ports to which something was written since the desk was opened, or since its trace was cleared, and maybe others.
+    written: PortSet,
     places: PortPlaces,
 }
 
@@ -64,14 +63,15 @@ impl<D: Disk> Model for Desk<D> {
     ghost coded = { Prim.hlevel (codes, state_code, front_code) };
 
     ghost use Rattle.std.specs.Prelude.{◌≡◌, true};
-    ghost use Rattle.fe_desk.specs.within.Desk.{ArePlaces, IsSilentBeyond, desk_of, run_state_of, IsDesk};
+    ghost use Rattle.fe_desk.specs.within.Desk.{ArePlaces, IsSilentFrom, desk_of, run_state_of, IsDesk};
     ghost use Rattle.fe_desk.specs.Messages.{outputs};
     ghost use Rattle.fe_desk.specs.Steps.{HasNoMail};
 
     ghost view = { λ d. desk_of d.inner };
 
     ghost invariant = { λ d. IsDesk D.Disk (desk_of d.inner)
-        × (d.quiet ≡ true → HasNoMail (run_state_of d.inner) × IsSilentBeyond d.written (outputs (run_state_of d.inner)))
+        × (d.quiet ≡ true → HasNoMail (run_state_of d.inner))
+        × IsSilentFrom 0 (outputs (run_state_of d.inner)) d.written
         × ArePlaces d.places (run_state_of d.inner).clients };
 }
 
@@ -83,14 +83,22 @@ impl<D: Disk> Desk<D> {
         ensures acknowledged { (asked : ℕ → ℕ → Bool) → IfOk result (λ desk. IsAcknowledged keeper.state asked desk) }
         ensures keeper { IfOk result (λ desk. desk.keeper ≡ keeper) }
         ensures synced { IfOk result (λ desk. desk.synced ≡ 0) }
-        ensures fault { IfErr result (λ e. e.0 ≡ NoMemory false) }
+        ensures fault { IfErr result (λ e. e.0 ≡ NoMemory out_of_memory false) }
         ensures disk { IfErr result (λ e. e.1 ≡ keeper.store.disk) }
     {
-        let Ok(state) = keeper.state().copy() else {
-            return Err((DeskFault::NoMemory { fed: false }, keeper.into_disk()));
+        let state = match keeper.state().copy() {
+            Ok(state) => state,
+            Err(error) => return Err((
+                DeskFault::NoMemory { error, fed: false },
+                keeper.into_disk(),
+            )),
         };
-        let Ok(front) = Front::new(alloc, state) else {
-            return Err((DeskFault::NoMemory { fed: false }, keeper.into_disk()));
+        let front = match Front::new(alloc, state) {
+            Ok(front) => front,
+            Err(error) => return Err((
+                DeskFault::NoMemory { error, fed: false },
+                keeper.into_disk(),
+            )),
         };
         let trace = Trace::new(alloc);
         let places = PortPlaces::new(alloc);
@@ -105,7 +113,7 @@ impl<D: Disk> Desk<D> {
                 alloc,
             },
             quiet: false,
-            written: Span::none(),
+            written: PortSet::new(),
             places,
         };
         Ok(desk)
@@ -140,6 +148,9 @@ impl<D: Disk> Desk<D> {
             .inner
             .step(step, self.quiet, &mut self.places, &mut self.written);
         self.quiet = outcome.is_ok();
+        if outcome.is_err() {
+            self.written.add_all();
+        }
         outcome
     }
 
@@ -154,28 +165,22 @@ impl<D: Disk> Desk<D> {
         ensures acknowledged { (begun : ServerState) (asked : ℕ → ℕ → Bool) → IsFrom begun self.old
             → IsAcknowledged begun asked self.old → IsAcknowledged self.old.keeper.state asked self.new }
     {
-        let span = self.written_span();
-        self.inner.trace.clear(span);
-        self.written = Span::none();
+        self.inner.trace.clear(&self.written);
+        self.written = PortSet::new();
     }
 
-    /// The ports to which something was written since the desk was opened, or since its trace was cleared, and maybe others.
-    pub fn written_ports(&self) -> &[Port]
-        ensures { AreWrittenTo result.now (outputs self.now.run_state) }
+    /// The index in the trace of the next port, from an index on, to which something was written since the desk was opened, or since its
+    /// trace was cleared; or maybe of another one. Nothing was written to those that it passes over.
+    pub fn next_written(&self, from: usize) -> Option<usize>
+        ensures next { IfSome result (IsNextWritten (outputs self.now.run_state) from) }
+        ensures none { IfNone result (AreSilent (drop from (outputs self.now.run_state))) }
     {
-        let ports = self.inner.trace.ports.as_slice();
-        let span = self.written_span().below(ports.len());
-        &ports[span.from..span.to]
-    }
-
-    /// The same, by their indexes.
-    fn written_span(&self) -> Span
-        ensures { IsSilentBeyond result (outputs self.now.run_state) }
-    {
-        if self.quiet {
-            return self.written;
+        let end = self.inner.trace.ports.len();
+        if from >= end {
+            return None;
         }
-        self.inner.all_ports()
+        let at = self.written.next(from, end);
+        if at < end { Some(at) } else { None }
     }
 
     /// What the desk did since it was opened, or since its trace was cleared.

@@ -44,8 +44,9 @@ impl<D: Disk> DeskInner<D> {
         if !self.front.connected(conn) {
             return Ok(());
         }
-        let Ok(bad) = self.trace.ports[at].feed(self.alloc, piece) else {
-            return Err(DeskFault::NoMemory { fed: false });
+        let bad = match self.trace.ports[at].feed(self.alloc, piece) {
+            Ok(bad) => bad,
+            Err(error) => return Err(DeskFault::NoMemory { error, fed: false }),
         };
         if let Err(fault) = self.take_left(at, conn) {
             return Err(desk_fault(fault, true));
@@ -93,7 +94,7 @@ pub(crate) fn desk_fault(fault: Fault, fed: bool) -> DeskFault
     ensures { result ≡ desk_fault_of fault fed }
 {
     match fault {
-        Fault::NoMemory => DeskFault::NoMemory { fed },
+        Fault::NoMemory(error) => DeskFault::NoMemory { error, fed },
         fault => DeskFault::Store(fault),
     }
 }

@@ -1,6 +1,7 @@
 //! Opening and formatting a store for a desk (`docs/model.md`, "The desk"; which state a disk stands for: "The keeper").
 
 ghost use Rattle.std.specs.Prelude.{◌≡◌, ◌≢◌, ◌⊎◌, ◌↔◌, ℕ, Bool, false, None, IfOk, IfErr, IsErrAnd};
+ghost use Rattle.fe_memory.specs.Memory.{out_of_memory};
 ghost use Rattle.fe_disk.specs.Disk.{Rises};
 ghost use Rattle.fe_disk.specs.Runs.{without_disk as outcome};
 ghost use Rattle.fe_state.specs.State.{ServerState, first_state};
@@ -36,7 +37,7 @@ impl<D: Disk> Desk<D> {
             → IfOk result (λ desk. IsAcknowledged desk.keeper.state asked desk) }
         // A valid store is refused only if the device fails or memory runs out.
         ensures refused { D.honest disk → (s : ServerState) → StandsFor (D.seen disk) s
-            → IfErr result (λ e. (e.0 ≡ Store keeper.Device) ⊎ (e.0 ≡ NoMemory false)) }
+            → IfErr result (λ e. (e.0 ≡ Store keeper.Device) ⊎ (e.0 ≡ NoMemory out_of_memory false)) }
         // What a fault says of the disk is true. An unformatted store is reported as such unless the device fails, however little memory
         // there is.
         ensures says { D.honest disk → IfErr result (λ e. TellsOpening e.0 (D.seen disk) (D.calls disk) (D.calls e.1)) }
@@ -73,7 +74,7 @@ impl<D: Disk> Desk<D> {
         ensures still { IfOk result (λ desk. D.failures (disk_of desk) ≡ D.failures blank) }
         ensures calm { IfErr result (λ e. e.0 ≢ Store keeper.Device → D.failures e.1 ≡ D.failures blank) }
         ensures faults { IfErr result
-            (λ e. (e.0 ≡ Store keeper.Device) ⊎ ((e.0 ≡ Store keeper.Unformatted) ⊎ (e.0 ≡ NoMemory false))) }
+            (λ e. (e.0 ≡ Store keeper.Device) ⊎ ((e.0 ≡ Store keeper.Unformatted) ⊎ (e.0 ≡ NoMemory out_of_memory false))) }
         ensures honesty { D.honest (disk_after result) ↔ D.honest blank }
         ensures size { D.size (disk_after result) ≡ D.size blank }
     {

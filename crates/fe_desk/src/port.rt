@@ -16,9 +16,10 @@ ghost use Rattle.fe_desk.specs.within.Desk.{HasAllWithMail, client_of, KeepsFron
 use crate::written::Written;
 use fe_front::{ConnectionSet, Front};
 use fe_mail::Mail;
+use fe_memory::OutOfMemory;
 use fe_messages::Reply;
 use fe_wire::{ClientMessage, Decoder, Version};
-use std::alloc::{AllocError, Global};
+use std::alloc::Global;
 use std::mem;
 
 /// A connection number, and what was written to its connections.
@@ -77,7 +78,7 @@ impl Port {
 
     /// Reads the next piece of the stream. No message may be left. Returns whether the stream is then at a bad frame, one that is no
     /// message. Fails only if memory runs out, and then nothing is read.
-    pub(crate) fn feed(&mut self, alloc: Global, piece: &[u8]) -> Result<bool, AllocError>
+    pub(crate) fn feed(&mut self, alloc: Global, piece: &[u8]) -> Result<bool, OutOfMemory>
         requires { (client_of self.old).left ≡ [] }
         ensures reads { OnOk result (Reads self.old.decoder self.new.decoder piece.now (client_of self.new).left) }
         ensures client { OnOk result (client_of self.new
@@ -107,7 +108,7 @@ impl Port {
         &mut self,
         front: &mut Front,
         mailed: &ConnectionSet,
-    ) -> Result<(), AllocError>
+    ) -> Result<(), OutOfMemory>
         requires { HasAllWithMail front.old mailed.now }
         ensures written_out { OnOk result (client_of self.new ≡ written_out front.old (client_of self.old)) }
         ensures emptied { OnOk result (front.new ≡ emptied_box front.old self.old.conn) }
@@ -128,7 +129,7 @@ impl Port {
     }
 
     /// Writes the reply that waits, if one does.
-    fn write_waiting(&mut self) -> Result<(), AllocError>
+    fn write_waiting(&mut self) -> Result<(), OutOfMemory>
         ensures written { OnOk result (client_of self.new
             ≡ record (client_of self.old) {
               reply = None;
@@ -147,16 +148,16 @@ impl Port {
     }
 
     /// Writes a reply, or keeps it if there is no memory.
-    fn write(&mut self, reply: Reply) -> Result<(), AllocError>
+    fn write(&mut self, reply: Reply) -> Result<(), OutOfMemory>
         ensures written { OnOk result (client_of self.new
             ≡ record (client_of self.old) { written = self.old.written ++ reply_spelling reply }) }
         ensures err { OnErr result (client_of self.new ≡ record (client_of self.old) { reply = Some reply }) }
     {
-        if self.written.put(&reply).is_err() {
+        let outcome = self.written.put(&reply);
+        if outcome.is_err() {
             self.reply = Some(reply);
-            return Err(AllocError);
         }
-        Ok(())
+        outcome
     }
 }
 

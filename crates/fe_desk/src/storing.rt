@@ -17,8 +17,9 @@ use crate::handed::Handed;
 use fe_disk::Disk;
 use fe_front::ConnectionSet;
 use fe_keeper::Fault;
+use fe_memory::OutOfMemory;
 use fe_state::{Batch, Entry};
-use std::alloc::{AllocError, Global};
+use std::alloc::Global;
 use std::mem;
 
 impl<D: Disk> DeskInner<D> {
@@ -61,11 +62,15 @@ impl<D: Disk> DeskInner<D> {
     {
         // From here on the proof has what is always true of the front (`docs/DECISIONS.md`, "Toolchain").
         let _ = self.front.state();
-        let Ok(group) = copied(self.alloc, batch.entries.as_slice()) else {
-            return (Handed::Cut(batch), Err(Fault::NoMemory));
+        let group = match copied(self.alloc, batch.entries.as_slice()) {
+            Ok(group) => group,
+            Err(error) => return (Handed::Cut(batch), Err(Fault::NoMemory(error))),
         };
-        if self.trace.groups.push(group).is_err() {
-            return (Handed::Cut(batch), Err(Fault::NoMemory));
+        if let Err(failed) = self.trace.groups.push(group) {
+            return (
+                Handed::Cut(batch),
+                Err(Fault::NoMemory(OutOfMemory::from(failed))),
+            );
         }
         match self.keeper.append(batch) {
             Ok(batch) => {
@@ -73,7 +78,7 @@ impl<D: Disk> DeskInner<D> {
                 (Handed::Stored(batch), Ok(()))
             }
             Err((fault, batch)) => match fault {
-                Fault::NoMemory => {
+                Fault::NoMemory(_) => {
                     let _ = self.trace.groups.pop();
                     (Handed::Cut(batch), Err(fault))
                 }
@@ -147,7 +152,7 @@ impl<D: Disk> DeskInner<D> {
 }
 
 /// A copy of the entries, in a vector with room for just them.
-fn copied(alloc: Global, entries: &[Entry]) -> Result<Vec<Entry>, AllocError>
+fn copied(alloc: Global, entries: &[Entry]) -> Result<Vec<Entry>, OutOfMemory>
     ensures { IfOk result (λ group. group.items ≡ entries.now) }
 {
     let mut group = Vec::with_capacity(alloc, entries.len())?;

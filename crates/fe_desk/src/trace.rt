@@ -1,12 +1,12 @@
 //! What a desk did: which entries it gave to its store, and what it wrote to which connections (`docs/model.md`, "The desk").
 
-ghost use Rattle.std.specs.Prelude.{◌≡◌, ◌≤◌, [], length, map};
+ghost use Rattle.std.specs.Prelude.{◌≡◌, [], map};
 ghost use Rattle.fe_desk.specs.Crash.{unwritten_to};
 ghost use Rattle.fe_desk.specs.Runs.{written_of};
-ghost use Rattle.fe_desk.specs.within.Desk.{IsSilentBeyond, client_of};
+ghost use Rattle.fe_desk.specs.within.Desk.{IsSilentFrom, client_of};
 
 use crate::port::Port;
-use crate::span::Span;
+use crate::port_set::PortSet;
 use fe_state::Entry;
 use std::alloc::Global;
 
@@ -46,27 +46,27 @@ impl Trace {
         }
     }
 
-    /// The trace begins anew. Its ports stay, with nothing written. Nothing may be written to ports out of the span.
-    pub(crate) fn clear(&mut self, span: Span)
-        requires { IsSilentBeyond span (written_of self.old) }
+    /// The trace begins anew. Its ports stay, with nothing written. Nothing may be written to ports that are not in the set.
+    pub(crate) fn clear(&mut self, written: &PortSet)
+        requires { IsSilentFrom 0 (written_of self.old) written.now }
         ensures groups { self.new.groups.items ≡ [] }
         ensures synced { self.new.synced ≡ 0 }
         ensures ports { map client_of self.new.ports.items ≡ map unwritten_to (map client_of self.old.ports.items) }
     {
         self.groups.clear();
         self.synced = 0;
-        let span = span.below(self.ports.len());
-        clear_each(&mut self.ports, span);
+        clear_each(&mut self.ports, written);
     }
 }
 
-/// Nothing is written to the ports of the span any more, nor was to the others.
-fn clear_each(ports: &mut Vec<Port>, span: Span)
-    requires within { (span.from ≤ span.to) × (span.to ≤ length ports.old.items) }
-    requires silent { IsSilentBeyond span (map (λ p. (p.conn, p.written)) ports.old.items) }
+/// Nothing is written to the ports of the set any more, nor was to the others.
+fn clear_each(ports: &mut Vec<Port>, written: &PortSet)
+    requires { IsSilentFrom 0 (map (λ p. (p.conn, p.written)) ports.old.items) written.now }
     ensures { map client_of ports.new.items ≡ map unwritten_to (map client_of ports.old.items) }
 {
-    for at in span.from..span.to {
+    let mut at = written.next(0, ports.len());
+    while at < ports.len() {
         ports[at].written.clear();
+        at = written.next(at + 1, ports.len());
     }
 }

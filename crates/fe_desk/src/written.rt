@@ -4,8 +4,9 @@ ghost use Rattle.std.specs.Prelude.{◌≡◌, ◌++◌, [], OnOk, OnErr};
 ghost use Rattle.fe_wire.specs.Spelling.{reply_spelling};
 ghost use Rattle.fe_desk.specs.Messages.{AreReplies};
 
+use fe_memory::OutOfMemory;
 use fe_messages::Reply;
-use std::alloc::{AllocError, Global};
+use std::alloc::Global;
 use std::marker::Model;
 
 /// What is written to a connection number: whole frames of replies.
@@ -36,7 +37,7 @@ impl Written {
     }
 
     /// Writes the frame of a reply. If there is no memory for it, nothing is written.
-    pub(crate) fn put(&mut self, reply: &Reply) -> Result<(), AllocError>
+    pub(crate) fn put(&mut self, reply: &Reply) -> Result<(), OutOfMemory>
         ensures ok { OnOk result (self.new ≡ self.old ++ reply_spelling reply.now) }
         ensures err { OnErr result (self.new ≡ self.old) }
     {

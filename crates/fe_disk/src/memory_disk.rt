@@ -9,7 +9,8 @@ ghost use Rattle.fe_disk.specs.within.Memory.{seen_may_stay_law, left_is_image_l
 use crate::faults::fault;
 use crate::record::{Record, replace};
 use crate::{Calls, DeviceFault, Disk};
-use std::alloc::{AllocError, Global};
+use fe_memory::OutOfMemory;
+use std::alloc::Global;
 use std::marker::Model;
 
 /// What a stop does to the ranges that were written since the last sync that succeeded.
@@ -48,7 +49,7 @@ impl Model for MemoryDisk {
 
 impl MemoryDisk {
     /// A disk of this many bytes, all of them zero.
-    pub fn new(alloc: Global, size: usize) -> Result<MemoryDisk, AllocError>
+    pub fn new(alloc: Global, size: usize) -> Result<MemoryDisk, OutOfMemory>
         ensures blank { IfOk result (IsBlank size) }
         ensures honest { IfOk result IsHonest }
         ensures durable { IfOk result (λ disk. LeavesJust disk.image (LeavesNow disk)) }
@@ -80,7 +81,7 @@ impl MemoryDisk {
 
     /// The disk that a stop now leaves if this happens to the ranges that were written since the last sync
     /// that succeeded. It is a new disk, with no calls and no faults.
-    pub fn stopped(&self, torn: Torn) -> Result<MemoryDisk, AllocError>
+    pub fn stopped(&self, torn: Torn) -> Result<MemoryDisk, OutOfMemory>
         ensures left { IfOk result (λ disk. IsLeftBy torn self.now.image self.now.events disk.image) }
 
         // It is one of the images that the model allows now.

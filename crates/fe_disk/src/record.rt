@@ -7,7 +7,8 @@ ghost use Rattle.fe_disk.specs.Memory.{Write, Sync, AreWithin, image_with_tears}
 ghost use Rattle.fe_disk.specs.within.Record.{newest_first};
 
 use crate::Torn;
-use std::alloc::{AllocError, Global};
+use fe_memory::OutOfMemory;
+use std::alloc::Global;
 use std::marker::Model;
 use std::snapshot::Snapshot;
 
@@ -65,7 +66,7 @@ impl Record {
         image: &[u8],
         at: usize,
         size: usize,
-    ) -> Result<(), AllocError>
+    ) -> Result<(), OutOfMemory>
         requires { at + size ≤ length image.now }
         ensures ok { OnOk result (self.new ≡ Write at (bytes_at image.now at size) ∷ self.old) }
         ensures err { OnErr result (self.new ≡ self.old) }
@@ -87,7 +88,7 @@ impl Record {
     }
 
     /// A copy of the image after a stop that does this to the ranges written since the last sync.
-    pub fn torn_copy(&self, alloc: Global, torn: Torn, image: &[u8]) -> Result<Vec<u8>, AllocError>
+    pub fn torn_copy(&self, alloc: Global, torn: Torn, image: &[u8]) -> Result<Vec<u8>, OutOfMemory>
         requires within { AreWithin (length image.now) self.now }
         requires bytes { IsImage (length image.now) image.now }
         ensures torn { IfOk result (λ copy. copy.items ≡ image_with_tears torn image.now self.now) }

@@ -2,6 +2,7 @@
 //! ("Mails, connections and books"). An entry is durable once the batch that has it is stored and posted.
 
 ghost use Rattle.std.specs.Prelude.{◌≡◌, ◌+◌, ◌⊎◌, ℕ, List, [], Some, None, Err, IfOk, IfErr, OnErr};
+ghost use Rattle.fe_memory.specs.Memory.{out_of_memory};
 ghost use Rattle.fe_front.specs.Call.{request_at, BeginsRequest, IsCallRefused, WantsMemory, Called, Completed, Waits, repeat_of, repeated, waiters_completed, addressed, IsAdmitted};
 ghost use Rattle.fe_mail.specs.Books.{Balances};
 ghost use Rattle.fe_mail.specs.declared.refusal.Refusal as refusals;
@@ -100,7 +101,7 @@ impl Front {
         ensures completed { IfOk result
             (λ outcome. (count : ℕ) × (entries : List Entry) × (outcome ≡ Outcome.Completed count)
             × Completed self.old session number request count entries self.new) }
-        ensures refusal { IfErr result (λ refusal. refusal ≡ Refusal.NoMemory) }
+        ensures refusal { IfErr result (λ refusal. refusal ≡ Refusal.NoMemory out_of_memory) }
         ensures memory { OnErr result (MakesArray (Finished session number request answer)) }
         ensures err { OnErr result (self.new ≡ self.old) }
     {
@@ -113,7 +114,7 @@ impl Front {
                 count_served(&mut self.books, entries - 1);
                 Ok(Outcome::Completed { entries })
             }
-            Err(_) => Err(Refusal::NoMemory),
+            Err(error) => Err(Refusal::NoMemory(error)),
         }
     }
 
@@ -153,7 +154,7 @@ impl Front {
             → result ≡ Err refusal }
         ensures refusal { IfErr result
             (λ refusal. IsCallRefused self.old conn number request refusal
-            ⊎ ((refusal ≡ Refusal.NoMemory) × WantsMemory self.old conn number request)) }
+            ⊎ ((refusal ≡ Refusal.NoMemory out_of_memory) × WantsMemory self.old conn number request)) }
         ensures err { OnErr result (self.new ≡ self.old) }
     {
         let _ = self.state();

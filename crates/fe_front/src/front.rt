@@ -4,6 +4,7 @@
 ghost use Rattle.std.specs.Prelude.{◌≡◌, ◌⊎◌, ◌+◌, ◌↔◌, List, not, slice_get, Some, None, Ok, Err, IsTrue, IsOk, IsErr, IfOk, IfErr, OnOk, OnErr, MatchResult};
 ghost use Rattle.std.specs.Option.{option_map};
 ghost use Rattle.std.specs.FinMap.{get, len};
+ghost use Rattle.fe_memory.specs.Memory.{out_of_memory};
 ghost use Rattle.fe_state.specs.State as states;
 ghost use Rattle.fe_state.specs.declared.entry.Entry.{Entry};
 ghost use Rattle.fe_mail.specs.Books.{Balances};
@@ -21,10 +22,11 @@ use crate::connection_set::ConnectionSet;
 use crate::out::Out;
 use crate::outcome::{StrangeBatch, TakenCall};
 use fe_mail::{Books, Connections, Mail, Refusal, ReportText};
+use fe_memory::OutOfMemory;
 use fe_service::Service;
 use fe_state::{Batch, Entries, Request, State, WAITING};
 use fe_words::Op;
-use std::alloc::{AllocError, Global};
+use std::alloc::Global;
 use std::marker::Model;
 
 /// The state, the sessions' attachments and what waits, the connections with their boxes of mails, the entries on their
@@ -75,7 +77,7 @@ impl Model for Front {
 impl Front {
     /// A front over a state whose entries are all durable. Each session has an attachment and no connection. Only connections and
     /// new arrays take memory later. Fails only if memory runs out.
-    pub fn new(alloc: Global, state: State) -> Result<Front, AllocError>
+    pub fn new(alloc: Global, state: State) -> Result<Front, OutOfMemory>
         ensures { IfOk result (IsFirst state) }
     {
         let durable = state.place();
@@ -97,17 +99,13 @@ impl Front {
         })
     }
 
-    /// Adds a connection with no session and an empty box. The one refusal is `NoMemory`.
-    pub fn connect(&mut self, conn: u64) -> Result<(), Refusal>
+    /// Adds a connection with no session and an empty box. Fails only if memory runs out.
+    pub fn connect(&mut self, conn: u64) -> Result<(), OutOfMemory>
         requires unconnected { get self.old.connections conn ≡ None }
         ensures connected { OnOk result (self.new ≡ connected self.old conn) }
-        ensures refusal { IfErr result (λ refusal. refusal ≡ Refusal.NoMemory) }
         ensures err { OnErr result (self.new ≡ self.old) }
     {
-        match self.connections.connect(conn) {
-            Ok(()) => Ok(()),
-            Err(_) => Err(Refusal::NoMemory),
-        }
+        self.connections.connect(conn)
     }
 
     /// Whether at most `WAITING` entries are pending, so that a batch has room for those of one more event. `attach`, `call`, `settle`
@@ -149,7 +147,7 @@ impl Front {
             → result ≡ Err refusal }
         ensures refusal { IfErr result
             (λ refusal. IsCallRefused self.old conn number request refusal
-            ⊎ ((refusal ≡ Refusal.NoMemory) × WantsMemory self.old conn number request)) }
+            ⊎ ((refusal ≡ Refusal.NoMemory out_of_memory) × WantsMemory self.old conn number request)) }
         ensures err { OnErr result (self.new ≡ call_refused_by self.old) }
     {
         match self.addressed(conn, number, &request) {

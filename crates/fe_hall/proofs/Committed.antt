@@ -11,6 +11,7 @@ use Rattle.fe_state.specs.declared.batch.Batch.{Batch}
 use Rattle.fe_state.specs.declared.entry.Entry.{Entry}
 use Rattle.fe_state.proofs.Histories.{history-append}
 use Rattle.std.specs.Option.{option_map_or}
+use Rattle.fe_memory.specs.Memory.{out_of_memory}
 use Rattle.fe_keeper.specs.Ends.{Rests, StopsLeave, Works, Breaks, Fails, ForBatch, IsStill}
 use Rattle.fe_keeper.specs.Keeper.{KeeperState, StoreState, Progress, fits, must_begin, made_room, renewed, appended, finished_by}
 use Rattle.fe_keeper.specs.Stands.{LeavesPrefix, StandsFor, StandsForEither, EachStandsFor}
@@ -362,7 +363,7 @@ module _ {D : Type 0} (model : Ghosts D) (only_now : (disk : D) (image : List �
       let continues = fails.0 in
       (commits_torn model old new entries continues.some continues.legal state run, refl)
   commits_fault Failed first entries fails state run = (commits_none (Some (Store Failed)) fails.1, refl)
-  commits_fault NoMemory first entries fails state run = (commits_none (Some (Store NoMemory)) fails.1.same, refl)
+  commits_fault (NoMemory error) first entries fails state run = (commits_none (Some (Store (NoMemory error))) fails.1.same, refl)
   commits_fault (Mismatch place) first entries fails state run = (commits_none (Some Strange) fails.1.same, refl)
   commits_fault (Damaged offset) first entries fails state run = absurd fails
   commits_fault Unformatted first entries fails state run = absurd fails
@@ -375,7 +376,7 @@ module _ {D : Type 0} (model : Ghosts D) (old new : KeeperState D) where
   pub fault_tells : (fault : Fault) (first : ℕ) (entries : List Entry) → Fails model (ForBatch old first entries) old new fault → EndsAs model old new (Some (end_of fault))
   fault_tells Device first entries fails = fails.1
   fault_tells Failed first entries fails = fails
-  fault_tells NoMemory first entries fails = still_same fails.1.same
+  fault_tells (NoMemory error) first entries fails = still_same fails.1.same
   fault_tells (Mismatch place) first entries fails = still_same fails.1.same
   fault_tells (Damaged offset) first entries fails = absurd fails
   fault_tells Unformatted first entries fails = absurd fails
@@ -390,16 +391,16 @@ module _ {D : Type 0} (model : Ghosts D) (old new : KeeperState D) where
   post_tells (unposted.Strange strange) still = still
 
   -- a fault of a checkpoint that takes no memory, or has it
-  pub device_alone : (Cause : Fault → Type 0) (fault : Fault) → old.store.has_failed ≡ false → (fault ≡ NoMemory → Cause NoMemory → ⊥) → ((place : ℕ) → Cause (Mismatch place) → ⊥) → Fails model Cause old new fault
+  pub device_alone : (Cause : Fault → Type 0) (fault : Fault) → old.store.has_failed ≡ false → (fault ≡ NoMemory out_of_memory → Cause (NoMemory out_of_memory) → ⊥) → ((place : ℕ) → Cause (Mismatch place) → ⊥) → Fails model Cause old new fault
       → (fault ≡ Device) × Breaks model old new
   device_alone Cause Device works memory mismatch fails = (refl, fails.1)
   device_alone Cause Failed works memory mismatch fails = let had = fails.0 in absurd (cc (had, works))
-  device_alone Cause NoMemory works memory mismatch fails = absurd (memory refl fails.0)
+  device_alone Cause (NoMemory error) works memory mismatch fails = absurd (memory refl fails.0)
   device_alone Cause (Mismatch place) works memory mismatch fails = absurd (mismatch place fails.0)
   device_alone Cause (Damaged offset) works memory mismatch fails = absurd fails
   device_alone Cause Unformatted works memory mismatch fails = absurd fails
 
-  pub still_short : (Cause : Fault → Type 0) (fault : Fault) → fault ≡ NoMemory → Fails model Cause old new fault → IsStill model old new
+  pub still_short : (Cause : Fault → Type 0) (fault : Fault) → fault ≡ NoMemory out_of_memory → Fails model Cause old new fault → IsStill model old new
   still_short Cause fault is fails = still_same (subst (Fails model Cause old new) is fails).1.same
 
 -- what is said of a fault is said of a result that has it

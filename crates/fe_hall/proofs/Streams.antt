@@ -16,7 +16,7 @@ use Rattle.fe_wire.proofs.FrameLaws.{one_front, front_not_bad, front_not_unfinis
 use Rattle.fe_wire.proofs.Existence.{each_has_reading}
 use Rattle.fe_wire.proofs.StreamLaws.{one_reading, nothing_unfinished}
 use Rattle.fe_hall.specs.declared.ends.ReadEnd.{ReadEnd}
-use Rattle.fe_shared.specs.declared.short.Short.{Short}
+use Rattle.fe_memory.specs.declared.OutOfMemory.{OutOfMemory}
 use Rattle.fe_hall.specs.declared.ends.ReadEnd.TheVariants.{Closed, Device, BadFrame, Gone, Turns, Stopped, Spent, NoMemory}
 use Rattle.fe_shared.specs.Seats.{CallSeatState}
 use Rattle.fe_hall.specs.Reads.{AreHandled, EndsEarly, EndsAmong, EndsAt, HandlesStream, IsAt}
@@ -89,7 +89,7 @@ module _ (before after : CallSeatState) (list : List ClientMessage) where
 
   -- a piece was not read because memory is short
   pub ends_unread : (bytes piece : List ℕ) (d : Decoding) → IsBytes (bytes ++ piece) → CompletesMessage d piece → IsAt bytes before d after list
-      → (short : Short) → HandlesStream (bytes ++ piece) before after list (NoMemory short)
+      → (short : OutOfMemory) → HandlesStream (bytes ++ piece) before after list (NoMemory short)
   ends_unread bytes piece d are_bytes completes at short =
       let whole = each_has_reading d.version (bytes ++ piece) are_bytes in
       let cut : bytes ++ piece ≡ flat_map spelling at.messages ++ (at.reads.rest ++ piece) =
@@ -199,7 +199,7 @@ module _ (before old new : CallSeatState) (listed list : List ClientMessage) (by
 
 -- none were, because memory is short
 pub piece_unread : (before seat : CallSeatState) (list : List ClientMessage) (bytes piece : List ℕ) (d : Decoding) → IsBytes piece → CompletesMessage d piece → IsAt bytes before d seat list
-    → (short : Short) → HandlesStream (bytes ++ piece) before seat list (NoMemory short)
+    → (short : OutOfMemory) → HandlesStream (bytes ++ piece) before seat list (NoMemory short)
 piece_unread before seat list bytes piece d fits completes at short = ends_unread before seat list bytes piece d (IsBytes-append bytes piece at.are_bytes fits) completes at short
 
 -- ---- the beginning
@@ -220,7 +220,7 @@ begins d seat two reads =
     by true stands = absurd ((nothing_unfinished d.version).1 (subst (IsBad d.version) (sym reads.is_stream.parts) stands.0))
 
 -- no memory for the first read
-pub ends_first : (before seat : CallSeatState) (list : List ClientMessage) (bytes : List ℕ) (d : Decoding) → bytes ≡ [] → IsAt [] before d seat list → (short : Short) → HandlesStream bytes before seat list (NoMemory short)
+pub ends_first : (before seat : CallSeatState) (list : List ClientMessage) (bytes : List ℕ) (d : Decoding) → bytes ≡ [] → IsAt [] before d seat list → (short : OutOfMemory) → HandlesStream bytes before seat list (NoMemory short)
 ends_first before seat list bytes d none at short =
     let first : at.messages ≡ [] =
     (one_reading d.version [] at.messages [] at.reads.rest [] at.reads.is_stream (record { parts = refl; each = tt; end = inl (nothing_unfinished d.version) })).0 in

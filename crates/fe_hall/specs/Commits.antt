@@ -77,7 +77,7 @@ AppendsAreNoted model appends end before after =
 abbrev pub end_of : Fault → CommitEnd
 end_of Device = Store Device
 end_of Failed = Store Failed
-end_of NoMemory = Store NoMemory
+end_of (NoMemory error) = Store (NoMemory error)
 end_of (Mismatch place) = Strange
 end_of (Damaged offset) = Store (Damaged offset)
 end_of Unformatted = Store Unformatted
@@ -98,7 +98,7 @@ EndsAs model old new None = IsStill model old new
 EndsAs model old new (Some Stopped) = IsStill model old new
 EndsAs model old new (Some (Store Device)) = Breaks model old new
 EndsAs model old new (Some (Store Failed)) = (old.store.has_failed ≡ true) × (new ≡ old)
-EndsAs model old new (Some (Store NoMemory)) = IsStill model old new
+EndsAs model old new (Some (Store (NoMemory error))) = IsStill model old new
 EndsAs model old new (Some (Store (Mismatch place))) = ⊥
 EndsAs model old new (Some (Store (Damaged offset))) = ⊥
 EndsAs model old new (Some (Store Unformatted)) = ⊥

@@ -118,7 +118,7 @@ fn tend<D: Disk>(keeper: &mut Keeper<D>, slices: bool) -> Result<bool, Fault>
     match keeper.checkpoint_begin() {
         Ok(begun) => Ok(begun),
         Err(fault) => match fault {
-            Fault::NoMemory => Ok(false),
+            Fault::NoMemory(_) => Ok(false),
             _ => Err(fault),
         },
     }

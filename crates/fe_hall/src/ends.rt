@@ -1,6 +1,6 @@
 //! How the read side of a connection, its reading thread, ends (`docs/model.md`, "The hall").
 
-use fe_shared::Short;
+use fe_memory::OutOfMemory;
 
 /// Why a read side ended. Its connection is gone then, unless the hall is stopped.
 #[derive(Clone, Copy, PartialEq, Eq)]
@@ -21,5 +21,5 @@ pub enum ReadEnd {
     /// A book of the hall is full.
     Spent,
     /// There was no memory for the messages that came, for one more in the list, or for the buffer of the reads.
-    NoMemory(Short),
+    NoMemory(OutOfMemory),
 }

@@ -11,13 +11,14 @@ use crate::baton::{Baton, BatonGuard};
 use crate::hold::Lock;
 use fe_front::{Front, REMAINDERS};
 use fe_history::{GatheredReceipts, History, HistoryWords, NewHistory, Receipt, StoreSeat, Tally};
+use fe_memory::OutOfMemory;
 use fe_shared::{
     Bells, CallSeat, ConnectRight, CutOutcome, Free, HasStopped, LastAnswer, MailSeat, NewSeats,
     Owed, OwedByPost, PlaceThen, Posted, Shared, Taking, Unconnected, Unposted,
 };
 use fe_state::Batch;
 use fe_wire::ClientMessage;
-use std::alloc::{AllocError, Global};
+use std::alloc::Global;
 use std::sync::ledger::Blank;
 use std::sync::{Condvar, MutexGuard, Wait};
 use std::time::{Clock, Duration};
@@ -55,7 +56,7 @@ impl<C: Tally, M: Tally> Hall<C, M> {
         calls: Blank,
         mails: Blank,
         history: NewHistory,
-    ) -> Result<(Hall<C, M>, StoreSeat<M>, ConnectRight), (AllocError, Front)>
+    ) -> Result<(Hall<C, M>, StoreSeat<M>, ConnectRight), (OutOfMemory, Front)>
         requires begun { IsBegun front history.acts }
         requires calls { IsBlankOf C.name C.parts C.all calls.name calls.parts }
         requires mails { IsBlankOf M.name M.parts M.all mails.name mails.parts }
@@ -80,9 +81,9 @@ impl<C: Tally, M: Tally> Hall<C, M> {
                 };
                 Ok((hall, StoreSeat::new(stored), right))
             }
-            Err(_) => {
+            Err(error) => {
                 drop(history);
-                Err((AllocError, front))
+                Err((error, front))
             }
         }
     }
@@ -371,7 +372,7 @@ impl<C: Tally, M: Tally> Hall<C, M> {
 }
 
 /// A bell for each remainder by which a `ConnectionSet` tells connections apart.
-fn bells(alloc: Global) -> Result<Vec<Condvar>, AllocError>
+fn bells(alloc: Global) -> Result<Vec<Condvar>, OutOfMemory>
     ensures { IfOk result (λ bells. length bells.items ≡ 256) }
 {
     let mut bells = Vec::with_capacity(alloc, REMAINDERS as usize)?;

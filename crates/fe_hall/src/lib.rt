@@ -30,7 +30,7 @@ pub use fe_history::{
 };
 pub use fe_shared::{
     CallSeat, ConnectRight, Free, HasStopped, LastAnswer, MailLog, MailSeat, MessageLog, NewSeats,
-    PARTS, SeatMissing, Seats, Short, Unconnected, reserve_one,
+    PARTS, SeatMissing, Seats, Unconnected,
 };
 pub use hall::Hall;
 pub use halves::{Gate, HalfFault, MemoryRead, MemoryWrite, Open, ReadHalf, WriteHalf};

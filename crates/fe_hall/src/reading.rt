@@ -11,7 +11,8 @@ use crate::ends::ReadEnd;
 use crate::hall::Hall;
 use crate::halves::{Gate, ReadHalf};
 use fe_history::{LISTED, Tally};
-use fe_shared::{CallSeat, Free, LastAnswer, PlaceThen, feed, reserve_one, zeros};
+use fe_memory::{reserve_one, zeros};
+use fe_shared::{CallSeat, Free, LastAnswer, PlaceThen};
 use fe_wire::{ClientMessage, Decoder, Version};
 use std::alloc::Global;
 use std::sync::Wait;
@@ -112,7 +113,7 @@ impl<C: Tally> Reading<C> {
     {
         let mut buffer = match zeros(self.alloc, PIECE_BYTES) {
             Ok(buffer) => buffer,
-            Err(short) => return ReadEnd::NoMemory(short),
+            Err(error) => return ReadEnd::NoMemory(error),
         };
         let piece = buffer.as_mut_slice();
         let mut left = turns;
@@ -151,9 +152,9 @@ impl<C: Tally> Reading<C> {
         ensures of { IfSome result IsOfMessages }
         ensures ended_as { IfSome result (λ end. IsEndAfter end self.new.seat.last_answer) }
     {
-        let fed = match feed(&mut self.decoder, self.alloc, piece) {
+        let fed = match self.decoder.feed(self.alloc, piece) {
             Ok(fed) => fed,
-            Err(short) => return Some(ReadEnd::NoMemory(short)),
+            Err(error) => return Some(ReadEnd::NoMemory(error)),
         };
         let messages = fed.messages.as_slice();
         let mut baton_guard = BatonGuard::none();
@@ -196,8 +197,8 @@ impl<C: Tally> Reading<C> {
             _ => false,
         };
         if lists {
-            if let Err(short) = reserve_one(&mut self.listed) {
-                return Some(ReadEnd::NoMemory(short));
+            if let Err(error) = reserve_one(&mut self.listed) {
+                return Some(ReadEnd::NoMemory(error));
             }
         }
         if !gate.passes_at_once(self.seat.conn()) {

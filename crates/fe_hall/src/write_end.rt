@@ -1,6 +1,6 @@
 //! Part of a connection's write side, the thread that takes mails (replies) out of the connection's box (`docs/model.md`, "The hall").
 
-use fe_shared::Short;
+use fe_memory::OutOfMemory;
 
 /// Why a write side ended. Its connection is gone then, except at `Stopped`.
 #[derive(Clone, Copy, PartialEq, Eq)]
@@ -14,5 +14,5 @@ pub enum WriteEnd {
     /// The book, or count, of the mails that were taken is full.
     Spent,
     /// There was no memory for a receipt or for the frame of a mail.
-    NoMemory(Short),
+    NoMemory(OutOfMemory),
 }

@@ -13,8 +13,9 @@ use crate::hall::Hall;
 use crate::halves::{HalfFault, WriteHalf};
 use crate::write_end::WriteEnd;
 use fe_history::{History, Receipt, Receipts, Tally};
+use fe_memory::reserve_one;
 use fe_messages::Reply;
-use fe_shared::{Free, MailSeat, Taking, put, reserve_one};
+use fe_shared::{Free, MailSeat, Taking};
 use std::alloc::Global;
 use std::sync::Wait;
 
@@ -174,8 +175,8 @@ impl<M: Tally> Writing<M> {
     {
         let keeps = self.receipts.len() < RECEIPTS;
         if keeps {
-            if let Err(short) = reserve_one(&mut self.receipts) {
-                return Err(WriteEnd::NoMemory(short));
+            if let Err(error) = reserve_one(&mut self.receipts) {
+                return Err(WriteEnd::NoMemory(error));
             }
         }
         let taking = hall.take_mail(rt, free, &mut self.seat, &mut self.history, baton_guard);
@@ -192,9 +193,9 @@ impl<M: Tally> Writing<M> {
                 }
             }
         }
-        match put(&Reply::of(mail), &mut self.frames) {
+        match Reply::of(mail).put(&mut self.frames) {
             Ok(()) => Ok(more),
-            Err(short) => Err(WriteEnd::NoMemory(short)),
+            Err(error) => Err(WriteEnd::NoMemory(error)),
         }
     }
 }

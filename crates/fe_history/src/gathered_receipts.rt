@@ -7,7 +7,8 @@ use crate::history::History;
 use crate::receipt::Receipt;
 use crate::receipt_list::ReceiptList;
 use crate::tally::Tally;
-use std::alloc::{AllocError, Global};
+use fe_memory::OutOfMemory;
+use std::alloc::Global;
 use std::marker::Model;
 
 /// The receipts of one write side, and the history in which each of their answers was issued, that is handed out.
@@ -79,7 +80,7 @@ impl<M: Tally> GatheredReceipts<M> {
     }
 
     /// Adds the receipts of another side of the same hall. If there is no memory for them, it is not whole any more.
-    pub fn add(&mut self, other: Receipts<M>) -> Result<(), AllocError>
+    pub fn add(&mut self, other: Receipts<M>) -> Result<(), OutOfMemory>
         ensures ok { OnOk result
             ((self.new.items ≡ self.old.items ++ other.items) × (self.new.whole ≡ self.old.whole)) }
         ensures err { OnErr result ((self.new.items ≡ self.old.items) × (self.new.whole ≡ false)) }

@@ -3,7 +3,8 @@
 ghost use Rattle.std.specs.Prelude.{◌≡◌, ◌++◌, [], false, true, OnOk, OnErr};
 
 use crate::receipt::Receipt;
-use std::alloc::{AllocError, Global};
+use fe_memory::OutOfMemory;
+use std::alloc::Global;
 use std::marker::Model;
 
 /// Receipts of write sides. The list is whole if it has those of each side that was added.
@@ -43,15 +44,15 @@ impl ReceiptList {
     }
 
     /// Adds the receipts of one more side. If there is no memory for them, none of them is added, and the list is not whole any more.
-    pub(crate) fn add(&mut self, items: &[Receipt]) -> Result<(), AllocError>
+    pub(crate) fn add(&mut self, items: &[Receipt]) -> Result<(), OutOfMemory>
         ensures ok { OnOk result (self.new ≡ record self.old { items = self.old.items ++ items.now }) }
         ensures err { OnErr result (self.new ≡ record self.old { whole = false }) }
     {
-        let added = self.items.extend_from_slice(items);
-        if added.is_err() {
+        if let Err(error) = self.items.extend_from_slice(items) {
             self.whole = false;
+            return Err(OutOfMemory::from(error));
         }
-        added
+        Ok(())
     }
 
     /// One more side has receipts that are not added.

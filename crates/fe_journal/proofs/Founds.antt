@@ -3,6 +3,7 @@ use Rattle.std.proofs.Common.{◌≡◌, ◌⊎◌, inl, inr, [], ◌∷◌, ℕ
 use Rattle.std.specs.Prelude.{IsErrOf}
 use Rattle.std.proofs.lemmas.Bool.{cases_lt, cases_eq}
 use Rattle.std.proofs.lemmas.Option.{none-some}
+use Rattle.fe_memory.specs.Memory.{out_of_memory}
 use Rattle.fe_disk.specs.Disk.{LeavesJust, bytes_at}
 use Rattle.fe_disk.proofs.Images.{length-bytes_at}
 use Rattle.fe_journal.specs.Layout.{header_of, image_of, area_of, device_bytes, number_at, IsGateOpen, IsGateShut}
@@ -170,11 +171,11 @@ module _ (c : Contents) (image : List ℕ) (holds : Holds c image) where
   formatted (inr none) = none c.slot c.format holds.counts.is_slot holds.counts.valid
 
   -- contents are refused only for the device or for memory
-  pub refused_only : (fault : StoreFault) → TellsFound fault image → (fault ≡ Device) ⊎ (fault ≡ NoMemory)
+  pub refused_only : (fault : StoreFault) → TellsFound fault image → (fault ≡ Device) ⊎ (fault ≡ NoMemory out_of_memory)
   refused_only Unformatted told = absurd (formatted told)
   refused_only (Damaged offset) told = absurd (undamaged offset told.1)
   refused_only Device told = inl refl
-  refused_only NoMemory told = inr refl
+  refused_only (NoMemory error) told = inr refl
 
 -- ---- the disk of a store that is opened
 
@@ -207,4 +208,4 @@ pub unformatted_only : (image : List ℕ) (fault : StoreFault) → TellsFound fa
 unformatted_only image Unformatted told odd = inl refl
 unformatted_only image (Damaged offset) told odd = absurd (unformatted_undamaged image offset told.0 told.1 odd)
 unformatted_only image Device told odd = inr refl
-unformatted_only image NoMemory told odd = absurd (none_counts image told.slot told.format told.whole told.counts odd)
+unformatted_only image (NoMemory error) told odd = absurd (none_counts image told.slot told.format told.whole told.counts odd)

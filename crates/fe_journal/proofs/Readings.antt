@@ -1,6 +1,7 @@
 -- What opening reads of the slots of a store.
 use Rattle.std.proofs.Common.{◌≡◌, ◌⊎◌, ◌↔◌, ℕ, ◌+◌, ◌<◌, ◌≤◌, List, length, Option, Some, None, Result, Ok, Err, inl, inr, ⊎_elim, sym, ◌∙◌, subst, refl, arith}
 use Rattle.std.proofs.lemmas.Bool.{cases_lt}
+use Rattle.fe_memory.specs.Memory.{out_of_memory}
 use Rattle.fe_disk.specs.Disk.{AddsNone, Rises, bytes_at}
 use Rattle.fe_disk.specs.Runs.{HasElapsed}
 use Rattle.fe_disk.proofs.Moments.{started, goes_on, joined, weaker}
@@ -107,7 +108,7 @@ module _ (image : List ℕ) where
       (whole, OddImage slot header.format counts.0 (let g = counts.1 in let n = odd.0 in omega (arith, g, n)) (λ fits. odd.1 (subst (λ (n : ℕ). IsImageLength header.format n) counts.2 fits)) odd.2)
   header_tells slot header Unformatted whole counts fault = absurd fault
   header_tells slot header Device whole counts fault = absurd fault
-  header_tells slot header NoMemory whole counts fault = absurd fault
+  header_tells slot header (NoMemory error) whole counts fault = absurd fault
 
   -- an odd group in the bytes that were read of the area
   pub group_tells : (slot : ℕ) (header : Header) (area : List ℕ) (fault : StoreFault) → length image ≡ device_bytes → slot < 2 → area ≡ bytes_at image (area_of slot) area_bytes → 1 ≤ header.generation → IsImageLength header.format header.image_length
@@ -130,7 +131,7 @@ module _ (image : List ℕ) where
       )
   group_tells slot header area Unformatted whole is_slot read numbered fits counts fault = absurd fault
   group_tells slot header area Device whole is_slot read numbered fits counts fault = absurd fault
-  group_tells slot header area NoMemory whole is_slot read numbered fits counts fault = absurd fault
+  group_tells slot header area (NoMemory error) whole is_slot read numbered fits counts fault = absurd fault
 
   -- a slot that counts, with a header that was tested
   pub sound_by : (slot : ℕ) (header : Header) → length image ≡ device_bytes → CountsAs image (Some (slot, header)) → 1 ≤ header.generation → IsImageLength header.format header.image_length → HasSoundHeader image
@@ -145,7 +146,7 @@ module _ (image : List ℕ) where
       }
 
   -- faults of the device and of memory say nothing of the image
-  pub nothing_told : (fault : StoreFault) → HasSoundHeader image → (fault ≡ Device) ⊎ (fault ≡ NoMemory) → TellsFound fault image
+  pub nothing_told : (fault : StoreFault) → HasSoundHeader image → (fault ≡ Device) ⊎ (fault ≡ NoMemory out_of_memory) → TellsFound fault image
   nothing_told fault sound (inl is) = subst (λ (f : StoreFault). TellsFound f image) (sym is) tt
   nothing_told fault sound (inr is) = subst (λ (f : StoreFault). TellsFound f image) (sym is) sound
 
@@ -166,5 +167,5 @@ counted (Err Unformatted) before since now stood none fault still =
     (λ e. absurd (cc), λ rises. absurd (none (subst (λ (n : ℕ). Rises before n) (still (λ e. cc)) rises)))
 counted (Err (Damaged offset)) before since now stood none fault still =
     (λ e. absurd (cc), λ rises. absurd (none (subst (λ (n : ℕ). Rises before n) (still (λ e. cc)) rises)))
-counted (Err NoMemory) before since now stood none fault still =
+counted (Err (NoMemory out_of_memory)) before since now stood none fault still =
     (λ e. absurd (cc), λ rises. absurd (none (subst (λ (n : ℕ). Rises before n) (still (λ e. cc)) rises)))

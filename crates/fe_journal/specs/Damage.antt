@@ -38,7 +38,7 @@ abbrev pub TellsFound : StoreFault → List ℕ → Type 0
 TellsFound Unformatted image = IsUnformatted image
 TellsFound (Damaged offset) image = (length image ≡ device_bytes) × IsDamagedAt image offset
 TellsFound Device image = Unit {0}
-TellsFound NoMemory image = HasSoundHeader image
+TellsFound (NoMemory error) image = HasSoundHeader image
 
 -- ---- laws, cited by public functions (`docs/model.md`, "The journal")
 

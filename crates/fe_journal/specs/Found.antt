@@ -1,5 +1,6 @@
 -- What opening a store returns, and why it fails (`docs/store.md`, "Opening a store").
 use Rattle.std.specs.Prelude.{◌≡◌, ◌≢◌, ◌⊎◌, ◌↔◌, ◌+◌, ◌≤◌, ℕ, List, None, Result, Ok, Err, IfOk, IfErr, IsErrAnd, IsErrOf}
+use Rattle.fe_memory.specs.Memory.{out_of_memory}
 use Rattle.fe_disk.specs.Disk.{Rises, MakesAtMost}
 use Rattle.fe_disk.specs.declared.calls.Calls.{Calls}
 use Rattle.fe_journal.specs.Layout.{area_of}
@@ -38,8 +39,8 @@ ReadsInPart before now = now.reads ≤ before.reads + 3
 -- device fails or memory runs out; and memory runs out only before all of it was read.
 pub record IsReason (image : List ℕ) (before now : Calls) (fault : StoreFault) : Type 0 where
   pub tells : TellsFound fault image
-  pub valid : (c : Contents) → Holds c image → (fault ≡ Device) ⊎ (fault ≡ NoMemory)
-  pub memory : fault ≡ NoMemory → ReadsInPart before now
+  pub valid : (c : Contents) → Holds c image → (fault ≡ Device) ⊎ (fault ≡ NoMemory out_of_memory)
+  pub memory : fault ≡ NoMemory out_of_memory → ReadsInPart before now
 
 -- What opening does to any disk: a sync and four reads at most. The fault is `device` exactly if a call of the disk failed. No other result
 -- changes the count of faults.

@@ -68,14 +68,14 @@ HeaderFault slot header (Damaged offset) =
     ⊎ ((1 ≤ header.generation) × (IsImageLength header.format header.image_length → ⊥) × (offset ≡ header_of slot + 16))
 HeaderFault slot header Unformatted = ⊥
 HeaderFault slot header Device = ⊥
-HeaderFault slot header NoMemory = ⊥
+HeaderFault slot header (NoMemory error) = ⊥
 
 -- what is wrong with the groups of the slot's journal area
 abbrev pub GroupFault : ℕ → Format → List ℕ → StoreFault → Type 0
 GroupFault slot format area (Damaged offset) = (at : ℕ) × (at < area_bytes) × IsOddAt format area at × (offset ≡ area_of slot + at)
 GroupFault slot format area Unformatted = ⊥
 GroupFault slot format area Device = ⊥
-GroupFault slot format area NoMemory = ⊥
+GroupFault slot format area (NoMemory error) = ⊥
 
 -- ---- what opening has read
 

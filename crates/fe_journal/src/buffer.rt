@@ -2,12 +2,13 @@
 
 ghost use Rattle.std.specs.Prelude.{◌≡◌, IfOk, vec_len};
 
-use std::alloc::{AllocError, Global};
+use fe_memory::OutOfMemory;
+use std::alloc::Global;
 
 /// A buffer of zeros with this length. The contract gives its length alone, since a clause about its zeros would be as
 /// long as the buffer.
-pub fn buffer_of(alloc: Global, length: usize) -> Result<Vec<u8>, AllocError>
+pub fn buffer_of(alloc: Global, length: usize) -> Result<Vec<u8>, OutOfMemory>
     ensures { IfOk result (λ buffer. vec_len buffer ≡ length) }
 {
-    vec![in alloc; 0; length]
+    Ok(vec![in alloc; 0; length]?)
 }

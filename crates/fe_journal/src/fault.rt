@@ -2,7 +2,7 @@
 //! and which one counts; "Journal area", at which offset it is damaged.
 
 use fe_disk::DeviceFault;
-use std::alloc::AllocError;
+use fe_memory::OutOfMemory;
 
 /// Why a store was not opened or formatted.
 #[derive(Clone, Copy, PartialEq, Eq)]
@@ -14,7 +14,7 @@ pub enum StoreFault {
     /// A device call failed.
     Device,
     /// There was no memory.
-    NoMemory,
+    NoMemory(OutOfMemory),
 }
 
 /// Why a call of a journal failed.
@@ -37,13 +37,13 @@ impl From<DeviceFault> for StoreFault {
     }
 }
 
-impl From<AllocError> for StoreFault {
+impl From<OutOfMemory> for StoreFault {
     ghost use Rattle.std.specs.Prelude.{◌≡◌};
     ghost use Rattle.fe_journal.specs.declared.fault.StoreFault.TheVariants.{NoMemory};
 
-    ghost from_gives = { λ _ fault. fault ≡ NoMemory };
+    ghost from_gives = { λ error fault. fault ≡ NoMemory error };
 
-    fn from(_: AllocError) -> StoreFault {
-        StoreFault::NoMemory
+    fn from(error: OutOfMemory) -> StoreFault {
+        StoreFault::NoMemory(error)
     }
 }

@@ -1,6 +1,7 @@
 //! Making a new store on a device (`docs/store.md`, "Formatting").
 
 ghost use Rattle.std.specs.Prelude.{◌≡◌, None, IfOk, OnOk, vec_len};
+ghost use Rattle.fe_memory.specs.Memory.{out_of_memory};
 ghost use Rattle.fe_disk.specs.Disk.{LeavesJust};
 ghost use Rattle.fe_disk.specs.Runs.{Asks, without_disk};
 ghost use Rattle.fe_journal.specs.Layout.{device_bytes, area_bytes};
@@ -33,7 +34,7 @@ impl<D: Disk> Journal<D> {
 
         // Over any disk, the journal is that of a new store.
         ensures value { IfOk result (λ journal. journal ≡ new_journal Two journal.disk) }
-        ensures ends { Formats D.Disk Unformatted Device NoMemory (without_disk result) blank
+        ensures ends { Formats D.Disk Unformatted Device (NoMemory out_of_memory) (without_disk result) blank
             (disk_left result) }
     {
         Journal::format_in(alloc, Format::Two, blank)
@@ -50,7 +51,7 @@ impl<D: Disk> Journal<D> {
 
         // Over any disk, the journal is that of a new store.
         ensures value { IfOk result (λ journal. journal ≡ new_journal format journal.disk) }
-        ensures ends { Formats D.Disk Unformatted Device NoMemory (without_disk result) blank
+        ensures ends { Formats D.Disk Unformatted Device (NoMemory out_of_memory) (without_disk result) blank
             (disk_left result) }
     {
         let mut disk = blank.into_disk();
@@ -67,7 +68,7 @@ fn write_store<D: Disk>(alloc: Global, format: Format, disk: &mut D) -> Result<V
     ensures settled { D.honest disk.old → OnOk result (LeavesJust (D.seen disk.new) (D.may_leave disk.new)) }
     ensures buffer { IfOk result (λ buffer. vec_len buffer ≡ area_bytes) }
     ensures sized { OnOk result (D.size disk.new ≡ device_bytes) }
-    ensures ends { Formats D.Disk Unformatted Device NoMemory result disk.old disk.new }
+    ensures ends { Formats D.Disk Unformatted Device (NoMemory out_of_memory) result disk.old disk.new }
 {
     if disk.size() != DEVICE_BYTES {
         return Err(StoreFault::Unformatted);

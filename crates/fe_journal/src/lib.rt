@@ -20,6 +20,7 @@ mod spelling;
 mod store;
 
 pub use begun::Begun;
+pub use buffer::buffer_of;
 pub use fault::{JournalFault, StoreFault};
 pub use fe_format::Format;
 pub use groups::Groups;

@@ -1,5 +1,6 @@
 // A store as opening reads it from its device (`docs/store.md`, "Opening a store").
 ghost use Rattle.std.specs.Prelude.{◌≡◌, ◌⊎◌, ◌+◌, ◌≤◌, ◌<◌, length, Some, IfOk, IfErr, IsErrOf, OnOk, vec_len};
+ghost use Rattle.fe_memory.specs.Memory.{out_of_memory};
 ghost use Rattle.fe_disk.specs.Disk.{LeavesJust, bytes_at};
 ghost use Rattle.fe_disk.specs.Runs.{Asks, Runs};
 ghost use Rattle.fe_journal.specs.Layout.{device_bytes, header_bytes, header_of};
@@ -11,6 +12,7 @@ ghost use Rattle.fe_journal.specs.Journal.{OnlyReads};
 ghost use Rattle.fe_journal.specs.declared.fault.StoreFault.TheVariants.{Device, NoMemory};
 
 use crate::StoreFault;
+use crate::buffer::buffer_of;
 use crate::header::{Header, counting, header_in};
 use crate::layout::{AREA_BYTES, DEVICE_BYTES, HEADER_BYTES, area_of, header_of, image_of};
 use crate::scan::scan;
@@ -42,7 +44,7 @@ pub struct Store {
 pub fn read_store<D: Disk>(alloc: Global, disk: &mut D) -> Result<Store, StoreFault>
     ensures store { D.honest disk.old → IfOk result (IsStore (D.seen disk.old)) }
     ensures faults { D.honest disk.old → IfErr result (λ fault. TellsFound fault (D.seen disk.old)) }
-    ensures memory { IsErrOf result NoMemory → ReadsInPart (D.calls disk.old) (D.calls disk.new) }
+    ensures memory { IsErrOf result (NoMemory out_of_memory) → ReadsInPart (D.calls disk.old) (D.calls disk.new) }
     ensures settled { D.honest disk.old → OnOk result (LeavesJust (D.seen disk.new) (D.may_leave disk.new)) }
     ensures reads { D.honest disk.old → OnlyReads D.Disk disk.old disk.new }
 
@@ -77,7 +79,7 @@ fn rely_on<D: Disk>(disk: &mut D, store: &Store)
 fn read_parts<D: Disk>(alloc: Global, disk: &mut D) -> Result<Store, StoreFault>
     ensures store { D.honest disk.old → IfOk result (IsStore (D.seen disk.old)) }
     ensures faults { D.honest disk.old → IfErr result (λ fault. TellsFound fault (D.seen disk.old)) }
-    ensures memory { IsErrOf result NoMemory → ReadsInPart (D.calls disk.old) (D.calls disk.new) }
+    ensures memory { IsErrOf result (NoMemory out_of_memory) → ReadsInPart (D.calls disk.old) (D.calls disk.new) }
     ensures settled { D.honest disk.old → OnOk result (LeavesJust (D.seen disk.new) (D.may_leave disk.new)) }
     ensures reads { D.honest disk.old → OnlyReads D.Disk disk.old disk.new }
 
@@ -90,7 +92,7 @@ fn read_parts<D: Disk>(alloc: Global, disk: &mut D) -> Result<Store, StoreFault>
         return Err(StoreFault::Unformatted);
     }
     let (slot, header) = read_sound(disk)?;
-    let buffer = vec![in alloc; 0; AREA_BYTES]?;
+    let buffer = buffer_of(alloc, AREA_BYTES)?;
     let parts = read_slot(alloc, disk, slot, &header)?;
     Ok(Store {
         buffer,
@@ -169,13 +171,13 @@ fn read_bytes<D: Disk>(
     requires within { at + length ≤ D.size disk.old }
     ensures bytes { D.honest disk.old → IfOk result (λ bytes. bytes.items ≡ bytes_at (D.seen disk.old) at length) }
     ensures whole { IfOk result (λ bytes. vec_len bytes ≡ length) }
-    ensures refused { IfErr result (λ fault. (fault ≡ Device) ⊎ (fault ≡ NoMemory)) }
-    ensures memory { IsErrOf result NoMemory → D.calls disk.new ≡ D.calls disk.old }
+    ensures refused { IfErr result (λ fault. (fault ≡ Device) ⊎ (fault ≡ NoMemory out_of_memory)) }
+    ensures memory { IsErrOf result (NoMemory out_of_memory) → D.calls disk.new ≡ D.calls disk.old }
     ensures reads { D.honest disk.old → OnlyReads D.Disk disk.old disk.new }
 
     ensures device { Runs D.Disk 1 0 0 Device result disk.old disk.new }
 {
-    let mut bytes = vec![in alloc; 0; length]?;
+    let mut bytes = buffer_of(alloc, length)?;
     disk.read_at(at, &mut bytes)?;
     Ok(bytes)
 }
@@ -194,7 +196,7 @@ fn read_slot<D: Disk>(
     ensures parts { D.honest disk.old → IfOk result (IsSlotRead (D.seen disk.old) slot header.now) }
     ensures faults { D.honest disk.old → CountsAs (D.seen disk.old) (Some (slot, header.now))
         → IfErr result (λ fault. TellsFound fault (D.seen disk.old)) }
-    ensures memory { IsErrOf result NoMemory → (D.calls disk.new).reads ≤ (D.calls disk.old).reads + 1 }
+    ensures memory { IsErrOf result (NoMemory out_of_memory) → (D.calls disk.new).reads ≤ (D.calls disk.old).reads + 1 }
     ensures whole { IfOk result AreParts }
     ensures ends { IfOk result (λ parts. GroupsEndAt header.now.format parts.area.items parts.used) }
     ensures reads { D.honest disk.old → OnlyReads D.Disk disk.old disk.new }

@@ -8,6 +8,7 @@ use Rattle.fe_keeper.specs.declared.fault.Fault.TheVariants.{Device, NoMemory, U
 use Rattle.std.specs.List.{AllByRecursion}
 use Rattle.std.specs.Ordering.{nat_cmp}
 use Rattle.std.specs.FinMap.{empty, entries, len-empty, len-entries}
+use Rattle.fe_memory.specs.Memory.{out_of_memory}
 use Rattle.fe_state.specs.Sessions.{Session}
 use Rattle.fe_state.specs.State.{first_state}
 use Rattle.fe_state.specs.declared.array.Array.{Array}
@@ -20,7 +21,7 @@ use Rattle.fe_disk.specs.declared.disk.Disk.{Ghosts}
 
 -- what formatting did to the disk, as a keeper tells its fault
 pub formats_as : {D T U : Type 0} (model : Ghosts D) (fault : StoreFault) (old new : D)
-    → Formats {T = T} model store.Unformatted store.Device store.NoMemory (Err fault) old new → Formats {T = U} model Unformatted Device NoMemory (Err (fault_of_store fault)) old new
+    → Formats {T = T} model store.Unformatted store.Device (store.NoMemory out_of_memory) (Err fault) old new → Formats {T = U} model Unformatted Device (NoMemory out_of_memory) (Err (fault_of_store fault)) old new
 formats_as model store.Unformatted old new h = record {
   wrong_size = (λ _. h.wrong_size.0 refl, λ _. refl);
   faults = inr (inl refl);
@@ -43,7 +44,7 @@ formats_as model store.Device old new h = record {
   honesty = h.honesty;
   same_size = h.same_size;
 }
-formats_as model store.NoMemory old new h = record {
+formats_as model (store.NoMemory error) old new h = record {
   wrong_size = (λ is. cc, λ odd. let e = h.wrong_size.1 odd in cc);
   faults = inr (inr refl);
   fault = λ is. cc;
@@ -56,7 +57,7 @@ formats_as model store.NoMemory old new h = record {
 }
 formats_as model (store.Damaged offset) old new h = absurd (never h.faults)
   where
-    never : (store.Damaged offset ≡ store.Device) ⊎ ((store.Damaged offset ≡ store.Unformatted) ⊎ (store.Damaged offset ≡ store.NoMemory)) → ⊥
+    never : (store.Damaged offset ≡ store.Device) ⊎ ((store.Damaged offset ≡ store.Unformatted) ⊎ (store.Damaged offset ≡ store.NoMemory out_of_memory)) → ⊥
     never (inl is) = cc
     never (inr (inl is)) = cc
     never (inr (inr is)) = cc

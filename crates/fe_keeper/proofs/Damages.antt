@@ -1,6 +1,7 @@
 -- What is reported of a store that stands for no state.
 use Rattle.std.proofs.Common.{◌≡◌, ◌⊎◌, inl, inr, ℕ, ◌+◌, ◌≤◌, List, Result, Ok, Err, refl, sym, ◌∙◌, ap, subst, arith}
 use Rattle.std.specs.Prelude.{IsOk}
+use Rattle.fe_memory.specs.Memory.{out_of_memory}
 use Rattle.fe_disk.specs.declared.calls.Calls.{Calls}
 use Rattle.fe_state.specs.State.{ServerState}
 use Rattle.fe_state.specs.History.{IsHistory}
@@ -28,14 +29,14 @@ use Rattle.fe_keeper.proofs.Openings.{stands_by}
 -- ---- what is said of a store
 
 -- what the journal said
-pub tells_found : (image : List ℕ) (before now : Calls) (fault : StoreFault) → journal.TellsFound fault image → (fault ≡ store.NoMemory → ReadsInPart before now) → TellsStore (fault_of_store fault) image before now
+pub tells_found : (image : List ℕ) (before now : Calls) (fault : StoreFault) → journal.TellsFound fault image → (fault ≡ store.NoMemory out_of_memory → ReadsInPart before now) → TellsStore (fault_of_store fault) image before now
 tells_found image before now store.Unformatted told short = told
 tells_found image before now (store.Damaged offset) told short = InSlot told.0 told.1
 tells_found image before now store.Device told short = told
-tells_found image before now store.NoMemory told short = InPart told (short refl)
+tells_found image before now (store.NoMemory error) told short = InPart told (short refl)
 
 -- only the device or memory
-pub passed_on : (fault : StoreFault) → (fault ≡ store.Device) ⊎ (fault ≡ store.NoMemory) → (fault_of_store fault ≡ Device) ⊎ (fault_of_store fault ≡ NoMemory)
+pub passed_on : (fault : StoreFault) → (fault ≡ store.Device) ⊎ (fault ≡ store.NoMemory out_of_memory) → (fault_of_store fault ≡ Device) ⊎ (fault_of_store fault ≡ NoMemory out_of_memory)
 passed_on fault (inl is) = inl (ap fault_of_store is)
 passed_on fault (inr is) = inr (ap fault_of_store is)
 
@@ -47,12 +48,12 @@ slot_fault fault (inr (offset, damaged)) is = cc
 -- a fault of the device and no other is passed on as one
 pub device_back : (fault : StoreFault) → fault_of_store fault ≡ Device → fault ≡ store.Device
 device_back store.Device is = refl
-device_back store.NoMemory is = cc
+device_back (store.NoMemory error) is = cc
 device_back store.Unformatted is = cc
 device_back (store.Damaged offset) is = cc
 
 -- what is reported of contents
-pub tells_slot : (image : List ℕ) (before now : Calls) (c : Contents) (fault : Fault) → Holds c image → IsSlotFault fault → ((offset : ℕ) → fault ≡ Damaged offset → IsWrongAt c offset) → (fault ≡ NoMemory → IsOk (header_at c.image))
+pub tells_slot : (image : List ℕ) (before now : Calls) (c : Contents) (fault : Fault) → Holds c image → IsSlotFault fault → ((offset : ℕ) → fault ≡ Damaged offset → IsWrongAt c offset) → (fault ≡ NoMemory out_of_memory → IsOk (header_at c.image))
     → TellsStore fault image before now
 tells_slot image before now c fault holds (inl is) wrong fields = subst (λ (f : Fault). TellsStore f image before now) (sym is) (AfterFields c holds (fields is))
 tells_slot image before now c fault holds (inr (offset, is)) wrong fields = subst (λ (f : Fault). TellsStore f image before now) (sym is) (InContents c holds (wrong offset is))

@@ -1,6 +1,7 @@
 -- How calls of a store end, one after the other, and what a keeper tells of their faults.
 use Rattle.std.proofs.Common.{◌≡◌, ◌↔◌, inl, ℕ, ◌+◌, List, true, false, Bool, IsTrue, refl, sym, ap, subst, ◌∙◌}
 use Rattle.std.specs.Prelude.{Result, Ok, Err, MatchResult, IsErrAnd}
+use Rattle.fe_memory.specs.Memory.{out_of_memory}
 use Rattle.fe_disk.specs.Disk.{Rises}
 use Rattle.fe_disk.specs.Runs.{LeavesOnly}
 use Rattle.fe_disk.proofs.Moments.{joined}
@@ -93,9 +94,9 @@ told (Err f) fault Q P is p = subst P (sym is) p
 
 -- a batch that is not taken
 pub take_fails : {D : Type 0} (model : Ghosts D) (refused : Refused) (old new : KeeperState D) (first : ℕ) (entries : List Entry) → ((place : ℕ) → refused ≡ replica.Mismatch place → IsMismatch old.state first entries place)
-    → (refused ≡ replica.NoMemory → MakesSomeArray entries) → Refuses old new → Fails model (ForBatch old first entries) old new (fault_of_refused refused)
+    → (refused ≡ replica.NoMemory out_of_memory → MakesSomeArray entries) → Refuses old new → Fails model (ForBatch old first entries) old new (fault_of_refused refused)
 take_fails model (replica.Mismatch place) old new first entries mismatch memory none = (mismatch place refl, none)
-take_fails model replica.NoMemory old new first entries mismatch memory none = (inl (memory refl), none)
+take_fails model (replica.NoMemory error) old new first entries mismatch memory none = (inl (memory refl), none)
 
 -- a fault of the device
 pub device_fails : {D : Type 0} (model : Ghosts D) (Cause : Fault → Type 0) (fault : JournalFault) (old new : KeeperState D) → fault ≡ journal.Device → Cause Device → Breaks model old new
@@ -104,7 +105,7 @@ device_fails model Cause journal.Device old new is cause breaks = (cause, breaks
 device_fails model Cause journal.Failed old new is cause breaks = absurd (cc is)
 
 -- no memory
-pub memory_fails : {D : Type 0} (model : Ghosts D) (Cause : Fault → Type 0) (fault : Fault) (old new : KeeperState D) → fault ≡ NoMemory → Cause NoMemory → Refuses old new → Fails model Cause old new fault
+pub memory_fails : {D : Type 0} (model : Ghosts D) (Cause : Fault → Type 0) (fault : Fault) (old new : KeeperState D) → fault ≡ NoMemory out_of_memory → Cause (NoMemory out_of_memory) → Refuses old new → Fails model Cause old new fault
 memory_fails model Cause fault old new is cause none = subst (Fails model Cause old new) (sym is) (cause, none)
 
 -- a test that does not fail holds

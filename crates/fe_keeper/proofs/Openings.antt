@@ -1,6 +1,7 @@
 -- What was found of a store, and recovered of it.
 use Rattle.std.proofs.Common.{◌≡◌, ◌∙◌, ℕ, List, Result, Ok, Err, sym, subst}
 use Rattle.std.specs.Prelude.{IfOk, IfErr}
+use Rattle.fe_memory.specs.Memory.{out_of_memory}
 use Rattle.fe_disk.specs.Runs.{without_disk}
 use Rattle.fe_state.specs.State.{ServerState}
 use Rattle.fe_format.specs.declared.format.Format.{Format}
@@ -53,7 +54,7 @@ each_stands model j s keeps = λ image left. record { contents = keeps.contents;
 
 -- what opening did to the disk, where the keeper of what was found is made or memory runs out
 pub opens_keeper : {D T : Type 0} (model : Ghosts D) (found : T) (disk : D) (j : JournalState D) (s : ServerState) (result : Result (KeeperState D) (Fault × D))
-    → AsksToOpen model store.Device (Ok found) disk j.disk → IfOk result (λ keeper. keeper ≡ keeper_over j s) → IfErr result (λ e. (e.0 ≡ NoMemory) × (e.1 ≡ j.disk))
+    → AsksToOpen model store.Device (Ok found) disk j.disk → IfOk result (λ keeper. keeper ≡ keeper_over j s) → IfErr result (λ e. (e.0 ≡ NoMemory out_of_memory) × (e.1 ≡ j.disk))
     → AsksToOpen model Device (without_disk result) disk (disk_after result)
 opens_keeper {D} {T} model found disk j s (Ok keeper) asks made refused =
     let result : Result (KeeperState D) Fault = Ok keeper in

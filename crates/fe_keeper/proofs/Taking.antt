@@ -1,6 +1,7 @@
 -- A batch that is taken, and the moments of calls that leave the state as it is.
 use Rattle.std.proofs.Common.{◌≡◌, ◌↔◌, ◌≤◌, inl, false, ℕ, List, length, Option, Some, None, refl, ap, subst, ◌∙◌, arith}
 use Rattle.std.specs.Prelude.{Result, Ok, Err, IfErr, IfSome, IsErrAnd, vec_len}
+use Rattle.fe_memory.specs.Memory.{out_of_memory}
 use Rattle.fe_disk.specs.Runs.{LeavesOnly}
 use Rattle.fe_disk.specs.declared.calls.Calls.{Calls}
 use Rattle.fe_disk.proofs.Moments.{started, joined, weaker}
@@ -27,13 +28,13 @@ use Rattle.fe_disk.specs.declared.disk.Disk.{Ghosts}
 -- ---- what is refused
 
 -- what is no mismatch is lack of memory
-pub memory_told : (refused : Refused) → ((place : ℕ) → refused ≡ replica.Mismatch place → ⊥) → fault_of_refused refused ≡ NoMemory
+pub memory_told : (refused : Refused) → ((place : ℕ) → refused ≡ replica.Mismatch place → ⊥) → fault_of_refused refused ≡ NoMemory out_of_memory
 memory_told (replica.Mismatch at) none = absurd (none at refl)
-memory_told replica.NoMemory none = refl
+memory_told (replica.NoMemory error) none = refl
 
 -- so that a batch that continues the history is refused for memory alone
 pub memory_alone : {T : Type 0} (P : Type 0) (result : Result T Fault) (refused : Refused) → IsErrAnd result (λ fault. fault ≡ fault_of_refused refused) → ((place : ℕ) → refused ≡ replica.Mismatch place → ⊥)
-    → P → IfErr result (λ fault. (fault ≡ NoMemory) × P)
+    → P → IfErr result (λ fault. (fault ≡ NoMemory out_of_memory) × P)
 memory_alone P (Ok x) refused told none p = tt
 memory_alone P (Err fault) refused told none p = (told ∙ memory_told refused none, p)
 

@@ -1,6 +1,7 @@
 -- When an image of a device stands for no state, and what opening reports then. The slot that counts has an image of a
 -- state, and groups of records (`docs/store.md`).
 use Rattle.std.specs.Prelude.{◌≡◌, ◌⊎◌, ℕ, ◌+◌, ◌<◌, ◌≤◌, List, [], ◌∷◌, length, Ok, Err, IsOk, ◌++◌, take}
+use Rattle.fe_memory.specs.Memory.{out_of_memory}
 use Rattle.fe_disk.specs.declared.calls.Calls.{Calls}
 use Rattle.fe_state.specs.State.{ServerState}
 use Rattle.fe_codec.specs.FirstFault.{header_at, image_at}
@@ -59,7 +60,7 @@ abbrev pub TellsStore : Fault → List ℕ → Calls → Calls → Type 0
 TellsStore Unformatted image before now = journal.IsUnformatted image
 TellsStore (Damaged offset) image before now = IsDamagedAt image offset
 TellsStore Device image before now = Unit {0}
-TellsStore NoMemory image before now = MayLackMemory image before now
+TellsStore (NoMemory error) image before now = MayLackMemory image before now
 TellsStore Failed image before now = Unit {0}
 TellsStore (Mismatch place) image before now = Unit {0}
 
@@ -67,7 +68,7 @@ TellsStore (Mismatch place) image before now = Unit {0}
 -- the device fails or memory runs out.
 pub record IsReason (image : List ℕ) (before now : Calls) (fault : Fault) : Type 0 where
   pub tells : TellsStore fault image before now
-  pub valid : (s : ServerState) → StandsFor image s → (fault ≡ Device) ⊎ (fault ≡ NoMemory)
+  pub valid : (s : ServerState) → StandsFor image s → (fault ≡ Device) ⊎ (fault ≡ NoMemory out_of_memory)
 
 -- ---- laws, cited by public functions (`docs/model.md`, "The keeper")
 

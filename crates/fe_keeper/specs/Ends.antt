@@ -62,7 +62,7 @@ pub record Refuses {D : Type 0} (old new : KeeperState D) : Type 0 where
 abbrev pub Fails : {D : Type 0} → Ghosts D → (Fault → Type 0) → KeeperState D → KeeperState D → Fault → Type 0
 Fails model Cause old new Device = Cause Device × Breaks model old new
 Fails model Cause old new Failed = (old.store.has_failed ≡ true) × (new ≡ old)
-Fails model Cause old new NoMemory = Cause NoMemory × Refuses old new
+Fails model Cause old new (NoMemory error) = Cause (NoMemory error) × Refuses old new
 Fails model Cause old new (Mismatch place) = Cause (Mismatch place) × Refuses old new
 Fails model Cause old new (Damaged offset) = ⊥
 Fails model Cause old new Unformatted = ⊥
@@ -75,7 +75,7 @@ Ends model Cause result old new = MatchResult result (λ _. Works model old new)
 abbrev pub ForDevice : Type 0 → Fault → Type 0
 ForDevice P Device = P
 ForDevice P Failed = ⊥
-ForDevice P NoMemory = ⊥
+ForDevice P (NoMemory error) = ⊥
 ForDevice P (Mismatch place) = ⊥
 ForDevice P (Damaged offset) = ⊥
 ForDevice P Unformatted = ⊥
@@ -84,7 +84,7 @@ ForDevice P Unformatted = ⊥
 abbrev pub ForDeviceAndMemory : Type 0 → Fault → Type 0
 ForDeviceAndMemory P Device = P
 ForDeviceAndMemory P Failed = ⊥
-ForDeviceAndMemory P NoMemory = P
+ForDeviceAndMemory P (NoMemory error) = P
 ForDeviceAndMemory P (Mismatch place) = ⊥
 ForDeviceAndMemory P (Damaged offset) = ⊥
 ForDeviceAndMemory P Unformatted = ⊥
@@ -96,7 +96,7 @@ ForDeviceAndMemory P Unformatted = ⊥
 abbrev pub ForBatch : {D : Type 0} → KeeperState D → ℕ → List Entry → Fault → Type 0
 ForBatch old first entries Device = Continues old.state first entries
 ForBatch old first entries Failed = ⊥
-ForBatch old first entries NoMemory = MakesSomeArray entries ⊎ IsTrue (must_begin old.store entries)
+ForBatch old first entries (NoMemory error) = MakesSomeArray entries ⊎ IsTrue (must_begin old.store entries)
 ForBatch old first entries (Mismatch place) = IsMismatch old.state first entries place
 ForBatch old first entries (Damaged offset) = ⊥
 ForBatch old first entries Unformatted = ⊥

@@ -1,5 +1,6 @@
 -- What opening a store returns: a keeper, whose replica is the state that the store stands for (`docs/model.md`, "The keeper").
 use Rattle.std.specs.Prelude.{◌≡◌, ◌⊎◌, ℕ, ◌≤◌, List, [], ◌∷◌, None, false, Result, Ok, Err}
+use Rattle.fe_memory.specs.Memory.{out_of_memory}
 use Rattle.fe_state.specs.State.{ServerState}
 use Rattle.fe_codec.specs.Image.{image_spelling, FitsImage}
 use Rattle.fe_format.specs.declared.format.Format.{Format}
@@ -19,11 +20,11 @@ disk_after (Err refused) = refused.1
 
 -- the faults of reading the state of a slot
 abbrev pub IsSlotFault : Fault → Type 0
-IsSlotFault fault = (fault ≡ NoMemory) ⊎ ((offset : ℕ) × (fault ≡ Damaged offset))
+IsSlotFault fault = (fault ≡ NoMemory out_of_memory) ⊎ ((offset : ℕ) × (fault ≡ Damaged offset))
 
 -- the faults of opening
 abbrev pub IsOpenFault : Fault → Type 0
-IsOpenFault fault = (fault ≡ Device) ⊎ ((fault ≡ NoMemory) ⊎ ((fault ≡ Unformatted) ⊎ ((offset : ℕ) × (fault ≡ Damaged offset))))
+IsOpenFault fault = (fault ≡ Device) ⊎ ((fault ≡ NoMemory out_of_memory) ⊎ ((fault ≡ Unformatted) ⊎ ((offset : ℕ) × (fault ≡ Damaged offset))))
 
 -- the keeper of a state over a journal that has no slot begun
 abbrev pub keeper_over : {D : Type 0} → JournalState D → ServerState → KeeperState D

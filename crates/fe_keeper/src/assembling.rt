@@ -11,8 +11,9 @@ use crate::keeper::Keeper;
 use crate::keeper_store::KeeperStore;
 use fe_disk::Disk;
 use fe_journal::Journal;
+use fe_memory::OutOfMemory;
 use fe_state::{BATCH_ENTRIES, State, UndoLog};
-use std::alloc::{AllocError, Global};
+use std::alloc::Global;
 
 /// The memory for the payload of a batch's group, and for the log by which the replica, the keeper's copy of the state, goes back.
 #[derive(Drop)]
@@ -22,11 +23,11 @@ pub(crate) struct Rooms {
 }
 
 impl Rooms {
-    pub(crate) fn new(alloc: Global) -> Result<Rooms, AllocError>
+    pub(crate) fn new(alloc: Global) -> Result<Rooms, OutOfMemory>
         ensures { IfOk result AreRooms }
     {
         let group = Vec::with_capacity(alloc, BATCH_ENTRIES * Format::Two.record_bytes())?;
-        let log = UndoLog::with_room(alloc, BATCH_ENTRIES)?;
+        let log = UndoLog::with_room(alloc, BATCH_ENTRIES as u32)?;
         Ok(Rooms { group, log })
     }
 }

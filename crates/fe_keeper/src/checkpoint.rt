@@ -2,6 +2,7 @@
 //! "Making the other slot ready").
 
 ghost use Rattle.std.specs.Prelude.{◌≡◌, ◌+◌, ◌≤◌, true, not, nat_le, length, IfOk, IfErr, OnOk, OnErr, vec_len};
+ghost use Rattle.fe_memory.specs.Memory.{out_of_memory};
 ghost use Rattle.fe_disk.specs.Disk.{MakesAtMost};
 ghost use Rattle.fe_state.specs.State.{ServerState};
 ghost use Rattle.fe_codec.specs.Image.{image_spelling};
@@ -16,6 +17,7 @@ use crate::{Fault, Format};
 use fe_codec::put_image;
 use fe_disk::Disk;
 use fe_journal::{Journal, JournalFault, SLICE_BYTES};
+use fe_memory::OutOfMemory;
 use fe_state::State;
 use std::alloc::Global;
 
@@ -38,11 +40,14 @@ impl Checkpoint {
         ensures image { IfOk result (λ made. IsImageOf made state.now) }
         ensures fresh { IfOk result (λ made. IsFresh made state.now.place) }
         ensures size { IfOk result (λ made. vec_len made.image ≡ length (image_spelling Two state.now)) }
-        ensures memory { IfErr result (λ fault. fault ≡ NoMemory) }
+        ensures memory { IfErr result (λ fault. fault ≡ NoMemory out_of_memory) }
     {
         let mut image = Vec::new(alloc);
         put_image(Format::Two, state, &mut image)?;
-        let catch_up = Vec::with_capacity(alloc, Format::Two.longest_payload())?;
+        let catch_up = match Vec::with_capacity(alloc, Format::Two.longest_payload()) {
+            Ok(room) => room,
+            Err(error) => return Err(Fault::NoMemory(OutOfMemory::from(error))),
+        };
         Ok(Checkpoint {
             image,
             written: 0,

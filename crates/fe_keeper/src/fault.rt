@@ -1,8 +1,8 @@
 //! How a call of a keeper, the owner of a store, fails (`docs/model.md`, "The keeper").
 
 use fe_journal::{JournalFault, StoreFault};
+use fe_memory::OutOfMemory;
 use fe_replica::Refused;
-use std::alloc::AllocError;
 
 /// Why a call of a keeper failed.
 #[derive(Clone, Copy, PartialEq, Eq)]
@@ -12,7 +12,7 @@ pub enum Fault {
     /// A device call failed earlier, and this call did nothing.
     Failed,
     /// Memory ran out.
-    NoMemory,
+    NoMemory(OutOfMemory),
     /// The batch does not continue the history, first at this place.
     Mismatch { place: u64 },
     /// The slot that counts is wrong at this offset of the device, in bytes (`docs/formats.md`, "Device" and "Journal area").
@@ -21,14 +21,14 @@ pub enum Fault {
     Unformatted,
 }
 
-impl From<AllocError> for Fault {
+impl From<OutOfMemory> for Fault {
     ghost use Rattle.std.specs.Prelude.{◌≡◌};
     ghost use Rattle.fe_keeper.specs.declared.fault.Fault.TheVariants.{NoMemory};
 
-    ghost from_gives = { λ _ fault. fault ≡ NoMemory };
+    ghost from_gives = { λ error fault. fault ≡ NoMemory error };
 
-    fn from(_: AllocError) -> Fault {
-        Fault::NoMemory
+    fn from(error: OutOfMemory) -> Fault {
+        Fault::NoMemory(error)
     }
 }
 
@@ -55,7 +55,7 @@ impl From<StoreFault> for Fault {
     fn from(before: StoreFault) -> Fault {
         match before {
             StoreFault::Device => Fault::Device,
-            StoreFault::NoMemory => Fault::NoMemory,
+            StoreFault::NoMemory(error) => Fault::NoMemory(error),
             StoreFault::Unformatted => Fault::Unformatted,
             StoreFault::Damaged { offset } => Fault::Damaged { offset },
         }
@@ -71,7 +71,7 @@ impl From<Refused> for Fault {
     fn from(before: Refused) -> Fault {
         match before {
             Refused::Mismatch { place } => Fault::Mismatch { place },
-            Refused::NoMemory => Fault::NoMemory,
+            Refused::NoMemory(error) => Fault::NoMemory(error),
         }
     }
 }

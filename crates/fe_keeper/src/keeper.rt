@@ -2,6 +2,7 @@
 //! (`docs/store.md`, "The life of a store"; `docs/model.md`, "The keeper").
 
 ghost use Rattle.std.specs.Prelude.{◌≡◌, ◌↔◌, false, IsTrue, ◌+◌, length, is_some, IfOk, IfErr, OnOk, OnErr};
+ghost use Rattle.fe_memory.specs.Memory.{out_of_memory};
 ghost use Rattle.fe_disk.specs.Disk.{MakesAtMost};
 ghost use Rattle.fe_state.specs.State.{IsWithinLimits, after_all};
 ghost use Rattle.fe_state.specs.UndoLog.{empty_log, rewound};
@@ -260,7 +261,7 @@ fn whole_before<D: Disk>(
     ensures room { log.new.room ≡ log.old.room }
     ensures made { IfOk result (IsMadeFor store.now (rewound log.old state.old) entries.now) }
     ensures err { OnErr result ((state.new ≡ rewound log.old state.old) × (log.new ≡ empty_log log.old.room)) }
-    ensures memory { IfErr result (λ fault. (fault ≡ NoMemory) × IsTrue (must_begin (store_of store.now) entries.now)) }
+    ensures memory { IfErr result (λ fault. (fault ≡ NoMemory out_of_memory) × IsTrue (must_begin (store_of store.now) entries.now)) }
 {
     if !store.must_begin(entries) {
         return Ok(None);

@@ -60,10 +60,14 @@ fn catch_up(checkpoint: &mut Option<Checkpoint>, format: Format, group: &[u8], e
     ensures { CatchesUp entries.now checkpoint.old checkpoint.new }
 {
     if let Some(checkpoint) = checkpoint {
-        let _ = match format {
-            Format::One => put_group(Format::Two, entries, &mut checkpoint.catch_up),
-            Format::Two => checkpoint.catch_up.extend_from_slice(group),
-        };
+        match format {
+            Format::One => {
+                let _ = put_group(Format::Two, entries, &mut checkpoint.catch_up);
+            }
+            Format::Two => {
+                let _ = checkpoint.catch_up.extend_from_slice(group);
+            }
+        }
     }
 }
 

@@ -1,6 +1,7 @@
 //! Opening and formatting a store for a keeper, which follows its state (`docs/model.md`, "The keeper").
 
 ghost use Rattle.std.specs.Prelude.{◌≡◌, ◌⊎◌, IfOk, IfErr, IsErrAnd};
+ghost use Rattle.fe_memory.specs.Memory.{out_of_memory};
 ghost use Rattle.fe_disk.specs.Runs.{without_disk};
 ghost use Rattle.fe_state.specs.State.{first_state};
 ghost use Rattle.fe_journal.specs.Damage.{IsUnformatted};
@@ -22,8 +23,9 @@ use crate::keeper::Keeper;
 use crate::recovering::recovered;
 use fe_disk::Disk;
 use fe_journal::{Blank, DEVICE_BYTES, Found, Journal, StoreFault, Unopened};
+use fe_memory::OutOfMemory;
 use fe_state::State;
-use std::alloc::{AllocError, Global};
+use std::alloc::Global;
 
 impl<D: Disk> Keeper<D> {
     /// Opens a store: a sync, and then only reads. The keeper has the state that the disk stands for. It takes about three megabytes,
@@ -90,7 +92,7 @@ impl<D: Disk> Keeper<D> {
         match recovered(alloc, format, generation, slot, &image, &mut groups) {
             Err(fault) => Err(Unopened::Refused(fault, journal.into_disk())),
             Ok(state) => match Rooms::new(alloc) {
-                Err(_) => Err(Unopened::Refused(Fault::NoMemory, journal.into_disk())),
+                Err(error) => Err(Unopened::Refused(Fault::NoMemory(error), journal.into_disk())),
                 Ok(rooms) => Ok(keeper_over(alloc, rooms, journal, state)),
             },
         }
@@ -105,14 +107,14 @@ impl<D: Disk> Keeper<D> {
         ensures state { IfOk result (λ keeper. keeper.state ≡ first_state) }
         ensures store { IfOk result (λ keeper. keeper.store ≡ first_store keeper.store.disk) }
         ensures sized { IfOk result (λ keeper. D.size blank ≡ device_bytes) }
-        ensures ends { Formats D.Disk Unformatted Device NoMemory (without_disk result) blank
+        ensures ends { Formats D.Disk Unformatted Device (NoMemory out_of_memory) (without_disk result) blank
             (disk_after result) }
     {
         if blank.size() != DEVICE_BYTES {
             return Err((Fault::Unformatted, blank.into_disk()));
         }
         let (state, rooms) = match beginning(alloc) {
-            Err(_) => return Err((Fault::NoMemory, blank.into_disk())),
+            Err(error) => return Err((Fault::NoMemory(error), blank.into_disk())),
             Ok(parts) => parts,
         };
         match Journal::format(alloc, blank) {
@@ -123,7 +125,7 @@ impl<D: Disk> Keeper<D> {
 }
 
 /// The first state, and the memory for its keeper. All memory is taken before a device is written.
-fn beginning(alloc: Global) -> Result<(State, Rooms), AllocError>
+fn beginning(alloc: Global) -> Result<(State, Rooms), OutOfMemory>
     ensures state { IfOk result (λ parts. parts.0 ≡ first_state) }
     ensures rooms { IfOk result (λ parts. AreRooms parts.1) }
 {

@@ -2,6 +2,7 @@
 //! the two halves of a store; of two valid ones the one with the greater generation counts (`docs/store.md`, "Two slots").
 
 ghost use Rattle.std.specs.Prelude.{◌≡◌, ◌+◌, ◌<◌, ℕ, List, Ok, IsOk, IfOk, IfErr, OnOk, IsErrOf};
+ghost use Rattle.fe_memory.specs.Memory.{out_of_memory};
 ghost use Rattle.fe_state.specs.State.{ServerState};
 ghost use Rattle.fe_codec.specs.FirstFault.{header_at};
 ghost use Rattle.fe_journal.specs.Contents.{Contents, Lists};
@@ -35,18 +36,18 @@ pub(crate) fn recovered(
         → IfOk result (IsRecovered format generation image.now payloads) }
     // A slot that stands for a state is refused only if memory runs out.
     ensures refused { (c : Contents) (s : ServerState) → ArePartsOf c format generation image.now groups.old
-        → Stands c s → IfErr result (λ fault. fault ≡ NoMemory) }
+        → Stands c s → IfErr result (λ fault. fault ≡ NoMemory out_of_memory) }
     // A reported offset is that of the first thing wrong in the slot.
     ensures damaged { (offset : ℕ) (payloads : List (List ℕ)) → IsErrOf result (Damaged offset)
         → Lists groups.old payloads
         → IsWrongIn slot format generation image.now payloads (groups.old.start + groups.old.at) offset }
     // Memory runs out only if the first four fields of the image are right.
-    ensures memory { IsErrOf result NoMemory → IsOk (header_at image.now) }
+    ensures memory { IsErrOf result (NoMemory out_of_memory) → IsOk (header_at image.now) }
     ensures faults { IfErr result IsSlotFault }
 {
     let mut state = match read_image(alloc, format, image) {
         Ok(state) => state,
-        Err(ImageFault::NoMemory) => return Err(Fault::NoMemory),
+        Err(ImageFault::NoMemory(error)) => return Err(Fault::NoMemory(error)),
         Err(ImageFault::Damaged { offset }) => {
             return Err(Fault::Damaged {
                 offset: image_of(slot) + offset,
@@ -78,7 +79,7 @@ fn replay_all(format: Format, groups: &mut Groups, state: &mut State) -> Result<
     ensures all { (payloads : List (List ℕ)) → Lists groups.old payloads
         → OnOk result (ReplaysAll format payloads state.old state.new) }
     ensures refused { (payloads : List (List ℕ)) → Lists groups.old payloads → CanGoOn format payloads state.old
-        → IfErr result (λ fault. fault ≡ NoMemory) }
+        → IfErr result (λ fault. fault ≡ NoMemory out_of_memory) }
     ensures damaged { (offset : ℕ) (payloads : List (List ℕ)) → IsErrOf result (Damaged offset)
         → Lists groups.old payloads
         → IsBadFrom format payloads state.old (groups.old.start + groups.old.at) offset }
@@ -87,7 +88,7 @@ fn replay_all(format: Format, groups: &mut Groups, state: &mut State) -> Result<
     while let Some(payload) = groups.payload() {
         match replay(format, payload, state) {
             Ok(()) => groups.skip(),
-            Err(ReplayFault::NoMemory) => return Err(Fault::NoMemory),
+            Err(ReplayFault::NoMemory(error)) => return Err(Fault::NoMemory(error)),
             Err(ReplayFault::Damaged { offset }) => {
                 return Err(Fault::Damaged {
                     offset: groups.offset() + offset,

@@ -32,7 +32,7 @@ module _ (image copy : List ℕ) (is : IsCopyOf image copy) where
   tells_store Unformatted tells = is.unformatted.1 tells
   tells_store (Damaged offset) tells = damaged_in_store offset tells
   tells_store Device tells = tt
-  tells_store Memory tells = tt
+  tells_store (Memory error) tells = tt
   tells_store (Size found) tells = tt
 
   pub reason_of_store : (why : OpenFault) → IsReason copy why → IsReason image why

@@ -1,5 +1,6 @@
 -- What one reading of a store says, over a disk that nobody else writes (`docs/store.md`, "A copy while the store is written").
 use Rattle.std.specs.Prelude.{◌≡◌, ◌≢◌, ◌↔◌, ◌+◌, ◌≤◌, ℕ, List, length, Result, IsErr, IsErrOf, OnOk, ◌⊎◌}
+use Rattle.fe_memory.specs.Memory.{out_of_memory}
 use Rattle.fe_disk.specs.declared.calls.Calls.{Calls}
 use Rattle.fe_journal.specs.Layout.{device_bytes}
 use Rattle.fe_journal.specs.Contents.{Contents, Holds}
@@ -67,4 +68,4 @@ TellsReading image Overtaken = ⊥
 TellsReading image (Whole bytes) = IsCopyOf image bytes.items
 
 abbrev pub IsDeviceOrMemory : OpenFault → Type 0
-IsDeviceOrMemory why = (why ≡ fault.Device) ⊎ (why ≡ fault.Memory)
+IsDeviceOrMemory why = (why ≡ fault.Device) ⊎ (why ≡ fault.Memory out_of_memory)

@@ -2,6 +2,7 @@
 
 ghost use Rattle.std.specs.Prelude.{◌≡◌, ◌↔◌, ◌≢◌, ℕ, take, OnOk, IsErrOf};
 ghost use Rattle.std.specs.Io.KnownBytes.{Appends, Keeps};
+ghost use Rattle.fe_memory.specs.Memory.{out_of_memory};
 ghost use Rattle.fe_disk.specs.Disk.{Rises};
 ghost use Rattle.fe_journal.specs.Layout.{device_bytes};
 ghost use Rattle.fe_journal.specs.Journal.{OnlyReads};
@@ -35,8 +36,9 @@ fn show<W: Sink>(alloc: Global, state: &State, writer: &mut W) -> Result<(), Loo
     ensures opened { (why : OpenFault) → IsErrOf result (fault.Store why) → ⊥ }
     ensures input { IsErrOf result (fault.Stream StreamFault.Input) → W.has_failed writer.new StreamFault.Input }
 {
-    let Ok(text) = state_text(alloc, state) else {
-        return Err(LookFault::Stream(StreamFault::Memory));
+    let text = match state_text(alloc, state) {
+        Ok(text) => text,
+        Err(error) => return Err(LookFault::Stream(StreamFault::Memory(error))),
     };
     match writer.write_text(text.as_bytes()) {
         Ok(()) => Ok(()),
@@ -58,7 +60,7 @@ pub fn look_at<D: Disk, W: Sink>(
         → IsReason (D.seen disk) why }
     // Memory is short for the store only as `MayLackMemory` says. The writer fails, or memory is short for the text, only once the store
     // is read.
-    ensures memory { D.honest disk → IsErrOf result.0 (fault.Store store.Memory)
+    ensures memory { D.honest disk → IsErrOf result.0 (fault.Store (store.Memory out_of_memory))
         → MayLackMemory (D.seen disk) (D.calls disk) (D.calls result.1) }
     ensures opened { D.honest disk → (why : StreamFault) → IsErrOf result.0 (fault.Stream why)
         → (s : ServerState) × StandsFor (D.seen disk) s }

@@ -12,8 +12,9 @@ use crate::header::read_counting;
 use crate::slot::read_slot;
 use fe_disk::{Disk, MemoryDisk};
 use fe_journal::DEVICE_BYTES;
+use fe_memory::OutOfMemory;
 use fe_store::OpenFault;
-use std::alloc::{AllocError, Global};
+use std::alloc::Global;
 
 /// The most readings of a store. One more is made each time that no slot counts, or a checkpoint began in the slot that was read.
 const MOST_READINGS: u64 = 100;
@@ -111,9 +112,9 @@ fn read_once<D: Disk>(alloc: Global, disk: &mut D) -> Result<Reading, OpenFault>
     }
 }
 
-fn zeros(alloc: Global, count: usize) -> Result<Vec<u8>, AllocError>
+fn zeros(alloc: Global, count: usize) -> Result<Vec<u8>, OutOfMemory>
     ensures size { IfOk result (λ bytes. length bytes.items ≡ count) }
     ensures zeros { IfOk result (λ bytes. (i : ℕ) → slice_index bytes.items i ≡ 0) }
 {
-    vec![in alloc; 0; count]
+    Ok(vec![in alloc; 0; count]?)
 }

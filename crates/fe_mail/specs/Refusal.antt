@@ -13,7 +13,7 @@ code_of BeyondWindow = 4
 code_of NumberUsed = 5
 code_of StillWaiting = 6
 code_of Closing = 7
-code_of NoMemory = 8
+code_of (NoMemory error) = 8
 code_of Spent = 9
 code_of NotWaiting = 10
 
@@ -26,6 +26,6 @@ name_of BeyondWindow = codes "beyond-window"
 name_of NumberUsed = codes "number-used"
 name_of StillWaiting = codes "still-waiting"
 name_of Closing = codes "closing"
-name_of NoMemory = codes "no-memory"
+name_of (NoMemory error) = codes "no-memory"
 name_of Spent = codes "spent"
 name_of NotWaiting = codes "not-waiting"

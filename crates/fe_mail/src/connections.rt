@@ -8,8 +8,9 @@ ghost use Rattle.fe_mail.specs.Limits.{most_mails_in_box};
 use crate::connection::Connection;
 use crate::mail::Mail;
 use crate::mailbox::Mailbox;
+use fe_memory::OutOfMemory;
 use indexmap::IndexMap;
-use std::alloc::{AllocError, Global};
+use std::alloc::Global;
 use std::marker::Model;
 
 /// The connections by number: the session of each, and the box in which its mails wait.
@@ -57,7 +58,7 @@ impl Connections {
     }
 
     /// Adds a connection with no session and an empty box. Fails only if memory runs out.
-    pub fn connect(&mut self, conn: u64) -> Result<(), AllocError>
+    pub fn connect(&mut self, conn: u64) -> Result<(), OutOfMemory>
         requires unconnected { map.get self.old conn ≡ None }
         ensures connected { OnOk result (self.new ≡ map.insert self.old conn first_connection) }
         ensures err { OnErr result (self.new ≡ self.old) }

@@ -4,7 +4,8 @@ ghost use Rattle.std.specs.Prelude.{◌≡◌, ◌↔◌, ◌<◌, ◌≤◌, []
 ghost use Rattle.fe_mail.specs.Limits.{most_mails_in_box};
 
 use crate::mail::Mail;
-use std::alloc::{AllocError, Global};
+use fe_memory::OutOfMemory;
+use std::alloc::Global;
 use std::collections::VecDeque;
 use std::marker::Model;
 
@@ -32,7 +33,7 @@ impl Model for Mailbox {
 
 impl Mailbox {
     /// An empty box with room for `MAILS` mails. Fails only if memory runs out.
-    pub fn new(alloc: Global) -> Result<Mailbox, AllocError>
+    pub fn new(alloc: Global) -> Result<Mailbox, OutOfMemory>
         ensures { IfOk result (λ mailbox. mailbox ≡ []) }
     {
         Ok(Mailbox {

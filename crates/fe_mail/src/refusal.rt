@@ -1,6 +1,8 @@
 ghost use Rattle.std.specs.Prelude.{◌≡◌, ◌≤◌};
 ghost use Rattle.fe_mail.specs.Refusal.{code_of, name_of};
 
+use fe_memory::OutOfMemory;
+
 /// Why an event of the front was refused (`docs/formats.md`, "Replies"; `docs/model.md`, "Mails, connections and books"). A refused event
 /// changes nothing, except that the books count a refused call.
 #[derive(Clone, Copy, PartialEq, Eq)]
@@ -20,7 +22,7 @@ pub enum Refusal {
     /// The session is being ended: its close is made, and not yet stored and posted (`docs/model.md`, "The front").
     Closing,
     /// Memory ran out.
-    NoMemory,
+    NoMemory(OutOfMemory),
     /// The history has fewer than 2,049 places left, the most that one event may need.
     Spent,
     /// No request of the session with the number is waiting.
@@ -42,7 +44,7 @@ impl Refusal {
             Refusal::NumberUsed => 5,
             Refusal::StillWaiting => 6,
             Refusal::Closing => 7,
-            Refusal::NoMemory => 8,
+            Refusal::NoMemory(_) => 8,
             Refusal::Spent => 9,
             Refusal::NotWaiting => 10,
         }
@@ -60,7 +62,7 @@ impl Refusal {
             Refusal::NumberUsed => "number-used",
             Refusal::StillWaiting => "still-waiting",
             Refusal::Closing => "closing",
-            Refusal::NoMemory => "no-memory",
+            Refusal::NoMemory(_) => "no-memory",
             Refusal::Spent => "spent",
             Refusal::NotWaiting => "not-waiting",
         }

@@ -3,6 +3,7 @@
 use Rattle.std.proofs.Common.{◌≡◌, ◌⊎◌, ℕ, inl, inr, List, [], ◌∷◌, ◌++◌, append-nil, Result, Ok, Err, refl, sym, ap, subst, ◌∙◌}
 use Rattle.std.specs.Option.{option_map_or}
 use Rattle.std.specs.FinMap.{get}
+use Rattle.fe_memory.specs.Memory.{out_of_memory}
 use Rattle.fe_state.specs.State.{ServerState, IsWithinLimits, after, after_all}
 use Rattle.fe_state.specs.History.{AreLegal}
 use Rattle.fe_state.specs.declared.entry.Entry.{Entry}
@@ -174,7 +175,7 @@ module _ (f g k : FrontState) (conn : ℕ) where
         let (refused, step) = refusal_told f g k conn number r (cancelling f conn number) result (λ s. cancelled_by f conn s number) p is told in
         taken f k conn (message.Cancel number) [] (inr (r, refused, record { entries = refl; front = step.1.front })) tt
 
-  pub call_refused : (number : ℕ) (request : Request) (r : Refusal) → IsCallRefused f conn number request r ⊎ ((r ≡ NoMemory) × WantsMemory f conn number request) → g ≡ call_refused_by f
+  pub call_refused : (number : ℕ) (request : Request) (r : Refusal) → IsCallRefused f conn number request r ⊎ ((r ≡ NoMemory out_of_memory) × WantsMemory f conn number request) → g ≡ call_refused_by f
       → k ≡ mailed g conn (mail.Refused number r) → Taken f conn (message.Call number request) k
   call_refused number request r may same told =
       taken f k conn (message.Call number request) [] (inr (r, may, record { entries = refl; front = call_refusal_told f g k conn number r same told })) tt
@@ -186,5 +187,5 @@ module _ (f g k : FrontState) (conn : ℕ) where
       let front : k ≡ mailed f conn (mail.Report (report_text f.service.waiting (held_attachments f))) = told ∙ ap (λ (t : List ℕ). mailed f conn (mail.Report t)) is in
       taken f k conn message.Report [] (inl (tt, record { entries = refl; front = front })) tt
 
-  pub report_refused : k ≡ mailed f conn (mail.Refused 0 NoMemory) → Taken f conn message.Report k
+  pub report_refused : k ≡ mailed f conn (mail.Refused 0 (NoMemory out_of_memory)) → Taken f conn message.Report k
   report_refused told = taken f k conn message.Report [] (inr (record { entries = refl; front = told })) tt

@@ -1,6 +1,7 @@
 -- What a message of a connection does to the front: it is an event, or is refused (`docs/model.md`, "Messages and mails").
 use Rattle.std.specs.Prelude.{◌≡◌, ◌≢◌, ◌⊎◌, ℕ, List, [], Err, true, ◌++◌, Option, Some, IfSome}
 use Rattle.std.specs.FinMap.{get}
+use Rattle.fe_memory.specs.Memory.{out_of_memory}
 use Rattle.fe_service.specs.Service.{request_of}
 use Rattle.fe_state.specs.declared.entry.Entry.{Entry}
 use Rattle.fe_state.specs.declared.entry.Entry.TheVariants.{Attached, Closed, Settled, Finished}
@@ -30,7 +31,7 @@ pub record IsRefused (f : FrontState) (conn number : ℕ) (refusal : Refusal) (e
 -- a call is refused for the reason that `IsCallRefused` gives, or because memory that it needs is short
 abbrev pub MayRefuse : FrontState → ℕ → ℕ → Request → Refusal → Type 0
 MayRefuse f conn number request refusal =
-    IsCallRefused f conn number request refusal ⊎ ((refusal ≡ NoMemory) × WantsMemory f conn number request)
+    IsCallRefused f conn number request refusal ⊎ ((refusal ≡ NoMemory out_of_memory) × WantsMemory f conn number request)
 
 -- what a message of a connection does, with the entries that it makes
 abbrev pub Takes : FrontState → ℕ → ClientMessage → List Entry → FrontState → Type 0
@@ -46,7 +47,7 @@ Takes f conn (Settle floor) es g =
 Takes f conn Bye es g =
     FrontStep f (event.Bye conn) es g ⊎ ((r : Refusal) × (leaving f conn ≡ Err r) × IsRefused f conn 0 r es g)
 Takes f conn Report es g =
-    FrontStep f (event.GiveMail conn (mail.Report (report_text f.service.waiting (held_attachments f)))) es g ⊎ IsRefused f conn 0 NoMemory es g
+    FrontStep f (event.GiveMail conn (mail.Report (report_text f.service.waiting (held_attachments f)))) es g ⊎ IsRefused f conn 0 (NoMemory out_of_memory) es g
 
 -- the entries are legal, lead to the new state and are pending after the others; what is out and what is durable stay; and no connection
 -- comes

@@ -5,8 +5,8 @@ ghost use Rattle.fe_wire.specs.Spelling.{reply_spelling, ReplyFits};
 ghost use Rattle.fe_messages.specs.Mails.{reply_of};
 
 use fe_mail::Mail;
+use fe_memory::OutOfMemory;
 use fe_wire::{ServerMessage, put_reply};
-use std::alloc::AllocError;
 use std::marker::Model;
 
 /// What a client gets for a mail. An answer goes out without its session and place.
@@ -46,9 +46,9 @@ impl Reply {
         Reply { message }
     }
 
-    /// Appends the reply's frame. Returns `AllocError`, with nothing appended, if the vector's spare room doesn't hold
+    /// Appends the reply's frame. Returns `OutOfMemory`, with nothing appended, if the vector's spare room doesn't hold
     /// the frame and memory runs out.
-    pub fn put(&self, out: &mut Vec<u8>) -> Result<(), AllocError>
+    pub fn put(&self, out: &mut Vec<u8>) -> Result<(), OutOfMemory>
         ensures ok { OnOk result (out.new.items ≡ out.old.items ++ reply_spelling self.now) }
         ensures err { OnErr result (out.new.items ≡ out.old.items) }
         ensures full { OnErr result (vec_capacity out.old < vec_len out.old + length (reply_spelling self.now)) }

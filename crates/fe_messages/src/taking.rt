@@ -91,6 +91,6 @@ fn mail_report(alloc: Global, front: &mut Front, conn: u64)
 {
     match report(alloc, front) {
         Ok(text) => front.mail_text(conn, ReportText::new(text)),
-        Err(_) => front.mail_refusal(conn, 0, Refusal::NoMemory),
+        Err(error) => front.mail_refusal(conn, 0, Refusal::NoMemory(error)),
     }
 }

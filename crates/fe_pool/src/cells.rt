@@ -8,7 +8,8 @@ ghost use Rattle.fe_pool.specs.within.Runs.{with_next, with_previous};
 use crate::family::Family;
 use crate::neighbours::Neighbours;
 use crate::node::Node;
-use std::alloc::{AllocError, Global};
+use fe_memory::OutOfMemory;
+use std::alloc::Global;
 use std::marker::Model;
 use std::mem;
 
@@ -60,7 +61,7 @@ impl<T> Model for Cells<T> {
 
 impl<T: Drop> Cells<T> {
     // This many free nodes, each followed by the next lower one. Fails only if memory runs out.
-    pub(crate) fn with_count(alloc: Global, count: u32) -> Result<Cells<T>, AllocError>
+    pub(crate) fn with_count(alloc: Global, count: u32) -> Result<Cells<T>, OutOfMemory>
         ensures items { IfOk result (λ p. p.items ≡ replicate count None) }
         ensures of_word { IfOk result (λ p. p.of_word ≡ replicate count None) }
         ensures of_session { IfOk result (λ p. p.of_session ≡ replicate count None) }

@@ -8,7 +8,8 @@ use crate::chain::Chain;
 use crate::family::Family;
 use crate::neighbours::Neighbours;
 use crate::node::Node;
-use std::alloc::{AllocError, Global};
+use fe_memory::OutOfMemory;
+use std::alloc::Global;
 use std::marker::Model;
 
 /// A fixed number of nodes. A taken node holds a `T` and is on at most one list of each family.
@@ -45,7 +46,7 @@ impl<T> Model for Pool<T> {
 
 impl<T: Drop> Pool<T> {
     /// A pool of this many nodes, all free. Fails only if memory runs out.
-    pub fn with_nodes(alloc: Global, nodes: u32) -> Result<Pool<T>, AllocError>
+    pub fn with_nodes(alloc: Global, nodes: u32) -> Result<Pool<T>, OutOfMemory>
         ensures items { IfOk result (λ p. p.items ≡ replicate nodes None) }
         ensures of_word { IfOk result (λ p. p.of_word ≡ replicate nodes []) }
         ensures of_session { IfOk result (λ p. p.of_session ≡ replicate nodes []) }

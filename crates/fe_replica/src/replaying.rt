@@ -2,11 +2,13 @@
 //! step of the history.
 
 ghost use Rattle.std.specs.Prelude.{◌≡◌, ℕ, Err, IfOk, OnOk, OnErr};
+ghost use Rattle.fe_memory.specs.Memory.{out_of_memory};
 ghost use Rattle.fe_replica.specs.Replaying.{Replays, IsFirstBad, MakesArrayIn, NoneFollows, Steps, MakesNext};
 ghost use Rattle.fe_replica.specs.declared.replaying.ReplayFault.TheVariants.{Damaged, NoMemory};
 ghost use Rattle.fe_replica.specs.declared.replaying.Fault.TheVariants as fault;
 
 use fe_codec::{Format, read_entry};
+use fe_memory::OutOfMemory;
 use fe_state::State;
 
 /// Why a stored group was not replayed to its end.
@@ -15,7 +17,7 @@ pub enum ReplayFault {
     /// The record at this offset of the payload, in bytes, is no entry's, or its entry may not come next.
     Damaged { offset: usize },
     /// There was no memory for the words of a new array.
-    NoMemory,
+    NoMemory(OutOfMemory),
 }
 
 /// Why the first record of some bytes was not replayed.
@@ -24,7 +26,7 @@ enum Fault {
     /// The record is no entry's, or its entry may not come next.
     Bad,
     /// There was no memory for the words of a new array.
-    NoMemory,
+    NoMemory(OutOfMemory),
 }
 
 /// Carries out the entries of a stored group, one by one. It takes memory only for the words of new arrays.
@@ -32,13 +34,13 @@ enum Fault {
 pub fn replay(format: Format, payload: &[u8], state: &mut State) -> Result<(), ReplayFault>
     ensures ok { OnOk result (Replays format payload.now state.old state.new) }
     ensures damaged { (offset : ℕ) → result ≡ Err (Damaged offset) → IsFirstBad format payload.now state.old offset }
-    ensures memory { result ≡ Err NoMemory → MakesArrayIn format payload.now state.old }
+    ensures memory { result ≡ Err (NoMemory out_of_memory) → MakesArrayIn format payload.now state.old }
 {
     let mut rest = payload;
     while !rest.is_empty() {
         match replay_one(format, rest, state) {
             Ok(behind) => rest = behind,
-            Err(Fault::NoMemory) => return Err(ReplayFault::NoMemory),
+            Err(Fault::NoMemory(error)) => return Err(ReplayFault::NoMemory(error)),
             Err(Fault::Bad) => {
                 return Err(ReplayFault::Damaged {
                     offset: payload.len() - rest.len(),
@@ -53,7 +55,7 @@ pub fn replay(format: Format, payload: &[u8], state: &mut State) -> Result<(), R
 fn replay_one<'a>(format: Format, bytes: &'a [u8], state: &mut State) -> Result<&'a [u8], Fault>
     ensures ok { IfOk result (λ behind. Steps format bytes.now state.old behind.now state.new) }
     ensures bad { result ≡ Err fault.Bad → NoneFollows format bytes.now state.old }
-    ensures memory { result ≡ Err fault.NoMemory → MakesNext format bytes.now state.old }
+    ensures memory { result ≡ Err (fault.NoMemory out_of_memory) → MakesNext format bytes.now state.old }
     ensures err { OnErr result (state.new ≡ state.old) }
 {
     let Some((record, behind)) = bytes.split_at_checked(format.record_bytes()) else {
@@ -67,6 +69,6 @@ fn replay_one<'a>(format: Format, bytes: &'a [u8], state: &mut State) -> Result<
     };
     match state.advance(entry, effect) {
         Ok(()) => Ok(behind),
-        Err(_) => Err(Fault::NoMemory),
+        Err(error) => Err(Fault::NoMemory(error)),
     }
 }

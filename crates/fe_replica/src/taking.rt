@@ -2,11 +2,13 @@
 //! step of the history; its place is the number of entries before it.
 
 ghost use Rattle.std.specs.Prelude.{◌≡◌, ℕ, ◌≤◌, length, Err, OnOk, OnErr};
+ghost use Rattle.fe_memory.specs.Memory.{out_of_memory};
 ghost use Rattle.fe_state.specs.State.{after_all};
 ghost use Rattle.fe_state.specs.UndoLog.{empty_log, rewound, IsLogOf};
 ghost use Rattle.fe_replica.specs.Replaying.{Continues, IsMismatch, MakesSomeArray};
 ghost use Rattle.fe_replica.specs.declared.taking.Refused.TheVariants.{Mismatch, NoMemory};
 
+use fe_memory::OutOfMemory;
 use fe_state::{Entry, State, UndoLog};
 
 /// Why a batch was not taken.
@@ -15,7 +17,7 @@ pub enum Refused {
     /// The entries do not continue the history, first at this place.
     Mismatch { place: u64 },
     /// There was no memory for the words of a new array.
-    NoMemory,
+    NoMemory(OutOfMemory),
 }
 
 /// Carries out entries that continue the history of the state, the first of them at the place `first`. Then the log, which has to be empty
@@ -36,7 +38,7 @@ pub fn take(
     ensures room { log.new.room ≡ log.old.room }
     ensures err { OnErr result ((state.new ≡ state.old) × (log.new ≡ log.old)) }
     ensures mismatch { (place : ℕ) → result ≡ Err (Mismatch place) → IsMismatch state.old first entries.now place }
-    ensures memory { result ≡ Err NoMemory → MakesSomeArray entries.now }
+    ensures memory { result ≡ Err (NoMemory out_of_memory) → MakesSomeArray entries.now }
 {
     if first != state.place() || entries.is_empty() {
         return Err(Refused::Mismatch {
@@ -49,10 +51,10 @@ pub fn take(
             state.rewind(log);
             return Err(Refused::Mismatch { place });
         };
-        let Ok(()) = state.apply(*entry, effect, log) else {
+        if let Err(error) = state.apply(*entry, effect, log) {
             state.rewind(log);
-            return Err(Refused::NoMemory);
-        };
+            return Err(Refused::NoMemory(error));
+        }
     }
     Ok(())
 }

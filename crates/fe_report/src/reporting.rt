@@ -8,7 +8,8 @@ ghost use Rattle.fe_report.specs.Report.{report_text, held_attachments};
 use crate::rows::{do_all_wait, rows_by_session, rows_by_word};
 use crate::text::{put_all_wait, put_count, put_sessions, put_words};
 use fe_front::Front;
-use std::alloc::{AllocError, Global};
+use fe_memory::OutOfMemory;
+use std::alloc::Global;
 
 /// A request's line has at most this many bytes.
 pub(crate) const WORD_LINE: usize = 108;
@@ -20,7 +21,7 @@ const OTHER_LINES: usize = 2976;
 ///
 /// It walks each session's list of waiting requests once, and looks at no word of an array. It first allocates room for the longest text
 /// with that number of requests, and gives back what the text doesn't use.
-pub fn report(alloc: Global, front: &Front) -> Result<String, AllocError>
+pub fn report(alloc: Global, front: &Front) -> Result<String, OutOfMemory>
     ensures text { IfOk result
         (λ text. string_bytes text ≡ report_text front.now.service.waiting (held_attachments front.now)) }
     ensures some { IfOk result (λ text. 1 ≤ string_len text) }

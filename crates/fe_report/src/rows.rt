@@ -8,8 +8,9 @@ ghost use Rattle.fe_report.specs.Report.{by_word, by_session, do_all_wait, held_
 ghost use Rattle.fe_report.specs.within.Rows.{IsAdded};
 
 use fe_front::Front;
+use fe_memory::OutOfMemory;
 use fe_words::Op;
-use std::alloc::{AllocError, Global};
+use std::alloc::Global;
 use std::collections::BTreeMap;
 
 /// Where a request waits: the array and index of its word, then its session and number.
@@ -21,7 +22,7 @@ fn add_session(
     front: &Front,
     rows: &mut Vec<(Spot, Op)>,
     session: u64,
-) -> Result<(), AllocError>
+) -> Result<(), OutOfMemory>
     ensures added { OnOk result (IsAdded front.now.service.waiting session rows.old.items rows.new.items) }
 {
     let waiting_requests = front
@@ -36,7 +37,7 @@ fn add_session(
 }
 
 /// A row for each waiting request, where it waits and its operation, in the order of the lines.
-pub(crate) fn rows_by_word(alloc: Global, front: &Front) -> Result<Vec<(Spot, Op)>, AllocError>
+pub(crate) fn rows_by_word(alloc: Global, front: &Front) -> Result<Vec<(Spot, Op)>, OutOfMemory>
     ensures rows { IfOk result (λ rows. rows.items ≡ entries (by_word front.now.service.waiting)) }
     ensures few { IfOk result (λ rows. vec_len rows ≤ most_waiting) }
 {
@@ -57,7 +58,7 @@ pub(crate) fn rows_by_word(alloc: Global, front: &Front) -> Result<Vec<(Spot, Op
 pub(crate) fn rows_by_session(
     alloc: Global,
     front: &Front,
-) -> Result<BTreeMap<u64, u32>, AllocError>
+) -> Result<BTreeMap<u64, u32>, OutOfMemory>
     ensures rows { IfOk result (λ rows. rows.entries ≡ entries (by_session front.now.service.waiting)) }
     ensures few { IfOk result (λ rows. btree_map_len rows ≤ most_sessions) }
 {

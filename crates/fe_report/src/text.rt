@@ -9,18 +9,19 @@ ghost use Rattle.fe_report.specs.Report.{count_line, word_line, session_line, al
 
 use crate::reporting::WORD_LINE;
 use crate::rows::Spot;
+use fe_memory::OutOfMemory;
 use fe_words::Op;
 use itoa::write_digits;
-use std::alloc::AllocError;
 use std::collections::BTreeMap;
 
 /// Writes how many requests wait.
-pub(crate) fn put_count(text: &mut String, count: u32) -> Result<(), AllocError>
+pub(crate) fn put_count(text: &mut String, count: u32) -> Result<(), OutOfMemory>
     ensures line { OnOk result (string_bytes text.new ≡ string_bytes text.old ++ count_line count) }
     ensures some { OnOk result (string_len text.old + 1 ≤ string_len text.new) }
     ensures few { OnOk result (string_len text.new ≤ string_len text.old + 19) }
 {
-    write!(text, "waiting {count}\n")
+    write!(text, "waiting {count}\n")?;
+    Ok(())
 }
 
 /// Writes a piece of a line so that it ends at `end`, and returns where it starts.
@@ -75,7 +76,7 @@ fn put_word(
     session: u64,
     number: u64,
     op: Op,
-) -> Result<(), AllocError>
+) -> Result<(), OutOfMemory>
     ensures line { OnOk result (string_bytes text.new
         ≡ string_bytes text.old ++ word_line (((array, index), (session, number)), op)) }
     ensures few { OnOk result (string_len text.new ≤ string_len text.old + 108) }
@@ -85,11 +86,12 @@ fn put_word(
     let start = put_spot(&mut line, array, index, caller);
     // The bytes are ASCII. To check each of them would take a third of the time of a report.
     let line = unsafe { str::from_utf8_unchecked(&line[start..]) };
-    text.push_str(line)
+    text.push_str(line)?;
+    Ok(())
 }
 
 /// Writes the lines of the requests.
-pub(crate) fn put_words(text: &mut String, words: &[(Spot, Op)]) -> Result<(), AllocError>
+pub(crate) fn put_words(text: &mut String, words: &[(Spot, Op)]) -> Result<(), OutOfMemory>
     ensures lines { OnOk result (string_bytes text.new ≡ string_bytes text.old ++ flat_map word_line words.now) }
     ensures few { OnOk result (string_len text.new ≤ string_len text.old + 108 * length words.now) }
 {
@@ -101,18 +103,19 @@ pub(crate) fn put_words(text: &mut String, words: &[(Spot, Op)]) -> Result<(), A
 }
 
 /// Writes the line of a session.
-fn put_session(text: &mut String, session: u64, count: u32) -> Result<(), AllocError>
+fn put_session(text: &mut String, session: u64, count: u32) -> Result<(), OutOfMemory>
     ensures line { OnOk result (string_bytes text.new ≡ string_bytes text.old ++ session_line (session, count)) }
     ensures few { OnOk result (string_len text.new ≤ string_len text.old + 46) }
 {
-    write!(text, "session {session} waits {count}\n")
+    write!(text, "session {session} waits {count}\n")?;
+    Ok(())
 }
 
 /// Writes the lines of the sessions.
 pub(crate) fn put_sessions(
     text: &mut String,
     sessions: &BTreeMap<u64, u32>,
-) -> Result<(), AllocError>
+) -> Result<(), OutOfMemory>
     ensures lines { OnOk result (string_bytes text.new
         ≡ string_bytes text.old ++ flat_map session_line sessions.now.entries) }
     ensures few { OnOk result (string_len text.new ≤ string_len text.old + 46 * btree_map_len sessions.now) }
@@ -124,7 +127,7 @@ pub(crate) fn put_sessions(
 }
 
 /// Writes the last line: `all-wait yes` if `all`, else `all-wait no`.
-pub(crate) fn put_all_wait(text: &mut String, all: bool) -> Result<(), AllocError>
+pub(crate) fn put_all_wait(text: &mut String, all: bool) -> Result<(), OutOfMemory>
     ensures line { OnOk result (string_bytes text.new ≡ string_bytes text.old ++ all_wait_line all) }
     ensures few { OnOk result (string_len text.new ≤ string_len text.old + 13) }
 {
@@ -132,5 +135,6 @@ pub(crate) fn put_all_wait(text: &mut String, all: bool) -> Result<(), AllocErro
         "all-wait yes\n"
     } else {
         "all-wait no\n"
-    })
+    })?;
+    Ok(())
 }

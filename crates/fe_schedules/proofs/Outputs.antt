@@ -1,12 +1,12 @@
 -- The replies in a desk's output.
-use Rattle.std.proofs.Common.{◌≡◌, ℕ, zero, suc, ◌<◌, ◌≤◌, List, [], ◌∷◌, ◌++◌, length, map, drop, refl, sym, ◌∙◌, subst, arith}
+use Rattle.std.proofs.Common.{◌≡◌, ℕ, zero, suc, ◌<◌, ◌≤◌, List, [], ◌∷◌, ◌++◌, ◌+◌, ◌-◌, length, map, take, drop, refl, sym, ap, ◌∙◌, subst, arith}
 use Rattle.std.specs.List.{flat_map, AllByRecursion}
 use Rattle.std.specs.Prelude.{slice_index_or}
+use Rattle.std.proofs.lemmas.List.{take-append-drop, drop-drop}
 use Rattle.fe_wire.specs.Spelling.{reply_spelling, ReplyFits}
 use Rattle.fe_wire.specs.declared.server_message.ServerMessage.{ServerMessage}
-use Rattle.fe_desk.specs.Messages.{AreReplies, outputs}
-use Rattle.fe_desk.specs.DeskRunState.{DeskRunState}
-use Rattle.fe_desk.specs.Runs.{AreSilent, AreWrittenTo}
+use Rattle.fe_desk.specs.Messages.{AreReplies}
+use Rattle.fe_desk.specs.Runs.{AreSilent}
 use Rattle.fe_desk.specs.declared.port.Port.{Port}
 use Rattle.fe_schedules.specs.Schedule.{ArePrintedReplies, AreRepliesIn, printed_to}
 use Rattle.fe_schedules.specs.declared.printed_reply.PrintedReply.{PrintedReply}
@@ -26,28 +26,19 @@ one_port_more (q ∷ ports) zero p replies left lt e printed_replies more =
     subst (λ (x : Port). ArePrintedReplies (outs (q ∷ ports)) (map (printed_to x.conn) replies ++ left)) (sym e) (replies, left, subst (λ (x : Port). AreRepliesIn x.written replies) e printed_replies, more, refl)
 one_port_more (q ∷ ports) (suc i) p replies left lt e printed_replies more = one_port_more ports i p replies left (omega (arith, lt)) e printed_replies more
 
--- at the end no reply is left
-pub none_more : (ports : List Port) (i : ℕ) → length ports ≤ i → ArePrintedReplies (drop i (outs ports)) []
-none_more [] zero le = refl
-none_more [] (suc i) le = refl
-none_more (q ∷ ports) zero le = absurd (omega (arith, le))
-none_more (q ∷ ports) (suc i) le = none_more ports i (omega (arith, le))
-
 -- where nothing was written there are no replies
-silent_replies : (os : List (ℕ × List ℕ)) → AreSilent os → ArePrintedReplies os []
+pub silent_replies : (os : List (ℕ × List ℕ)) → AreSilent os → ArePrintedReplies os []
 silent_replies [] none = refl
 silent_replies (o ∷ os) none = ([], [], record { fits = tt; spelled = none.0 }, silent_replies os none.1, refl)
-
-more_behind : (os silent : List (ℕ × List ℕ)) (printed_replies : List PrintedReply) → AreSilent silent → ArePrintedReplies os printed_replies → ArePrintedReplies (os ++ silent) printed_replies
-more_behind [] silent printed_replies none a = subst (λ (xs : List PrintedReply). ArePrintedReplies silent xs) (sym a) (silent_replies silent none)
-more_behind (o ∷ os) silent printed_replies none a = (a.0, a.1, a.2, more_behind os silent a.1 none a.3, a.4)
 
 more_before : (silent os : List (ℕ × List ℕ)) (printed_replies : List PrintedReply) → AreSilent silent → ArePrintedReplies os printed_replies → ArePrintedReplies (silent ++ os) printed_replies
 more_before [] os printed_replies none a = a
 more_before (o ∷ silent) os printed_replies none a = ([], printed_replies, record { fits = tt; spelled = none.0 }, more_before silent os printed_replies none.1 a, refl)
 
--- what is read of the ports to which something was written are the desk's replies
-pub written_replies : (ports : List Port) (s : DeskRunState) (printed_replies : List PrintedReply) → AreWrittenTo ports (outputs s) → ArePrintedReplies (outs ports) printed_replies → ArePrintedReplies (outputs s) printed_replies
-written_replies ports s printed_replies w a =
-    subst (λ (os : List (ℕ × List ℕ)). ArePrintedReplies os printed_replies) (sym w.all)
-    (more_before w.before (outs ports ++ w.behind) printed_replies w.none_before (more_behind (outs ports) w.behind printed_replies w.none_behind a))
+-- those to which nothing was written are passed over
+pub passed_over : (os : List (ℕ × List ℕ)) (from at : ℕ) (printed_replies : List PrintedReply) → from ≤ at → AreSilent (take (at - from) (drop from os)) → ArePrintedReplies (drop at os) printed_replies → ArePrintedReplies (drop from os) printed_replies
+passed_over os from at printed_replies le none a =
+    let sum : from + (at - from) ≡ at = omega (arith, le) in
+    let split : take (at - from) (drop from os) ++ drop at os ≡ drop from os =
+    ap (λ (xs : List (ℕ × List ℕ)). take (at - from) (drop from os) ++ xs) (ap (λ (n : ℕ). drop n os) (sym sum) ∙ sym (drop-drop (at - from) from os)) ∙ take-append-drop (at - from) (drop from os) in
+    subst (λ (xs : List (ℕ × List ℕ)). ArePrintedReplies xs printed_replies) split (more_before (take (at - from) (drop from os)) (drop at os) printed_replies none a)

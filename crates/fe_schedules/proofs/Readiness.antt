@@ -18,6 +18,7 @@ use Rattle.fe_desk.proofs.Quiets.{none_waits}
 use Rattle.fe_desk.specs.declared.fault.DeskFault.{DeskFault}
 use Rattle.fe_desk.specs.declared.fault.DeskFault.TheVariants as desk
 use Rattle.std.proofs.lemmas.Option.{none-some}
+use Rattle.fe_memory.specs.Memory.{out_of_memory}
 use Rattle.fe_disk.specs.Disk.{Rises}
 use Rattle.fe_desk.specs.Runs.{Ends}
 use Rattle.fe_schedules.specs.Ready.{memory_model, IsReady}
@@ -116,19 +117,19 @@ kept_over d e image ready one may stands = one image e.keeper.state d.keeper.sta
 
 -- ---- faults
 
-pub store_fault : (f : DeskFault) → (f ≡ desk.Store store.Device) ⊎ (f ≡ desk.NoMemory false) → of_desk f ≢ None
+pub store_fault : (f : DeskFault) → (f ≡ desk.Store store.Device) ⊎ (f ≡ desk.NoMemory out_of_memory false) → of_desk f ≢ None
 store_fault f (inl e) none = absurd (none-some _ (sym none ∙ ap of_desk e))
 store_fault f (inr e) none = absurd (none-some _ (sym none ∙ ap of_desk e))
 
 abbrev machine_of : Option MachineFault → MachineFault
-machine_of None = machine.Memory
+machine_of None = machine.Memory out_of_memory
 machine_of (Some r) = r
 
 -- the fault is the device, or memory
 device_tells : (f : DeskFault) (r : MachineFault) (disk : MemoryState) → f ≡ desk.Store store.Device → of_desk f ≡ Some r → 0 < disk.failures → TellsDisk disk r
 device_tells f r disk e is rises = subst (λ (x : MachineFault). TellsDisk disk x) (ap machine_of (sym (ap of_desk e) ∙ is)) rises
 
-memory_tells : (f : DeskFault) (r : MachineFault) (disk : MemoryState) → of_desk f ≡ Some machine.Memory → of_desk f ≡ Some r → disk.failures ≡ 0 → TellsDisk disk r
+memory_tells : (f : DeskFault) (r : MachineFault) (disk : MemoryState) → of_desk f ≡ Some (machine.Memory out_of_memory) → of_desk f ≡ Some r → disk.failures ≡ 0 → TellsDisk disk r
 memory_tells f r disk e is calm = subst (λ (x : MachineFault). TellsDisk disk x) (ap machine_of (sym e ∙ is)) calm
 
 -- a count that was 0
@@ -141,30 +142,30 @@ still old zero calm stays = refl
 still old (suc new) calm stays = absurd (stays (inl (omega (arith, calm))))
 
 abbrev store_of : DeskFault → Option ℕ
-store_of (desk.NoMemory fed) = None
+store_of (desk.NoMemory error fed) = None
 store_of other = Some 0
 
-no_device : (f : DeskFault) → f ≡ desk.NoMemory false → f ≡ desk.Store store.Device → ⊥
+no_device : (f : DeskFault) → f ≡ desk.NoMemory out_of_memory false → f ≡ desk.Store store.Device → ⊥
 no_device f e d = none-some 0 (ap store_of (sym e ∙ d))
 
 -- what a step's fault says of the disk
 pub tells_of : {D : Type 0} (model : Ghosts D) (old : DeskState D) (x : Step) (new : DeskState D) (f : DeskFault) → Ends model old x (Err f) new → TellsStep model old new f
 tells_of model old x new (desk.Store cause) e = (e.0, e.1.failed)
-tells_of model old x new (desk.NoMemory fed) e = e.sound.fine
-tells_of model old x new desk.Unwritten e = e.sound.fine
+tells_of model old x new (desk.NoMemory error fed) e = e.sound.fine
+tells_of model old x new (desk.Unwritten error) e = e.sound.fine
 
 pub step_tells : (old new : DeskState MemoryState) (f : DeskFault) (r : MachineFault) → (disk_of old).failures ≡ 0 → of_desk f ≡ Some r → TellsStep memory_model old new f → TellsDisk (disk_of new) r
 step_tells old new (desk.Store cause) r calm is t = device_tells (desk.Store cause) r (disk_of new) (ap (λ c. desk.Store c) t.0) is (rose (disk_of old).failures (disk_of new).failures calm t.1.rises)
-step_tells old new (desk.NoMemory fed) r calm is t = memory_tells (desk.NoMemory fed) r (disk_of new) refl is (t.still ∙ calm)
-step_tells old new desk.Unwritten r calm is t = memory_tells desk.Unwritten r (disk_of new) refl is (t.still ∙ calm)
+step_tells old new (desk.NoMemory error fed) r calm is t = memory_tells (desk.NoMemory error fed) r (disk_of new) refl is (t.still ∙ calm)
+step_tells old new (desk.Unwritten error) r calm is t = memory_tells (desk.Unwritten error) r (disk_of new) refl is (t.still ∙ calm)
 
-pub format_tells : (old new : MemoryState) (f : DeskFault) (r : MachineFault) → old.failures ≡ 0 → of_desk f ≡ Some r → (f ≡ desk.Store store.Device) ⊎ ((f ≡ desk.Store store.Unformatted) ⊎ (f ≡ desk.NoMemory false))
+pub format_tells : (old new : MemoryState) (f : DeskFault) (r : MachineFault) → old.failures ≡ 0 → of_desk f ≡ Some r → (f ≡ desk.Store store.Device) ⊎ ((f ≡ desk.Store store.Unformatted) ⊎ (f ≡ desk.NoMemory out_of_memory false))
     → (f ≡ desk.Store store.Device → Rises old.failures new.failures) → (f ≢ desk.Store store.Device → new.failures ≡ old.failures) → TellsDisk new r
 format_tells old new f r calm is (inl e) rises same = device_tells f r new e is (rose old.failures new.failures calm (rises e))
 format_tells old new f r calm is (inr (inl e)) rises same = absurd (none-some r (sym (ap of_desk e) ∙ is))
 format_tells old new f r calm is (inr (inr e)) rises same = memory_tells f r new (ap of_desk e) is (same (no_device f e) ∙ calm)
 
-pub open_tells : (old new : MemoryState) (f : DeskFault) (r : MachineFault) → old.failures ≡ 0 → of_desk f ≡ Some r → (f ≡ desk.Store store.Device) ⊎ (f ≡ desk.NoMemory false)
+pub open_tells : (old new : MemoryState) (f : DeskFault) (r : MachineFault) → old.failures ≡ 0 → of_desk f ≡ Some r → (f ≡ desk.Store store.Device) ⊎ (f ≡ desk.NoMemory out_of_memory false)
     → ((f ≡ desk.Store store.Device) ↔ Rises old.failures new.failures) → TellsDisk new r
 open_tells old new f r calm is (inl e) rises = device_tells f r new e is (rose old.failures new.failures calm (rises.0 e))
 open_tells old new f r calm is (inr e) rises = memory_tells f r new (ap of_desk e) is (still old.failures new.failures calm (λ up. no_device f e (rises.1 up)))

@@ -66,7 +66,7 @@ nothing_read reader writer unread end o now of none =
     record { lines = []; left = input_lines o; all = are_lines o; text = []; more = []; prints = none_ran; written = Appends-nil now; ends = inr (refl, inr (refl, of, none)) }
 
 pub of_store : (f : MachineFault) → IsOfStore (of_machine f)
-of_store machine.Memory = inl refl
+of_store (machine.Memory error) = inl refl
 of_store machine.Device = inr refl
 
 -- ---- ends

@@ -76,7 +76,7 @@ took_line read before now r s bytes so none ran =
 
 -- a line that says something, whose fault is memory or the disk
 pub said_fault : (number : ℕ) (bytes : List ℕ) (l : Line) (f : MachineFault) → SaysLine bytes (Some l) → IsFaultOf number bytes (of_machine f)
-said_fault number bytes l machine.Memory said = (said.0, l, said.1)
+said_fault number bytes l (machine.Memory error) said = (said.0, l, said.1)
 said_fault number bytes l machine.Device said = (said.0, l, said.1)
 
 -- the text that is kept, with nothing after it
@@ -89,7 +89,7 @@ prints_as lines a b e p = record { start = p.start; starts = p.starts; end = p.e
 at_line : (writer : StreamFault → Type 0) (end : ScheduleFault) (number : ℕ) (line : List ℕ) (lines left : List (List ℕ)) → number ≡ length lines → IsFaultOf (number + 1) line end → EndsWithin writer end lines (line ∷ left) []
 at_line writer (fault.Line found) number line lines left counts is = inl (refl, (is.0 ∙ ap (λ (n : ℕ). n + 1) counts, (is.1, is.2)))
 at_line writer fault.Input number line lines left counts is = inl (refl, omega (arith, counts, is))
-at_line writer fault.Memory number line lines left counts is = inl (refl, is)
+at_line writer (fault.Memory error) number line lines left counts is = inl (refl, is)
 at_line writer fault.Device number line lines left counts is = inl (refl, is)
 
 -- a line outside the syntax is a fault of it

@@ -139,7 +139,7 @@ IsTooLong number bytes end = (end ≡ fault.Line number) × (longest_line < leng
 -- `Device` it parses, but memory ran out or the disk failed; for `Input` it is line 2^64 - 1, which is not counted.
 abbrev pub IsFaultOf : ℕ → List ℕ → ScheduleFault → Type 0
 IsFaultOf number bytes (fault.Line found) = (found ≡ number) × (bytes ≢ []) × (parsed bytes ≡ None)
-IsFaultOf number bytes fault.Memory = (bytes ≢ []) × (l : Line) × (parsed bytes ≡ Some l)
+IsFaultOf number bytes (fault.Memory error) = (bytes ≢ []) × (l : Line) × (parsed bytes ≡ Some l)
 IsFaultOf number bytes fault.Device = (bytes ≢ []) × (l : Line) × (parsed bytes ≡ Some l)
 IsFaultOf number bytes fault.Input = number ≡ 2 ^ 64 - 1
 

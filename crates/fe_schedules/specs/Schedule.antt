@@ -20,6 +20,7 @@ use Rattle.fe_wire.specs.declared.server_message.ServerMessage.TheVariants as se
 use Rattle.fe_text.specs.Printed.{printed}
 use Rattle.fe_schedules.specs.declared.printed_reply.PrintedReply.{PrintedReply}
 use Rattle.std.specs.Io.KnownBytes.{Appends}
+use Rattle.fe_memory.specs.Memory.{out_of_memory}
 use Rattle.fe_schedules.specs.Ready.{memory_model}
 use Rattle.fe_state.specs.State.{ServerState, first_state}
 use Rattle.fe_state.specs.History.{after_groups}
@@ -38,30 +39,30 @@ use Rattle.fe_text.specs.declared.line.Line.TheVariants as line
 
 -- the machine's fault for a fault of its desk; None for those that a desk over a store that was formatted here does not have
 abbrev pub of_desk : DeskFault → Option MachineFault
-of_desk (desk.NoMemory fed) = Some machine.Memory
-of_desk desk.Unwritten = Some machine.Memory
+of_desk (desk.NoMemory error fed) = Some (machine.Memory error)
+of_desk (desk.Unwritten error) = Some (machine.Memory error)
 of_desk (desk.Store store.Device) = Some machine.Device
 of_desk (desk.Store store.Failed) = Some machine.Device
 of_desk (desk.Store other) = None
 
 abbrev pub of_machine : MachineFault → ScheduleFault
-of_machine machine.Memory = fault.Memory
+of_machine (machine.Memory error) = fault.Memory error
 of_machine machine.Device = fault.Device
 
 abbrev pub of_stream : StreamFault → ScheduleFault
 of_stream stream.Input = fault.Input
-of_stream stream.Memory = fault.Memory
+of_stream (stream.Memory error) = fault.Memory error
 
 -- the fault is the device's exactly if a call of the disk failed
 abbrev pub TellsDisk : MemoryState → MachineFault → Type 0
-TellsDisk disk machine.Memory = disk.failures ≡ 0
+TellsDisk disk (machine.Memory error) = disk.failures ≡ 0
 TellsDisk disk machine.Device = 0 < disk.failures
 
 -- the fault of the schedule is the device's exactly if a call of the disk failed
 abbrev pub TellsOfDisk : MemoryState → ScheduleFault → Type 0
 TellsOfDisk disk (fault.Line number) = disk.failures ≡ 0
 TellsOfDisk disk fault.Input = disk.failures ≡ 0
-TellsOfDisk disk fault.Memory = disk.failures ≡ 0
+TellsOfDisk disk (fault.Memory error) = disk.failures ≡ 0
 TellsOfDisk disk fault.Device = 0 < disk.failures
 
 -- a stream failed, and the fault is that of the stream
@@ -230,13 +231,13 @@ FirstIsValid (bytes ∷ others) = (bytes ≢ []) × (l : Line) × (parsed bytes 
 -- for `Memory` and `Device` it parses, but memory ran out or the disk failed; for `Input` no more lines can be counted.
 abbrev pub EndsAtLine : ScheduleFault → List (List ℕ) → List (List ℕ) → Type 0
 EndsAtLine (fault.Line number) lines left = (number ≡ length lines + 1) × FirstIsInvalid left
-EndsAtLine fault.Memory lines left = FirstIsValid left
+EndsAtLine (fault.Memory error) lines left = FirstIsValid left
 EndsAtLine fault.Device lines left = FirstIsValid left
 EndsAtLine fault.Input lines left = length lines ≡ 2 ^ 64 - 2
 
 -- the fault is one of memory or of the disk
 abbrev pub IsOfStore : ScheduleFault → Type 0
-IsOfStore end = (end ≡ fault.Memory) ⊎ (end ≡ fault.Device)
+IsOfStore end = (end ≡ fault.Memory out_of_memory) ⊎ (end ≡ fault.Device)
 
 -- A run ended within what was read: the next line is at fault, and all that was printed is written; or the writer failed.
 abbrev pub EndsWithin : (StreamFault → Type 0) → ScheduleFault → List (List ℕ) → List (List ℕ) → List ℕ → Type 0

@@ -6,8 +6,8 @@ ghost use Rattle.fe_schedules.specs.Schedule.{of_desk};
 
 use fe_desk::DeskFault;
 use fe_keeper::Fault as StoreFault;
+use fe_memory::OutOfMemory;
 use fe_text::StreamFault;
-use std::alloc::AllocError;
 
 /// Why a schedule ended before its end.
 #[derive(Clone, Copy, PartialEq, Eq)]
@@ -17,7 +17,7 @@ pub enum ScheduleFault {
     /// The input can't be read to its end, or the output can't be written.
     Input,
     /// Memory ran out, but not in a call of the disk.
-    Memory,
+    Memory(OutOfMemory),
     /// A call of the store's disk failed. The disk in memory fails a call if it finds no memory.
     Device,
 }
@@ -25,7 +25,7 @@ pub enum ScheduleFault {
 /// Why a machine did not do what a line says.
 #[derive(Clone, Copy)]
 pub(crate) enum MachineFault {
-    Memory,
+    Memory(OutOfMemory),
     Device,
 }
 
@@ -36,21 +36,23 @@ impl MachineFault {
         ensures { of_desk fault ≡ Some result }
     {
         match fault {
-            DeskFault::NoMemory { .. } | DeskFault::Unwritten => MachineFault::Memory,
+            DeskFault::NoMemory { error, .. } | DeskFault::Unwritten(error) => MachineFault::Memory(
+                error,
+            ),
             DeskFault::Store(StoreFault::Device | StoreFault::Failed) => MachineFault::Device,
             DeskFault::Store(_) => unreachable!(),
         }
     }
 }
 
-impl From<AllocError> for MachineFault {
+impl From<OutOfMemory> for MachineFault {
     ghost use Rattle.std.specs.Prelude.{◌≡◌};
     ghost use Rattle.fe_schedules.specs.declared.fault.MachineFault.TheVariants as machine;
 
-    ghost from_gives = { λ _ fault. fault ≡ machine.Memory };
+    ghost from_gives = { λ error fault. fault ≡ machine.Memory error };
 
-    fn from(_: AllocError) -> MachineFault {
-        MachineFault::Memory
+    fn from(error: OutOfMemory) -> MachineFault {
+        MachineFault::Memory(error)
     }
 }
 
@@ -63,7 +65,7 @@ impl From<StreamFault> for ScheduleFault {
     fn from(before: StreamFault) -> ScheduleFault {
         match before {
             StreamFault::Input => ScheduleFault::Input,
-            StreamFault::Memory => ScheduleFault::Memory,
+            StreamFault::Memory(error) => ScheduleFault::Memory(error),
         }
     }
 }
@@ -76,7 +78,7 @@ impl From<MachineFault> for ScheduleFault {
 
     fn from(before: MachineFault) -> ScheduleFault {
         match before {
-            MachineFault::Memory => ScheduleFault::Memory,
+            MachineFault::Memory(error) => ScheduleFault::Memory(error),
             MachineFault::Device => ScheduleFault::Device,
         }
     }

@@ -16,9 +16,10 @@ use fe_desk::{Desk, Step};
 use fe_disk::{MemoryDisk, Torn};
 use fe_journal::DEVICE_BYTES;
 use fe_keeper::{Blank, Keeper, Unopened, images_stand_for_one};
+use fe_memory::OutOfMemory;
 use fe_text::Line;
 use fe_wire::{ClientMessage, put_message};
-use std::alloc::{AllocError, Global};
+use std::alloc::Global;
 use std::mem;
 
 /// A desk over a store in memory.
@@ -152,8 +153,9 @@ impl Machine {
             Err((fault, disk)) => return Err(self.lose(fault, disk)),
         };
         let disk = mem::replace(self, between).into_disk();
-        let Ok(left) = disk.stopped(Torn::Lost) else {
-            return Err(self.lose(MachineFault::Memory, disk));
+        let left = match disk.stopped(Torn::Lost) {
+            Ok(left) => left,
+            Err(error) => return Err(self.lose(MachineFault::Memory(error), disk)),
         };
         drop(disk);
         match Desk::open(self.alloc, left) {
@@ -179,14 +181,14 @@ impl Machine {
         &mut self,
         text: &mut String,
         printed_replies: &mut Vec<PrintedReply>,
-    ) -> Result<(), AllocError>
+    ) -> Result<(), OutOfMemory>
         requires machine { IsMachine self.old }
         requires posted { HasNoneToPost self.old.desk.run_state.handed }
         ensures printed { OnOk result
             (PrintsTrace self.old self.new (string_bytes text.old) (string_bytes text.new)) }
         ensures disk { last_disk self.new ≡ last_disk self.old }
     {
-        read_all(self.alloc, self.desk.written_ports(), printed_replies)?;
+        read_all(self.alloc, &self.desk, printed_replies)?;
         // Replies under one number keep their order.
         printed_replies.sort_by_key(|one| one.key())?;
         print_replies(text, printed_replies.as_slice())?;

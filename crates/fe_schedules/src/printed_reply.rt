@@ -4,9 +4,9 @@ ghost use Rattle.std.specs.Prelude.{◌≡◌, ◌++◌, string_bytes, OnOk};
 ghost use Rattle.std.specs.List.{flat_map};
 ghost use Rattle.fe_schedules.specs.Schedule.{key_of, printed_text};
 
+use fe_memory::OutOfMemory;
 use fe_text::print_reply;
 use fe_wire::ServerMessage;
-use std::alloc::AllocError;
 
 /// A reply, and the number of the connection that it goes to.
 #[derive(Drop)]
@@ -34,7 +34,7 @@ impl PrintedReply {
 pub(crate) fn print_replies(
     text: &mut String,
     printed_replies: &[PrintedReply],
-) -> Result<(), AllocError>
+) -> Result<(), OutOfMemory>
     ensures { OnOk result (string_bytes text.new ≡ string_bytes text.old ++ flat_map printed_text printed_replies.now) }
 {
     for one in printed_replies {

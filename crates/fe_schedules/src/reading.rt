@@ -6,15 +6,17 @@ ghost use Rattle.std.specs.Option.{option_map};
 ghost use Rattle.std.specs.List.{flat_map, AllByRecursion};
 ghost use Rattle.fe_wire.specs.Spelling.{reply_spelling, ReplyFits};
 ghost use Rattle.fe_wire.specs.declared.server_message.ServerMessage.{ServerMessage as Reply};
-ghost use Rattle.fe_desk.specs.Messages.{AreReplies};
+ghost use Rattle.fe_desk.specs.Messages.{AreReplies, outputs};
 ghost use Rattle.fe_schedules.specs.within.Frames.{frame_at};
 ghost use Rattle.fe_schedules.specs.Schedule.{ArePrintedReplies, printed_to};
 
 use crate::printed_reply::PrintedReply;
 use byteorder::{BigEndian, ByteOrder};
-use fe_desk::Port;
+use fe_desk::Desk;
+use fe_disk::MemoryDisk;
+use fe_memory::OutOfMemory;
 use fe_wire::{ServerMessage, read_reply};
-use std::alloc::{AllocError, Global};
+use std::alloc::Global;
 
 /// The first frame of the bytes and what follows it, if a whole one is there.
 #[tactic(auto, unfolding(crate::specs::within::Frames::frame_at))]
@@ -34,7 +36,7 @@ fn first_frame(bytes: &[u8]) -> Option<(&[u8], &[u8])>
 }
 
 /// The reply whose frame this is.
-fn reply_in(alloc: Global, frame: &[u8]) -> Result<ServerMessage, AllocError>
+fn reply_in(alloc: Global, frame: &[u8]) -> Result<ServerMessage, OutOfMemory>
     requires { (reply : Reply) × ReplyFits reply × (frame.now ≡ reply_spelling reply) }
     ensures { (reply : Reply) → ReplyFits reply → frame.now ≡ reply_spelling reply
         → IfOk result (λ read. read ≡ reply) }
@@ -51,7 +53,7 @@ fn read_replies(
     conn: u64,
     frames: &[u8],
     printed_replies: &mut Vec<PrintedReply>,
-) -> Result<(), AllocError>
+) -> Result<(), OutOfMemory>
     requires { AreReplies frames.now }
     // Frames of replies are read as these, after what was there.
     ensures { (replies : List Reply) → AllByRecursion ReplyFits replies → frames.now ≡ flat_map reply_spelling replies
@@ -69,17 +71,21 @@ fn read_replies(
     Ok(())
 }
 
-/// Reads the replies that were written to all ports. A port is that of one connection number.
+/// Reads the replies that the desk wrote since its trace was cleared.
 pub(crate) fn read_all(
     alloc: Global,
-    ports: &[Port],
+    desk: &Desk<MemoryDisk>,
     printed_replies: &mut Vec<PrintedReply>,
-) -> Result<(), AllocError>
-    ensures { OnOk result (ArePrintedReplies (map (λ p. (p.conn, p.written)) ports.now) printed_replies.new.items) }
+) -> Result<(), OutOfMemory>
+    ensures { OnOk result (ArePrintedReplies (outputs desk.now.run_state) printed_replies.new.items) }
 {
     printed_replies.clear();
-    for port in ports {
+    let ports = desk.trace().ports.as_slice();
+    let mut from = 0;
+    while let Some(at) = desk.next_written(from) {
+        let port = &ports[at];
         read_replies(alloc, port.conn, port.written.as_slice(), printed_replies)?;
+        from = at + 1;
     }
     Ok(())
 }

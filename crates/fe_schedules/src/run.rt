@@ -11,6 +11,7 @@ use crate::line::{holds_after, line_in};
 use crate::machine::Machine;
 use crate::printed_reply::PrintedReply;
 use fe_disk::MemoryDisk;
+use fe_memory::OutOfMemory;
 use fe_state::{Request, named};
 use fe_text::{LONGEST_LINE, Line, Sink, first_line};
 use fe_wire::ClientMessage;
@@ -45,8 +46,9 @@ impl Run {
         ensures text { IfOk result (λ run. string_bytes run.text ≡ []) }
         ensures fault { IfErr result (λ e. TellsDisk e.1 e.0) }
     {
-        let Ok(begun) = Vec::with_capacity(alloc, LONGEST_LINE) else {
-            return Err((MachineFault::Memory, disk));
+        let begun = match Vec::with_capacity(alloc, LONGEST_LINE) {
+            Ok(begun) => begun,
+            Err(error) => return Err((MachineFault::Memory(OutOfMemory::from(error)), disk)),
         };
         let machine = Machine::new(alloc, disk)?;
         Ok(Run {
@@ -222,6 +224,9 @@ impl Run {
         self.line.clear();
         self.machine
             .print(&mut self.line, &mut self.printed_replies)?;
-        Ok(self.text.push_str(self.line.as_str())?)
+        match self.text.push_str(self.line.as_str()) {
+            Ok(()) => Ok(()),
+            Err(error) => Err(MachineFault::from(OutOfMemory::from(error))),
+        }
     }
 }

@@ -87,7 +87,7 @@ HasCommittedAndNoted model old new end acts =
 abbrev pub fault_of_store : keeper.Fault → StopFault
 fault_of_store store.Device = fault.Device
 fault_of_store store.Failed = fault.Device
-fault_of_store store.NoMemory = fault.Memory
+fault_of_store (store.NoMemory error) = fault.Memory
 fault_of_store other = fault.Strange
 
 -- the fault of a server whose committing side had this end

@@ -8,7 +8,8 @@ use crate::register::{Admission, Full, NoArrival, NoLate};
 use crate::running_server::RunningServer;
 use crate::sides::ConnectionSeats;
 use crate::socket_handle::Unshared;
-use fe_hall::{ConnectRight, Gate, Hall, NewSeats, Short, Tally, Unconnected};
+use fe_hall::{ConnectRight, Gate, Hall, NewSeats, Tally, Unconnected};
+use fe_memory::OutOfMemory;
 use std::alloc::Global;
 use std::sync::Wait;
 use std::thread::Threads;
@@ -59,7 +60,7 @@ impl ArrivalEnded {
 /// Why a connection could not be kept until a thread takes it.
 #[derive(Drop)]
 pub(crate) enum Bar {
-    Memory(Short),
+    Memory(OutOfMemory),
     Handle(Unshared),
 }
 

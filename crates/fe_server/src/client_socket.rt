@@ -85,12 +85,12 @@ pub(crate) struct FreshSocket {
 }
 
 impl FreshSocket {
-    /// Waits for a client at a listener. One for which there is no memory is closed, and the error is `OutOfMemory`.
+    /// Waits for a client at a listener. One for which there is no memory is closed, and the error is `Other`.
     pub(crate) fn accept(alloc: Global, listener: &UnixListener) -> io::Result<FreshSocket> {
         let (stream, _) = listener.accept()?;
         match FreshSocket::of(alloc, stream) {
             Some(socket) => Ok(socket),
-            None => Err(io::Error::from(io::ErrorKind::OutOfMemory)),
+            None => Err(io::Error::from(io::ErrorKind::Other)),
         }
     }
 

@@ -26,7 +26,7 @@ impl Listener {
         Ok(UnixStream::from(OwnedFd::from(listener)))
     }
 
-    /// Waits for a connection. One for which there is no memory is closed, and the error is `OutOfMemory`.
+    /// Waits for a connection. One for which there is no memory is closed, and the error is `Other`.
     pub(crate) fn accept(&self, alloc: Global, _running: Running) -> io::Result<Accepted> {
         let socket = FreshSocket::accept(alloc, &self.listener)?;
         Ok(Accepted::of(socket))

@@ -10,7 +10,8 @@ use crate::arrival::{Arrival, ArrivalEnded, Bar, Unkept, Unserved};
 use crate::connection::Accepted;
 use crate::socket_handle::SocketHandle;
 use crate::stop_fault::StopFault;
-use fe_hall::{CommitEnd, Ended, Tally, reserve_one};
+use fe_hall::{CommitEnd, Ended, Tally};
+use fe_memory::reserve_one;
 use fe_options::Settings;
 use std::alloc::Global;
 use std::net::Shutdown;
@@ -170,11 +171,11 @@ impl<C: Tally, M: Tally> Register<C, M> {
         ensures counts { (self.new.admitted ≡ self.old.admitted) × (self.new.came ≡ self.old.came)
             × (self.new.present ≡ self.old.present) }
     {
-        if let Err(short) = reserve_one(&mut self.arrivals) {
-            return Err(Unkept::of(arrival, Bar::Memory(short)));
+        if let Err(error) = reserve_one(&mut self.arrivals) {
+            return Err(Unkept::of(arrival, Bar::Memory(error)));
         }
-        if let Err(short) = reserve_one(&mut self.handles) {
-            return Err(Unkept::of(arrival, Bar::Memory(short)));
+        if let Err(error) = reserve_one(&mut self.handles) {
+            return Err(Unkept::of(arrival, Bar::Memory(error)));
         }
         match arrival.connection.handle() {
             Ok(handle) => {

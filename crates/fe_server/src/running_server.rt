@@ -25,9 +25,11 @@ use fe_hall::{
     CallSeat, ConnectRight, Ended, Hall, MailSeat, NewHistory, StoreSeat, Tally, commit_side,
 };
 use fe_keeper::Keeper;
+use fe_memory::OutOfMemory;
 use fe_options::Settings;
 use fe_state::State;
-use std::alloc::{AllocError, Global};
+use std::alloc::Global;
+use std::io;
 use std::snapshot::Snapshot;
 use std::sync::ledger::Blank;
 use std::sync::{Condvar, CondvarTimeouts, Mutex, Wait};
@@ -54,6 +56,15 @@ pub(crate) struct RunningServer<C: Tally, M: Tally> {
     keeps: bool,
 }
 
+/// Why a server can't begin.
+#[derive(Drop)]
+pub(crate) enum Unbegun {
+    /// The listener can't get a second handle.
+    Listener(io::Error),
+    /// Memory was short.
+    NoMemory(OutOfMemory),
+}
+
 /// A server, and the state that its hall's front began with. The threads share only the server.
 pub(crate) struct Opened<C: Tally, M: Tally> {
     pub(crate) server: RunningServer<C, M>,
@@ -71,7 +82,7 @@ impl<C: Tally, M: Tally> Opened<C, M> {
         history: NewHistory,
         listener: &Listener,
         settings: &Settings,
-    ) -> Result<(Opened<C, M>, StoreSeat<M>, ConnectRight), AllocError>
+    ) -> Result<(Opened<C, M>, StoreSeat<M>, ConnectRight), Unbegun>
         requires { AreBlank C.name C.parts C.all calls.name calls.parts M.name M.parts M.all mails.name mails.parts
             M.book history.book history.acts state.now }
         ensures begun { IfOk result (λ opened. opened.0.begun.value ≡ state.now) }
@@ -81,14 +92,20 @@ impl<C: Tally, M: Tally> Opened<C, M> {
         ensures keeps { IfOk result (λ opened. opened.0.server.keeps ≡ nat_lt 0 settings.now.accepts) }
         ensures seat { IfOk result (λ opened. opened.1 ≡ history.acts) }
     {
-        let Ok(listening_socket) = listener.shutdown_socket() else {
-            drop(history);
-            return Err(AllocError);
+        let listening_socket = match listener.shutdown_socket() {
+            Ok(socket) => socket,
+            Err(error) => {
+                drop(history);
+                return Err(Unbegun::Listener(error));
+            }
         };
-        let Ok(front) = front_over(alloc, state) else {
-            drop(history);
-            drop(listening_socket);
-            return Err(AllocError);
+        let front = match front_over(alloc, state) {
+            Ok(front) => front,
+            Err(error) => {
+                drop(history);
+                drop(listening_socket);
+                return Err(Unbegun::NoMemory(error));
+            }
         };
         let begun = Snapshot::of(front.state());
         match Hall::new(alloc, front, calls, mails, history) {
@@ -105,9 +122,9 @@ impl<C: Tally, M: Tally> Opened<C, M> {
                 };
                 Ok((Opened { server, begun }, seat, right))
             }
-            Err((short, front)) => {
+            Err((error, front)) => {
                 drop(front);
-                Err(short)
+                Err(Unbegun::NoMemory(error))
             }
         }
     }
@@ -314,7 +331,7 @@ impl<C: Tally, M: Tally> RunningServer<C, M> {
 }
 
 /// A front over a copy of a state.
-fn front_over(alloc: Global, state: &State) -> Result<Front, AllocError>
+fn front_over(alloc: Global, state: &State) -> Result<Front, OutOfMemory>
     ensures { IfOk result (IsFirst state.now) }
 {
     Front::new(alloc, state.copy()?)

@@ -16,7 +16,7 @@ use crate::accepting::serve_clients;
 use crate::failed::Failed;
 use crate::listener::Listener;
 use crate::register::ServerEnded;
-use crate::running_server::{Opened, RunningServer};
+use crate::running_server::{Opened, RunningServer, Unbegun};
 use crate::served::Served;
 use crate::stop_fault::StopFault;
 use fe_disk::Disk;
@@ -99,7 +99,7 @@ fn serve_as<
     ensures { HasServed D.Disk keeper settings.now.accepts result }
 {
     let nothing = history.account(alloc);
-    let Ok((opened, seat, right)) = Opened::<C, M>::new(
+    let (opened, seat, right) = match Opened::<C, M>::new(
         alloc,
         keeper.state(),
         calls,
@@ -107,8 +107,9 @@ fn serve_as<
         history,
         &listener,
         settings,
-    ) else {
-        return Err(unserved(keeper, nothing));
+    ) {
+        Ok(parts) => parts,
+        Err(why) => return Err(unserved(why, keeper, nothing)),
     };
     drop(nothing);
     let (keeper, over, seat) = run(
@@ -153,7 +154,7 @@ fn closed<C: Tally, M: Tally, D: Disk>(
 }
 
 /// What a server that can't begin leaves. Memory is short, or its listener can't get a second handle; both are reported as `Memory`.
-fn unserved<D: Disk>(keeper: Keeper<D>, account: Account) -> Failed<D>
+fn unserved<D: Disk>(_why: Unbegun, keeper: Keeper<D>, account: Account) -> Failed<D>
     ensures committed { HasCommittedAndNoted D.Disk keeper result.keeper hall.Stopped
         (act.Began keeper.state ∷ []) }
     ensures fault { result.fault ≡ fault.Memory }

@@ -22,7 +22,7 @@ impl From<Fault> for StopFault {
     fn from(before: Fault) -> StopFault {
         match before {
             Fault::Device | Fault::Failed => StopFault::Device,
-            Fault::NoMemory => StopFault::Memory,
+            Fault::NoMemory(_) => StopFault::Memory,
             Fault::Damaged { .. } | Fault::Unformatted | Fault::Mismatch { .. } =>
                 StopFault::Strange,
         }

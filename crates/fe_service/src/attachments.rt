@@ -11,12 +11,13 @@ use crate::attachment::Attachment;
 use crate::occupant::{Occupant, Occupants, occupant_near, slot_of};
 use crate::slots::{all_slots, owner};
 use crate::waiting_request::WaitingRequest;
+use fe_memory::OutOfMemory;
 use fe_pool::Node;
 use fe_state::SESSIONS;
 use fe_table::Table;
 use fe_waits::Waits;
 use fe_words::Op;
-use std::alloc::{AllocError, Global};
+use std::alloc::Global;
 use std::marker::Model;
 
 /// How many positions of sessions among the occupants are remembered, as guesses for later look-ups.
@@ -70,7 +71,7 @@ impl Model for Attachments {
 
 impl Attachments {
     /// No attachments, over lists on which nothing waits. Allocates all its memory; fails only if memory runs out.
-    pub(crate) fn new(alloc: Global, waits: Waits) -> Result<Attachments, AllocError>
+    pub(crate) fn new(alloc: Global, waits: Waits) -> Result<Attachments, OutOfMemory>
         requires none { waits.members ≡ map.empty }
         ensures arrays { IfOk result (λ attachments. attachments.arrays ≡ waits.arrays) }
         ensures attachments { IfOk result (λ attachments. attachments.attachments ≡ map.empty) }
@@ -189,7 +190,7 @@ impl Attachments {
         &self,
         alloc: Global,
         session: u64,
-    ) -> Result<Vec<(u64, (u64, u32, Op))>, AllocError>
+    ) -> Result<Vec<(u64, (u64, u32, Op))>, OutOfMemory>
         ensures lists { IfOk result (λ list. ListsWaitingRequestsOf self.now.waiting session list.items) }
     {
         match slot_of(&self.occupants, session) {

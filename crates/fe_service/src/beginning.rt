@@ -6,9 +6,9 @@ ghost use Rattle.fe_state.specs.Directory.{words_in};
 ghost use Rattle.fe_service.specs.Events.{AreFreeAttachments};
 
 use crate::attachments::Attachments;
+use fe_memory::OutOfMemory;
 use fe_state::State;
 use fe_waits::Waits;
-use std::alloc::AllocError;
 
 // Gives each session of the state an attachment that no connection has.
 pub(crate) fn begin_sessions(state: &State, attachments: &mut Attachments)
@@ -25,7 +25,7 @@ pub(crate) fn begin_sessions(state: &State, attachments: &mut Attachments)
 }
 
 // Adds each array of the state, with its length, to the waiting lists. Fails only if memory runs out.
-pub(crate) fn add_arrays(state: &State, waits: &mut Waits) -> Result<(), AllocError>
+pub(crate) fn add_arrays(state: &State, waits: &mut Waits) -> Result<(), OutOfMemory>
     requires { waits.old.arrays ≡ empty }
     ensures arrays { IfOk result (λ _. (id : ℕ) → get waits.new.arrays id ≡ words_in (get state.now.arrays id)) }
     ensures members { IfOk result (λ _. waits.new.members ≡ waits.old.members) }

@@ -9,9 +9,9 @@ ghost use Rattle.fe_state.specs.declared.answer.Answer.TheVariants as answers;
 ghost use Rattle.fe_service.specs.Events.{MayComplete, Completes};
 
 use crate::service::Service;
+use fe_memory::OutOfMemory;
 use fe_state::{Answer, Effect, Entry, Name, Request};
 use fe_words::{Tag, Word};
-use std::alloc::AllocError;
 
 impl Service {
     /// Finishes an operation on a word, and serves the requests that wait on the word and may then be served. Returns how many entries that
@@ -80,7 +80,7 @@ impl Service {
         length: u32,
         tag: Tag,
         id: u64,
-    ) -> Result<(), AllocError>
+    ) -> Result<(), OutOfMemory>
         requires { MayComplete self.old session number (requests.Create name length tag) (answers.Array id length)
             Effect.Create }
         ensures completes { OnOk result

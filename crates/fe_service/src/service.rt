@@ -17,10 +17,11 @@ use crate::attachments::{Attachments, GUESSES};
 use crate::beginning::{add_arrays, begin_sessions};
 use crate::occupant::slot_of;
 use crate::service_inner::ServiceInner;
+use fe_memory::OutOfMemory;
 use fe_state::{Answer, Effect, Entries, Entry, Request, State};
 use fe_waits::Waits;
 use fe_words::Op;
-use std::alloc::{AllocError, Global};
+use std::alloc::Global;
 use std::marker::Model;
 use std::mem;
 
@@ -54,7 +55,7 @@ impl Model for Service {
 impl Service {
     /// A service over a state, in which nothing waits and no connection has a session. Allocates the memory for all attachments, waiting
     /// requests and pending entries; fails only if memory runs out.
-    pub fn new(alloc: Global, state: State) -> Result<Service, AllocError>
+    pub fn new(alloc: Global, state: State) -> Result<Service, OutOfMemory>
         ensures state { IfOk result (λ service. service.state ≡ state) }
         ensures attachments { IfOk result (λ service. AreFreeAttachments state.sessions service.attachments) }
         ensures waiting { IfOk result (λ service. service.waiting ≡ empty) }
@@ -208,7 +209,7 @@ impl Service {
         request: Request,
         answer: Answer,
         effect: Effect,
-    ) -> Result<u32, AllocError>
+    ) -> Result<u32, OutOfMemory>
         requires { MayComplete self.old session number request answer effect }
         ensures completes { IfOk result
             (λ count. (served : List Entry)

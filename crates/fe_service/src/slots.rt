@@ -4,11 +4,12 @@ ghost use Rattle.std.specs.Prelude.{◌≡◌, ◌≤◌, IsSome, Some, IfOk, ve
 ghost use Rattle.fe_service.specs.within.Slots.{owner_at, slots_below};
 ghost use Rattle.fe_state.specs.Limits.{most_sessions};
 
+use fe_memory::OutOfMemory;
 use fe_state::SESSIONS;
-use std::alloc::{AllocError, Global};
+use std::alloc::Global;
 
 // The slots that sessions may have, from 0 on.
-pub(crate) fn all_slots(alloc: Global) -> Result<Vec<u8>, AllocError>
+pub(crate) fn all_slots(alloc: Global) -> Result<Vec<u8>, OutOfMemory>
     ensures slots { IfOk result (λ slots. slots.items ≡ slots_below most_sessions) }
     ensures reserved { IfOk result (λ slots. most_sessions ≤ vec_capacity slots) }
 {

@@ -3,6 +3,7 @@ use Rattle.std.proofs.Common.{◌≡◌, inl, inr, ℕ, ◌+◌, ◌-◌, ◌^�
 use Rattle.std.proofs.lemmas.Bool.{and_parts}
 use Rattle.std.proofs.lemmas.Bool.Decides.{nat_tests}
 use Rattle.std.specs.Prelude.{IsTrue, nat_lt, nat_le, slice_get}
+use Rattle.fe_memory.specs.Memory.{out_of_memory}
 use Rattle.fe_state.specs.declared.batch.Batch.{Batch}
 use Rattle.fe_state.specs.declared.entry.Entry.{Entry}
 use Rattle.fe_mail.specs.Books.{Books}
@@ -112,7 +113,7 @@ module _ (f g : FrontState) (conn : ℕ) (es : List Entry) (front : IsFront f) (
   by_message message.Bye (inl step) = other_goes (event.Bye conn) refl (omega arith) step
   by_message message.Bye (inr told) = refused_goes 0 told.0 told.2
   by_message message.Report (inl step) = other_goes (event.GiveMail conn _) refl (omega arith) step
-  by_message message.Report (inr told) = refused_goes 0 NoMemory told
+  by_message message.Report (inr told) = refused_goes 0 (NoMemory out_of_memory) told
 
 pub takes_goes : (f g : FrontState) (conn : ℕ) (m : ClientMessage) (es : List Entry) → IsFront f → IsOpen f.books → IsTrue (takes_more f.books) → Takes f conn m es g → Goes f g (calls_in m) 0
 takes_goes f g conn m es front is_open more step = by_message f g conn es front is_open (place f.books more) m step

@@ -16,7 +16,6 @@ mod new_seats;
 mod pace;
 mod seats;
 mod shared;
-mod short;
 mod taking;
 mod unconnected;
 mod watchers;
@@ -34,6 +33,5 @@ pub use shared::{
     AllDurable, AllMade, ConnectRight, CutBatch, CutOutcome, FullBook, HasStopped, HoldRight,
     InUse, NotOut, PARTS, PlaceThen, Posted, Rest, SeatMissing, Shared, Uncut, Unposted,
 };
-pub use short::{Short, feed, put, reserve_one, zeros};
 pub use taking::Taking;
 pub use unconnected::Unconnected;

@@ -25,13 +25,13 @@ use crate::mail_seat::MailSeat;
 use crate::new_seats::NewSeats;
 use crate::pace::Paces;
 use crate::seats::Seats;
-use crate::short::{Short, connect};
 use crate::taking::Taking;
 use crate::unconnected::Unconnected;
 use crate::watchers::Watchers;
 pub use batches::{AllDurable, CutBatch, CutOutcome, FullBook, NotOut, Posted, Uncut, Unposted};
 use fe_front::{Books, Front};
 use fe_history::{Account, History, HistoryWords, Tally};
+use fe_memory::OutOfMemory;
 use fe_messages::take_message;
 use fe_wire::ClientMessage;
 use std::alloc::Global;
@@ -164,7 +164,7 @@ impl Model for PlaceThen {
 pub struct Rest {
     conn: u64,
     /// Whether there was no memory to note that the side waits.
-    short: Option<Short>,
+    short: Option<OutOfMemory>,
 }
 
 impl Model for Rest {
@@ -261,8 +261,8 @@ impl<C: Tally, M: Tally> Shared<C, M> {
             return Err(Unconnected::Spent(AllMade(())));
         }
         let _ = self.front.state();
-        if let Err(short) = connect(&mut self.front, conn) {
-            return Err(Unconnected::NoMemory(short));
+        if let Err(error) = self.front.connect(conn) {
+            return Err(Unconnected::NoMemory(error));
         }
         let calls = self.spare_calls.split_off(1, 0);
         let mails = self.spare_mails.split_off(1, 0);
@@ -332,7 +332,7 @@ impl<C: Tally, M: Tally> Shared<C, M> {
     }
 
     /// Notes that the read side of a connection waits for its box. Fails if there is no memory for that.
-    pub fn watch(&mut self, conn: u64, owed: &mut Owed) -> Result<(), Short>
+    pub fn watch(&mut self, conn: u64, owed: &mut Owed) -> Result<(), OutOfMemory>
         requires unowed { owed.old.whom ≡ Whom.Nobody }
         ensures watched { OnOk result (IsTrue (waits self.new.watched conn)) }
         ensures still { MakesNoEvent self.old self.new }

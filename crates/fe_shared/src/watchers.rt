@@ -4,8 +4,8 @@ ghost use Rattle.std.specs.Prelude.{◌≡◌, ℕ, IsTrue, OnOk};
 ghost use Rattle.fe_front.specs.Posting.{may_have};
 ghost use Rattle.fe_shared.specs.Marks.{waits};
 
-use crate::short::{Short, reserve_one};
 use fe_front::ConnectionSet;
+use fe_memory::{OutOfMemory, reserve_one};
 use std::alloc::Global;
 
 /// A read side that waits for its box.
@@ -38,7 +38,7 @@ impl Watchers {
     }
 
     /// Notes that the read side of a connection waits. Fails if there is no memory for that.
-    pub(crate) fn add(&mut self, conn: u64) -> Result<(), Short>
+    pub(crate) fn add(&mut self, conn: u64) -> Result<(), OutOfMemory>
         ensures { OnOk result (IsTrue (waits self.new.items.items conn)) }
     {
         self.items.retain(|watcher| watcher.conn != conn);

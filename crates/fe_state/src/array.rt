@@ -2,8 +2,9 @@
 
 use crate::name::Name;
 use crate::words::Words;
+use fe_memory::OutOfMemory;
 use fe_table::Copied;
-use std::alloc::{AllocError, Global};
+use std::alloc::Global;
 
 /// An array: its name, and its words.
 pub struct Array {
@@ -19,7 +20,7 @@ impl Drop for Array {
 }
 
 impl Copied for Array {
-    fn copied(&self, alloc: Global) -> Result<Self, AllocError> {
+    fn copied(&self, alloc: Global) -> Result<Self, OutOfMemory> {
         Ok(Array {
             name: self.name,
             words: self.words.copied(alloc)?,

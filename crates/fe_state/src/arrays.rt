@@ -11,9 +11,10 @@ ghost use Rattle.fe_state.specs.Limits.{most_arrays};
 
 use crate::array::Array;
 use crate::bounds::ARRAYS;
+use fe_memory::OutOfMemory;
 use fe_table::{Copied, Table};
 use indexmap::IndexSet;
-use std::alloc::{AllocError, Global};
+use std::alloc::Global;
 use std::marker::Model;
 
 /// The arrays by id, in order of creation.
@@ -49,7 +50,7 @@ impl Model for Arrays {
 
 impl Arrays {
     /// No array, with room for all. Fails only if memory runs out.
-    pub fn new(alloc: Global) -> Result<Arrays, AllocError>
+    pub fn new(alloc: Global) -> Result<Arrays, OutOfMemory>
         ensures empty { IfOk result (λ arrays. arrays ≡ map.empty) }
     {
         let ids = IndexSet::with_capacity(alloc, ARRAYS)?;
@@ -142,7 +143,7 @@ fn index(table: &Table<Array, ARRAYS>, ids: &mut IndexSet<u64>)
 }
 
 impl Copied for Arrays {
-    fn copied(&self, alloc: Global) -> Result<Self, AllocError> {
+    fn copied(&self, alloc: Global) -> Result<Self, OutOfMemory> {
         let mut ids = IndexSet::with_capacity(alloc, ARRAYS)?;
         let table = self.table.copied(alloc)?;
         index(&table, &mut ids);

@@ -10,7 +10,8 @@ use crate::bounds::BATCH_ENTRIES;
 use crate::entry::Entry;
 use crate::naming::named;
 use crate::request::Request;
-use std::alloc::{AllocError, Global};
+use fe_memory::OutOfMemory;
+use std::alloc::Global;
 use std::marker::Model;
 
 /// The entries of a batch, in order: at most `BATCH_ENTRIES`, with the memory for all.
@@ -39,7 +40,7 @@ impl Model for Entries {
 
 impl Entries {
     /// No entries yet. Allocates the memory for all; fails only if memory runs out.
-    pub fn new(alloc: Global) -> Result<Entries, AllocError>
+    pub fn new(alloc: Global) -> Result<Entries, OutOfMemory>
         ensures { IfOk result (λ entries. entries ≡ []) }
     {
         Ok(Entries {
@@ -82,7 +83,7 @@ pub struct Batch {
 
 impl Batch {
     /// A batch with no entries yet. Allocates the memory for all; fails only if memory runs out.
-    pub fn new(alloc: Global, first: u64) -> Result<Batch, AllocError>
+    pub fn new(alloc: Global, first: u64) -> Result<Batch, OutOfMemory>
         ensures first { IfOk result (λ batch. batch.first ≡ first) }
         ensures empty { IfOk result (λ batch. batch.entries ≡ []) }
     {

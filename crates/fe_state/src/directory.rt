@@ -16,9 +16,10 @@ use crate::effect::Effect;
 use crate::name::Name;
 use crate::request::Request;
 use crate::words::Words;
+use fe_memory::OutOfMemory;
 use fe_table::Copied;
 use fe_words::{Op, Reply, Tag, Word};
-use std::alloc::{AllocError, Global};
+use std::alloc::Global;
 use std::marker::Model;
 
 /// The arrays by id, with the id that the next one gets.
@@ -48,7 +49,7 @@ impl Model for Directory {
 impl Directory {
     /// A directory with no arrays, in which the next one gets this id, at least 1. Allocates the memory for the ids and names of 64 arrays;
     /// fails only if memory runs out.
-    pub fn starting(alloc: Global, next_id: u64) -> Result<Directory, AllocError>
+    pub fn starting(alloc: Global, next_id: u64) -> Result<Directory, OutOfMemory>
         requires { 1 ≤ next_id }
         ensures { IfOk result (λ directory. directory ≡ record { arrays = first_directory.arrays; next_id = next_id }) }
     {
@@ -149,7 +150,12 @@ impl Directory {
     }
 
     /// Makes the array of a creation that is answered with one. Fails only if memory runs out for its words.
-    pub(crate) fn create(&mut self, name: Name, length: u32, tag: Tag) -> Result<Change, AllocError>
+    pub(crate) fn create(
+        &mut self,
+        name: Name,
+        length: u32,
+        tag: Tag,
+    ) -> Result<Change, OutOfMemory>
         requires id { self.old.next_id < 2 ^ 63 }
         requires answered { creation self.old name length ≡ Answer.Array self.old.next_id length }
         ensures performed { OnOk result (self.new ≡ performed self.old (Request.Create name length tag)) }
@@ -221,7 +227,7 @@ impl Directory {
 }
 
 impl Copied for Directory {
-    fn copied(&self, alloc: Global) -> Result<Self, AllocError> {
+    fn copied(&self, alloc: Global) -> Result<Self, OutOfMemory> {
         Ok(Directory {
             arrays: self.arrays.copied(alloc)?,
             next_id: self.next_id,

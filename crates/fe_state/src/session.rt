@@ -14,8 +14,9 @@ use crate::kept::Kept;
 use crate::kept_answers::KeptAnswers;
 use crate::naming::named;
 use crate::request::Request;
+use fe_memory::OutOfMemory;
 use fe_table::Copied;
-use std::alloc::{AllocError, Global};
+use std::alloc::Global;
 use std::marker::Model;
 
 /// A session: its floor, and what is kept for the numbers of its window, which are the `WINDOW` numbers from the floor
@@ -176,7 +177,7 @@ impl Session {
 
 impl Copied for Session {
     /// Allocates nothing.
-    fn copied(&self, _alloc: Global) -> Result<Self, AllocError> {
+    fn copied(&self, _alloc: Global) -> Result<Self, OutOfMemory> {
         let mut cells = [None; WINDOW as usize];
         cells.copy_from_slice(&self.cells);
         Ok(Session {

@@ -28,9 +28,10 @@ use crate::sessions;
 use crate::sessions::Sessions;
 use crate::undo_log::UndoLog;
 use crate::words::Words;
+use fe_memory::OutOfMemory;
 use fe_table::{Copied, Table};
 use fe_words::{Tag, Word};
-use std::alloc::{AllocError, Global};
+use std::alloc::Global;
 use std::marker::Model;
 
 /// An entry that may not come next.
@@ -86,7 +87,7 @@ impl Model for State {
 
 impl State {
     /// The state before the first entry. Fails only if memory runs out.
-    pub fn new(alloc: Global) -> Result<State, AllocError>
+    pub fn new(alloc: Global) -> Result<State, OutOfMemory>
         ensures { IfOk result (λ state. state ≡ first_state) }
     {
         State::starting(alloc, 0, 1)
@@ -94,7 +95,7 @@ impl State {
 
     /// A state with no arrays and no sessions, at a place from 0 to 2^63 - 1, with a next array id from 1 to the place + 1. Fails only if
     /// memory runs out.
-    pub fn starting(alloc: Global, place: u64, next_id: u64) -> Result<State, AllocError>
+    pub fn starting(alloc: Global, place: u64, next_id: u64) -> Result<State, OutOfMemory>
         requires place { place < 2 ^ 63 }
         requires least { 1 ≤ next_id }
         requires most { next_id ≤ place + 1 }
@@ -112,7 +113,7 @@ impl State {
     }
 
     /// A copy of the state, in memory of its own. Fails only if memory runs out.
-    pub fn copy(&self) -> Result<State, AllocError>
+    pub fn copy(&self) -> Result<State, OutOfMemory>
         ensures { IfOk result (λ state. state ≡ self.now) }
     {
         let directory = self.directory.copied(self.alloc)?;
@@ -189,7 +190,7 @@ impl State {
         entry: Entry,
         effect: Effect,
         log: &mut UndoLog,
-    ) -> Result<(), AllocError>
+    ) -> Result<(), OutOfMemory>
         requires legal { IsLegal self.old entry }
         requires effect { effect ≡ effect_in (directory_of self.old) entry }
         requires room { length log.old.undos < log.old.room }
@@ -215,7 +216,7 @@ impl State {
 
     /// Carries out a legal entry with its effect, so that it cannot be undone. Fails only if memory runs out for the
     /// words of a new array.
-    pub fn advance(&mut self, entry: Entry, effect: Effect) -> Result<(), AllocError>
+    pub fn advance(&mut self, entry: Entry, effect: Effect) -> Result<(), OutOfMemory>
         requires legal { IsLegal self.old entry }
         requires effect { effect ≡ effect_in (directory_of self.old) entry }
         ensures ok { OnOk result (self.new ≡ after self.old entry) }
@@ -352,7 +353,7 @@ impl State {
     }
 
     /// Adds an array that an image, a state's bytes, has; its words are empty and of value 0. Fails only if memory runs out.
-    pub fn load_array(&mut self, id: u64, name: Name, length: u32) -> Result<(), AllocError>
+    pub fn load_array(&mut self, id: u64, name: Name, length: u32) -> Result<(), OutOfMemory>
         requires { MayBeAdded (directory_of self.old) id (new_array name length Empty) }
         ensures ok { OnOk result (self.new
             ≡ with_arrays self.old (insert self.old.arrays id (new_array name length Empty))) }
@@ -406,7 +407,7 @@ fn creating(answer: Answer) -> Effect
 }
 
 /// Carries out what an entry changes in the arrays.
-fn enact(directory: &mut Directory, entry: &Entry, effect: Effect) -> Result<Change, AllocError>
+fn enact(directory: &mut Directory, entry: &Entry, effect: Effect) -> Result<Change, OutOfMemory>
     requires id { directory.old.next_id < 2 ^ 63 }
     requires effect { effect ≡ effect_in directory.old entry.now }
     ensures ok { OnOk result (directory.new ≡ directory_after directory.old entry.now) }

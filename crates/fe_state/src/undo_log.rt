@@ -15,7 +15,8 @@ use crate::naming::named;
 use crate::request::Request;
 use crate::session::Session;
 use crate::undo::{SessionChange, Undo};
-use std::alloc::{AllocError, Global};
+use fe_memory::OutOfMemory;
+use std::alloc::Global;
 use std::marker::Model;
 
 /// What entries changed, so that they can be undone from the latest to the first.
@@ -45,14 +46,14 @@ impl Model for UndoLog {
 
 impl UndoLog {
     /// A log with nothing in it, and room for this many entries. Fails only if memory runs out.
-    pub fn with_room(alloc: Global, entries: usize) -> Result<UndoLog, AllocError>
+    pub fn with_room(alloc: Global, entries: u32) -> Result<UndoLog, OutOfMemory>
         ensures { IfOk result (λ log. log ≡ empty_log entries) }
     {
-        let answers = entries.checked_mul(WINDOW as usize).ok_or(AllocError)?;
+        let room = entries as usize;
         Ok(UndoLog {
-            room: entries,
-            undos: Vec::with_capacity(alloc, entries)?,
-            dropped: Vec::with_capacity(alloc, answers)?,
+            room,
+            undos: Vec::with_capacity(alloc, room)?,
+            dropped: Vec::with_capacity(alloc, room * WINDOW as usize)?,
         })
     }
 

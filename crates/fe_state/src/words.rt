@@ -3,9 +3,10 @@
 ghost use Rattle.std.specs.Prelude.{◌≡◌, ◌<◌, ◌^◌, replicate, length, slice_get, slice_set, IfOk, Some};
 ghost use Rattle.fe_words.specs.Table.{word};
 
+use fe_memory::OutOfMemory;
 use fe_table::Copied;
 use fe_words::{Tag, Word};
-use std::alloc::{AllocError, Global};
+use std::alloc::Global;
 use std::marker::Model;
 
 /// The words of an array, in order of their indexes. Their number never changes.
@@ -33,7 +34,7 @@ impl Model for Words {
 
 impl Words {
     /// This many words of value 0 with the tag. Fails only if memory runs out.
-    pub fn new(alloc: Global, length: u32, tag: Tag) -> Result<Words, AllocError>
+    pub fn new(alloc: Global, length: u32, tag: Tag) -> Result<Words, OutOfMemory>
         ensures { IfOk result (λ words. words ≡ replicate length (word 0 tag)) }
     {
         let word = Word { value: 0, tag };
@@ -70,7 +71,7 @@ impl Words {
 }
 
 impl Copied for Words {
-    fn copied(&self, alloc: Global) -> Result<Self, AllocError> {
+    fn copied(&self, alloc: Global) -> Result<Self, OutOfMemory> {
         let items = Vec::from_slice(alloc, self.items.as_slice())?;
         Ok(Words { items })
     }

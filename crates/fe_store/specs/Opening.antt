@@ -1,5 +1,6 @@
 -- What opening a store returns. An image is the list of all bytes of a disk (`docs/store.md`, "The file").
 use Rattle.std.specs.Prelude.{◌≡◌, ◌≢◌, ◌⊎◌, ◌↔◌, ℕ, Bool, true, List, Result, Ok, Err, IfOk, IfErr, IsErrOf}
+use Rattle.fe_memory.specs.Memory.{out_of_memory}
 use Rattle.fe_state.specs.State.{ServerState, first_state}
 use Rattle.fe_journal.specs.Damage.{IsUnformatted}
 use Rattle.fe_journal.specs.Layout.{device_bytes}
@@ -43,7 +44,7 @@ TellsImage other image = Unit {0}
 -- only if the device fails or memory runs out.
 pub record IsReason (image : List ℕ) (why : OpenFault) : Type 0 where
   pub tells : TellsImage why image
-  pub valid : (s : ServerState) → StandsFor image s → (why ≡ fault.Device) ⊎ (why ≡ fault.Memory)
+  pub valid : (s : ServerState) → StandsFor image s → (why ≡ fault.Device) ⊎ (why ≡ fault.Memory out_of_memory)
 
 -- How opening the store on a disk ends: the keeper is ready; or there is a fault, which is not `Size` and, if the disk is honest, is
 -- true of the bytes that the disk gives. The disk is honest afterwards exactly if it was before, and keeps its size.

@@ -12,8 +12,9 @@ use crate::fault::{BesideFault, OpenFault};
 use crate::fresh::is_spare;
 use crate::opening::open_on;
 use fe_disk::{Disk, FileDisk, StoreFile, add_name, remove_name};
-use fe_journal::DEVICE_BYTES;
-use std::alloc::{AllocError, Global};
+use fe_journal::{DEVICE_BYTES, buffer_of};
+use fe_memory::OutOfMemory;
+use std::alloc::Global;
 use std::fs::{File, Metadata};
 use std::io::ErrorKind;
 use std::os::unix::fs::MetadataExt;
@@ -41,7 +42,7 @@ pub(crate) fn make<F: StoreFile + Drop, R: Files<File = File>>(
             named?;
             Ok(())
         }
-        Err((OpenFault::Memory, _)) => Err(BesideFault::Memory),
+        Err((OpenFault::Memory(error), _)) => Err(BesideFault::Memory(error)),
         Err(_) => Err(BesideFault::Device),
     }
 }
@@ -59,7 +60,7 @@ pub(crate) fn keep<F: StoreFile + Drop, R: Files<File = File>>(
     ensures same { F.honest (file_of disk.old) → F.seen (file_of disk.new) ≡ F.seen (file_of disk.old) }
     ensures honesty { F.honest (file_of disk.new) ↔ F.honest (file_of disk.old) }
 {
-    let mut bytes = vec![in alloc; 0; DEVICE_BYTES]?;
+    let mut bytes = buffer_of(alloc, DEVICE_BYTES)?;
     disk.read_at(0, &mut bytes)?;
     if is_spare(&bytes, &[]) {
         return Ok(());
@@ -102,7 +103,7 @@ fn clear<F: StoreFile + Drop, R: Files<File = File>>(
     }
     let mut disk = FileDisk::<F>::at(rt, new, found.len() as usize)?;
     disk.sync()?;
-    let mut bytes = vec![in alloc; 0; disk.size()]?;
+    let mut bytes = buffer_of(alloc, disk.size())?;
     disk.read_at(0, &mut bytes)?;
     if !is_spare(&bytes, others) {
         return Err(BesideFault::Device);
@@ -152,7 +153,7 @@ fn compare<F: StoreFile + Drop, R: Files<File = File>>(
     bytes: &[u8],
 ) -> Result<(), BesideFault> {
     let mut disk = FileDisk::<F>::read_only(rt, kept, DEVICE_BYTES)?;
-    let mut others = vec![in alloc; 0; DEVICE_BYTES]?;
+    let mut others = buffer_of(alloc, DEVICE_BYTES)?;
     disk.read_at(0, &mut others)?;
     if is_spare(bytes, &others) {
         Ok(())
@@ -168,6 +169,6 @@ fn renamed<R: Files<File = File>>(rt: &R, new: &str, name: &str) -> io::Result<b
     given
 }
 
-fn beside(alloc: Global, path: &str, end: &str) -> Result<String, AllocError> {
-    format!(in alloc; "{path}{end}")
+fn beside(alloc: Global, path: &str, end: &str) -> Result<String, OutOfMemory> {
+    Ok(format!(in alloc; "{path}{end}")?)
 }

@@ -1,6 +1,7 @@
 //! Why a store is not opened, and why a file next to it is not made, kept or removed (`docs/store.md`, "The file").
 
 ghost use Rattle.std.specs.Prelude.{◌≡◌};
+ghost use Rattle.fe_memory.specs.Memory.{out_of_memory};
 ghost use Rattle.fe_journal.specs.Found.{refusal, BlankIsTold};
 ghost use Rattle.fe_keeper.specs.Opened.{IsOpenFault};
 ghost use Rattle.fe_keeper.specs.declared.fault.Fault.TheVariants as store;
@@ -9,7 +10,7 @@ ghost use Rattle.fe_store.specs.declared.fault.OpenFault.TheVariants as fault;
 
 use fe_disk::{DeviceFault, Disk, FileFault};
 use fe_keeper::{Fault, Unopened};
-use std::alloc::AllocError;
+use fe_memory::OutOfMemory;
 use std::io;
 
 /// Why a store is not opened.
@@ -18,7 +19,7 @@ pub enum OpenFault {
     /// The store's file is missing, no plain file or locked by another server; its device failed; or a file next to it is in the way.
     Device,
     /// Memory ran out.
-    Memory,
+    Memory(OutOfMemory),
     /// The store's file has this size in bytes, which is not the size of a store.
     Size(u64),
     /// The device doesn't have the size of a store, or neither slot is valid.
@@ -42,14 +43,14 @@ impl From<FileFault> for OpenFault {
     }
 }
 
-impl From<AllocError> for OpenFault {
+impl From<OutOfMemory> for OpenFault {
     ghost use Rattle.std.specs.Prelude.{◌≡◌};
     ghost use Rattle.fe_store.specs.declared.fault.OpenFault.TheVariants.{Memory};
 
-    ghost from_gives = { λ _ fault. fault ≡ Memory };
+    ghost from_gives = { λ error fault. fault ≡ Memory error };
 
-    fn from(_: AllocError) -> OpenFault {
-        OpenFault::Memory
+    fn from(error: OutOfMemory) -> OpenFault {
+        OpenFault::Memory(error)
     }
 }
 
@@ -70,12 +71,12 @@ pub(crate) enum BesideFault {
     /// A file was not read, written, named or removed, or holds other bytes.
     Device,
     /// Memory ran out.
-    Memory,
+    Memory(OutOfMemory),
 }
 
-impl From<AllocError> for BesideFault {
-    fn from(_: AllocError) -> BesideFault {
-        BesideFault::Memory
+impl From<OutOfMemory> for BesideFault {
+    fn from(error: OutOfMemory) -> BesideFault {
+        BesideFault::Memory(error)
     }
 }
 
@@ -101,12 +102,12 @@ impl From<BesideFault> for OpenFault {
     ghost use Rattle.std.specs.Prelude.{◌≡◌, ◌⊎◌};
     ghost use Rattle.fe_store.specs.declared.fault.OpenFault.TheVariants.{Device, Memory};
 
-    ghost from_gives = { λ _ fault. (fault ≡ Device) ⊎ (fault ≡ Memory) };
+    ghost from_gives = { λ _ fault. (fault ≡ Device) ⊎ (fault ≡ Memory out_of_memory) };
 
     fn from(before: BesideFault) -> OpenFault {
         match before {
             BesideFault::Device => OpenFault::Device,
-            BesideFault::Memory => OpenFault::Memory,
+            BesideFault::Memory(error) => OpenFault::Memory(error),
         }
     }
 }
@@ -118,7 +119,7 @@ pub(crate) fn open_fault_of(fault: Fault) -> OpenFault
 {
     match fault {
         Fault::Device => OpenFault::Device,
-        Fault::NoMemory => OpenFault::Memory,
+        Fault::NoMemory(error) => OpenFault::Memory(error),
         Fault::Unformatted => OpenFault::Unformatted,
         Fault::Damaged { offset } => OpenFault::Damaged(offset),
         Fault::Failed | Fault::Mismatch { .. } => unreachable!(),

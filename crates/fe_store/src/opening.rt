@@ -2,6 +2,7 @@
 //! state that it stands for (`docs/model.md`, "The keeper").
 
 ghost use Rattle.std.specs.Prelude.{◌≡◌, false, IfOk, IfErr};
+ghost use Rattle.fe_memory.specs.Memory.{out_of_memory};
 ghost use Rattle.fe_disk.specs.Runs.{without_disk};
 ghost use Rattle.fe_journal.specs.Found.{AsksToOpen, told, BlankIsTold};
 ghost use Rattle.fe_journal.specs.Layout.{device_bytes};
@@ -26,7 +27,7 @@ pub fn open_existing<D: Disk>(alloc: Global, disk: D) -> Result<Keeper<D>, (Open
     // Memory runs out only if the header of the slot that counts is right and, once the whole store is read, also the
     // lengths of its groups and the first fields of its image.
     ensures memory { D.honest disk
-        → IfErr result (λ e. e.0 ≡ fault.Memory → MayLackMemory (D.seen disk) (D.calls disk) (D.calls e.1)) }
+        → IfErr result (λ e. e.0 ≡ fault.Memory out_of_memory → MayLackMemory (D.seen disk) (D.calls disk) (D.calls e.1)) }
     // No stop leaves what could not be left before, and what is read stays the same.
     ensures reads { D.honest disk → OnlyReads D.Disk disk (disk_after result) }
 
@@ -45,7 +46,7 @@ fn found_or_blank<D: Disk>(alloc: Global, disk: D) -> Result<Keeper<D>, Unopened
     ensures opened { D.honest disk → IfOk result (IsOpenedFrom D.Disk (D.seen disk)) }
     ensures ends { EndsOpening D.Disk disk (told fault.Unformatted result) }
     ensures memory { D.honest disk → IfErr (told fault.Unformatted result)
-        (λ e. e.0 ≡ fault.Memory → MayLackMemory (D.seen disk) (D.calls disk) (D.calls e.1)) }
+        (λ e. e.0 ≡ fault.Memory out_of_memory → MayLackMemory (D.seen disk) (D.calls disk) (D.calls e.1)) }
     ensures reads { D.honest disk → OnlyReads D.Disk disk (disk_after (told fault.Unformatted result)) }
     ensures device { AsksToOpen D.Disk fault.Device (without_disk (told fault.Unformatted result)) disk
         (disk_after (told fault.Unformatted result)) }

@@ -3,11 +3,12 @@
 
 ghost use Rattle.std.specs.Prelude.{◌≡◌, IfOk};
 
-use std::alloc::{AllocError, Global};
+use fe_memory::OutOfMemory;
+use std::alloc::Global;
 
 /// A value that can be copied into memory of its own.
 pub trait Copied: Sized {
     /// A copy of the value. Fails only if memory runs out.
-    fn copied(&self, alloc: Global) -> Result<Self, AllocError>
+    fn copied(&self, alloc: Global) -> Result<Self, OutOfMemory>
         ensures { IfOk result (λ copy. copy ≡ self.now) };
 }

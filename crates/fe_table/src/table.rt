@@ -8,7 +8,8 @@ ghost use Rattle.fe_table.specs.Table.{shown_entry, IsAt, IsGapFor};
 ghost use Rattle.fe_table.specs.within.TableLends.{lends_value, lends_position};
 
 use crate::copied::Copied;
-use std::alloc::{AllocError, Global};
+use fe_memory::OutOfMemory;
+use std::alloc::Global;
 use std::marker::Model;
 
 /// A map from numbers to values, in ascending order of the numbers, with room for `ROOM` entries.
@@ -52,7 +53,7 @@ impl<V, const ROOM: usize> Model for Table<V, ROOM> {
 
 impl<V, const ROOM: usize> Table<V, ROOM> {
     /// An empty table with its memory. Fails only if memory runs out.
-    pub fn new(alloc: Global) -> Result<Self, AllocError>
+    pub fn new(alloc: Global) -> Result<Self, OutOfMemory>
         ensures empty { IfOk result (λ table. table ≡ map.empty) }
     {
         let keys = Vec::with_capacity(alloc, ROOM)?;
@@ -161,7 +162,7 @@ impl<V: Drop, const ROOM: usize> Table<V, ROOM> {
 }
 
 impl<V: Copied + Drop, const ROOM: usize> Copied for Table<V, ROOM> {
-    fn copied(&self, alloc: Global) -> Result<Self, AllocError> {
+    fn copied(&self, alloc: Global) -> Result<Self, OutOfMemory> {
         let mut copy = Table::new(alloc)?;
         for position in 0..self.len() {
             let (key, value) = self.at(position).unwrap();

@@ -18,7 +18,7 @@ no_calls = record { errors = no_errors; took_none = false; is_flushed = true }
 -- a call failed with an error that is this fault
 abbrev pub HasErred : StreamErrors → StreamFault → Type 0
 HasErred errors stream.Input = errors.input ≡ true
-HasErred errors stream.Memory = errors.memory ≡ true
+HasErred errors (stream.Memory error) = errors.memory ≡ true
 
 abbrev pub HasFailed : StreamCalls → StreamFault → Type 0
 HasFailed calls fault = HasErred calls.errors fault

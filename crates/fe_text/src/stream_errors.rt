@@ -3,10 +3,12 @@
 
 ghost use Rattle.std.specs.Prelude.{◌≡◌, ◌↔◌, None, Some, true, IfSome};
 ghost use Rattle.std.specs.IoError.{error_kind};
+ghost use Rattle.fe_memory.specs.Memory.{out_of_memory};
 ghost use Rattle.fe_text.specs.Counted.{HasErred, no_errors};
 ghost use Rattle.fe_text.specs.declared.fault.StreamFault.{StreamFault as Fault};
 
 use crate::fault::StreamFault;
+use fe_memory::OutOfMemory;
 use std::io::{Error, ErrorKind};
 
 /// With which errors the calls of a stream failed.
@@ -35,22 +37,22 @@ impl StreamErrors {
     /// Keeps the error of a read or a write. The fault for it, or `None` if a signal interrupted the call.
     pub(crate) fn keep(&mut self, error: Error) -> Option<StreamFault>
         ensures signal { (result ≡ None) ↔ (error_kind error ≡ ErrorKind.Interrupted) }
-        ensures memory { (result ≡ Some Fault.Memory) ↔ (error_kind error ≡ ErrorKind.OutOfMemory) }
+        ensures memory { (result ≡ Some (Fault.Memory out_of_memory)) ↔ (error_kind error ≡ ErrorKind.OutOfMemory) }
         ensures interrupted { result ≡ None → self.new.interrupted ≡ true }
         ensures just { IfSome result (λ _. self.new.interrupted ≡ self.old.interrupted) }
         ensures fails { IfSome result (HasErred self.new) }
         ensures stays { (fault : Fault) → HasErred self.old fault → HasErred self.new fault }
     {
-        match error.kind() {
-            ErrorKind::Interrupted => {
-                self.interrupted = true;
-                None
-            }
-            ErrorKind::OutOfMemory => {
+        if error.kind() == ErrorKind::Interrupted {
+            self.interrupted = true;
+            return None;
+        }
+        match OutOfMemory::of(&error) {
+            Some(short) => {
                 self.memory = true;
-                Some(StreamFault::Memory)
+                Some(StreamFault::Memory(short))
             }
-            _ => {
+            None => {
                 self.input = true;
                 Some(StreamFault::Input)
             }
@@ -59,16 +61,16 @@ impl StreamErrors {
 
     /// Keeps the error of a flush, and returns the fault for it. It is `Input` also if a signal interrupted the flush.
     pub(crate) fn keep_of_flush(&mut self, error: Error) -> StreamFault
-        ensures memory { (result ≡ Fault.Memory) ↔ (error_kind error ≡ ErrorKind.OutOfMemory) }
+        ensures memory { (result ≡ Fault.Memory out_of_memory) ↔ (error_kind error ≡ ErrorKind.OutOfMemory) }
         ensures fails { HasErred self.new result }
         ensures just { self.new.interrupted ≡ self.old.interrupted }
     {
-        match error.kind() {
-            ErrorKind::OutOfMemory => {
+        match OutOfMemory::of(&error) {
+            Some(short) => {
                 self.memory = true;
-                StreamFault::Memory
+                StreamFault::Memory(short)
             }
-            _ => {
+            None => {
                 self.input = true;
                 StreamFault::Input
             }

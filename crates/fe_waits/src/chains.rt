@@ -3,8 +3,9 @@
 ghost use Rattle.std.specs.Prelude.{◌≡◌, ◌<◌, replicate, length, Some, slice_get, slice_set, IfOk};
 ghost use Rattle.fe_waits.specs.within.Inner.{empty_chain};
 
+use fe_memory::OutOfMemory;
 use fe_pool::Chain;
-use std::alloc::{AllocError, Global};
+use std::alloc::Global;
 use std::marker::Model;
 
 /// A fixed number of chains of a pool, one at each position.
@@ -30,7 +31,7 @@ impl Model for Chains {
 
 impl Chains {
     // This many empty chains. Fails only if memory runs out.
-    pub(crate) fn new(alloc: Global, count: usize) -> Result<Chains, AllocError>
+    pub(crate) fn new(alloc: Global, count: usize) -> Result<Chains, OutOfMemory>
         ensures { IfOk result (λ chains. chains ≡ replicate count empty_chain) }
     {
         Ok(Chains {

@@ -9,10 +9,11 @@ ghost use Rattle.fe_waits.specs.within.Inner.{IsNodeOfSlot};
 use crate::chains::Chains;
 use crate::row::Row;
 use crate::word_chains::{WordChains, chain, set_chain};
+use fe_memory::OutOfMemory;
 use fe_pool::{Family, Node, Pool};
 use fe_table::Table;
 use fe_words::Op;
-use std::alloc::{AllocError, Global};
+use std::alloc::Global;
 use std::marker::Model;
 
 /// The maximum number of sessions.
@@ -64,7 +65,7 @@ impl Model for Waits {
 
 impl Waits {
     /// No arrays and no waiting requests. Allocates the memory for 2,048 requests; fails only if memory runs out.
-    pub fn new(alloc: Global) -> Result<Waits, AllocError>
+    pub fn new(alloc: Global) -> Result<Waits, OutOfMemory>
         ensures arrays { IfOk result (λ waits. waits.arrays ≡ map.empty) }
         ensures members { IfOk result (λ waits. waits.members ≡ map.empty) }
     {
@@ -97,7 +98,7 @@ impl Waits {
     }
 
     /// Adds an array with this many words, on which nothing waits. Fails only if memory runs out.
-    pub fn add_array(&mut self, array: u64, length: u32) -> Result<(), AllocError>
+    pub fn add_array(&mut self, array: u64, length: u32) -> Result<(), OutOfMemory>
         requires new { map.get self.old.arrays array ≡ None }
         requires room { map.len self.old.arrays < 64 }
         ensures ok { IfOk result (λ _. ArraysBecome self.old self.new (map.insert self.old.arrays array length)) }
@@ -194,7 +195,7 @@ impl Waits {
         &self,
         alloc: Global,
         slot: u8,
-    ) -> Result<Vec<(u64, (u64, u32, Op))>, AllocError>
+    ) -> Result<Vec<(u64, (u64, u32, Op))>, OutOfMemory>
         requires slot { slot < 64 }
         ensures lists { IfOk result (λ list. ListsWaitingRequestsOf self.now.members slot list.items) }
     {

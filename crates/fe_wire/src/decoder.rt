@@ -5,8 +5,9 @@ ghost use Rattle.fe_wire.specs.declared.client_message.ClientMessage.{ClientMess
 use crate::decoder_state::{DecoderState, FRAME_BYTES};
 use crate::fed::Fed;
 use crate::version::Version;
+use fe_memory::OutOfMemory;
 use fe_state::{Request, named};
-use std::alloc::{AllocError, Global};
+use std::alloc::Global;
 use std::marker::Model;
 
 /// Decodes the stream of one connection, which may come in pieces of any size. It stores at most the first 50 bytes
@@ -67,7 +68,7 @@ impl Decoder {
 
     /// Decodes the next piece of the stream. Fails only if memory for the messages in it runs out; then the decoder
     /// is unchanged, as if the piece had not come.
-    pub fn feed(&mut self, alloc: Global, piece: &[u8]) -> Result<Fed, AllocError>
+    pub fn feed(&mut self, alloc: Global, piece: &[u8]) -> Result<Fed, OutOfMemory>
         // The decoder has now read this piece too, and the returned messages are those that the piece completes.
         ensures reads { IfOk result (λ fed. (start : ℕ) (before : List ℕ) (earlier : List Message)
             → HasReadFrom start self.old before earlier

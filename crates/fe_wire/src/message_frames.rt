@@ -8,9 +8,9 @@ use crate::fields::name_room;
 use crate::frame::{Frame, frame_of, is_long, put_name};
 use crate::kinds;
 use fe_codes::{op_code, operand_of, tag_code};
+use fe_memory::OutOfMemory;
 use fe_state::{Name, Request};
 use fe_words::{Op, Tag};
-use std::alloc::AllocError;
 
 fn attach_frame(session: u64) -> Frame
     ensures { result ≡ spelling (ClientMessage.Attach session) }
@@ -107,7 +107,7 @@ fn call_frame(number: u64, request: &Request) -> Frame
 
 /// Appends the frame of a message. Fails only if the vector has no spare room for it and memory runs out; then
 /// nothing is appended.
-pub fn put_message(out: &mut Vec<u8>, message: &ClientMessage) -> Result<(), AllocError>
+pub fn put_message(out: &mut Vec<u8>, message: &ClientMessage) -> Result<(), OutOfMemory>
     ensures ok { OnOk result (out.new.items ≡ out.old.items ++ spelling message.now) }
     ensures err { OnErr result (out.new.items ≡ out.old.items) }
     ensures full { OnErr result (vec_capacity out.old < vec_len out.old + length (spelling message.now)) }
@@ -122,5 +122,6 @@ pub fn put_message(out: &mut Vec<u8>, message: &ClientMessage) -> Result<(), All
         ClientMessage::Bye => frame_of(1, kinds::BYE),
         ClientMessage::Report => frame_of(1, kinds::ASK_REPORT),
     };
-    out.extend_from_slice(frame.bytes())
+    out.extend_from_slice(frame.bytes())?;
+    Ok(())
 }

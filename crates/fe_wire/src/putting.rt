@@ -7,8 +7,8 @@ use crate::frame::{Frame, frame_of};
 use crate::kinds;
 use crate::server_message::ServerMessage;
 use fe_codes::answer_fields;
+use fe_memory::OutOfMemory;
 use fe_state::Answer;
-use std::alloc::AllocError;
 
 fn welcome_frame(session: u64, floor: u64) -> Frame
     ensures { result ≡ reply_spelling (ServerMessage.Welcome session floor) }
@@ -67,7 +67,7 @@ fn refused_frame(number: u64, code: u8) -> Frame
 
 /// Appends the frame of a reply. The code of a refusal must be 1 to 10. Fails only if the vector has no spare room
 /// for it and memory runs out; then nothing is appended.
-pub fn put_reply(out: &mut Vec<u8>, message: &ServerMessage) -> Result<(), AllocError>
+pub fn put_reply(out: &mut Vec<u8>, message: &ServerMessage) -> Result<(), OutOfMemory>
     requires { HasRefusalCode message.now }
     ensures ok { OnOk result (out.new.items ≡ out.old.items ++ reply_spelling message.now) }
     ensures err { OnErr result (out.new.items ≡ out.old.items) }
@@ -89,8 +89,10 @@ pub fn put_reply(out: &mut Vec<u8>, message: &ServerMessage) -> Result<(), Alloc
             let head = head.bytes();
             out.reserve(head.len() + text.len())?;
             out.extend_from_slice(head)?;
-            return out.extend_from_slice(text);
+            out.extend_from_slice(text)?;
+            return Ok(());
         }
     };
-    out.extend_from_slice(frame.bytes())
+    out.extend_from_slice(frame.bytes())?;
+    Ok(())
 }

@@ -12,7 +12,8 @@ use crate::server_message::ServerMessage;
 use fe_codes::answer_of;
 use fe_fields::{next_byte, next_u32, next_u64};
 use fe_mail::{REPORT_BYTES, ReportText};
-use std::alloc::{AllocError, Global};
+use fe_memory::OutOfMemory;
+use std::alloc::Global;
 
 #[tactic(auto, unfolding(crate::specs::within::Replies::answered_of))]
 fn answered_of(body: &[u8]) -> Option<ServerMessage>
@@ -67,7 +68,7 @@ fn reply_of_kind(kind: u8, body: &[u8]) -> Option<ServerMessage>
 }
 
 /// The report with this text, or `None` if it is not 1 to `REPORT_BYTES` bytes of UTF-8.
-fn report_of(alloc: Global, body: &[u8]) -> Result<Option<ServerMessage>, AllocError>
+fn report_of(alloc: Global, body: &[u8]) -> Result<Option<ServerMessage>, OutOfMemory>
     ensures value { IfOk result (λ reply. reply ≡ report_of body.now) }
     ensures memory { OnErr result (ReplyFits (Reply.Report body.now)) }
 {
@@ -96,7 +97,7 @@ fn parts_of(frame: &[u8]) -> Option<(u8, &[u8])>
 
 /// The reply that exactly one whole frame spells, or `None` if it spells none. Fails only if memory for a report's
 /// text runs out.
-pub fn read_reply(alloc: Global, frame: &[u8]) -> Result<Option<ServerMessage>, AllocError>
+pub fn read_reply(alloc: Global, frame: &[u8]) -> Result<Option<ServerMessage>, OutOfMemory>
     // What is read has this frame.
     ensures found { IfOk result (λ reply. IfSome reply (λ m. ReplyFits m × (frame.now ≡ reply_spelling m))) }
     // Every frame in the grammar is read, so `None` means that the bytes are outside it.

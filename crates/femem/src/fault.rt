@@ -89,7 +89,7 @@ impl From<StreamFault> for Fault {
     fn from(before: StreamFault) -> Fault {
         match before {
             StreamFault::Input => Fault::Input,
-            StreamFault::Memory => Fault::Memory,
+            StreamFault::Memory(_) => Fault::Memory,
         }
     }
 }
@@ -103,7 +103,7 @@ impl From<OpenFault> for Fault {
     fn from(before: OpenFault) -> Fault {
         match before {
             OpenFault::Device => Fault::Device,
-            OpenFault::Memory => Fault::Memory,
+            OpenFault::Memory(_) => Fault::Memory,
             OpenFault::Size(found) => Fault::Size(found),
             OpenFault::Unformatted => Fault::Unformatted,
             OpenFault::Damaged(offset) => Fault::Damaged(offset),
@@ -121,7 +121,7 @@ impl From<ScheduleFault> for Fault {
         match before {
             ScheduleFault::Line(number) => Fault::Line(number),
             ScheduleFault::Input => Fault::Input,
-            ScheduleFault::Memory => Fault::Memory,
+            ScheduleFault::Memory(_) => Fault::Memory,
             ScheduleFault::Device => Fault::Device,
         }
     }
@@ -200,7 +200,7 @@ impl From<CallFault> for Fault {
             CallFault::Line(number) => Fault::Line(number),
             CallFault::Socket => Fault::Socket,
             CallFault::Input => Fault::Input,
-            CallFault::Memory => Fault::Memory,
+            CallFault::Memory(_) => Fault::Memory,
         }
     }
 }

@@ -4,6 +4,7 @@
 
 ghost use Rattle.std.specs.Prelude.{◌≡◌, ◌⊎◌, ℕ, take, is_ok, IfOk, IfErr, OnOk};
 ghost use Rattle.std.specs.Io.KnownBytes.{Appends};
+ghost use Rattle.fe_memory.specs.Memory.{out_of_memory};
 ghost use Rattle.clap.specs.Words.{kind_of};
 ghost use Rattle.fe_disk.specs.Memory.{MemoryState};
 ghost use Rattle.fe_schedules.specs.Schedule.{RunsAll, RunsUntil, ReaderFails};
@@ -173,14 +174,14 @@ fn show_books<W: Sink>(alloc: Global, books: &Books, writer: &mut W) -> Result<(
     ensures ok { OnOk result (Appends (W.contents writer.old) (W.contents writer.new) (books_text books.now)) }
     ensures front { (count : ℕ)
         × Appends (W.contents writer.old) (W.contents writer.new) (take count (books_text books.now)) }
-    ensures fails { IfErr result (λ fault. (fault ≡ StreamFault.Memory) ⊎ W.has_failed writer.new fault) }
+    ensures fails { IfErr result (λ fault. (fault ≡ StreamFault.Memory out_of_memory) ⊎ W.has_failed writer.new fault) }
 {
     match books_text(alloc, books) {
         Ok(mut text) => match writer.write_whole(&mut text) {
             Ok(()) => Ok(()),
             Err(fault) => Err(fault),
         },
-        Err(_) => Err(StreamFault::Memory),
+        Err(error) => Err(StreamFault::Memory(error)),
     }
 }
 

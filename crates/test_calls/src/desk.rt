@@ -52,7 +52,7 @@ fn open_at_last(rt: &impl Abort, alloc: Global) -> Desk<Liar> {
     match Desk::open(alloc, new_liar(rt, alloc)) {
         Ok(desk) => desk,
         Err((fault, liar)) => {
-            assert!(rt; fault == DeskFault::NoMemory { fed: false });
+            assert!(rt; matches!(fault, DeskFault::NoMemory { fed: false, .. }));
             Desk::open(alloc, liar).ok().expect(rt, "opened")
         }
     }
@@ -65,9 +65,12 @@ fn take(rt: &impl Abort, desk: &mut Desk<Liar>, step: &Step) {
         Ok(()) => {}
         Err(fault) => {
             assert!(rt;
-                fault == DeskFault::NoMemory { fed: false } || fault == DeskFault::Unwritten
+                matches!(
+                    fault,
+                    DeskFault::NoMemory { fed: false, .. } | DeskFault::Unwritten(_)
+                )
             );
-            if fault != DeskFault::Unwritten {
+            if !matches!(fault, DeskFault::Unwritten(_)) {
                 assert!(rt; desk.keeper().state().place() == place);
                 assert!(rt; desk.step(step).is_ok());
             }
@@ -79,11 +82,11 @@ fn take(rt: &impl Abort, desk: &mut Desk<Liar>, step: &Step) {
 fn take_bytes(rt: &impl Abort, desk: &mut Desk<Liar>, step: &Step, empty: &Step) {
     match desk.step(step) {
         Ok(()) => {}
-        Err(DeskFault::NoMemory { fed }) => {
+        Err(DeskFault::NoMemory { fed, .. }) => {
             let again = if fed { empty } else { step };
             assert!(rt; desk.step(again).is_ok());
         }
-        Err(fault) => assert!(rt; fault == DeskFault::Unwritten),
+        Err(fault) => assert!(rt; matches!(fault, DeskFault::Unwritten(_))),
     }
 }
 

@@ -2,19 +2,20 @@
 
 use fe_front::{ConnectionSet, Front, StrangeBatch};
 use fe_mail::Refusal;
+use fe_memory::OutOfMemory;
 use fe_state::{Batch, Entry, State};
-use std::alloc::{AllocError, Global};
+use std::alloc::Global;
 use std::process::Abort;
 use std::test::Fail;
 
 /// A front over a new state.
-fn new_front(alloc: Global) -> Result<Front, AllocError> {
+fn new_front(alloc: Global) -> Result<Front, OutOfMemory> {
     let state = State::new(alloc)?;
     Front::new(alloc, state)
 }
 
 /// A front whose history has room for one more event.
-fn late_front(alloc: Global) -> Result<Front, AllocError> {
+fn late_front(alloc: Global) -> Result<Front, OutOfMemory> {
     let state = State::starting(alloc, 9223372036854773758, 1)?;
     Front::new(alloc, state)
 }
@@ -48,7 +49,7 @@ const LONG: [Entry; 2] = [
     Entry::Closed { session: 7 },
 ];
 
-fn long_batch(alloc: Global) -> Result<Batch, AllocError> {
+fn long_batch(alloc: Global) -> Result<Batch, OutOfMemory> {
     let mut long = Batch::new(alloc, 0)?;
     long.push(LONG[0]);
     long.push(LONG[1]);

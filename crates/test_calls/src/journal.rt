@@ -15,7 +15,7 @@ const EMPTY: [u8; 24] = [
 // Whether memory ran out: in the journal, or in the disk for its record of a call, which is then a fault of the device.
 fn wants_memory(fault: StoreFault, disk: &MemoryDisk) -> bool {
     match fault {
-        StoreFault::NoMemory => disk.failures() == 0,
+        StoreFault::NoMemory(_) => disk.failures() == 0,
         StoreFault::Device => disk.failures() == 1,
         StoreFault::Unformatted | StoreFault::Damaged { offset: _ } => false,
     }

@@ -26,7 +26,7 @@ fn format_at_last(rt: &impl Abort, alloc: Global) -> Keeper<Liar> {
     match Keeper::format(alloc, blank(rt, alloc, blank_liar(rt, alloc))) {
         Ok(keeper) => keeper,
         Err((fault, liar)) => {
-            assert!(rt; fault == Fault::NoMemory);
+            assert!(rt; matches!(fault, Fault::NoMemory(_)));
             Keeper::format(alloc, blank(rt, alloc, liar))
                 .ok()
                 .expect(rt, "formatted")
@@ -38,7 +38,7 @@ fn open_at_last(rt: &impl Abort, alloc: Global) -> Keeper<Liar> {
     match Keeper::open(alloc, new_liar(rt, alloc)) {
         Ok(keeper) => keeper,
         Err((fault, liar)) => {
-            assert!(rt; fault == Fault::NoMemory);
+            assert!(rt; matches!(fault, Fault::NoMemory(_)));
             Keeper::open(alloc, liar).ok().expect(rt, "opened")
         }
     }
@@ -99,7 +99,7 @@ fn append_at_last(
     let back = match keeper.append(batch) {
         Ok(back) => back,
         Err((fault, back)) => {
-            assert!(rt; fault == Fault::NoMemory && keeper.state().place() == first);
+            assert!(rt; matches!(fault, Fault::NoMemory(_)) && keeper.state().place() == first);
             assert!(rt; keeper.used() == used && is_same(&back, first, entry, count));
             match keeper.append(back) {
                 Ok(back) => back,
@@ -117,7 +117,7 @@ fn begin_at_last(rt: &impl Abort, keeper: &mut Keeper<Liar>) {
     match keeper.checkpoint_begin() {
         Ok(begun) => assert!(rt; begun),
         Err(fault) => {
-            assert!(rt; fault == Fault::NoMemory);
+            assert!(rt; matches!(fault, Fault::NoMemory(_)));
             assert!(rt; matches!(keeper.checkpoint_finish(), Ok(false)));
             assert!(rt; matches!(keeper.checkpoint_begin(), Ok(true)));
         }

@@ -3,9 +3,10 @@
 ghost use Rattle.std.specs.Prelude.{◌≡◌, ◌<◌, Some, IfOk};
 ghost use Rattle.std.specs.FinMap as map;
 
+use fe_memory::OutOfMemory;
 use fe_waits::{Row, Waits};
 use fe_words::Op;
-use std::alloc::{AllocError, Global};
+use std::alloc::Global;
 use std::process::Abort;
 use std::test::Fail;
 
@@ -98,7 +99,7 @@ fn check(rt: &impl Abort, waits: &mut Waits)
 }
 
 /// Waiting lists with an array of eight words.
-fn new_waits(alloc: Global) -> Result<Waits, AllocError>
+fn new_waits(alloc: Global) -> Result<Waits, OutOfMemory>
     ensures { IfOk result (λ waits. map.get waits.arrays 1 ≡ Some 8) }
 {
     let mut waits = Waits::new(alloc)?;

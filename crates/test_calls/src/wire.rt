@@ -1,11 +1,12 @@
 //! Frames that are read in pieces, and read and written when memory runs out. They are given as bytes (`docs/formats.md`, "Frames").
 
+use fe_memory::OutOfMemory;
 use fe_state::{Name, Request};
 use fe_wire::{
     BadFrame, ClientMessage, Decoder, ServerMessage, put_message, put_reply, read_reply,
 };
 use fe_words::{Op, Tag};
-use std::alloc::{AllocError, Global};
+use std::alloc::Global;
 use std::process::Abort;
 use std::test::Fail;
 
@@ -57,7 +58,7 @@ fn fed(
     piece: &[u8],
     messages: &[ClientMessage],
     fault: Option<BadFrame>,
-) -> Result<(), AllocError> {
+) -> Result<(), OutOfMemory> {
     let fed = decoder.feed(alloc, piece)?;
     assert!(rt; fed.messages.as_slice() == messages && fed.fault == fault);
     Ok(())
@@ -113,7 +114,7 @@ fn offset_stands_still(rt: HostRuntime) -> Result<(), Fail> {
 const REPORT: &[u8] = b"\0\0\0\x0b\x47waiting 0\n";
 
 /// Writes the attach, at the latest at the second try. A failed try writes nothing.
-fn check_putting(rt: &impl Abort, alloc: Global) -> Result<(), AllocError> {
+fn check_putting(rt: &impl Abort, alloc: Global) -> Result<(), OutOfMemory> {
     let mut out = Vec::new(alloc);
     if put_message(&mut out, &ATTACH).is_err() {
         assert!(rt; out.is_empty());
@@ -124,25 +125,25 @@ fn check_putting(rt: &impl Abort, alloc: Global) -> Result<(), AllocError> {
 }
 
 /// Decodes a piece with an attach, at the latest at the second try. A failed try takes nothing.
-fn check_feeding(rt: &impl Abort, alloc: Global) -> Result<(), AllocError> {
+fn check_feeding(rt: &impl Abort, alloc: Global) -> Result<(), OutOfMemory> {
     let mut decoder = Decoder::new();
     let fed = match decoder.feed(alloc, FRAMES[0]) {
         Ok(fed) => fed,
-        Err(AllocError) => decoder.feed(alloc, FRAMES[0])?,
+        Err(_) => decoder.feed(alloc, FRAMES[0])?,
     };
     assert!(rt; fed.messages.as_slice() == [ATTACH].as_slice() && fed.fault.is_none());
     Ok(())
 }
 
-fn report_at_last(alloc: Global) -> Result<Option<ServerMessage>, AllocError> {
+fn report_at_last(alloc: Global) -> Result<Option<ServerMessage>, OutOfMemory> {
     match read_reply(alloc, REPORT) {
         Ok(reply) => Ok(reply),
-        Err(AllocError) => read_reply(alloc, REPORT),
+        Err(_) => read_reply(alloc, REPORT),
     }
 }
 
 /// Reads and writes a report, each at the latest at the second try.
-fn check_report(rt: &impl Abort, alloc: Global) -> Result<(), AllocError> {
+fn check_report(rt: &impl Abort, alloc: Global) -> Result<(), OutOfMemory> {
     let Some(ServerMessage::Report(report)) = report_at_last(alloc)? else {
         assert!(rt; false, "the bytes are a report");
         return Ok(());

@@ -4,9 +4,10 @@ use crate::play::{Play, Replies, Script, Step};
 use crate::saying::{Say, put_said};
 use fe_disk::SyncHold;
 use fe_hall::{ReadEnd, WriteEnd};
+use fe_memory::OutOfMemory;
 use fe_state::WINDOW;
 use fe_words::Op;
-use std::alloc::{AllocError, Global};
+use std::alloc::Global;
 use std::sync::Wait;
 
 /// The number of replies to a window: one to each call, and one to the attach or the settle.
@@ -59,7 +60,7 @@ pub struct Board {
 
 impl Board {
     /// A board on which nothing was sent yet.
-    pub fn new(alloc: Global, play: &Play) -> Result<Board, AllocError> {
+    pub fn new(alloc: Global, play: &Play) -> Result<Board, OutOfMemory> {
         let mut clients = Vec::new(alloc);
         for _ in 0..play.connections {
             clients.push(Client {
@@ -100,7 +101,7 @@ impl Board {
         hold: &SyncHold,
         conn: u64,
         line: &mut Vec<u8>,
-    ) -> Result<BoardAnswer, AllocError> {
+    ) -> Result<BoardAnswer, OutOfMemory> {
         self.handled(conn);
         match self.script {
             Script::Windows(count) => self.next_window(conn, count, line),
@@ -132,7 +133,7 @@ impl Board {
         conn: u64,
         step: &Step,
         line: &mut Vec<u8>,
-    ) -> Result<BoardAnswer, AllocError> {
+    ) -> Result<BoardAnswer, OutOfMemory> {
         let is_made = match step {
             Step::Says(by, say, _) => return self.say(conn, *by, *say, 1, step.replies(), line),
             Step::Repeats(by, say, times) => return self.say(conn, *by, *say, *times, &[], line),
@@ -163,7 +164,7 @@ impl Board {
         times: usize,
         replies: Replies,
         line: &mut Vec<u8>,
-    ) -> Result<BoardAnswer, AllocError> {
+    ) -> Result<BoardAnswer, OutOfMemory> {
         if by != conn {
             return Ok(BoardAnswer::Nothing);
         }
@@ -180,7 +181,7 @@ impl Board {
         by: u64,
         bytes: &[u8],
         line: &mut Vec<u8>,
-    ) -> Result<BoardAnswer, AllocError> {
+    ) -> Result<BoardAnswer, OutOfMemory> {
         if by != conn {
             return Ok(BoardAnswer::Nothing);
         }
@@ -200,7 +201,7 @@ impl Board {
         conn: u64,
         count: usize,
         line: &mut Vec<u8>,
-    ) -> Result<BoardAnswer, AllocError> {
+    ) -> Result<BoardAnswer, OutOfMemory> {
         let Some(client) = self.client(conn) else {
             return Ok(BoardAnswer::End);
         };
@@ -217,7 +218,7 @@ impl Board {
     }
 
     /// Notes frames that were written to a connection.
-    pub fn hear(&mut self, conn: u64, bytes: &[u8]) -> Result<(), AllocError> {
+    pub fn hear(&mut self, conn: u64, bytes: &[u8]) -> Result<(), OutOfMemory> {
         let keeps = matches!(self.script, Script::Steps(_));
         let count = frames_in(bytes);
         self.heard = self.heard.saturating_add(count);
@@ -271,7 +272,7 @@ fn frames_in(bytes: &[u8]) -> usize {
 
 /// Appends a window of a connection: an attach, or a settle of the window before; then `readfe` and `writeef` of each
 /// of sixteen words.
-fn put_window(conn: u64, window: u64, line: &mut Vec<u8>) -> Result<(), AllocError> {
+fn put_window(conn: u64, window: u64, line: &mut Vec<u8>) -> Result<(), OutOfMemory> {
     let first = window.saturating_mul(WINDOW).saturating_add(1);
     if window == 0 {
         put_said(line, Say::Attach(conn))?;

@@ -14,10 +14,11 @@ use fe_hall::{
     Unconnected, close,
 };
 use fe_keeper::Keeper;
+use fe_memory::OutOfMemory;
 use fe_state::{Answer, Request, named};
 use fe_wire::ClientMessage;
 use fe_words::Op;
-use std::alloc::{AllocError, Global};
+use std::alloc::Global;
 use std::marker::Brand;
 use std::process::Abort;
 use std::sync::Wait;
@@ -87,7 +88,7 @@ const CASES: [Case; 4] = [
     },
 ];
 
-fn messages(alloc: Global, said: &[Say]) -> Result<Vec<ClientMessage>, AllocError> {
+fn messages(alloc: Global, said: &[Say]) -> Result<Vec<ClientMessage>, OutOfMemory> {
     named::<Request>();
     let mut messages = Vec::new(alloc);
     for say in said {
@@ -157,7 +158,7 @@ fn closed<R: Abort + Clock + Threads + Wait + Sync>(
     rt: &R,
     alloc: Global,
     case: &Case,
-) -> Result<Closes, AllocError> {
+) -> Result<Closes, OutOfMemory> {
     let mut sent = Vec::new(alloc);
     sent.push(messages(alloc, case.sent)?)?;
     let receipts = ReceiptList::of(Vec::from_slice(alloc, &[case.receipt])?);

@@ -16,7 +16,8 @@ use fe_hall::{
     ReadEnd, ReadHalf, StoreSeat, Tally, commit_side, read_side,
 };
 use fe_keeper::{Fault, Keeper};
-use std::alloc::{AllocError, Global};
+use fe_memory::OutOfMemory;
+use std::alloc::Global;
 use std::marker::Brand;
 use std::process::Abort;
 use std::sync::Wait;
@@ -48,7 +49,7 @@ const USED: u32 = 480_010;
 const USED_LATER: u32 = 320_010;
 
 /// The stream of a client that attaches again and again.
-fn stream(alloc: Global) -> Result<Vec<u8>, AllocError> {
+fn stream(alloc: Global) -> Result<Vec<u8>, OutOfMemory> {
     let mut bytes = Vec::new(alloc);
     for _ in 0..ATTACHES {
         put_said(&mut bytes, Say::Attach(7))?;
@@ -194,7 +195,7 @@ fn open_at_last(rt: &impl Abort, alloc: Global) -> Keeper<Liar> {
     match Keeper::open(alloc, new_liar(rt, alloc)) {
         Ok(keeper) => keeper,
         Err((fault, liar)) => {
-            assert!(rt; fault == Fault::NoMemory);
+            assert!(rt; matches!(fault, Fault::NoMemory(_)));
             Keeper::open(alloc, liar).ok().expect(rt, "opened")
         }
     }

@@ -2,7 +2,7 @@
 
 use crate::saying::{Hear, Say, put_heard};
 use fe_hall::{CommitEnd, ReadEnd, WriteEnd};
-use std::alloc::AllocError;
+use fe_memory::OutOfMemory;
 
 /// The replies to a step, each with its connection. Those to one connection come in this order.
 pub type Replies = &'static [(u64, Hear)];
@@ -35,7 +35,7 @@ impl Step {
     }
 
     /// Appends the frames of the step's replies to a connection.
-    fn put(&self, conn: u64, line: &mut Vec<u8>) -> Result<(), AllocError> {
+    fn put(&self, conn: u64, line: &mut Vec<u8>) -> Result<(), OutOfMemory> {
         for (to, hear) in self.replies() {
             if *to == conn {
                 put_heard(line, *hear)?;
@@ -57,7 +57,7 @@ pub enum Script {
 
 impl Script {
     /// Appends the frames that should be written to a connection. In a play of windows none are checked.
-    pub fn put(&self, conn: u64, line: &mut Vec<u8>) -> Result<(), AllocError> {
+    pub fn put(&self, conn: u64, line: &mut Vec<u8>) -> Result<(), OutOfMemory> {
         if let Script::Steps(steps) = self {
             for step in *steps {
                 step.put(conn, line)?;

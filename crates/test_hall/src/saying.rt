@@ -1,11 +1,11 @@
 //! Short names for what clients send and receive. There is one array, `cells`, with id 1.
 
 use fe_front::{Mail, Refusal};
+use fe_memory::OutOfMemory;
 use fe_messages::Reply;
 use fe_state::{Answer, Name, Request};
 use fe_wire::{ClientMessage, put_message};
 use fe_words::{Op, Tag};
-use std::alloc::AllocError;
 
 /// A message of a client.
 #[derive(Clone, Copy)]
@@ -61,7 +61,7 @@ pub fn message_of(say: Say) -> Option<ClientMessage> {
 }
 
 /// Appends the frame of a message.
-pub fn put_said(line: &mut Vec<u8>, say: Say) -> Result<(), AllocError> {
+pub fn put_said(line: &mut Vec<u8>, say: Say) -> Result<(), OutOfMemory> {
     match message_of(say) {
         Some(message) => put_message(line, &message),
         None => Ok(()),
@@ -69,7 +69,7 @@ pub fn put_said(line: &mut Vec<u8>, say: Say) -> Result<(), AllocError> {
 }
 
 /// Appends the frame of a reply.
-pub fn put_heard(line: &mut Vec<u8>, hear: Hear) -> Result<(), AllocError> {
+pub fn put_heard(line: &mut Vec<u8>, hear: Hear) -> Result<(), OutOfMemory> {
     let mail = match hear {
         Hear::Welcome(session) => Mail::Welcome { session, floor: 1 },
         Hear::Array(number, length) => answered(number, Answer::Array { id: 1, length }),

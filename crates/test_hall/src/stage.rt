@@ -15,8 +15,9 @@ use fe_hall::{
     Tally, commit_side, read_side, write_side,
 };
 use fe_keeper::Keeper;
+use fe_memory::OutOfMemory;
 use fe_state::State;
-use std::alloc::{AllocError, Global};
+use std::alloc::Global;
 use std::marker::Brand;
 use std::process::Abort;
 use std::sync::ledger::Blank;
@@ -138,7 +139,7 @@ pub fn hall_over<C: Tally, M: Tally>(
     calls: Blank,
     mails: Blank,
     history: NewHistory,
-) -> Result<(Hall<C, M>, StoreSeat<M>, ConnectRight), AllocError>
+) -> Result<(Hall<C, M>, StoreSeat<M>, ConnectRight), OutOfMemory>
     requires calls { IsBlankOf C.name C.parts C.all calls.name calls.parts }
     requires mails { IsBlankOf M.name M.parts M.all mails.name mails.parts }
     requires history { history.book ≡ M.book }

@@ -12,7 +12,8 @@ use fe_disk::{Disk, Fuse, Guarded, Held, MemoryDisk, SyncHold};
 use fe_front::Books;
 use fe_hall::{ReadEnd, WriteEnd};
 use fe_keeper::Keeper;
-use std::alloc::{AllocError, Global};
+use fe_memory::OutOfMemory;
+use std::alloc::Global;
 use std::process::Abort;
 use std::sync::{Arc, Wait};
 use std::test::Fail;
@@ -25,7 +26,7 @@ const PATHS: [Play; 5] = [FIRST_PATH, BROADCAST, TURNS_OF_WRITERS, ARITHMETIC, P
 /// More device calls than opening a store and appending one group take, and fewer than opening it and appending two take.
 const CALLS: u64 = 10;
 
-fn is_written(alloc: Global, play: &Play, conn: u64, client: &Client) -> Result<bool, AllocError> {
+fn is_written(alloc: Global, play: &Play, conn: u64, client: &Client) -> Result<bool, OutOfMemory> {
     let mut frames = Vec::new(alloc);
     play.script.put(conn, &mut frames)?;
     Ok(frames.as_slice() == client.written.as_slice())

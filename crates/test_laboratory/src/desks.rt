@@ -16,7 +16,7 @@ use std::alloc::Global;
 pub fn store_fault(fault: DeskFault) -> Fault {
     match fault {
         DeskFault::Store(fault) => fault,
-        DeskFault::NoMemory { fed: _ } | DeskFault::Unwritten => Fault::NoMemory,
+        DeskFault::NoMemory { error, .. } | DeskFault::Unwritten(error) => Fault::NoMemory(error),
     }
 }
 
@@ -123,7 +123,7 @@ fn built(
             return Err(Trouble::Disk);
         }
     }
-    image_of(alloc, state)
+    Ok(image_of(alloc, state)?)
 }
 
 // Whether each welcome and each answer that was written to the connection is in the state.
@@ -192,7 +192,10 @@ pub fn found<D: Disk>(alloc: Global, disk: D) -> (D, Result<Vec<u8>, Fault>) {
     match Desk::open(alloc, disk) {
         Ok(desk) => {
             let image = image_of(alloc, desk.keeper().state());
-            (desk.into_disk(), image.map_err(|_| Fault::NoMemory))
+            (
+                desk.into_disk(),
+                image.map_err(|error| Fault::NoMemory(error)),
+            )
         }
         Err((fault, disk)) => (disk, Err(store_fault(fault))),
     }

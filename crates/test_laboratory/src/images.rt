@@ -35,6 +35,6 @@ pub fn image_fault(alloc: Global, format: Format, bytes: &[u8]) -> Result<String
             Ok(String::from_str(alloc, "image")?)
         }
         Err(ImageFault::Damaged { offset }) => Ok(format!(in alloc; "{offset}")?),
-        Err(ImageFault::NoMemory) => Err(Trouble::Memory),
+        Err(ImageFault::NoMemory(_)) => Err(Trouble::Memory),
     }
 }

@@ -6,7 +6,8 @@ use crate::trouble::Trouble;
 use fe_disk::Disk;
 use fe_journal::{Format, Found, Groups, Journal, StoreFault};
 use fe_keeper::Fault;
-use std::alloc::{AllocError, Global};
+use fe_memory::OutOfMemory;
+use std::alloc::Global;
 
 /// Opens a store, and makes the calls up to the first that fails.
 pub fn made<D: Disk>(alloc: Global, disk: D, acts: &[Act]) -> (D, Result<Made, Trouble>) {
@@ -127,10 +128,15 @@ pub fn held<D: Disk>(alloc: Global, disk: D) -> (D, Result<Vec<u8>, Fault>) {
     }
 }
 
-fn put_row(out: &mut Vec<u8>, bytes: &[u8]) -> Result<(), AllocError> {
-    let length = bytes.len() as u64;
-    out.extend_from_slice(&length.to_be_bytes())?;
-    out.extend_from_slice(bytes)
+fn put_number(out: &mut Vec<u8>, number: u64) -> Result<(), OutOfMemory> {
+    out.extend_from_slice(&number.to_be_bytes())?;
+    Ok(())
+}
+
+fn put_row(out: &mut Vec<u8>, bytes: &[u8]) -> Result<(), OutOfMemory> {
+    put_number(out, bytes.len() as u64)?;
+    out.extend_from_slice(bytes)?;
+    Ok(())
 }
 
 // A journal has at most 15,196 groups: the smallest takes 69 bytes.
@@ -141,7 +147,7 @@ fn spelled(
     mut groups: Groups,
 ) -> Result<Vec<u8>, Fault> {
     let mut out = Vec::new(alloc);
-    out.extend_from_slice(&generation.to_be_bytes())?;
+    put_number(&mut out, generation)?;
     put_row(&mut out, image)?;
     for _ in 0..300_000 {
         match groups.payload() {

@@ -124,7 +124,7 @@ fn image_with(alloc: Global, state: &State, entries: &[Entry]) -> Result<Vec<u8>
 
 fn advanced(alloc: Global, state: &mut State, entries: &[Entry]) -> Result<Vec<u8>, Trouble> {
     advance(state, entries)?;
-    image_of(alloc, state)
+    Ok(image_of(alloc, state)?)
 }
 
 /// Adds the entries, which must be legal.
@@ -143,7 +143,10 @@ pub fn found<D: Disk>(alloc: Global, disk: D) -> (D, Result<Vec<u8>, Fault>) {
     match Keeper::open(alloc, disk) {
         Ok(keeper) => {
             let image = image_of(alloc, keeper.state());
-            (keeper.into_disk(), image.map_err(|_| Fault::NoMemory))
+            (
+                keeper.into_disk(),
+                image.map_err(|error| Fault::NoMemory(error)),
+            )
         }
         Err((fault, disk)) => (disk, Err(fault)),
     }

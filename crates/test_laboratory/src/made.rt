@@ -4,6 +4,7 @@ use crate::shown::fault_text;
 use crate::trouble::Trouble;
 use fe_codec::{Format, put_image};
 use fe_keeper::Fault;
+use fe_memory::OutOfMemory;
 use fe_state::State;
 use std::alloc::Global;
 
@@ -79,7 +80,7 @@ impl Made {
 }
 
 /// The image of the state, in format 2.
-pub fn image_of(alloc: Global, state: &State) -> Result<Vec<u8>, Trouble> {
+pub fn image_of(alloc: Global, state: &State) -> Result<Vec<u8>, OutOfMemory> {
     let mut image = Vec::new(alloc);
     put_image(Format::Two, state, &mut image)?;
     Ok(image)

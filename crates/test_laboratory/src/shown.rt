@@ -9,7 +9,7 @@ pub fn fault_text(alloc: Global, fault: &Fault) -> Result<String, AllocError> {
     match fault {
         Fault::Device => String::from_str(alloc, "Device"),
         Fault::Failed => String::from_str(alloc, "Failed"),
-        Fault::NoMemory => String::from_str(alloc, "NoMemory"),
+        Fault::NoMemory(_) => String::from_str(alloc, "NoMemory"),
         Fault::Mismatch { place } => format!(in alloc; "Mismatch {{ place: {place} }}"),
         Fault::Damaged { offset } => format!(in alloc; "Damaged {{ offset: {offset} }}"),
         Fault::Unformatted => String::from_str(alloc, "Unformatted"),

@@ -1,4 +1,5 @@
 use fe_disk::DeviceFault;
+use fe_memory::OutOfMemory;
 use std::alloc::{AllocError, AllocFailed};
 use std::io;
 
@@ -13,6 +14,12 @@ pub enum Trouble {
     Disk,
     /// Standard input can't be read or is not UTF-8, or standard output can't be written.
     Stream,
+}
+
+impl From<OutOfMemory> for Trouble {
+    fn from(_: OutOfMemory) -> Trouble {
+        Trouble::Memory
+    }
 }
 
 impl From<AllocError> for Trouble {

@@ -1,8 +1,9 @@
 //! A user who waits for each reply before typing the next line, and the server that replies.
 
 use fe_client::{Broken, Streams, converse};
+use fe_memory::OutOfMemory;
 use fe_text::StreamFault;
-use std::alloc::{AllocError, Global};
+use std::alloc::Global;
 use std::process::Abort;
 
 // The codes of events in the log. Printed text is logged as it is: it has no byte above 127.
@@ -34,10 +35,11 @@ impl Dialogue<'_, '_> {
     ghost use Rattle.std.specs.Prelude.{◌≡◌, ◌++◌, is_ok, if◌then◌else◌};
 
     /// Appends an event to the log.
-    fn happened(&mut self, code: &[u8]) -> Result<(), AllocError>
+    fn happened(&mut self, code: &[u8]) -> Result<(), OutOfMemory>
         ensures { self.new.log.items ≡ (if is_ok result then self.old.log.items ++ code.now else self.old.log.items) }
     {
-        self.log.extend_from_slice(code)
+        self.log.extend_from_slice(code)?;
+        Ok(())
     }
 }
 
@@ -65,11 +67,11 @@ impl Streams for Dialogue<'_, '_> {
         let Some((byte, left)) = self.input.split_first() else {
             return match self.happened(&[READ, 0]) {
                 Ok(()) => Ok(Some(0)),
-                Err(_) => Err(StreamFault::Memory),
+                Err(error) => Err(StreamFault::Memory(error)),
             };
         };
-        if self.happened(&[READ, 1, *byte]).is_err() {
-            return Err(StreamFault::Memory);
+        if let Err(error) = self.happened(&[READ, 1, *byte]) {
+            return Err(StreamFault::Memory(error));
         }
         buffer[0] = *byte;
         self.is_waiting = *byte == b'\n';
@@ -102,16 +104,16 @@ impl Streams for Dialogue<'_, '_> {
     }
 
     fn write(&mut self, text: &[u8]) -> Result<(), StreamFault> {
-        if self.happened(text).is_err() {
-            return Err(StreamFault::Memory);
+        if let Err(error) = self.happened(text) {
+            return Err(StreamFault::Memory(error));
         }
         self.has_written = true;
         Ok(())
     }
 
     fn flush(&mut self) -> Result<(), StreamFault> {
-        if self.happened(&[FLUSHED]).is_err() {
-            return Err(StreamFault::Memory);
+        if let Err(error) = self.happened(&[FLUSHED]) {
+            return Err(StreamFault::Memory(error));
         }
         if self.has_written {
             self.is_waiting = false;
@@ -122,7 +124,7 @@ impl Streams for Dialogue<'_, '_> {
 }
 
 /// Appends one event of this kind for each byte.
-fn log_each(log: &mut Vec<u8>, kind: &[u8], bytes: &[u8]) -> Result<(), AllocError> {
+fn log_each(log: &mut Vec<u8>, kind: &[u8], bytes: &[u8]) -> Result<(), OutOfMemory> {
     for byte in bytes {
         log.extend_from_slice(kind)?;
         log.push(*byte)?;
@@ -131,7 +133,7 @@ fn log_each(log: &mut Vec<u8>, kind: &[u8], bytes: &[u8]) -> Result<(), AllocErr
 }
 
 /// Appends the events for a line, its message, the reply and the printed text, in this order.
-fn log_turn(log: &mut Vec<u8>, line: &[u8], turn: [&[u8]; 3]) -> Result<(), AllocError> {
+fn log_turn(log: &mut Vec<u8>, line: &[u8], turn: [&[u8]; 3]) -> Result<(), OutOfMemory> {
     let [message, reply, text] = turn;
     log_each(log, &[READ, 1], line)?;
     log_each(log, &[SENT], message)?;
@@ -141,7 +143,7 @@ fn log_turn(log: &mut Vec<u8>, line: &[u8], turn: [&[u8]; 3]) -> Result<(), Allo
 }
 
 /// The events for `attach 7` and `bye`.
-fn transcript(alloc: Global) -> Result<Vec<u8>, AllocError> {
+fn transcript(alloc: Global) -> Result<Vec<u8>, OutOfMemory> {
     let mut log = Vec::new(alloc);
     log_turn(&mut log, b"attach 7\n", [ATTACH, WELCOME, b"welcome 7 1\n"])?;
     log_turn(&mut log, b"bye\n", [BYE, GOODBYE, b"goodbye 7\n"])?;

@@ -1,10 +1,10 @@
 -- What is always true of a desk (`docs/model.md`, "The desk").
-use Rattle.std.specs.Prelude.{◌≡◌, ℕ, ◌<◌, ◌≤◌, true, false, List, ◌∷◌, ◌++◌, length, map, take, drop, nat_eq, Option, None, is_some, [], ◌≢◌, Some, slice_get, ◌⊎◌, IsTrue}
+use Rattle.std.specs.Prelude.{◌≡◌, ℕ, ◌<◌, ◌≤◌, true, false, List, ◌∷◌, ◌++◌, length, map, drop, nat_eq, Option, None, is_some, [], ◌≢◌, Some, slice_get, slice_index_or, ◌⊎◌, IsTrue, suc, ◌/◌, ◌%◌}
 use Rattle.fe_state.specs.State.{ServerState, after_all}
 use Rattle.fe_state.specs.History.{AreLegal}
 use Rattle.fe_state.specs.declared.entry.Entry.{Entry}
 use Rattle.fe_front.specs.Front.{is_connected, FrontState}
-use Rattle.fe_front.specs.Posting.{IsOut, may_have}
+use Rattle.fe_front.specs.Posting.{IsOut, may_have, remainder_count}
 use Rattle.fe_front.specs.declared.out.Out.{Out}
 use Rattle.fe_keeper.specs.Stands.{LeavesPrefix}
 use Rattle.fe_desk.specs.declared.handed.Handed.{Handed}
@@ -12,7 +12,7 @@ use Rattle.fe_desk.specs.declared.handed.Handed.TheVariants.{Nothing, Cut, Store
 use Rattle.fe_desk.specs.declared.desk_inner.DeskInner.{DeskInner}
 use Rattle.fe_desk.specs.declared.port.Port.{Port}
 use Rattle.fe_desk.specs.declared.port_places.PortPlaces.{PortPlaces}
-use Rattle.fe_desk.specs.declared.span.Span.{Span}
+use Rattle.fe_desk.specs.declared.port_set.PortSet.{PortSet}
 use Rattle.fe_desk.specs.Acknowledged.{cut_entries}
 use Rattle.fe_desk.specs.DeskRunState.{Client, DeskRunState, written_out, all_written_out, all_emptied, emptied_box, output_of, Extends}
 use Rattle.fe_desk.specs.Steps.{find, BeginsStream, clients_with}
@@ -20,9 +20,9 @@ use Rattle.fe_desk.specs.Crash.{DeskState, IsFrom, disk_of}
 use Rattle.fe_disk.specs.declared.disk.Disk.{Ghosts}
 use Rattle.fe_mail.specs.Connections.{mails_on}
 use Rattle.fe_desk.specs.Messages.{outputs}
-use Rattle.fe_desk.specs.Runs.{AreSilent}
 use Rattle.indexmap.specs.IndexMap.{get}
-use Rattle.std.specs.Option.{option_map}
+use Rattle.std.specs.Option.{option_map, option_map_or}
+use Rattle.std.specs.Int.{bit_at}
 use Rattle.fe_wire.specs.Stream.{Decoding}
 use Rattle.fe_front.specs.Steps.{connected}
 use Rattle.fe_front.specs.declared.connection_set.ConnectionSet.{ConnectionSet}
@@ -144,9 +144,19 @@ pub record Joins (f : FrontState) (cs : List Client) (conn : ℕ) (g : FrontStat
   pub front : g ≡ connected f conn
   pub clients : ds ≡ clients_with cs conn decoder
 
--- each index that is known is that of the first client of its number
-abbrev pub ArePlaces : PortPlaces → List Client → Type 0
-ArePlaces places clients = (conn at : ℕ) → get nat_eq places.indexes conn ≡ Some at → IsFirstAt clients conn at
+-- 1 if a set of ports has this one, or another one that shares its bit, and else 0
+abbrev pub port_bit : PortSet → ℕ → ℕ
+port_bit set at = bit_at (slice_index_or set.words ((at / 64) % 16) 0) (at % 64)
+
+-- 1 if the set of a remainder has this port, or is missing
+abbrev pub alike_bit : List PortSet → ℕ → ℕ → ℕ
+alike_bit sets remainder at = option_map_or (λ set. port_bit set at) (slice_get sets remainder) 1
+
+-- Each index that is known is that of the first client of its number. The clients that are sorted are in the sets of their remainders.
+pub record ArePlaces (places : PortPlaces) (clients : List Client) : Type 0 where
+  pub known : (conn at : ℕ) → get nat_eq places.indexes conn ≡ Some at → IsFirstAt clients conn at
+  pub few : places.sorted ≤ length clients
+  pub sorted : (at conn : ℕ) → at < places.sorted → client_number_at clients at ≡ Some conn → alike_bit places.alike.items (conn % remainder_count) at ≡ 1
 
 -- ---- which clients something is to be written to
 
@@ -160,27 +170,15 @@ abbrev pub AreQuiet : FrontState → List Client → Type 0
 AreQuiet f [] = Unit {0}
 AreQuiet f (c ∷ cs) = IsQuiet f c × AreQuiet f cs
 
--- nothing is to be written to a client before the span, nor behind it once the others are written all
-pub record IsMailed (f : FrontState) (clients : List Client) (span : Span) : Type 0 where
-  pub ordered : span.from ≤ span.to
-  pub within : span.to ≤ length clients
-  pub before : AreQuiet f (take span.from clients)
-  pub behind : AreQuiet (all_emptied f (take span.to clients)) (drop span.to clients)
+-- the clients from this index on: nothing is to be written to one that is not in the set, once the boxes before it are empty
+abbrev pub IsMailedFrom : ℕ → FrontState → List Client → PortSet → Type 0
+IsMailedFrom at f [] set = Unit {0}
+IsMailedFrom at f (c ∷ cs) set = ((port_bit set at ≡ 1) ⊎ IsQuiet f c) × IsMailedFrom (suc at) (emptied_box f c.conn) cs set
 
--- the ports out of the span are as they were
-pub record AreBeyond (span : Span) (old new : List Port) : Type 0 where
-  pub before : take span.from new ≡ take span.from old
-  pub behind : drop span.to new ≡ drop span.to old
-
--- the span has all of this many
-pub record IsAll (span : Span) (count : ℕ) : Type 0 where
-  pub from : span.from ≡ 0
-  pub to : span.to ≡ count
-
--- nothing was written out of the span
-pub record IsSilentBeyond (span : Span) (outs : List (ℕ × List ℕ)) : Type 0 where
-  pub before : AreSilent (take span.from outs)
-  pub behind : AreSilent (drop span.to outs)
+-- from this index on, nothing was written to a connection number that is not in the set
+abbrev pub IsSilentFrom : ℕ → List (ℕ × List ℕ) → PortSet → Type 0
+IsSilentFrom at [] set = Unit {0}
+IsSilentFrom at (o ∷ os) set = ((port_bit set at ≡ 1) ⊎ (o.1 ≡ [])) × IsSilentFrom (suc at) os set
 
 -- the set has each connection with a mail
 abbrev pub HasAllWithMail : FrontState → ConnectionSet → Type 0

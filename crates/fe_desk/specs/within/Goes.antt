@@ -1,7 +1,7 @@
 -- How a call goes: one relation for each kind of call, by cases of what it answers. `model` is `D.Disk`, the members of the disk model.
 -- Calls go one after the other by `then` (`proofs/Goes`) (`docs/model.md`, "The desk").
 use Rattle.std.specs.Prelude.{◌≡◌, ◌⊎◌, ℕ, ◌<◌, Bool, true, List, [], length, if◌then◌else◌, Result, Ok, Err, MatchBool, MatchResult}
-use Rattle.std.specs.declared.alloc.AllocError.{AllocError}
+use Rattle.fe_memory.specs.declared.OutOfMemory.{OutOfMemory}
 use Rattle.fe_disk.specs.declared.disk.Disk.{Ghosts}
 use Rattle.fe_keeper.specs.declared.fault.Fault.{Fault}
 use Rattle.fe_keeper.specs.declared.fault.Fault.TheVariants.{Device, Failed, NoMemory, Mismatch, Damaged, Unformatted}
@@ -34,7 +34,7 @@ pub record Loses {D : Type 0} (model : Ghosts D) (Until : DeskRunState → Type 
 abbrev pub Faults : {D : Type 0} → Ghosts D → (DeskState D → Type 0) → (DeskRunState → Type 0) → DeskState D → DeskState D → Fault → Type 0
 Faults model Short Until old new Device = Loses model Until old new
 Faults model Short Until old new Failed = ⊥
-Faults model Short Until old new NoMemory = Stores model old new × Short new
+Faults model Short Until old new (NoMemory error) = Stores model old new × Short new
 Faults model Short Until old new (Mismatch place) = ⊥
 Faults model Short Until old new (Damaged offset) = ⊥
 Faults model Short Until old new Unformatted = ⊥
@@ -51,8 +51,8 @@ pub record Goes {D : Type 0} (model : Ghosts D) (Done : DeskRunState → Type 0)
 -- the faults of such a call that reads a piece: memory is short before the piece is read, or after it (`fed`)
 abbrev pub PieceFaults : {D : Type 0} → Ghosts D → (Bool → DeskRunState → Type 0) → (DeskRunState → Type 0) → DeskState D → DeskState D → DeskFault → Type 0
 PieceFaults model Short Until old new (desk.Store cause) = (cause ≡ Device) × Loses model Until old new
-PieceFaults model Short Until old new (desk.NoMemory fed) = Stores model old new × Short fed new.run_state
-PieceFaults model Short Until old new desk.Unwritten = ⊥
+PieceFaults model Short Until old new (desk.NoMemory error fed) = Stores model old new × Short fed new.run_state
+PieceFaults model Short Until old new (desk.Unwritten error) = ⊥
 
 -- such a call that reads a piece: it is done, or has one of these faults
 pub record GoesPiece {D : Type 0} (model : Ghosts D) (Done : DeskRunState → Type 0) (Short : Bool → DeskRunState → Type 0) (Until : DeskRunState → Type 0)
@@ -136,8 +136,8 @@ pub record IsBroken {D : Type 0} (model : Ghosts D) (old : DeskState D) (step : 
 abbrev pub ActEnds : {D : Type 0} → Ghosts D → DeskState D → Step → DeskState D → Result (Unit {0}) DeskFault → Type 0
 ActEnds model old step new (Ok done) = HasActed model old step new
 ActEnds model old step new (Err (desk.Store cause)) = (cause ≡ Device) × IsBroken model old step new
-ActEnds model old step new (Err (desk.NoMemory fed)) = IsLacking model fed old step new
-ActEnds model old step new (Err desk.Unwritten) = ⊥
+ActEnds model old step new (Err (desk.NoMemory error fed)) = IsLacking model fed old step new
+ActEnds model old step new (Err (desk.Unwritten error)) = ⊥
 
 -- A step acts, and leaves a desk with the mails that are owed as they were.
 pub record GoesAct {D : Type 0} (model : Ghosts D) (old : DeskState D) (step : Step) (result : Result (Unit {0}) DeskFault) (new : DeskState D) : Type 0 where
@@ -160,9 +160,9 @@ pub record StillHolds (s t : DeskRunState) : Type 0 where
   pub writes : WritesSome s t
 
 -- the boxes are emptied, or memory is short for some of the mails
-abbrev pub Empties : Result (Unit {0}) AllocError → DeskRunState → DeskRunState → Type 0
+abbrev pub Empties : Result (Unit {0}) OutOfMemory → DeskRunState → DeskRunState → Type 0
 Empties result s t = MatchResult result (λ _. HasEmptied s t) (λ _. StillHolds s t)
 
 -- the mails that an earlier step left are written, or some of them
-abbrev pub Settles : Result (Unit {0}) AllocError → DeskRunState → DeskRunState → Type 0
+abbrev pub Settles : Result (Unit {0}) OutOfMemory → DeskRunState → DeskRunState → Type 0
 Settles result s t = MatchResult result (λ _. t ≡ discharged s) (λ _. (s.owes ≡ true) × StillHolds s t)

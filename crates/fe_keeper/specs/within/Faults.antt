@@ -14,13 +14,13 @@ fault_of_journal journal.Failed = Failed
 
 abbrev pub fault_of_store : StoreFault → Fault
 fault_of_store store.Device = Device
-fault_of_store store.NoMemory = NoMemory
+fault_of_store (store.NoMemory error) = NoMemory error
 fault_of_store store.Unformatted = Unformatted
 fault_of_store (store.Damaged offset) = Damaged offset
 
 abbrev pub fault_of_refused : Refused → Fault
 fault_of_refused (replica.Mismatch place) = Mismatch place
-fault_of_refused replica.NoMemory = NoMemory
+fault_of_refused (replica.NoMemory error) = NoMemory error
 
 -- what a keeper says of a store that its journal did not open
 abbrev pub refused_by_journal : {D : Type 0} → StoreFault × D → Fault × D

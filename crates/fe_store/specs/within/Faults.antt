@@ -16,7 +16,7 @@ fault_of_file file.Device = fault.Device
 -- the fault when a keeper is not opened; opening never ends with `Failed` or `Mismatch`
 abbrev pub IsOpenFaultOf : keeper.Fault → OpenFault → Type 0
 IsOpenFaultOf store.Device answer = answer ≡ fault.Device
-IsOpenFaultOf store.NoMemory answer = answer ≡ fault.Memory
+IsOpenFaultOf (store.NoMemory error) answer = answer ≡ fault.Memory error
 IsOpenFaultOf (store.Damaged offset) answer = answer ≡ fault.Damaged offset
 IsOpenFaultOf store.Unformatted answer = answer ≡ fault.Unformatted
 IsOpenFaultOf store.Failed answer = ⊥

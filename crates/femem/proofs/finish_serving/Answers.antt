@@ -1,5 +1,6 @@
 use Rattle.std.proofs.Common.{◌≡◌, ◌⊎◌, ℕ, List, take, Option, Result, Ok, refl}
 use Rattle.std.specs.Io.KnownBytes.{Appends}
+use Rattle.fe_memory.specs.Memory.{out_of_memory}
 use Rattle.fe_mail.specs.Books.{Books}
 use Rattle.fe_server.specs.BooksText.{books_text}
 use Rattle.fe_server.specs.declared.failed.Failed.{Failed}
@@ -19,7 +20,7 @@ writes ended inner served books before after outer there same written =
 -- the books that were not written to their end are those of the server
 breaks_off : {D : Type 0} (has_failed : StreamFault → Type 0) (before after : Option (List ℕ)) (ended : ServeResult D) (inner : Result (Served D) (Failed D))
     (served : Served D) (books : Books) (why : StreamFault) (end : Fault)
-    → ended ≡ Ok inner → inner ≡ Ok served → books ≡ served.audit.books → (why ≡ stream.Memory) ⊎ has_failed why → end ≡ of_stream why
+    → ended ≡ Ok inner → inner ≡ Ok served → books ≡ served.audit.books → (why ≡ stream.Memory out_of_memory) ⊎ has_failed why → end ≡ of_stream why
     → (count : ℕ) × Appends before after (take count (books_text books)) → IsFaultOf has_failed before after ended end
 breaks_off has_failed before after ended inner served books why end outer there same is_why is_end front =
     rw outer (rw there (record { why = why; is_why = is_why; is_end = is_end; count = front.0; front = rw same at front.1 }))

@@ -19,6 +19,7 @@ use Rattle.fe_text.specs.declared.fault.StreamFault.TheVariants as stream
 use Rattle.femem.specs.declared.fault.Fault.{Fault}
 use Rattle.femem.specs.declared.fault.Fault.TheVariants as fault
 use Rattle.std.specs.Io.KnownBytes.{Appends}
+use Rattle.fe_memory.specs.Memory.{out_of_memory}
 use Rattle.toml.specs.Data.{Members}
 use Rattle.toml.specs.Parse.{parse_document}
 use Rattle.fe_mail.specs.Books.{Books, AddUp}
@@ -52,12 +53,12 @@ status_of fault.Strange = 3
 -- the fault if a stream was not read or written to its end
 abbrev pub of_stream : StreamFault → Fault
 of_stream stream.Input = fault.Input
-of_stream stream.Memory = fault.Memory
+of_stream (stream.Memory error) = fault.Memory
 
 -- the fault if a store was not opened
 abbrev pub of_store : OpenFault → Fault
 of_store store.Device = fault.Device
-of_store store.Memory = fault.Memory
+of_store (store.Memory error) = fault.Memory
 of_store (store.Size found) = fault.Size found
 of_store store.Unformatted = fault.Unformatted
 of_store (store.Damaged offset) = fault.Damaged offset
@@ -66,7 +67,7 @@ of_store (store.Damaged offset) = fault.Damaged offset
 abbrev pub of_schedule : ScheduleFault → Fault
 of_schedule (schedule.Line number) = fault.Line number
 of_schedule schedule.Input = fault.Input
-of_schedule schedule.Memory = fault.Memory
+of_schedule (schedule.Memory error) = fault.Memory
 of_schedule schedule.Device = fault.Device
 
 -- the fault if a store was not shown
@@ -97,7 +98,7 @@ abbrev pub of_call : CallFault → Fault
 of_call (call.Line number) = fault.Line number
 of_call call.Socket = fault.Socket
 of_call call.Input = fault.Input
-of_call call.Memory = fault.Memory
+of_call (call.Memory error) = fault.Memory
 
 -- these are the settings of some text's document
 pub record AreSettings (settings : Settings) : Type 0 where
@@ -125,7 +126,7 @@ pub record WritesBooksOf {D : Type 0} (ended : ServeResult D) (before after : Op
 -- the writer of books failed with this fault, or memory ran out; a front of their text was written
 pub record BreaksOffBooks (has_failed : StreamFault → Type 0) (before after : Option (List ℕ)) (books : Books) (end : Fault) : Type 0 where
   pub why : StreamFault
-  pub is_why : (why ≡ stream.Memory) ⊎ has_failed why
+  pub is_why : (why ≡ stream.Memory out_of_memory) ⊎ has_failed why
   pub is_end : end ≡ of_stream why
   pub count : ℕ
   pub front : Appends before after (take count (books_text books))

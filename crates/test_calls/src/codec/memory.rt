@@ -2,8 +2,9 @@
 // allocation: the failed call has written nothing, and a second call succeeds.
 use super::RECORD;
 use fe_codec::{Format, ImageFault, put_image, read_group, read_image};
+use fe_memory::OutOfMemory;
 use fe_state::{Entry, State};
-use std::alloc::{AllocError, Global};
+use std::alloc::Global;
 use std::process::Abort;
 use std::test::Fail;
 
@@ -16,20 +17,20 @@ fn image_at_last(rt: &impl Abort, alloc: Global) -> Result<State, ImageFault> {
     match read_image(alloc, Format::Two, IMAGE) {
         Ok(state) => Ok(state),
         Err(fault) => {
-            assert!(rt; fault == ImageFault::NoMemory);
+            assert!(rt; matches!(fault, ImageFault::NoMemory(_)));
             read_image(alloc, Format::Two, IMAGE)
         }
     }
 }
 
-fn group_at_last(alloc: Global) -> Result<Option<Vec<Entry>>, AllocError> {
+fn group_at_last(alloc: Global) -> Result<Option<Vec<Entry>>, OutOfMemory> {
     match read_group(alloc, Format::One, &RECORD) {
         Ok(read) => Ok(read),
         Err(_) => read_group(alloc, Format::One, &RECORD),
     }
 }
 
-fn put_at_last(rt: &impl Abort, state: &State, out: &mut Vec<u8>) -> Result<(), AllocError> {
+fn put_at_last(rt: &impl Abort, state: &State, out: &mut Vec<u8>) -> Result<(), OutOfMemory> {
     let before = out.len();
     if put_image(Format::Two, state, out).is_err() {
         assert!(rt; out.len() == before);

@@ -4,14 +4,15 @@ use Rattle.std.specs.FinMap.{get-empty, len-empty}
 use Rattle.fe_state.specs.Sessions.{Session}
 use Rattle.fe_state.specs.declared.array.Array.{Array}
 use Rattle.std.proofs.lemmas.Result.{err_from_is_err_and}
+use Rattle.fe_memory.specs.Memory.{out_of_memory}
 use Rattle.fe_codec.specs.declared.fault.Fault.{Fault}
 use Rattle.fe_codec.specs.declared.fault.Fault.TheVariants.{Left, NoMemory}
 use Rattle.fe_codec.specs.Loading.{ReadsFault}
 use Rattle.fe_codec.proofs.reading.state_at.Goals as goal
 
 -- the header takes no memory
-takes_none : {Y : Type 0} (fault : Fault) (given : Result Y ℕ) → ReadsFault fault given → fault ≡ NoMemory → ⊥
-takes_none NoMemory given h is = h
+takes_none : {Y : Type 0} (fault : Fault) (given : Result Y ℕ) → ReadsFault fault given → fault ≡ NoMemory out_of_memory → ⊥
+takes_none (NoMemory error) given h is = h
 takes_none (Left left) given h is = absurd cc
 
 pub returns-in_err-header-clause-memory : goal.returns-in_err-header-clause-memory

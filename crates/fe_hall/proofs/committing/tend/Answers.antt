@@ -68,7 +68,7 @@ returns-in_default g c =
       | else-slices+in_ok-checkpoint_finish+else-branch-2 w ↦
           subst Went (sym w.keeper-is) (w.checkpoint_finish.ensures.rests, still_works g.D.Disk old w.checkpoint_finish.new.self w.in_ok-checkpoint_finish.ensures.ends)
     ] in
-    let alone = device_alone g.D.Disk mid new (ForDeviceAndMemory (IsTrue (can_begin mid.store))) c.in-Err.fault (went.1.works ∙ c.requires.works) (λ is x. c.in_default.not-NoMemory is) (λ place x. x) c.in-Err.ensures.ends in
+    let alone = device_alone g.D.Disk mid new (ForDeviceAndMemory (IsTrue (can_begin mid.store))) c.in-Err.fault (went.1.works ∙ c.requires.works) (λ is x. c.in_default.not-NoMemory _ is) (λ place x. x) c.in-Err.ensures.ends in
     record {
       keeps = (rests_both g.D.Disk old mid new went.1.works went.0 c.checkpoint_begin.ensures.rests, c.checkpoint_begin.ensures.durable);
       still = tt;

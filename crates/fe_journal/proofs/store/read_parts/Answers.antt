@@ -1,5 +1,6 @@
 use Rattle.std.proofs.Common.{◌≡◌, ℕ, List, length, Result, Some, Ok, Err, sym, ◌∙◌, ap, subst, arith}
 use Rattle.std.proofs.lemmas.Result.{err_from_is_err_and}
+use Rattle.fe_memory.specs.Memory.{out_of_memory}
 use Rattle.fe_disk.specs.Disk.{LeavesJust}
 use Rattle.fe_disk.specs.Runs.{Asks, Runs}
 use Rattle.fe_disk.specs.declared.disk.Disk.{Ghosts}
@@ -36,7 +37,7 @@ returns-clause-store g c = λ honest.
     }
 
 pub returns-clause-whole : goal.returns-clause-whole
-returns-clause-whole g c = let sound = c.in_ok-slot.ensures.sound in record { is_slot = sound.0; buffer_whole = c.in_ok-buffer.ensures.len; parts_whole = c.in_ok-parts.ensures.whole; ends = c.in_ok-parts.ensures.ends }
+returns-clause-whole g c = let sound = c.in_ok-slot.ensures.sound in record { is_slot = sound.0; buffer_whole = c.in_ok-buffer.ensures; parts_whole = c.in_ok-parts.ensures.whole; ends = c.in_ok-parts.ensures.ends }
 
 pub returns-in_err-slot-clause-faults : goal.returns-in_err-slot-clause-faults
 returns-in_err-slot-clause-faults g c = λ honest.
@@ -51,8 +52,8 @@ returns-in_err-buffer-clause-faults g c = λ honest.
     let honest_1 = c.sync.ensures.device.honesty.1 honest in
     let sized : length seen ≡ g.D.Disk.size disk = (g.met.D.Disk.seen_is_image disk honest_1).whole in
     let s = c.in_ok-slot.ensures.sound in
-    let sound : TellsFound NoMemory seen = sound_by seen c.in_ok-slot.slot c.in_ok-slot.header (sized ∙ sym c.size.ensures ∙ c.if-size-ne-DEVICE_BYTES.false) (c.in_ok-slot.ensures.counts honest_1) s.1 s.2 in
-    let told = subst (λ (l : List ℕ). TellsFound NoMemory l) (c.sync.ensures.same honest) sound in
+    let sound : TellsFound (NoMemory out_of_memory) seen = sound_by seen c.in_ok-slot.slot c.in_ok-slot.header (sized ∙ sym c.size.ensures ∙ c.if-size-ne-DEVICE_BYTES.false) (c.in_ok-slot.ensures.counts honest_1) s.1 s.2 in
+    let told = subst (λ (l : List ℕ). TellsFound (NoMemory out_of_memory) l) (c.sync.ensures.same honest) sound in
     let p = err_from_is_err_and c.from_residual-in_err-buffer.result c.from_residual-in_err-buffer.ensures.1 in
     rw (p.1, p.2) told
 
@@ -69,7 +70,7 @@ returns-in_err-parts-clause-faults g c = λ honest.
 pub returns-in_err-parts-clause-memory : goal.returns-in_err-parts-clause-memory
 returns-in_err-parts-clause-memory g c = λ asked.
     let p = err_from_is_err_and c.from_residual-in_err-parts.result c.from_residual-in_err-parts.ensures.1 in
-    let short : c.read_slot.result ≡ Err NoMemory = cc (p.1, p.2, c.in_err-parts.was, asked) in
+    let short : c.read_slot.result ≡ Err (NoMemory out_of_memory) = cc (p.1, p.2, c.in_err-parts.was, asked) in
     let synced = c.sync.ensures.device.most.0.1 in
     let first = c.read_sound.ensures.device.most.0.1 in
     let more = c.read_slot.ensures.memory short in

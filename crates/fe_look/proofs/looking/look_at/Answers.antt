@@ -1,6 +1,7 @@
 use Rattle.std.proofs.Common.{◌≡◌, subst}
 use Rattle.std.proofs.lemmas.Result.{on_ok_weaker}
 use Rattle.std.specs.Io.KnownBytes.{Appends}
+use Rattle.fe_memory.specs.Memory.{out_of_memory}
 use Rattle.fe_state.specs.State.{ServerState}
 use Rattle.fe_store.specs.Opening.{IsReason}
 use Rattle.fe_store.specs.declared.fault.OpenFault.{OpenFault}
@@ -23,7 +24,7 @@ pub returns-in-Ok-clause-refused : goal.returns-in-Ok-clause-refused
 returns-in-Ok-clause-refused g c honest why is = absurd (c.show-shown.ensures.opened why is)
 
 pub returns-in-Ok-clause-memory : goal.returns-in-Ok-clause-memory
-returns-in-Ok-clause-memory g c honest is = absurd (c.show-shown.ensures.opened store.Memory is)
+returns-in-Ok-clause-memory g c honest is = absurd (c.show-shown.ensures.opened (store.Memory out_of_memory) is)
 
 pub returns-in-Ok-clause-opened : goal.returns-in-Ok-clause-opened
 returns-in-Ok-clause-opened g c honest why is = (c.in-Ok.keeper.state, (c.in-Ok.ensures.opened honest).state)

@@ -32,7 +32,7 @@ loop-entry-preserved c =
     let i : ℕ = c.loop-entry.entry-index in
     let e : Entry = c.entry-item.result in
     let more : take (i + 1) es ≡ take i es ++ e ∷ [] = take_more es i e c.loop-entry-test.true ∙ ap (λ (x : Entry). take i es ++ x ∷ []) (sym c.entry-item.is) in
-    let h = c.in-Ok-apply.ensures in
+    let h = c.in_default-apply.ensures in
     record {
       taken = subst (λ (front : List Entry). AreTaken c.args.state.now front c.apply.new.self c.apply.new.log) (sym more)
           (one_taken c.args.state.now c.loop-entry.state c.apply.new.self c.loop-entry.log c.apply.new.log (take i es) e c.loop-entry.invariant.taken (c.in-Ok.ensures.legal.0 refl) h.ok h.log h.beginning h.length);

@@ -8,8 +8,8 @@ use Rattle.fe_server.specs.declared.served.Served.{Served}
 use Rattle.fe_server.proofs.Acknowledged.{ended_acknowledged, unbegun_acknowledged}
 use Rattle.fe_server.proofs.server.serve_as.Goals as goal
 
-pub returns-in_default : goal.returns-in_default
-returns-in_default g c =
+pub returns-in-Err : goal.returns-in-Err
+returns-in-Err g c =
     let u = c.unserved in record {
       committed = (Stopped, u.ensures.committed.0, inl u.ensures.fault);
       acknowledged = (

@@ -22,7 +22,7 @@ tells model is_at disk (Err fault.Unformatted) found holds = record { disk = dis
 tells model is_at disk (Err (fault.Damaged offset)) found holds = record { disk = disk; found = found; holds = holds }
 tells model is_at disk (Err (fault.Size size)) found holds = tt
 tells model is_at disk (Err fault.Device) found holds = tt
-tells model is_at disk (Err fault.Memory) found holds = tt
+tells model is_at disk (Err (fault.Memory error)) found holds = tt
 
 pub returns-clause-opened : goal.returns-clause-opened
 returns-clause-opened g c = opens _ _ _ c.in_ok-disk.disk c.open_found.result c.in_ok-disk.ensures.found c.open_found.ensures.opened

@@ -1,5 +1,6 @@
 use Rattle.std.proofs.Common.{◌≡◌, ◌⊎◌, ℕ, List, Result, Err, inl, inr, sym, ap, subst, refl}
 use Rattle.std.specs.Prelude.{◌↔◌}
+use Rattle.fe_memory.specs.Memory.{out_of_memory}
 use Rattle.fe_disk.specs.declared.calls.Calls.{Calls}
 use Rattle.fe_journal.proofs.Founds.{opens_as}
 use Rattle.fe_keeper.specs.declared.fault.Fault as keeper
@@ -16,14 +17,14 @@ use Rattle.fe_store.proofs.Faults.{not_sized}
 use Rattle.fe_store.proofs.opening.found_or_blank.Goals as goal
 
 -- only the device or memory is reported
-told : (end : keeper.Fault) (answer : OpenFault) → IsOpenFaultOf end answer → (end ≡ store.Device) ⊎ (end ≡ store.NoMemory) → (answer ≡ fault.Device) ⊎ (answer ≡ fault.Memory)
+told : (end : keeper.Fault) (answer : OpenFault) → IsOpenFaultOf end answer → (end ≡ store.Device) ⊎ (end ≡ store.NoMemory out_of_memory) → (answer ≡ fault.Device) ⊎ (answer ≡ fault.Memory out_of_memory)
 told end answer is (inl device) = inl (subst (λ (e : keeper.Fault). IsOpenFaultOf e answer) device is)
 told end answer is (inr short) = inr (subst (λ (e : keeper.Fault). IsOpenFaultOf e answer) short is)
 
 -- the same is said of the image
 tells : (end : keeper.Fault) (answer : OpenFault) (image : List ℕ) (before now : Calls) → IsOpenFaultOf end answer → TellsStore end image before now → TellsImage answer image
 tells store.Device answer image before now is says = subst (λ (f : OpenFault). TellsImage f image) (sym is) tt
-tells store.NoMemory answer image before now is says = subst (λ (f : OpenFault). TellsImage f image) (sym is) tt
+tells (store.NoMemory error) answer image before now is says = subst (λ (f : OpenFault). TellsImage f image) (sym is) tt
 tells (store.Damaged offset) answer image before now is says = subst (λ (f : OpenFault). TellsImage f image) (sym is) says
 tells store.Unformatted answer image before now is says = subst (λ (f : OpenFault). TellsImage f image) (sym is) says
 tells store.Failed answer image before now is says = absurd is
@@ -32,16 +33,16 @@ tells (store.Mismatch place) answer image before now is says = absurd is
 -- the device is reported exactly where it failed
 device_of : (end : keeper.Fault) (answer : OpenFault) → IsOpenFaultOf end answer → answer ≡ fault.Device → end ≡ store.Device
 device_of store.Device answer is device = refl
-device_of store.NoMemory answer is device = cc
+device_of (store.NoMemory error) answer is device = cc
 device_of (store.Damaged offset) answer is device = cc
 device_of store.Unformatted answer is device = cc
 device_of store.Failed answer is device = absurd is
 device_of (store.Mismatch place) answer is device = absurd is
 
 -- memory is reported exactly where it ran out
-memory_of : (end : keeper.Fault) (answer : OpenFault) → IsOpenFaultOf end answer → answer ≡ fault.Memory → end ≡ store.NoMemory
+memory_of : (end : keeper.Fault) (answer : OpenFault) → IsOpenFaultOf end answer → answer ≡ fault.Memory out_of_memory → end ≡ store.NoMemory out_of_memory
 memory_of store.Device answer is short = cc
-memory_of store.NoMemory answer is short = refl
+memory_of (store.NoMemory error) answer is short = refl
 memory_of (store.Damaged offset) answer is short = cc
 memory_of store.Unformatted answer is short = cc
 memory_of store.Failed answer is short = absurd is

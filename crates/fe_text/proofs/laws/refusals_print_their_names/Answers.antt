@@ -14,7 +14,7 @@ same_name BeyondWindow = refl
 same_name NumberUsed = refl
 same_name StillWaiting = refl
 same_name Closing = refl
-same_name NoMemory = refl
+same_name (NoMemory error) = refl
 same_name Spent = refl
 same_name NotWaiting = refl
 

@@ -3,11 +3,10 @@ use Rattle.fe_keeper.specs.Stands.{EachStandsFor}
 use Rattle.fe_desk.specs.Crash.{DeskState, desk_anew, disk_of}
 use Rattle.fe_desk.specs.Acknowledged.{IsAcknowledged}
 use Rattle.fe_desk.specs.DeskRunState.{Client, output_of}
-use Rattle.fe_desk.specs.Messages.{outputs}
 use Rattle.fe_desk.specs.Runs.{AreSilent}
-use Rattle.fe_desk.specs.within.Desk.{ArePlaces, IsSilentBeyond, client_of}
-use Rattle.fe_desk.proofs.Silence.{outs_of}
-use Rattle.fe_desk.proofs.Spans.{silent_all, anew_silent, anew_places}
+use Rattle.fe_desk.specs.within.Desk.{ArePlaces, IsSilentFrom, client_of}
+use Rattle.fe_desk.proofs.Silence.{outs_of, none_written, anew_silent}
+use Rattle.fe_desk.proofs.Placing.{anew_places}
 use Rattle.fe_desk.proofs.Anew.{is_anew, still_desk, still_quiet}
 use Rattle.fe_desk.proofs.Clearing.{cleared_acknowledged}
 use Rattle.fe_desk.proofs.desk.Desk.clear_trace.Goals as goal
@@ -20,18 +19,13 @@ invariant_of-self g c =
     let stands = subst (λ (d : DeskState g.row.D.Denot). g.D.Disk.honest (disk_of d) → EachStandsFor g.D.Disk (disk_of d) d.keeper.state) (sym c.self.view_is) c.requires.stands in
     let clients = map client_of p.trace.ports.items in (
       still_desk g.D.Disk p t e.groups e.synced e.ports c.self.invariant.0 stands,
-      λ quiet. (
-        still_quiet p t e.ports (c.self.invariant.1 quiet).0,
-        silent_all c.none-self-inside.result (map output_of (map client_of t.ports.items)) (subst (λ (cs : List Client). AreSilent (map output_of cs)) (sym e.ports) (anew_silent clients)),
-      ),
-      subst (λ (cs : List Client). ArePlaces c.self.inside.places cs) (sym e.ports) (anew_places c.self.inside.places clients c.self.invariant.2),
+      λ quiet. still_quiet p t e.ports (c.self.invariant.1 quiet),
+      none_written 0 (map output_of (map client_of t.ports.items)) c.new-self-inside.result (subst (λ (cs : List Client). AreSilent (map output_of cs)) (sym e.ports) (anew_silent clients)),
+      subst (λ (cs : List Client). ArePlaces c.self.inside.places cs) (sym e.ports) (anew_places c.self.inside.places clients c.self.invariant.3),
     )
 
 pub clear-requires : goal.clear-requires
-clear-requires g c =
-    let p = c.self.inside.inner in
-    subst (λ (outs : List (ℕ × List ℕ)). IsSilentBeyond c.written_span-span.result outs) (outs_of p.trace.ports.items)
-    (subst (λ (d : DeskState g.row.D.Denot). IsSilentBeyond c.written_span-span.result (outputs d.run_state)) (sym c.self.view_is) c.written_span-span.ensures)
+clear-requires g c = subst (λ (outs : List (ℕ × List ℕ)). IsSilentFrom 0 outs c.self.inside.written) (outs_of c.self.inside.inner.trace.ports.items) c.self.invariant.2
 
 pub returns-clause-acknowledged : goal.returns-clause-acknowledged
 returns-clause-acknowledged g c = λ begun asked from is.

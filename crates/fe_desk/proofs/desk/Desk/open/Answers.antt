@@ -1,5 +1,6 @@
 use Rattle.std.proofs.Common.{◌≡◌, ◌⊎◌, false, inl, inr, ⊎_elim, ap, subst, sym, ◌∙◌}
 use Rattle.std.proofs.lemmas.Result.{IfOk-weaker, IfErr-weaker}
+use Rattle.fe_memory.specs.Memory.{out_of_memory}
 use Rattle.fe_journal.specs.Journal.{OnlyReads}
 use Rattle.fe_keeper.specs.Keeper.{KeeperState}
 use Rattle.fe_keeper.specs.Stands.{StandsFor, EachStandsFor}
@@ -40,7 +41,7 @@ returns-in-Err-clause-device g c = asks_refused c.in-Err.fault c.desk_fault.resu
 
 pub returns-in-Ok-clause-refused : goal.returns-in-Ok-clause-refused
 returns-in-Ok-clause-refused g c = λ honest s stands.
-    IfErr-weaker c.over.result (λ e. e.0 ≡ NoMemory false) (λ e. (e.0 ≡ Store keeper.Device) ⊎ (e.0 ≡ NoMemory false)) (λ e is. inr is) c.over.ensures.fault
+    IfErr-weaker c.over.result (λ e. e.0 ≡ NoMemory out_of_memory false) (λ e. (e.0 ≡ Store keeper.Device) ⊎ (e.0 ≡ NoMemory out_of_memory false)) (λ e is. inr is) c.over.ensures.fault
 
 pub returns-in-Err-clause-refused : goal.returns-in-Err-clause-refused
 returns-in-Err-clause-refused g c = λ honest s stands.

@@ -1,11 +1,13 @@
-use Rattle.std.proofs.Common.{false, true≢false, None, refl, sym, ap, map, rules}
+use Rattle.std.proofs.Common.{false, true≢false, None, List, refl, sym, ap, subst, map, rules}
 use Rattle.fe_front.specs.Front.{IsFirst}
 use Rattle.fe_desk.specs.declared.handed.Handed.TheVariants.{Nothing}
 use Rattle.fe_desk.specs.declared.desk_inner.DeskInner.{DeskInner}
-use Rattle.fe_desk.specs.within.Desk.{client_of, desk_of}
+use Rattle.fe_desk.specs.DeskRunState.{output_of}
+use Rattle.fe_desk.specs.declared.port.Port.{Port}
+use Rattle.fe_desk.specs.within.Desk.{IsSilentFrom, client_of, desk_of}
 use Rattle.fe_desk.proofs.Answering.{first_acknowledged}
 use Rattle.fe_desk.proofs.Openings.{first_desk}
-use Rattle.fe_desk.proofs.Spans.{none_known}
+use Rattle.fe_desk.proofs.Placing.{none_known}
 use Rattle.fe_desk.proofs.desk.Desk.over.Goals as goal
 
 pub invariant_of-desk : goal.invariant_of-desk
@@ -26,7 +28,8 @@ invariant_of-desk g c =
           })
           trace.ensures.synced (λ honest. c.state.ensures.durable honest c.requires),
       λ quiet. absurd (true≢false (sym quiet)),
-      none_known c.new-places.result (map client_of trace.result.ports.items) c.new-places.ensures,
+      subst (λ (ports : List Port). IsSilentFrom 0 (map output_of (map client_of ports)) c.new-2.result) (sym trace.ensures.ports) tt,
+      none_known c.new-places.result (map client_of trace.result.ports.items) c.new-places.ensures.indexes c.new-places.ensures.sorted,
     )
 
 pub returns-clause-acknowledged : goal.returns-clause-acknowledged

@@ -5,22 +5,20 @@ use Rattle.fe_desk.specs.declared.step.Step.TheVariants as step
 use Rattle.fe_desk.specs.within.Desk.{desk_of}
 use Rattle.fe_desk.proofs.WithMail.{posts_not}
 use Rattle.fe_desk.proofs.Acted.{act_at, act_still, act_short, act_bytes, act_append, act_check}
-use Rattle.fe_desk.proofs.StepParts.{when_ok, when_err}
 use Rattle.fe_desk.proofs.Stepping.{same_desk}
 use Rattle.fe_desk.proofs.desk_inner.DeskInner.act.Goals as goal
 
-pub returns-then-is_err-clause-goes : goal.returns-then-is_err-clause-goes
-returns-then-is_err-clause-goes g c =
+pub returns-in-Err-clause-goes : goal.returns-in-Err-clause-goes
+returns-in-Err-clause-goes g c =
     let e = c.connect.ensures in
-    let none = sym c.is_err.ensures.value ∙ c.if-is_err.true in
-    let same = same_desk (desk_of c.args.self.now) (desk_of c.connect.new.self) (when_err c.connect.result none e.err) e.stays.store.keeper e.stays.store.synced in
-    act_at c.in-Connect.is (act_short {k = g.D.Disk} g.met.D.Disk.only_now c.requires.ready same (when_err c.connect.result none e.unconnected, same))
+    let h = c.in-Err.ensures in
+    let same = same_desk (desk_of c.args.self.now) (desk_of c.connect.new.self) h.err e.stays.store.keeper e.stays.store.synced in
+    act_at c.in-Connect.is (act_short {k = g.D.Disk} g.met.D.Disk.only_now c.requires.ready same (h.unconnected, same))
 
-pub returns-else-is_err-clause-goes : goal.returns-else-is_err-clause-goes
-returns-else-is_err-clause-goes g c =
+pub returns-in-Ok-clause-goes : goal.returns-in-Ok-clause-goes
+returns-in-Ok-clause-goes g c =
     let e = c.connect.ensures in
-    let came = when_ok c.connect.result (sym c.is_err.ensures.value ∙ c.if-is_err.false) e.connected in
-    act_at c.in-Connect.is (act_still {k = g.D.Disk} g.met.D.Disk.only_now c.requires.ready e.stays came e.stays.store.keeper)
+    act_at c.in-Connect.is (act_still {k = g.D.Disk} g.met.D.Disk.only_now c.requires.ready e.stays c.in-Ok.ensures.connected e.stays.store.keeper)
 
 pub returns-in-Bytes-clause-goes : goal.returns-in-Bytes-clause-goes
 returns-in-Bytes-clause-goes g c = act_at c.in-Bytes.is (act_bytes c.in-Bytes.conn c.in-Bytes.piece c.as_slice.result.now c.as_slice.ensures.value c.bytes.ensures.outputs c.bytes.ensures.goes)

@@ -1,4 +1,5 @@
 use Rattle.std.proofs.Common.{◌≡◌, map, List, Bool, true, false, inl, inr, Err, refl, sym, ap, subst, ◌∙◌, slice_set}
+use Rattle.fe_memory.specs.Memory.{out_of_memory}
 use Rattle.fe_wire.specs.Stream.{Decoding, CompletesMessage}
 use Rattle.fe_desk.specs.Messages.{outputs}
 use Rattle.fe_desk.specs.DeskRunState.{Client, DeskRunState}
@@ -39,8 +40,8 @@ feed-requires g c =
     sym (left_here c.take_left.new.self.trace.ports.items c.args.conn c.in-Some.at c.index_mut.result.now c.take_left.ensures.place c.index_mut.ensures.value)
     ∙ all_taken c.args.conn (run_state_of c.args.self.now) u c.in_default-take_left.ensures.goes.ends.1
 
-pub returns-in_default-feed : goal.returns-in_default-feed
-returns-in_default-feed g c =
+pub returns-in-Err-feed : goal.returns-in-Err-feed
+returns-in-Err-feed g c =
     let s = run_state_of c.args.self.now in
     let b = desk_of c.take_left.new.self in
     let conn = c.args.conn in
@@ -49,15 +50,15 @@ returns-in_default-feed g c =
     let p = c.index_mut.result.now in
     let goes = c.in_default-take_left.ensures.goes in
     let is = relieves s b.run_state conn c.in-Some.at c.in-Some.ensures.place c.take_left.ensures.clients in
-    let same = sym (port_same ports conn c.in-Some.at p c.feed.new.self c.take_left.ensures.place c.index_mut.ensures.value c.in_default-feed.ensures.err) in
+    let same = sym (port_same ports conn c.in-Some.at p c.feed.new.self c.take_left.ensures.place c.index_mut.ensures.value c.in-Err-feed.ensures.err) in
     let completes : CompletesMessage is.client.decoder piece =
-    subst (λ (d : Decoding). CompletesMessage d piece) (port_reads piece is ports c.in-Some.at p refl c.take_left.ensures.place c.index_mut.ensures.value) c.in_default-feed.ensures.memory in
+    subst (λ (d : Decoding). CompletesMessage d piece) (port_reads piece is ports c.in-Some.at p refl c.take_left.ensures.place c.index_mut.ensures.value) c.in-Err-feed.ensures.memory in
     record {
       places = c.find.ensures.places;
       outputs = subst (λ (cs : List Client). outputs (record b.run_state { clients = cs }) ≡ outputs s) same (left_outputs conn s b.run_state c.take_left.ensures.clients);
       goes =
           subst
-          (λ (cs : List Client). GoesPiece g.D.Disk (TakesStream s conn piece) (LeavesStream s conn piece) (StopsStream s conn piece) (Err (NoMemory false)) (desk_of c.args.self.now)
+          (λ (cs : List Client). GoesPiece g.D.Disk (TakesStream s conn piece) (LeavesStream s conn piece) (StopsStream s conn piece) (Err (NoMemory out_of_memory false)) (desk_of c.args.self.now)
           (record b { run_state = record b.run_state { clients = cs } })) same
           (piece_short goes (stream_unread piece is goes.ends.1 (sym c.connected.ensures ∙ c.if-not-connected.false) completes));
     }

@@ -8,7 +8,7 @@ pub returns-in-Err-clause-handled : goal.returns-in-Err-clause-handled
 returns-in-Err-clause-handled g c = λ is_known. (
   is_known,
   λ none at.
-      ends_first c.args.self.now.seat c.args.self.now.seat c.args.self.now.listed.items (g.H.ReadHalf.known c.args.half.now) c.args.self.now.decoder none at c.in-Err.short,
+      ends_first c.args.self.now.seat c.args.self.now.seat c.args.self.now.listed.items (g.H.ReadHalf.known c.args.half.now) c.args.self.now.decoder none at c.in-Err.error,
 )
 
 pub returns-in-Some-eq0-clause-handled : goal.returns-in-Some-eq0-clause-handled

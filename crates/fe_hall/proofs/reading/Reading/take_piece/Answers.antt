@@ -7,7 +7,7 @@ use Rattle.fe_hall.proofs.reading.Reading.take_piece.Goals as goal
 
 pub returns-in-Err-clause-handled : goal.returns-in-Err-clause-handled
 returns-in-Err-clause-handled g c = λ before bytes at.
-    piece_unread before c.args.self.now.seat c.args.self.now.listed.items bytes c.args.piece.now c.args.self.now.decoder (λ i. omega (arith, c.type_inv.piece i)) c.in-Err.ensures.memory at c.in-Err.short
+    piece_unread before c.args.self.now.seat c.args.self.now.listed.items bytes c.args.piece.now c.args.self.now.decoder (λ i. omega (arith, c.type_inv.piece i)) c.in-Err.ensures.memory at c.in-Err.error
 
 pub loop-message-init : goal.loop-message-init
 loop-message-init g c = record {
@@ -31,7 +31,7 @@ pub returns-in-Some-clause-handled : goal.returns-in-Some-clause-handled
 returns-in-Some-clause-handled g c = λ before bytes at.
     let l = c.loop-message.self in
     let n = c.take-in-loop-message.new.self in
-    piece_among before c.args.self.now.seat n.seat c.args.self.now.listed.items n.listed.items bytes c.args.piece.now c.args.self.now.decoder c.feed.new.decoder
+    piece_among before c.args.self.now.seat n.seat c.args.self.now.listed.items n.listed.items bytes c.args.piece.now c.args.self.now.decoder c.feed.new.self
     c.as_slice-messages.result.now c.in-Ok.fed.messages.items (λ i. omega (arith, c.type_inv.piece i)) at c.feed.ensures.version c.in-Ok.ensures.reads c.as_slice-messages.ensures.value c.in-Some.end
     (λ earlier h. record {
       breaks = c.in-Some.ensures.end;
@@ -48,15 +48,15 @@ returns-in_err-fault-clause-handled g c = λ before bytes at.
     let l = c.loop-message.self in
     on_none c.from_residual.result (IsAt (bytes ++ c.args.piece.now) before l.decoder l.seat l.listed.items) (HandlesStream (bytes ++ c.args.piece.now) before l.seat l.listed.items)
     c.from_residual.ensures
-    (piece_taken before c.args.self.now.seat l.seat c.args.self.now.listed.items l.listed.items bytes c.args.piece.now c.args.self.now.decoder c.feed.new.decoder
+    (piece_taken before c.args.self.now.seat l.seat c.args.self.now.listed.items l.listed.items bytes c.args.piece.now c.args.self.now.decoder c.feed.new.self
     c.as_slice-messages.result.now c.in-Ok.fed.messages.items (λ i. omega (arith, c.type_inv.piece i)) at c.feed.ensures.version c.in-Ok.ensures.reads c.as_slice-messages.ensures.value l.decoder c.loop-message.invariant.decoder
-    (fault_none c.feed.new.decoder c.in-Ok.fed.fault c.in-Ok.ensures.fault c.in_err-fault.was)
+    (fault_none c.feed.new.self c.in-Ok.fed.fault c.in-Ok.ensures.fault c.in_err-fault.was)
     (λ earlier h. handled_whole before l.seat l.listed.items earlier c.as_slice-messages.result.now c.loop-message.message-index c.loop-message-test.false (c.loop-message.invariant.handled before earlier h)))
 
 pub returns-clause-handled : goal.returns-clause-handled
 returns-clause-handled g c = λ before bytes at.
     let l = c.loop-message.self in
-    piece_bad before c.args.self.now.seat l.seat c.args.self.now.listed.items l.listed.items bytes c.args.piece.now c.args.self.now.decoder c.feed.new.decoder
+    piece_bad before c.args.self.now.seat l.seat c.args.self.now.listed.items l.listed.items bytes c.args.piece.now c.args.self.now.decoder c.feed.new.self
     c.as_slice-messages.result.now c.in-Ok.fed.messages.items (λ i. omega (arith, c.type_inv.piece i)) at c.feed.ensures.version c.in-Ok.ensures.reads c.as_slice-messages.ensures.value
     c.in-Ok.fed.fault c.in_ok-fault.fault c.in-Ok.ensures.fault c.in_ok-fault.was
     (λ earlier h. handled_whole before l.seat l.listed.items earlier c.as_slice-messages.result.now c.loop-message.message-index c.loop-message-test.false (c.loop-message.invariant.handled before earlier h))

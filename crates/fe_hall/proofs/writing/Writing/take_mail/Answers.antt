@@ -86,7 +86,7 @@ returns-in-Ok-clause-took g c =
     ] in
     let takes = takes_one s.seat s.seat t c.if-keeps-2.self.1.0 s.receipts.items kept c.if-keeps-2.self.1.1.0.items m c.in-Mail.more refl same took seat keeps in
     let issued = subst (λ (t : Taking). TakingIssued s.seat.conn t c.take_mail-taking.new.history) c.in-Mail.is c.take_mail-taking.ensures.issued in
-    (m ∷ [], takes, omega arith, spelled_one s.frames.items s.frames.items c.put-2.new.frames.items m c.of-2.result refl c.of-2.ensures c.in-Ok.ensures.ok, (c.take_mail-taking.ensures.this, (issued, tt)))
+    (m ∷ [], takes, omega arith, spelled_one s.frames.items s.frames.items c.put-2.new.out.items m c.of-2.result refl c.of-2.ensures c.in-Ok.ensures.ok, (c.take_mail-taking.ensures.this, (issued, tt)))
 
 pub returns-clause-took : goal.returns-clause-took
 returns-clause-took g c =
@@ -121,4 +121,4 @@ returns-clause-took g c =
     ] in
     let takes = takes_one s.seat s.seat t c.if-keeps-2.self.1.0 s.receipts.items kept c.if-keeps-2.self.1.1.0.items m c.in-Mail.more refl same took seat keeps in
     let issued = subst (λ (t : Taking). TakingIssued s.seat.conn t c.take_mail-taking.new.history) c.in-Mail.is c.take_mail-taking.ensures.issued in
-    (m ∷ [], takes, omega arith, lacks_one s.frames.items c.put-2.new.frames.items (m ∷ []) (omega arith) c.in-Err-put.ensures.err, (c.take_mail-taking.ensures.this, (issued, tt)))
+    (m ∷ [], takes, omega arith, lacks_one s.frames.items c.put-2.new.out.items (m ∷ []) (omega arith) c.in-Err-put.ensures.err, (c.take_mail-taking.ensures.this, (issued, tt)))

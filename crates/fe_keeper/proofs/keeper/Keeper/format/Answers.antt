@@ -1,4 +1,5 @@
 use Rattle.std.proofs.Common.{Err, sym, subst}
+use Rattle.fe_memory.specs.Memory.{out_of_memory}
 use Rattle.fe_state.specs.State.{ServerState, first_state}
 use Rattle.fe_format.specs.declared.format.Format.TheVariants.{Two}
 use Rattle.fe_journal.specs.Contents.{first_contents}
@@ -31,5 +32,5 @@ returns-in-Ok-format-clause-formatted g c = λ honest.
 
 pub returns-in-Err-format-clause-ends : goal.returns-in-Err-format-clause-ends
 returns-in-Err-format-clause-ends g c =
-    subst (λ (f : Fault). Formats g.D.Disk Unformatted Device NoMemory (Err f) c.args.blank c.in-Err-format.disk) (sym c.from.ensures)
+    subst (λ (f : Fault). Formats g.D.Disk Unformatted Device (NoMemory out_of_memory) (Err f) c.args.blank c.in-Err-format.disk) (sym c.from.ensures)
     (formats_as g.D.Disk c.in-Err-format.fault c.args.blank c.in-Err-format.disk c.in-Err-format.ensures.ends)

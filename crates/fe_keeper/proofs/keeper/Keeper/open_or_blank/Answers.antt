@@ -1,5 +1,6 @@
 use Rattle.std.proofs.Common.{◌≡◌, ◌⊎◌, ℕ, List, Result, Ok, Err, inl, inr, ⊎_elim, refl, sym, ap, ◌∙◌, subst}
 use Rattle.std.specs.Prelude.{IsOk}
+use Rattle.fe_memory.specs.Memory.{out_of_memory}
 use Rattle.fe_codec.specs.FirstFault.{header_at}
 use Rattle.fe_keeper.specs.Keeper.{KeeperState}
 use Rattle.fe_keeper.specs.Opened.{IsOpenedFrom, IsReady}
@@ -94,7 +95,7 @@ returns-in-Err-recovered-clause-refused g c = λ honest.
     wrong_there found.contents c.slot-slot.result c.store_format-format.result c.generation-generation.result c.deref.result.now c.in-Ok.found.groups.start c.in-Ok.found.groups.at offset
     (c.slot-slot.ensures.value ∙ found.keeps.slot_is) parts.format_is parts.generation_is parts.image_is found.start_is found.from_the_first
     (c.in-Err-recovered.ensures.damaged offset found.contents.groups (ap (λ (f : Fault). Err f) is) found.groups_are) in
-    let fields : c.in-Err-recovered.fault ≡ NoMemory → IsOk (header_at found.contents.image) = λ is.
+    let fields : c.in-Err-recovered.fault ≡ NoMemory out_of_memory → IsOk (header_at found.contents.image) = λ is.
     subst (λ (l : List ℕ). IsOk (header_at l)) parts.image_is (c.in-Err-recovered.ensures.memory (ap (λ (f : Fault). Err f) is)) in
     record {
       tells = tells_slot seen (g.D.Disk.calls c.args.disk) (g.D.Disk.calls c.into_disk.result) found.contents c.in-Err-recovered.fault found.holds c.in-Err-recovered.ensures.faults wrong fields;
@@ -143,7 +144,7 @@ returns-in-Err-recovered-clause-device g c =
 
 pub returns-in-Err-new-clause-device : goal.returns-in-Err-new-clause-device
 returns-in-Err-new-clause-device g c =
-    opens_keeper g.D.Disk c.in-Ok.found c.args.disk c.in-Ok.found.journal c.in-Ok-recovered.state (Err (NoMemory, c.into_disk-in-Err-new.result)) c.in-Ok.ensures.device tt (refl, c.into_disk-in-Err-new.ensures.disk)
+    opens_keeper g.D.Disk c.in-Ok.found c.args.disk c.in-Ok.found.journal c.in-Ok-recovered.state (Err ((NoMemory out_of_memory), c.into_disk-in-Err-new.result)) c.in-Ok.ensures.device tt (refl, c.into_disk-in-Err-new.ensures.disk)
 
 pub returns-clause-device : goal.returns-clause-device
 returns-clause-device g c =

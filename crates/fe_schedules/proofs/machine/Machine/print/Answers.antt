@@ -5,7 +5,6 @@ use Rattle.fe_desk.specs.Acknowledged.{may_ask_any}
 use Rattle.fe_schedules.specs.Ready.{IsReady}
 use Rattle.fe_schedules.specs.Schedule.{key_of, printed_text, IsSorting}
 use Rattle.fe_schedules.specs.declared.printed_reply.PrintedReply.{PrintedReply}
-use Rattle.fe_schedules.proofs.Outputs.{written_replies}
 use Rattle.fe_schedules.proofs.Readiness.{ready_anew}
 use Rattle.fe_schedules.proofs.machine.Machine.print.Goals as goal
 
@@ -19,7 +18,7 @@ pub returns-clause-printed : goal.returns-clause-printed
 returns-clause-printed c =
     let d = c.args.self.now.desk in
     let order = c.sort_by_key.new.self.items in
-    let printed_replies = written_replies c.written_ports.result.now d.run_state c.read_all.new.printed_replies.items c.written_ports.ensures c.in_ok-read_all.ensures in
+    let printed_replies = c.in_ok-read_all.ensures in
     let sorting : IsSorting c.read_all.new.printed_replies.items order = record {
       same = c.sort_by_key.ensures.permutation;
       ascends = c.in_ok-sort_by_key.ensures.sorted key_of (answers_always _ _ _ (λ f a r g h. search rules));

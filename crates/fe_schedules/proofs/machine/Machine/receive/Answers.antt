@@ -1,4 +1,5 @@
 use Rattle.std.proofs.Common.{List, ℕ, [], ◌∷◌, ◌++◌, refl, ap, ◌∙◌}
+use Rattle.fe_memory.specs.Memory.{out_of_memory}
 use Rattle.fe_wire.specs.Spelling.{spelling}
 use Rattle.fe_desk.specs.declared.step.Step.{Step}
 use Rattle.fe_desk.specs.declared.step.Step.TheVariants as step
@@ -24,4 +25,4 @@ returns-in-Bytes-clause-acts c =
 
 pub returns-in_err-put_message-clause-fault : goal.returns-in_err-put_message-clause-fault
 returns-in_err-put_message-clause-fault c =
-    rw (failed c.from_residual-in_err-put_message.result machine.Memory c.from_residual-in_err-put_message.ensures.1) (calm_disk c.step.new.self c.in_ok-step.ensures.moved.machine)
+    rw (failed c.from_residual-in_err-put_message.result (machine.Memory out_of_memory) c.from_residual-in_err-put_message.ensures.1) (calm_disk c.step.new.self c.in_ok-step.ensures.moved.machine)

@@ -1,4 +1,5 @@
 use Rattle.std.proofs.Common.{◌≡◌, [], refl, sym, ◌∙◌, ap, subst}
+use Rattle.fe_memory.specs.Memory.{out_of_memory}
 use Rattle.fe_disk.specs.Memory.{MemoryState, LeavesNow, synced_image}
 use Rattle.fe_state.specs.State.{ServerState}
 use Rattle.fe_desk.specs.Crash.{DeskState, disk_of}
@@ -16,7 +17,7 @@ use Rattle.fe_schedules.proofs.Readiness.{disk_is, ready_first, kept_over, store
 use Rattle.fe_schedules.proofs.machine.Machine.stop.Goals as goal
 
 pub returns-in_err-disk-clause-fault : goal.returns-in_err-disk-clause-fault
-returns-in_err-disk-clause-fault c = rw (failed c.from_residual.result machine.Memory c.from_residual.ensures.1) (calm_disk c.args.self.now c.requires)
+returns-in_err-disk-clause-fault c = rw (failed c.from_residual.result (machine.Memory out_of_memory) c.from_residual.ensures.1) (calm_disk c.args.self.now c.requires)
 
 pub returns-in-Ok-open-clause-acts : goal.returns-in-Ok-open-clause-acts
 returns-in-Ok-open-clause-acts c =

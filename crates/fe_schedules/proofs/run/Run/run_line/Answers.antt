@@ -13,8 +13,8 @@ print-requires-clause-posted c =
     let a = c.in_ok-act.ensures.acts in
     line_none c.args.line.now r.machine.desk a.mid c.act.new.self.desk c.commit.new.self.desk a.steps c.holds_after-self.result c.requires.run.between a.begins a.are a.moves c.in_ok-commit.ensures.moved.moves
 
-pub returns-clause-ran : goal.returns-clause-ran
-returns-clause-ran c =
+pub returns-in-Ok-clause-ran : goal.returns-in-Ok-clause-ran
+returns-in-Ok-clause-ran c =
     let r = c.args.self.now in
     let a = c.in_ok-act.ensures.acts in
     let e = c.commit.new.self.desk in
