@@ -3,7 +3,7 @@
 import os
 import re
 
-from .sources import contracts_of, has, is_function, is_named, source_of
+from .sources import contracts_of, has, has_type, is_function, is_named, source_of
 from .texts import NAME, TOP, exists, rows_of, split, text_of, told
 
 # A name, followed by names in parentheses: a function with its clauses.
@@ -67,7 +67,7 @@ def clauses(_place):
 
 
 def cited(_place):
-    """each function with its clauses that the promise's table, the layers, the README, headline.md and rules.md name is in its crate"""
+    """each function with its clauses that the promise's table, the layers, the README, headline.md and CONTRIBUTING.md name is in its crate"""
     missing = []
     count = 0
     tables = [("docs/proved.md", "## The promise", 1), ("ARCHITECTURE.md", "## Layers", 2)]
@@ -84,13 +84,14 @@ def cited(_place):
                 for clause in found:
                     if not any(has(it, name, clause) or not clause and is_named(it, name) for it in crates):
                         missing.append(f"{page}:{number}: {' or '.join(crates)}: no {name} {clause}")
-    for page in ("README.md", "docs/headline.md", "docs/rules.md"):
+    for page in ("README.md", "docs/headline.md", "CONTRIBUTING.md"):
         for number, line in split(text_of(page))[0]:
             for crate, path, listed in PATHED.findall(line):
                 names = NAME.findall(listed)
                 count += 1 + len(names)
                 missing += [f"{page}:{number}: {crate} has no {path} {it}" for it in names if not has(crate, path, it)]
-                if not names and not is_function(crate, path):
+                # (a path may also name a type, which has no clauses)
+                if not names and not is_function(crate, path) and not has_type(crate, f"{path}::it"):
                     missing.append(f"{page}:{number}: {crate} has no {path}")
     return told(missing, count, 50, "functions and clauses")
 
@@ -99,7 +100,7 @@ def cited(_place):
 PROMISING = ("fe_desk", "fe_server", "fe_keeper", "fe_hall")
 # The pages whose tables name what the crates declare, and words there that are something else: a folder, a word of schedules, an array of
 # the Python client.
-DECLARING = ("docs/headline.md", "docs/images.md", "docs/stops.md", "docs/rules.md", "docs/model.md", "ARCHITECTURE.md", "CONTRIBUTING.md")
+DECLARING = ("docs/headline.md", "docs/store.md", "docs/stops.md", "docs/model.md", "ARCHITECTURE.md", "CONTRIBUTING.md")
 SPARED = {"src", "nowait", "NAME_t"}
 # A line that declares something: a function, a type, a definition, a law, a clause, or a field. It has the name.
 DECLARATION = re.compile(

@@ -17,7 +17,7 @@ from .crowds import TALK
 from .harness import HERE, Server, Skipped, holds, same, within
 from .texts import TOP
 
-from femem import _errors as errors, _frames as frames, _sessionblocks as blocks, _sessionrecords as records  # noqa: E402  (the path is set by sessions)
+from femem import _errors as errors, _frames as frames, _sessionstate as blocks  # noqa: E402  (the path is set by sessions)
 
 FLAGS = ("-g", "-O1", "-std=c11", "-fsanitize=fuzzer,address,undefined", "-fno-sanitize-recover=all")
 LEAST = 10_000  # runs
@@ -111,9 +111,9 @@ def read_frames(content, chance):
 def readers(place):
     """the Python client takes any session file and any replies, or refuses them by an error of its own, and keeps what it takes"""
     seconds, example, said = place.options.turns or 60, b"".join(sessions.example()), []
-    files = [example, blocks.snapshot(blocks.read(example)[0]), example + blocks.block(blocks.read(example)[0], records.leaving())]
+    files = [example, blocks.snapshot(blocks.read(example)[0]), example + blocks.block(blocks.read(example)[0], blocks.record(blocks.LEAVING_KIND))]
     talk = [b"".join(reply for _, reply in TALK)]
-    for read, known, own in ((read_file, files, records.Contradiction), (read_frames, talk, errors.ProtocolError)):
+    for read, known, own in ((read_file, files, blocks.Contradiction), (read_frames, talk, errors.ProtocolError)):
         chance, outcomes, runs, end = random.Random(place.options.seed), set(), 0, time.monotonic() + seconds / 2
         while time.monotonic() < end:
             content = known[runs] if runs < len(known) else changed(chance.choice(known), chance)

@@ -58,10 +58,10 @@ def items(_place):
 
 
 def definitions(_place):
-    """each definition that docs/headline.md and docs/images.md cite as `NAME` (`CRATE/FILE`) is in that file"""
+    """each definition that docs/headline.md and docs/store.md cite as `NAME` (`CRATE/FILE`) is in that file"""
     missing = []
     count = 0
-    for page in ("docs/headline.md", "docs/images.md"):
+    for page in ("docs/headline.md", "docs/store.md"):
         for number, line in split(text_of(page))[0]:
             cell = line.split("|")[1] if line.startswith("|") else line
             for names, crate, file in FILED.findall(cell):

@@ -271,6 +271,25 @@ def synced_is_let_go(place):
     same(place.read("run.out").count(b"\n"), 2 + 100_000 // 9 * 6)
 
 
+def woken_among_many(place):
+    """a write among 300 connections wakes all 59 that wait, and then the one that may go on: the replies are those, by connection"""
+    numbers = range(1, 301)
+    attached = [it for it in numbers if it % 5 == 0]
+    lines = [f"c{it} attach {it}" if it in attached else f"c{it} 1 readxx 1 0" for it in numbers]
+    wanted = [f"c{it} welcome {it} 1" if it in attached else f"c{it} refused 1 not-attached" for it in numbers]
+    waiting = attached[1:]
+    lines += ["c5 1 create w 2 empty", *(f"c{it} 1 readff 1 0" for it in waiting), "c5 2 writeef 1 0 9"]
+    wanted += ["c5 1 array 1 2", "c5 2 done", *(f"c{it} 1 value 9" for it in waiting)]
+    # The first of two that wait empties the word, so the second waits for the next write.
+    lines += ["c300 2 readfe 1 1", "c10 2 readff 1 1", "c5 3 writeef 1 1 4", "c5 4 writeef 1 1 6"]
+    wanted += ["c5 3 done", "c300 2 value 4", "c5 4 done", "c10 2 value 6"]
+    given = place.write("given", text_of(lines))
+    with open(given, "rb") as source:
+        process = place.start([place.program, "run"], "run", stdin=source)
+    same((process.wait(30 * place.options.patience), place.read("run.err")), (0, b""))
+    same(place.read("run.out"), text_of(wanted))
+
+
 def cut_anywhere(place):
     """an input cut at each byte: the cut line runs if it is a line of the syntax, or its number is printed"""
     given = b"c1 attach 7\nc1 1 create cells 2 empty\nc1 2 writeef 1 0 42\nc1 cancel 2\nhold\nc1 gone\nflush\n"
@@ -433,6 +452,7 @@ CHECKS = (
     longest_lines,
     printed_is_let_go,
     synced_is_let_go,
+    woken_among_many,
     cut_anywhere,
     short_streams,
     streams_fail,

@@ -12,7 +12,7 @@ from .texts import TOP, split, text_of
 
 sys.path.insert(0, os.path.join(TOP, "clients", "python"))
 
-from femem import _sessionblocks as sessionblocks, _sessionrecords as sessionrecords  # noqa: E402
+from femem import _sessionstate as sessionstate  # noqa: E402
 
 PAGE = "docs/session-file.md"
 SIZED = re.compile(r"([a-z][a-z' ]*?) (\d+)(?:,|$)")
@@ -67,7 +67,7 @@ def tables(_place):
     header, *blocks = example()
     head, rest = Reader(header), sizes_of("| header, 20 bytes |")
     magic, session, check = (head.take(size) for _, size in rest)
-    same((magic, sum(size for _, size in rest)), (sessionblocks.MAGIC, said(PAGE, "| header, N bytes |")), "the header")
+    same((magic, sum(size for _, size in rest)), (sessionstate.MAGIC, said(PAGE, "| header, N bytes |")), "the header")
     summed = [said(PAGE, "CRC-32 of the N bytes before it"), said(PAGE, "the session's number (N bytes), followed by the block's bytes")]
     same(summed, [len(magic + session), len(session)], "what a sum is of")
     holds(f"`{magic.decode()}`; the last byte is the version" in text(PAGE), "the page names the magic")
@@ -90,7 +90,7 @@ def tables(_place):
                 records.field(*part)
     same([said(PAGE, f"Block {at}: floor N, asked N, next N.", 3) for at in range(2, 2 + len(blocks_of))], blocks_of, "the blocks in words")
     same(int(re.search(r"of the text `123456789` it is (0x\w+)", text(PAGE))[1], 16), zlib.crc32(b"123456789"), "the CRC")
-    same({name: kind for kind, (name, _) in kinds().items()}, {name: getattr(sessionrecords, f"{name.upper()}_KIND") for _, (name, _) in kinds().items()})
+    same({name: kind for kind, (name, _) in kinds().items()}, {name: getattr(sessionstate, f"{name.upper()}_KIND") for _, (name, _) in kinds().items()})
     same(len(set(met)), 5, f"kinds in the example: {met}")
     return f"{len(met)} records"
 
