@@ -66,30 +66,39 @@ class Leftovers:
         return [word for word in words if word not in keyed and self.take(array, word)]
 
 
-class Read:
+class Hold:
+    """What one acquisition of this process holds, or is about to: a word of an array."""
+
+    def __init__(self) -> None:
+        self.array: Optional[Array] = None
+        self.word = 0
+        self.given_by: Dict[int, object] = {}  # who gives it back: the first one that sets this
+
+
+class Read(Hold):
     """A read of this process under a read-write lock, from before it begins."""
 
     def __init__(self, caller: object) -> None:
+        super().__init__()
         self.caller = caller
-        self.array: Optional[Array] = None
         self.has_begun = False  # whether the server knows of it, so that its caller may read again beside it
         # Over which seat it was counted, and whether that is to be given back: from the moment at which it is to leave.
         self.seat: Optional[int] = None
         self.is_last = False
-        self.given_by: Dict[int, object] = {}  # who gives it back: the first one that sets this
 
 
 class Release:
-    """A release of a read: which one it gives back is said as it begins."""
+    """A release: which acquisition it gives back is said as it begins."""
 
-    def __init__(self, caller: object) -> None:
+    def __init__(self, caller: object = None) -> None:
         self.caller = caller
+        self.hold: Optional[Hold] = None  # one without an array stands for none
         self.read: Optional[Read] = None
         self._mark = object()
 
-    def is_of(self, read: Read) -> bool:
+    def is_of(self, hold: Hold) -> bool:
         """Whether this one gives it back, from now on, and no other one."""
-        return read.given_by.setdefault(0, self._mark) is self._mark
+        return hold.given_by.setdefault(0, self._mark) is self._mark
 
 
 class Sitting:
@@ -145,8 +154,8 @@ class Holdings:
 
     def __init__(self) -> None:
         self.left = Leftovers()
-        # The words with which this process holds something.
-        self.words: Set[Tuple[int, int]] = set()
+        # The words with which this process holds something, until its release begins.
+        self.words: Dict[Tuple[int, int], Hold] = {}
         self.reads = Reads()
         # The jobs of work queues that this process has, or is just claiming, each with the request that claims it.
         self.jobs: Dict[int, object] = {}

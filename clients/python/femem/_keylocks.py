@@ -70,7 +70,7 @@ class KeyLock(Lock):
             count = None if nowait else (yield from self._wait_there(array, end, patience, tries))
         if count is None:
             return False
-        self._hold(array, int(count))
+        self._number(array, int(count))
         return True
 
     def _wait_there(self, array: Array, end: Optional[float], patience: Optional[float], tries: Tries) -> Steps[Optional[int]]:
@@ -109,7 +109,7 @@ class KeyLock(Lock):
             return (yield from super()._break(array))
         moves = fill(array, self._next, self._locks._capacity + spare)
         done, _ = yield from batch([moves, requests.purge(array, self.OWNER)], NotNow, NoArray)
-        self._core.holdings.words.discard((array.id, self.OWNER))
+        self._core.holdings.words.pop((array.id, self.OWNER), None)
         return is_full(done)
 
     @operation_with(undo="_release_if_got", light=True)
@@ -117,7 +117,7 @@ class KeyLock(Lock):
         self, timeout: Optional[float] = None, *, takeover_after: Optional[float] = None
     ) -> Steps[bool]:
         """As of a `Lock`."""
-        return (yield from self._acquire(self._deadline(timeout), False, seconds_of(takeover_after, "takeover_after"), None))
+        return self._acquisition(timeout, patience=seconds_of(takeover_after, "takeover_after"))
 
 
 class Locks(Generic[K]):

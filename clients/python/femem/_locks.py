@@ -9,7 +9,7 @@ from typing import Any, Callable, Dict, Generic, Iterable, List, Optional, Seque
 from . import _frames as frames, requests
 from ._arguments import Key, seconds_of
 from ._errors import FememError, NoArray, NotNow, NotOwner, TimedOut
-from ._holdings import Read, Release
+from ._holdings import Hold, Read, Release
 from ._jobs import Look, Mended, Steps, Wait
 from ._operations import FIRST_LOOK, LAST_LOOK, Absence, Pattern, Tries, batch, done_at, is_full, marked_array
 from ._operations import operation, operation_with, shared_array, size_of
@@ -73,7 +73,15 @@ class Owned(Pattern):
         """Those that may have this session."""
         return (self.OWNER,)
 
-    def _acquire(self, end: Optional[float], nowait: bool, patience: Optional[float], key: Optional[Key]) -> Steps[bool]:
+    def _acquisition(
+        self, timeout: Optional[float], nowait: bool = False, patience: Optional[float] = None, key: Optional[Key] = None
+    ) -> Steps[bool]:
+        hold = Hold()
+        return Mended(self._acquire(hold, self._deadline(timeout), nowait, patience, key), partial(self._mend_acquired, hold))
+
+    def _acquire(
+        self, hold: Hold, end: Optional[float], nowait: bool, patience: Optional[float], key: Optional[Key]
+    ) -> Steps[bool]:
         """Returns whether it was acquired in time."""
         self._broke, self._adopted = None, False
         yield from self._show()
@@ -81,22 +89,27 @@ class Owned(Pattern):
         try:
             done = yield from tries.begin()
             if done is not None:
-                return (yield from self._take_again(int.from_bytes(done[14:22], "big")))
+                return (yield from self._take_again(hold, int.from_bytes(done[14:22], "big")))
             while True:
                 try:
-                    return (yield from self._own((yield from self._begin()), end, nowait, patience, tries))
+                    hold.array = array = yield from self._begin()
+                    hold.word = self.OWNER
+                    if not (yield from self._own(array, end, nowait, patience, tries)):
+                        return False
+                    self._core.holdings.words[array.id, hold.word] = hold
+                    return True
                 except NoArray:
                     self._array = None  # it was broken
         finally:
             tries.end()
 
-    def _hold(self, array: Array, count: int) -> None:
+    def _number(self, array: Array, count: int) -> None:
         self._generation = array.id * GENERATIONS + count + 1
-        self._core.holdings.words.add((array.id, self.OWNER))
 
-    def _take_again(self, id: int) -> Steps[bool]:
+    def _take_again(self, hold: Hold, id: int) -> Steps[bool]:
         """It was acquired under the key before: by this process, or by an earlier one that had not released it."""
-        array = yield from self._begin()
+        hold.array = array = yield from self._begin()
+        hold.word = self.OWNER
         (owner,) = yield from batch([look(array, self.OWNER)], NotNow, NoArray)
         if array.id != id or owner != self._session:
             raise NotOwner(f"{self._name} was acquired under this key, and is not held any more")
@@ -106,7 +119,8 @@ class Owned(Pattern):
             (count,) = yield from batch([add(array, self.COUNT, 1)], NoArray)
             if not is_full(count):
                 raise NotOwner(f"{self._name} was acquired under this key, and was broken")
-            self._hold(array, int(count))
+            self._number(array, int(count))
+            self._core.holdings.words[array.id, hold.word] = hold
         return True
 
     def _own(self, array: Array, end: Optional[float], nowait: bool, patience: Optional[float], tries: Tries) -> Steps[bool]:
@@ -128,7 +142,7 @@ class Owned(Pattern):
             if not got:
                 return False
             (count,) = yield from batch([counts])
-        self._hold(array, int(count))
+        self._number(array, int(count))
         return True
 
     def _adopt(self, array: Array, tries: Tries) -> Steps[bool]:
@@ -184,20 +198,22 @@ class Owned(Pattern):
             except NoArray:
                 self._array = None
 
-    def _release(self, of: Optional[Array] = None) -> Steps[None]:
-        """`NotOwner` if this session does not hold it. Only a session's own process empties a word with that
-        session. `of`: the array that was acquired. If it was broken, another thread of this client may have
-        the next one."""
+    def _giving(self) -> Steps[None]:
+        release = Release()
+        return Mended(self._release(release), partial(self._mend_released, release))
+
+    def _release(self, release: Release) -> Steps[None]:
+        """`NotOwner` if this session does not hold it. Only a session's own process empties a word with that session."""
         holdings = self._core.holdings
         try:
-            array = of or (yield from self._begin())
-            try:
-                holdings.words.remove((array.id, self.OWNER))  # one thread releases it
-            except KeyError:
-                if not holdings.left.take(array, self.OWNER):
-                    owner = yield from self._owner_of(array)
-                    whose = "free" if owner is None else f"session {owner}'s"
-                    raise NotOwner(f"{self._name} is {whose}") from None
+            array = yield from self._begin()
+            release.hold = holdings.words.get((array.id, self.OWNER)) or Hold()
+            if release.hold.array is not None and release.is_of(release.hold):
+                self._forget(release.hold)
+            elif not holdings.left.take(array, self.OWNER):
+                owner = yield from self._owner_of(array)
+                whose = "free" if owner is None else f"session {owner}'s"
+                raise NotOwner(f"{self._name} is {whose}")
             yield from self._empty(array)
         except (NoArray, NotNow):
             self._array = None
@@ -206,20 +222,40 @@ class Owned(Pattern):
     def _empty(self, array: Array) -> Steps[None]:
         yield from batch([empty(array, self.OWNER)])
 
-    def _mend(self, array: Array, gives_back: bool, asked: Sequence[Ticket[Any]]) -> Steps[None]:
-        filled, emptied = (done_at(asked, code).count(self.OWNER) for code in (frames.WRITEEF, frames.READFE))
-        if emptied if gives_back else filled <= emptied:
-            return  # it is released, or was not acquired
-        with suppress(NoArray):  # it was broken
-            if (yield from self._owner_of(array)) == self._session:
-                self._core.holdings.words.discard((array.id, self.OWNER))
-                yield from batch([empty(array, self.OWNER)], NotNow)
+    def _forget(self, hold: Hold) -> None:
+        """Before its word is emptied: no other release finds it then."""
+        if hold.array is not None:
+            self._core.holdings.words.pop((hold.array.id, hold.word), None)
 
-    def _release_if_got(self, got: object, of: Optional[Array] = None) -> Steps[None]:
+    def _undo(self, hold: Hold, asked: Sequence[Ticket[Any]]) -> Steps[None]:
+        """Empties its word if these requests have filled that."""
+        if hold.array is not None:
+            filled, emptied = (done_at(asked, code, hold.array).count(hold.word) for code in (frames.WRITEEF, frames.READFE))
+            if filled > emptied:
+                self._forget(hold)
+                yield from batch([empty(hold.array, hold.word)], NotNow, NoArray)
+
+    def _mend_acquired(self, hold: Hold, asked: Sequence[Ticket[Any]]) -> Steps[None]:
+        """Undoes the acquisition, unless another thread releases it."""
+        if Release().is_of(hold):
+            yield from self._undo(hold, asked)
+
+    def _mend_released(self, release: Release, asked: Sequence[Ticket[Any]]) -> Steps[None]:
+        """Ends the release, unless it was of nothing. Who calls it once more gives nothing back, or all of it."""
+        hold = release.hold
+        if hold is None and self._array is not None:
+            hold = self._core.holdings.words.get((self._array.id, self.OWNER))
+        if hold is None or hold.array is None or not release.is_of(hold):
+            return
+        self._forget(hold)
+        if hold.word not in done_at(asked, frames.READFE, hold.array):
+            yield from batch([empty(hold.array, hold.word)], NotNow, NoArray)
+
+    def _release_if_got(self, got: object) -> Steps[None]:
         """Releases it after an acquisition that no caller waits for any more."""
         if got:
             with suppress(NotOwner):
-                yield from self._release(of)
+                yield from self._release(Release())
 
     def _break(self, array: Optional[Array] = None) -> Steps[bool]:
         """Removes the array, and with it whatever its owner may still do to it. Whether this client removed
@@ -228,7 +264,7 @@ class Owned(Pattern):
             array = yield from self._find()
         (done,) = yield from batch([requests.remove(array)], NoArray)
         self._array = None
-        self._core.holdings.words.discard((array.id, self.OWNER))
+        self._core.holdings.words.pop((array.id, self.OWNER), None)
         return is_full(done)
 
 
@@ -248,18 +284,17 @@ class Lock(Owned):
         continue with what the lock protects: `generation` tells the two apart. With a key, which needs a session file,
         this is one acquisition, however often it is called again: `NotOwner` if it is over.
         """
-        patience = seconds_of(takeover_after, "takeover_after")
-        return (yield from self._acquire(self._deadline(timeout), False, patience, key))
+        return self._acquisition(timeout, False, seconds_of(takeover_after, "takeover_after"), key)
 
     @operation_with(undo="_release_if_got", light=True)
     def try_acquire(self) -> Steps[bool]:
         """Takes the lock if it is free now."""
-        return (yield from self._acquire(None, True, None, None))
+        return self._acquisition(None, True)
 
     @operation_with(gives_back=True, light=True)
     def release(self) -> Steps[None]:
         """Releases the lock. `NotOwner` at once if it is free, or held by another session."""
-        yield from self._release()
+        return self._giving()
 
     @operation
     def owner(self) -> Steps[Optional[int]]:
@@ -288,13 +323,13 @@ class Election(Owned):
         session of the leader leads again, under a new number.
         """
         patience = seconds_of(takeover_after, "takeover_after")
-        got = yield from self._acquire(self._deadline(timeout), False, patience, None)
+        got = yield from self._acquire(Hold(), self._deadline(timeout), False, patience, None)
         return self._generation if got else None
 
     @operation_with(gives_back=True)
     def resign(self) -> Steps[None]:
         """Gives up the lead. `NotOwner` if this client does not lead, or no longer."""
-        yield from self._release()
+        return self._giving()
 
     @operation
     def leader(self) -> Steps[Optional[int]]:
@@ -353,7 +388,7 @@ class ReadWriteLock(Owned, Generic[K]):
     def acquire_read(self, timeout: Optional[float] = None, *, takeover_after: Optional[float] = None) -> Steps[bool]:
         """Waits until this client may read. Returns whether it may, in time."""
         read, patience = Read(self._caller()), seconds_of(takeover_after, "takeover_after")
-        return Mended(self._acquire_read(read, self._deadline(timeout), patience), partial(self._mend_acquired, read))
+        return Mended(self._acquire_read(read, self._deadline(timeout), patience), partial(self._mend_read, read))
 
     def _acquire_read(self, read: Read, end: Optional[float], patience: Optional[float]) -> Steps[bool]:
         self._broke, self._adopted = None, False
@@ -363,7 +398,7 @@ class ReadWriteLock(Owned, Generic[K]):
                 array = yield from self._begin()
                 if self._core.holdings.left.take(array, self.OWNER):  # it may have to wait for a seat
                     yield from batch([empty(array, self.OWNER)], NotNow)
-                read.seat, read.is_last, read.array = None, False, array
+                read.seat, read.is_last, read.array, read.word = None, False, array, self.OWNER
                 again = self._core.holdings.reads.add(array, read, None, again=True)
                 if again is None and not (yield from self._enter(array, read, end, patience)):
                     return False
@@ -434,7 +469,6 @@ class ReadWriteLock(Owned, Generic[K]):
         over = self._core.holdings.reads.add(array, read, seat)
         if seat is not None:
             asked.insert(0, add(array, self.READERS, self._bit(seat)) if over == seat else empty(array, seat))
-        self._core.holdings.words.discard((array.id, self.OWNER))
         yield from batch(asked)
         return over is not None
 
@@ -487,7 +521,7 @@ class ReadWriteLock(Owned, Generic[K]):
 
     def _leave_if_got(self, got: bool) -> Steps[None]:
         if got:
-            yield from self._leave(Release(None))
+            yield from self._leave(Release())
 
     def _mend_left(self, release: Release, asked: Sequence[Ticket[Any]]) -> Steps[None]:
         """Ends the release. Its seat was given back together with the bit."""
@@ -500,37 +534,35 @@ class ReadWriteLock(Owned, Generic[K]):
         else:
             yield from self._stand_up(read.array, seat, True)
 
-    def _mend_acquired(self, read: Read, asked: Sequence[Ticket[Any]]) -> Steps[None]:
+    def _mend_read(self, read: Read, asked: Sequence[Ticket[Any]]) -> Steps[None]:
         """Undoes the acquisition, unless another thread gives the read back. This process leaves before another thread of it
         can have the word OWNER and join."""
         array = read.array
-        if array is None or not Release(None).is_of(read):
+        if array is None or not Release().is_of(read):
             return
         self._reads.pop(read, None)
         seat = self._core.holdings.reads.leave(array, read)
-        asked = [each for each in asked if int.from_bytes(each.request.frame[14:22], "big") == array.id]
-        yield from self._mend(array, False, asked)
-        filled, emptied = (done_at(asked, code) for code in (frames.WRITEEF, frames.READFE))
+        yield from self._undo(read, asked)
+        filled, emptied, added = (done_at(asked, code, array) for code in (frames.WRITEEF, frames.READFE, frames.INT_FETCH_ADD))
         own = next((each for each in self._seats if filled.count(each) > emptied.count(each)), None)
         if own != read.seat:  # it was not the first one that read over that
             yield from self._stand_up(array, own, False)
         if seat is not None:
-            yield from self._stand_up(array, seat, own != seat or self.READERS in done_at(asked, frames.INT_FETCH_ADD))
+            yield from self._stand_up(array, seat, own != seat or self.READERS in added)
 
     # Writing.
 
     @operation_with(undo="_release_if_got", light=True)
     def acquire_write(self, timeout: Optional[float] = None, *, takeover_after: Optional[float] = None) -> Steps[bool]:
         """Waits until only this client may read and write. Returns whether it may, in time."""
-        patience = seconds_of(takeover_after, "takeover_after")
-        return (yield from self._acquire(self._deadline(timeout), False, patience, None))
+        return self._acquisition(timeout, patience=seconds_of(takeover_after, "takeover_after"))
 
     def _own(self, array: Array, end: Optional[float], nowait: bool, patience: Optional[float], tries: Tries) -> Steps[bool]:
         """Fills word OWNER, and then waits until nobody reads, or gives that back."""
         if not (yield from super()._own(array, end, nowait, patience, tries)):
             return False
         is_alone = self._wait_for_readers(array, end, patience)
-        return (yield from self._or_else(is_alone, lambda: self._release_if_got(True, array)))
+        return (yield from self._or_else(is_alone, lambda: batch([empty(array, self.OWNER)], NotNow, NoArray)))
 
     def _wait_for_readers(self, array: Array, end: Optional[float], patience: Optional[float]) -> Steps[bool]:
         """The last one that reads fills the word DOOR. With patience, one that is absent loses its seat with all."""
@@ -554,7 +586,7 @@ class ReadWriteLock(Owned, Generic[K]):
     @operation_with(gives_back=True, light=True)
     def release_write(self) -> Steps[None]:
         """`NotOwner` if this client does not hold it for writing, or no longer."""
-        yield from self._release()
+        return self._giving()
 
     @operation
     def owners(self) -> Steps[Tuple[Optional[int], List[int]]]:
@@ -593,7 +625,8 @@ class Turn(Pattern):
         """Begins the block: its `with` calls this."""
         kind = ReadWriteLock.acquire_write if self._writes else ReadWriteLock.acquire_read
         steps = kind.steps(self._lock, self._timeout, takeover_after=self._patience)
-        return Mended(self._in_time(steps), steps.mend) if isinstance(steps, Mended) else self._in_time(steps)
+        assert isinstance(steps, Mended)
+        return Mended(self._in_time(steps), steps.mend)
 
     def _in_time(self, steps: Steps[bool]) -> Steps[bool]:
         if not (yield from steps):
@@ -612,6 +645,3 @@ class Turn(Pattern):
     def _can_mend(self) -> bool:
         self._array = self._lock._array
         return self._lock._can_mend()
-
-    def _mend(self, array: Array, gives_back: bool, asked: Sequence[Ticket[Any]]) -> Steps[None]:
-        return self._lock._mend(array, gives_back, asked)

@@ -179,10 +179,11 @@ class Absence:
         return next((each for each in away if now - self._since[each] >= self._patience), None)
 
 
-def done_at(asked: Sequence[Ticket[Any]], code: int) -> List[int]:
-    """The words at which such an operation, of these requests, has happened."""
+def done_at(asked: Sequence[Ticket[Any]], code: int, array: Optional[Array] = None) -> List[int]:
+    """The words, of this array or of any, at which such an operation, of these requests, has happened."""
     done = [each.request.frame for each in asked if each.done and each.error is None]
-    return [int.from_bytes(frame[22:26], "big") for frame in done if frame[4] in (frames.ACCESS, frames.NOWAIT) and frame[13] == code]
+    its = [frame for frame in done if frame[4] in (frames.ACCESS, frames.NOWAIT) and frame[13] == code]
+    return [int.from_bytes(frame[22:26], "big") for frame in its if array is None or int.from_bytes(frame[14:22], "big") == array.id]
 
 
 def is_full(outcome: object) -> bool:

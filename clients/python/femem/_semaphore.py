@@ -2,12 +2,14 @@
 
 from __future__ import annotations
 
+from functools import partial
 from typing import Any, Dict, List, Optional, Sequence
 
 from . import _frames as frames
 from ._arguments import Key
 from ._errors import NoArray, NotNow, NotOwner, TimedOut
-from ._jobs import Steps
+from ._holdings import Hold, Release
+from ._jobs import Mended, Steps
 from ._operations import FIRST_LOOK, LAST_LOOK, Pattern, Tries, batch, done_at, is_full
 from ._operations import marked_array, operation, operation_with, size_of
 from .requests import Array, add, empty, fill, look
@@ -115,7 +117,7 @@ class Semaphore(Pattern):
         if adopts:
             self._hold_again(left.pop())
         for word in left:
-            yield from self._give(array, word - self._words.start, self._session)
+            yield from self._give(array, word - self._words.start, self._session, Release())
         return adopts
 
     def _hold_again(self, word: int) -> None:
@@ -126,8 +128,13 @@ class Semaphore(Pattern):
         mine = fill(array, self._words[permit], self._session)
         (done,) = yield from batch([mine], NotNow, key=tries.next())
         if is_full(done):
-            self._held.append(permit)
+            self._hold(array, permit)
         return is_full(done)
+
+    def _hold(self, array: Array, permit: int) -> None:
+        """It was free: no release from before gives it back."""
+        self._core.holdings.words.pop((array.id, self._words[permit]), None)
+        self._held.append(permit)
 
     def _take_last(self, array: Array) -> Steps[bool]:
         """Takes the permit that was given back last, if it is still free. Its number stays in the ring."""
@@ -138,7 +145,7 @@ class Semaphore(Pattern):
         done, head = yield from batch([mine, look(array, HEAD)], NotNow)
         if is_full(done):
             self._heads[permit] = head
-            self._held.append(permit)
+            self._hold(array, permit)
         return is_full(done)
 
     def _take_any(self, array: Array, tries: Tries) -> Steps[bool]:
@@ -165,28 +172,41 @@ class Semaphore(Pattern):
     @operation_with(gives_back=True, light=True)
     def release(self, holder: Optional[int] = None) -> Steps[None]:
         """Gives a permit back: this client's, or that of the session `holder`. `NotOwner` if it has none."""
-        array = yield from self._find()
-        is_mine = holder is None or holder == self._session
-        while is_mine and self._held:
-            if (yield from self._give(array, self._held.pop(), self._session)):
-                return
-        whose = self._session if holder is None else holder
-        for permit, found in enumerate((yield from self._look(array))):
-            if found == whose and (yield from self._give(array, permit, whose)):
-                return
-        raise NotOwner(f"session {whose} has no permit of {self._name}")
+        release = Release()
+        return Mended(self._release(self._session if holder is None else holder, release), partial(self._mend_released, release))
 
-    def _give(self, array: Array, permit: int, holder: int) -> Steps[bool]:
-        """Empties the permit's word if it has this session, and says in the ring that it is free, unless it still says so."""
+    def _release(self, holder: int, release: Release) -> Steps[None]:
+        array = yield from self._find()
+        while holder == self._session and self._held:
+            if (yield from self._give(array, self._held.pop(), holder, release)):
+                return
+        for permit, found in enumerate((yield from self._look(array))):
+            if found == holder and (yield from self._give(array, permit, holder, release)):
+                return
+        raise NotOwner(f"session {holder} has no permit of {self._name}")
+
+    def _give(self, array: Array, permit: int, holder: int, release: Release) -> Steps[bool]:
+        """Empties the permit's word if it has this session, and says in the ring that it is free, unless it still says so. Of the
+        releases of this process, one does: after it, somebody else may have the permit."""
+        word, words = self._words[permit], self._core.holdings.words
+        hold = words.setdefault((array.id, word), Hold())
+        if not release.is_of(hold):
+            return False
+        hold.word, release.hold = word, hold
+        is_given = yield from self._empty(array, permit, holder)
+        self._core.holdings.left.take(array, word)
+        if words.get((array.id, word)) is hold:
+            words.pop((array.id, word), None)
+        return is_given
+
+    def _empty(self, array: Array, permit: int, holder: int) -> Steps[bool]:
         word, head = self._words[permit], self._heads.pop(permit, None)
         asked = [look(array, word)] if head is not None else [look(array, word), add(array, TAIL, 1)]
         found, *ticket = yield from batch(asked, NotNow, NoArray)
         if found != holder:
-            self._core.holdings.left.take(array, word)
             return False
         asked = [empty(array, word)] if head is None else [empty(array, word), look(array, HEAD)]
         given, *now = yield from batch(asked, NotNow, NoArray)
-        self._core.holdings.left.take(array, word)
         if not is_full(given):
             return False
         is_quiet = now == [head]  # nobody has drawn a ticket since the permit was taken
@@ -203,14 +223,22 @@ class Semaphore(Pattern):
             yield from Semaphore.release.steps(self)
 
     def _mend(self, array: Array, gives_back: bool, asked: Sequence[Ticket[Any]]) -> Steps[None]:
-        if gives_back:
-            if not any(word in self._words for word in done_at(asked, frames.READFE)):
-                yield from Semaphore.release.steps(self)
-            return
+        """After an acquisition was interrupted within its steps."""
         for permit in [word - self._words.start for word in done_at(asked, frames.WRITEEF) if word in self._words]:
             if permit in self._held:
                 self._held.remove(permit)
-            yield from self._give(array, permit, self._session)
+            yield from self._give(array, permit, self._session, Release())
+
+    def _mend_released(self, release: Release, asked: Sequence[Ticket[Any]]) -> Steps[None]:
+        """Ends the release: of the permit that it was giving back, or of one, if it had not begun."""
+        array, hold = self._array, release.hold
+        if array is None:
+            return
+        if any(word in self._words for word in done_at(asked, frames.READFE)):
+            if hold is not None:
+                self._core.holdings.words.pop((array.id, hold.word), None)
+        elif hold is None or not (yield from self._give(array, hold.word - self._words.start, self._session, release)):
+            yield from self._release(self._session, release)
 
     @operation
     def holders(self) -> Steps[List[int]]:

@@ -22,8 +22,9 @@ import femem
 from femem import Client, patterns, requests
 from femem.aio import AsyncClient
 from femem._holdings import Read, Reads, Release, Sitting
+from femem._jobs import Job
 from femem._operations import operation
-from femem.patterns import BoundedQueue, Channel, Lock, ReadWriteLock, Semaphore, WorkQueue
+from femem.patterns import BoundedQueue, Channel, Lock, Locks, ReadWriteLock, Semaphore, WorkQueue
 from femem.requests import Array
 
 LONG = 60
@@ -102,7 +103,7 @@ class Reading:
         self.theirs.release_write()
         test.assertTrue(until(lambda: self.words() == [True, False, True, True, False, False]), (names, self.words()))
         test.assertEqual(self.client.readff(self.word, 3), 0, names)
-        test.assertEqual((self.client._core.holdings.words, self.client._core.holdings.reads.now(self.word).reads), (set(), ()), names)
+        test.assertEqual((self.client._core.holdings.words, self.client._core.holdings.reads.now(self.word).reads), ({}, ()), names)
 
     def words(self):
         """Which are full, but for the DOOR: a writer that is told late has seen by itself that nobody reads."""
@@ -317,7 +318,7 @@ class Interrupted(WithFolder):
                         end = time.monotonic() + LONG
                         while not self.lends(client, word) or self.held(theirs):
                             self.assertLess(time.monotonic(), end, (name, ends, at))
-                        self.assertEqual((client._core.holdings.words, getattr(mine, "_held", [])), (set(), []), at)
+                        self.assertEqual((client._core.holdings.words, getattr(mine, "_held", [])), ({}, []), at)
                         if not was and whole == [True]:
                             break  # (otherwise the thread had taken its numbers back)
                         at -= 0 if was else STEP
@@ -387,6 +388,83 @@ class Interrupted(WithFolder):
 
     def held(self, pattern):
         return pattern.locked() if isinstance(pattern, Lock) else pattern.holders()
+
+    def test_several_releases_of_one_acquisition(self):
+        """One was interrupted, and is to be mended. One of them releases it, and whoever has it next keeps it."""
+        self.server()
+        with Client(self.path, 7) as client, Client(self.path, 8) as other:
+            words = client._core.holdings.words
+
+            def goes_on(steps, begun=None):
+                job = Job(steps)
+                job.begun = begun
+                client._run_job(job)
+
+            for make, times in (
+                (lambda each: Lock(each, "lock"), {"timeout": LONG}),
+                (lambda each: Locks(each, "locks", 8).of("a"), {"timeout": LONG}),
+                (lambda each: Semaphore(each, "semaphore", 1), {"timeout": LONG}),
+                (lambda each: ReadWriteLock(each, "rw", 2).write(LONG), {}),
+                (lambda each: ReadWriteLock(each, "rw", 2).read(LONG), {}),
+            ):
+                mine, theirs = make(client), make(other)
+
+                def release():
+                    steps = mine._operations["release"].steps(mine)
+                    return steps, steps.mend.args[0]
+
+                def it_is_theirs(*mends):
+                    """Until they release it."""
+                    self.assertTrue(theirs.acquire(**times))
+                    self.assertRaises(femem.NotOwner, mine.release)
+                    for each in mends:
+                        with contextlib.suppress(femem.NotOwner):
+                            goes_on(each)
+                    theirs.release()
+
+                with self.subTest(type(mine).__name__):
+                    mine.acquire()
+                    steps, first = release()
+                    mine.release()  # before the first one has begun
+                    it_is_theirs(steps.mend([]))
+                    mine.acquire()
+                    steps, first = release()
+                    first.hold = next(iter(words.values()), None)
+                    mine.release()  # after the first one has found what it is to release
+                    it_is_theirs(steps.mend([]))
+                    mine.acquire()
+                    steps, first = release()
+                    found = dict(words)
+                    next(steps)
+                    self.assertRaises(femem.NotOwner, mine.release)
+                    words.update(found)  # another thread found it before
+                    self.assertRaises(femem.NotOwner, mine.release)
+                    words.clear()
+                    steps.close()
+                    goes_on(steps.mend([]))
+                    it_is_theirs()
+                    mine.acquire()
+                    steps, first = release()
+                    mends = steps.mend([])
+                    begun = next(mends)
+                    self.assertRaises(femem.NotOwner, mine.release)
+                    goes_on(mends, begun)
+                    it_is_theirs()
+
+    def test_a_release_of_a_permit_beside_another_one(self):
+        """One was interrupted: mended, it is of its own permit."""
+        self.server()
+        with Client(self.path, 7) as client:
+            semaphore = Semaphore(client, "semaphore", 2)
+            semaphore.acquire()
+            semaphore.acquire()
+            steps = semaphore._operations["release"].steps(semaphore)
+            next(steps)
+            steps.close()
+            client._run_job(Job(steps.mend([])))
+            self.assertEqual(semaphore.holders(), [7])
+            semaphore.release()
+            self.assertEqual((semaphore.holders(), client._core.holdings.words), ([], {}))
 
     def test_each_operation_is_a_function(self):
         """When a call of anything else returns, Python runs signal handlers, and nobody knows any more what was acquired."""
