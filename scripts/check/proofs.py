@@ -12,7 +12,7 @@ import subprocess
 from .clients import output_of
 from .edits import edits
 from .harness import Skipped, compiler, holds, same, within
-from .sources import below
+from .sources import all_below
 from .texts import TOP, text_of
 
 # Each crate's tests, by name. A test that is renamed or removed is changed here too.

@@ -61,3 +61,12 @@ def below(crate):
     """The crates below a crate, by crates.txt."""
     found = re.search(rf"^{crate}(?: [^:]*)?:(.*)$", text_of("crates.txt"), re.M)
     return [it for it in found[1].split() if it.startswith("fe_")] if found else []
+
+
+def all_below(crate):
+    """The crates on which a crate stands, each after those on which it stands itself: crates.txt has them in this order."""
+    order = re.findall(r"^(\w+)", text_of("crates.txt"), re.M)
+    found = {crate}
+    for name in reversed(order):
+        found.update(below(name) if name in found else ())
+    return [it for it in order if it in found and it != crate]
