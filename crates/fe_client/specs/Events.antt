@@ -1,4 +1,5 @@
--- What happens in a conversation with a server, as a list of events in order (`docs/commands.md`, "Commands").
+-- What happens in a conversation with a server, as a list of events in order (`docs/commands.md`,
+-- "Commands").
 use Rattle.std.specs.Prelude.{ℕ, List, [], ◌∷◌, ◌++◌, map, take, Option, None, Some}
 use Rattle.std.specs.List.{flat_map}
 use Rattle.fe_wire.specs.Spelling.{spelling, reply_spelling}
@@ -38,7 +39,8 @@ reply_text reply = printed None reply
 
 -- A message is sent, then a reply is received, and then its text is written and can be seen.
 abbrev pub exchange : ClientMessage → ServerMessage → List Event
-exchange message reply = sent (spelling message) ++ (received (reply_spelling reply) ++ (written (reply_text reply) ++ Event.Flushed ∷ []))
+exchange message reply = sent (spelling message)
+    ++ (received (reply_spelling reply) ++ (written (reply_text reply) ++ Event.Flushed ∷ []))
 
 -- ---- the bytes of one kind
 

@@ -4,11 +4,13 @@ use fe_text::StreamFault;
 /// Why a call, that is a run of `femem call`, did not do all that its input asks.
 #[derive(Clone, Copy, PartialEq, Eq)]
 pub enum CallFault {
-    /// The line of that number, counted from 1, has not the form of a schedule's line without `cN ` (`docs/schedules.md`, "Lines").
+    /// The line of that number, counted from 1, has not the form of a schedule's line without `cN `
+    /// (`docs/schedules.md`, "Lines").
     Line(u64),
     /// There is no server, or the connection failed, ended before a reply or had a bad frame.
     Socket,
-    /// The input can't be read or the output can't be written; or after 2^40 reads of a stream, 2^40 writes of one text, or 2^64 - 1 lines.
+    /// The input can't be read or the output can't be written; or after 2^40 reads of a stream, 2^40 writes
+    /// of one text, or 2^64 - 1 lines.
     Input,
     /// Memory ran out.
     Memory(OutOfMemory),

@@ -31,7 +31,8 @@ pub(crate) struct Input {
 }
 
 impl Input {
-    ghost use Rattle.std.specs.Prelude.{◌≡◌, ◌+◌, ◌++◌, [], ◌∷◌, ℕ, List, IfOk, IfErr, OnOk, OnErr, MatchBool};
+    ghost use Rattle.std.specs.Prelude.{◌≡◌, ◌+◌, ◌++◌, [], ◌∷◌, ℕ, List, IfOk, IfErr, OnOk, OnErr};
+    ghost use Rattle.std.specs.Prelude.{MatchBool};
     ghost use Rattle.fe_text.specs.Line.{HasNoFeed};
     ghost use Rattle.fe_client.specs.Events.{Event};
     ghost use Rattle.fe_client.specs.Input.{kept_of, Fills, TakesFed, TakesLast, NotTaken};
@@ -69,14 +70,16 @@ impl Input {
         self.number
     }
 
-    /// Takes the next line, and says whether a line feed ends it. At the end of the input, what follows the last line feed,
-    /// maybe nothing, is taken, and the result is `false`. The input is read only if no line feed is left in what was read
-    /// before. The error is `Line` as soon as the line is longer than any of the syntax, 94 bytes; `Input` if a read fails,
-    /// after 2^40 reads, or after 2^64 - 1 lines; `Memory` if memory runs out.
+    /// Takes the next line, and says whether a line feed ends it. At the end of the input, what follows the
+    /// last line feed, maybe nothing, is taken, and the result is `false`. The input is read only if no line
+    /// feed is left in what was read before. The error is `Line` as soon as the line is longer than any of
+    /// the syntax, 94 bytes; `Input` if a read fails, after 2^40 reads, or after 2^64 - 1 lines; `Memory` if
+    /// memory runs out.
     pub fn next_line<E: Streams>(&mut self, streams: &mut E) -> Result<bool, CallFault>
         requires { E.because streams.old (Cause.ReadTimes self.old.reads) }
         ensures taken { IfOk result (λ fed. MatchBool fed
-            (TakesFed E.leads streams.old streams.new (kept_of self.old) (kept_of self.new) self.new.line.items)
+            (TakesFed E.leads streams.old streams.new (kept_of self.old) (kept_of self.new)
+            self.new.line.items)
             (TakesLast E.leads streams.old streams.new (kept_of self.old) self.new.line.items)) }
         ensures number { OnOk result (self.new.number ≡ self.old.number + 1) }
         ensures err { IfErr result (λ end.
@@ -129,8 +132,8 @@ impl Input {
         }
     }
 
-    /// Reads the next piece; the last one must be taken whole. `false` if the input has ended; `true` also if the read was
-    /// interrupted and gave nothing.
+    /// Reads the next piece; the last one must be taken whole. `false` if the input has ended; `true` also if
+    /// the read was interrupted and gave nothing.
     fn fill<E: Streams>(&mut self, streams: &mut E) -> Result<bool, StreamFault>
         requires { kept_of self.old ≡ [] }
         ensures read { IfOk result (λ more. (events : List Event) × Fills more (kept_of self.new) events
@@ -155,8 +158,8 @@ impl Input {
     }
 }
 
-/// Appends bytes to what has come of the line with this number. The error is `Line` if it becomes longer than `LONGEST_ASKED`,
-/// `Memory` if memory runs out.
+/// Appends bytes to what has come of the line with this number. The error is `Line` if it becomes longer than
+/// `LONGEST_ASKED`, `Memory` if memory runs out.
 fn add(line: &mut Vec<u8>, bytes: &[u8], number: u64) -> Result<(), CallFault>
     requires few { length line.old.items ≤ 94 }
     ensures few { length line.new.items ≤ 94 }

@@ -1,5 +1,5 @@
-//! The client of `femem call`: it sends each line of an input that is not empty to a server as one message, and prints the reply before
-//! it takes the next line (`docs/commands.md`).
+//! The client of `femem call`: it sends each line of an input that is not empty to a server as one message,
+//! and prints the reply before it takes the next line (`docs/commands.md`).
 #![tactic(auto)]
 
 mod asking;

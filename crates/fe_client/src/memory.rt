@@ -5,8 +5,8 @@ ghost use Rattle.std.specs.Prelude.{◌≡◌, ◌<◌, ◌≤◌, length};
 use crate::connection::{Broken, Connection};
 use std::alloc::Global;
 
-/// A connection without a server: what the other end gives is fixed beforehand and is received in pieces, and what is sent is only
-/// kept.
+/// A connection without a server: what the other end gives is fixed beforehand and is received in pieces, and
+/// what is sent is only kept.
 #[derive(Drop)]
 pub struct MemoryConnection {
     answers: Vec<u8>,
@@ -22,7 +22,8 @@ pub struct MemoryConnection {
 }
 
 impl MemoryConnection {
-    /// A connection whose other end gives these bytes, in pieces of at most this many. After them `receive` fails, and `send` goes on.
+    /// A connection whose other end gives these bytes, in pieces of at most this many. After them `receive`
+    /// fails, and `send` goes on.
     pub fn new(alloc: Global, answers: Vec<u8>, piece: usize) -> MemoryConnection
         requires { 0 < piece }
     {

@@ -1,4 +1,5 @@
-//! Sending all of some bytes to a server, and receiving replies, each in a frame: length, kind and body (`docs/formats.md`, "Frames").
+//! Sending all of some bytes to a server, and receiving replies, each in a frame: length, kind and body
+//! (`docs/formats.md`, "Frames").
 
 ghost use Rattle.std.specs.Prelude.{◌≡◌, ◌+◌, ◌≤◌, ℕ, List, length, IfOk, IfErr, OnOk};
 ghost use Rattle.fe_wire.specs.Spelling.{reply_spelling, ReplyFits};
@@ -13,7 +14,8 @@ use fe_text::READS;
 use fe_wire::{LENGTH_BYTES, ServerMessage, read_reply};
 use std::alloc::Global;
 
-/// The greatest length that a frame from the server gives for its kind and body, which is that of the longest report.
+/// The greatest length that a frame from the server gives for its kind and body, which is that of the longest
+/// report.
 const GREATEST_LENGTH: usize = 262_145;
 
 /// The number of bytes of the longest frame from the server.
@@ -22,7 +24,8 @@ pub(crate) const REPLY_BYTES: usize = LENGTH_BYTES + GREATEST_LENGTH;
 /// Sends all of these bytes.
 pub(crate) fn send_all<E: Streams>(streams: &mut E, bytes: &[u8]) -> Result<(), CallFault>
     ensures ok { OnOk result (E.leads streams.old (sent bytes.now) streams.new) }
-    ensures front { (front : List ℕ) × IsFrontOf front bytes.now × E.leads streams.old (sent front) streams.new }
+    ensures front { (front : List ℕ) × IsFrontOf front bytes.now
+        × E.leads streams.old (sent front) streams.new }
     ensures err { IfErr result (λ end. Unsent end (E.because streams.new)) }
 {
     let mut done = 0;
@@ -62,7 +65,8 @@ fn receive_all<E: Streams>(
     Ok(())
 }
 
-/// Receives the length of a frame's kind and body. The error is `Socket` also if that is 0, or above `GREATEST_LENGTH`.
+/// Receives the length of a frame's kind and body. The error is `Socket` also if that is 0, or above
+/// `GREATEST_LENGTH`.
 fn receive_length<E: Streams>(
     streams: &mut E,
     head: &mut [u8],
@@ -85,8 +89,9 @@ fn receive_length<E: Streams>(
     Ok(count)
 }
 
-/// Receives the next reply, whose frame goes to the front of `room`, a buffer for the longest frame. A frame whose length is 0, or above
-/// that of the longest report, is bad as soon as its length has come; any other is judged once it is whole.
+/// Receives the next reply, whose frame goes to the front of `room`, a buffer for the longest frame. A frame
+/// whose length is 0, or above that of the longest report, is bad as soon as its length has come; any other
+/// is judged once it is whole.
 pub(crate) fn receive_reply<E: Streams>(
     alloc: Global,
     streams: &mut E,

@@ -1,10 +1,12 @@
-//! The streams of a conversation of `femem call` (`docs/commands.md`, "Commands") as three objects: a reader, a connection and a writer.
+//! The streams of a conversation of `femem call` (`docs/commands.md`, "Commands") as three objects: a reader,
+//! a connection and a writer.
 
 use crate::connection::{Broken, Connection};
 use crate::streams::Streams;
 use fe_text::{Sink, Source, StreamFault};
 
-/// A reader, a connection and a writer as the streams of a conversation. Contracts see the bytes of each, if they are known.
+/// A reader, a connection and a writer as the streams of a conversation. Contracts see the bytes of each, if
+/// they are known.
 #[derive(Drop)]
 pub(crate) struct Separate<'r, 'c, 'w, R, C, W> {
     pub reader: &'r mut R,
@@ -16,14 +18,17 @@ impl<R: Source, C: Connection, W: Sink> Streams for Separate<'_, '_, '_, R, C, W
     ghost use Rattle.std.specs.Prelude.{◌≡◌};
     ghost use Rattle.std.proofs.Common.{refl, ◌∙◌};
     ghost use Rattle.std.proofs.Math.Nat.{le_refl};
-    ghost use Rattle.fe_client.specs.Streams.{known, Flows, HandsOn, KeepsReads, flows_none, flows_both, hands_both};
+    ghost use Rattle.fe_client.specs.Streams.{known, Flows, HandsOn, KeepsReads, flows_none, flows_both};
+    ghost use Rattle.fe_client.specs.Streams.{hands_both};
     ghost use Rattle.fe_client.specs.Ends.{causes};
 
     ghost leads = { λ s events t.
         Flows
-        (known (R.remaining s.reader.now) (C.sent s.connection.now) (C.received s.connection.now) (W.contents s.writer.now))
+        (known (R.remaining s.reader.now) (C.sent s.connection.now) (C.received s.connection.now)
+        (W.contents s.writer.now))
         events
-        (known (R.remaining t.reader.now) (C.sent t.connection.now) (C.received t.connection.now) (W.contents t.writer.now))
+        (known (R.remaining t.reader.now) (C.sent t.connection.now) (C.received t.connection.now)
+        (W.contents t.writer.now))
         × HandsOn (W.is_handed_on s.writer.now) events (W.is_handed_on t.writer.now)
         × (t.reader.ghost_name ≡ s.reader.ghost_name)
         × (t.connection.ghost_name ≡ s.connection.ghost_name)
@@ -35,7 +40,8 @@ impl<R: Source, C: Connection, W: Sink> Streams for Separate<'_, '_, '_, R, C, W
 
     ghost stays = { λ s. (
       flows_none
-          (known (R.remaining s.reader.now) (C.sent s.connection.now) (C.received s.connection.now) (W.contents s.writer.now)),
+          (known (R.remaining s.reader.now) (C.sent s.connection.now) (C.received s.connection.now)
+          (W.contents s.writer.now)),
       λ was. was,
       refl,
       refl,
@@ -45,12 +51,16 @@ impl<R: Source, C: Connection, W: Sink> Streams for Separate<'_, '_, '_, R, C, W
 
     ghost joins = { λ s t u a b p q. (
       flows_both
-          (known (R.remaining s.reader.now) (C.sent s.connection.now) (C.received s.connection.now) (W.contents s.writer.now))
-          (known (R.remaining t.reader.now) (C.sent t.connection.now) (C.received t.connection.now) (W.contents t.writer.now))
-          (known (R.remaining u.reader.now) (C.sent u.connection.now) (C.received u.connection.now) (W.contents u.writer.now))
+          (known (R.remaining s.reader.now) (C.sent s.connection.now) (C.received s.connection.now)
+          (W.contents s.writer.now))
+          (known (R.remaining t.reader.now) (C.sent t.connection.now) (C.received t.connection.now)
+          (W.contents t.writer.now))
+          (known (R.remaining u.reader.now) (C.sent u.connection.now) (C.received u.connection.now)
+          (W.contents u.writer.now))
           a b p.0 q.0,
       hands_both
-          (W.is_handed_on s.writer.now) (W.is_handed_on t.writer.now) (W.is_handed_on u.writer.now) a b p.1 q.1,
+          (W.is_handed_on s.writer.now) (W.is_handed_on t.writer.now) (W.is_handed_on u.writer.now) a b p.1
+          q.1,
       q.2 ∙ p.2,
       q.3 ∙ p.3,
       q.4 ∙ p.4,

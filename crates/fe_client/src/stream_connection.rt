@@ -1,4 +1,5 @@
-//! A connection to a server over a reader and a writer; that of `femem call` is over a Unix socket (`docs/commands.md`, "Commands").
+//! A connection to a server over a reader and a writer; that of `femem call` is over a Unix socket
+//! (`docs/commands.md`, "Commands").
 
 ghost use Rattle.std.specs.Prelude.{◌≡◌};
 
@@ -6,7 +7,8 @@ use crate::connection::{Broken, Connection};
 use fe_streams::{Incoming, StreamFailed, write_some};
 use std::io::{Read, Write};
 
-/// A connection that receives from a reader and sends to a writer. Over a socket, each of them is a reference to it.
+/// A connection that receives from a reader and sends to a writer. Over a socket, each of them is a reference
+/// to it.
 #[derive(Drop)]
 pub struct StreamConnection<R: Read, W: Write> {
     incoming: Incoming<R>,

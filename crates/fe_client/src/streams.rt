@@ -1,13 +1,16 @@
-//! The streams of a conversation of `femem call`: its input, its connection and its output (`docs/commands.md`, "Commands").
+//! The streams of a conversation of `femem call`: its input, its connection and its output
+//! (`docs/commands.md`, "Commands").
 
-ghost use Rattle.std.specs.Prelude.{ℕ, List, [], ◌∷◌, ◌++◌, ◌+◌, ◌<◌, ◌≤◌, take, length, IfOk, IfErr, IfSome, OnOk, OnErr};
+ghost use Rattle.std.specs.Prelude.{ℕ, List, [], ◌∷◌, ◌++◌, ◌+◌, ◌<◌, ◌≤◌, take, length, IfOk, IfErr, IfSome};
+ghost use Rattle.std.specs.Prelude.{OnOk, OnErr};
 ghost use Rattle.fe_client.specs.Ends.{Cause};
 ghost use Rattle.fe_client.specs.Events.{Event, sent, received, written, read_of};
 
 use crate::connection::Broken;
 use fe_text::StreamFault;
 
-/// An input, a connection to a server and an output as one object, so that what happens to them has one order.
+/// An input, a connection to a server and an output as one object, so that what happens to them has one
+/// order.
 pub trait Streams {
     /// These events, in their order, lead from one state to the other.
     ghost leads: { Self → List Event → Self → Type 0 };
@@ -15,8 +18,8 @@ pub trait Streams {
     /// Whether there is this cause to break off.
     ghost because: { Self → Cause → Type 0 };
 
-    /// Reads some bytes of the input into the front of the buffer, and says how many; none only if the input has ended.
-    /// `None` if the read was interrupted.
+    /// Reads some bytes of the input into the front of the buffer, and says how many; none only if the input
+    /// has ended. `None` if the read was interrupted.
     fn read(&mut self, buffer: &mut [u8]) -> Result<Option<usize>, StreamFault>
         requires { 0 < length buffer.old }
         ensures fits { IfOk result (λ given. IfSome given (λ count. count ≤ length buffer.old)) }

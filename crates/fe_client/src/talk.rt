@@ -1,7 +1,9 @@
-//! A conversation of `femem call` with a server: one exchange, a message and the reply to it, after another (`docs/commands.md`,
-//! "Commands"). A frame is the bytes of a message or of a reply (`docs/formats.md`, "Frames").
+//! A conversation of `femem call` with a server: one exchange, a message and the reply to it, after another
+//! (`docs/commands.md`, "Commands"). A frame is the bytes of a message or of a reply (`docs/formats.md`,
+//! "Frames").
 
-ghost use Rattle.std.specs.Prelude.{◌≡◌, ◌⊎◌, ◌+◌, ◌≤◌, ◌∷◌, ◌++◌, [], ℕ, List, length, IfOk, IfErr, OnOk, OnErr};
+ghost use Rattle.std.specs.Prelude.{◌≡◌, ◌⊎◌, ◌+◌, ◌≤◌, ◌∷◌, ◌++◌, [], ℕ, List, length, IfOk, IfErr, OnOk};
+ghost use Rattle.std.specs.Prelude.{OnErr};
 ghost use Rattle.fe_memory.specs.Memory.{out_of_memory};
 ghost use Rattle.fe_wire.specs.Spelling.{spelling, reply_spelling, ReplyFits};
 ghost use Rattle.fe_client.specs.Events.{Event, sent, received, written, reply_text};
@@ -47,14 +49,16 @@ impl Talk {
         })
     }
 
-    /// Does what the line of that number asks: sends its message, and prints the reply. An empty line asks nothing.
+    /// Does what the line of that number asks: sends its message, and prints the reply. An empty line asks
+    /// nothing.
     pub fn take_line<E: Streams>(
         &mut self,
         number: u64,
         line: &[u8],
         streams: &mut E,
     ) -> Result<(), CallFault>
-        ensures ok { OnOk result (DoesLine E.leads line.now self.old.reads self.new.reads streams.old streams.new) }
+        ensures ok { OnOk result (DoesLine E.leads line.now self.old.reads self.new.reads streams.old
+            streams.new) }
         ensures err { IfErr result (λ end. DoesPart E.leads streams.old streams.new
             (LineEnds end (E.because streams.new) number self.old.reads line.now)) }
     {
@@ -73,7 +77,8 @@ impl Talk {
         message: &ClientMessage,
         streams: &mut E,
     ) -> Result<(), CallFault>
-        ensures ok { OnOk result (Exchanged E.leads message.now self.old.reads self.new.reads streams.old streams.new) }
+        ensures ok { OnOk result (Exchanged E.leads message.now self.old.reads self.new.reads streams.old
+            streams.new) }
         ensures err { IfErr result (λ end. DoesPart E.leads streams.old streams.new
             (ExchangeEnds end (E.because streams.new) self.old.reads message.now)) }
     {
@@ -104,7 +109,8 @@ impl Talk {
     fn receive<E: Streams>(&mut self, streams: &mut E) -> Result<ServerMessage, CallFault>
         ensures reply { IfOk result (λ reply. ReplyFits reply
             × E.leads streams.old (received (reply_spelling reply)) streams.new) }
-        ensures reads { IfOk result (λ reply. self.new.reads ≤ self.old.reads + length (reply_spelling reply)) }
+        ensures reads { IfOk result (λ reply. self.new.reads
+            ≤ self.old.reads + length (reply_spelling reply)) }
         ensures err { IfErr result (λ end. (bytes : List ℕ) × E.leads streams.old (received bytes) streams.new
             × Unanswered end (E.because streams.new) self.old.reads bytes) }
     {

@@ -1,8 +1,11 @@
--- The rule of images: which state an image stands for, or else the offset of its first fault. It goes over the fields
--- in the order of the format (`docs/formats.md`, "Image"). A step returns a value and the bytes after it; or, at the
--- first fault, how many bytes are left from there on. A fault is a field whose value isn't allowed, given those before
--- it; or the end of the bytes, if they end before or inside a field; or the first byte after the last field.
-use Rattle.std.specs.Prelude.{ℕ, zero, suc, ◌+◌, ◌-◌, Bool, true, ◌&&◌, List, [], ◌∷◌, length, take, drop, Option, Some, None, is_some, Result, Ok, Err, nat_le, nat_lt, ◌==◌, if◌then◌else◌}
+-- The rule of images: which state an image stands for, or else the offset of its first fault. It goes over
+-- the fields in the order of the format (`docs/formats.md`, "Image"). A step returns a value and the bytes
+-- after it; or, at the first fault, how many bytes are left from there on. A fault is a field whose value
+-- isn't allowed, given those before it; or the end of the bytes, if they end before or inside a field; or the
+-- first byte after the last field.
+use Rattle.std.specs.Prelude.{ℕ, zero, suc, ◌+◌, ◌-◌, Bool, true, ◌&&◌, List, [], ◌∷◌, length, take, drop}
+use Rattle.std.specs.Prelude.{Option, Some, None, is_some, Result, Ok, Err, nat_le, nat_lt, ◌==◌}
+use Rattle.std.specs.Prelude.{if◌then◌else◌}
 use Rattle.std.specs.List.{list_all}
 use Rattle.std.specs.Option.{option_map}
 use Rattle.std.specs.Ordering.{nat_cmp}
@@ -13,7 +16,8 @@ use Rattle.fe_words.specs.declared.word.Tag.{Tag}
 use Rattle.fe_words.specs.declared.word.Tag.TheVariants.{Empty}
 use Rattle.fe_words.specs.declared.word.Word.{Word}
 use Rattle.fe_state.specs.Name.{is_plain}
-use Rattle.fe_state.specs.Limits.{most_arrays, greatest_floor, greatest_place, most_sessions, window_length, most_words}
+use Rattle.fe_state.specs.Limits.{most_arrays, greatest_floor, greatest_place, most_sessions, window_length}
+use Rattle.fe_state.specs.Limits.{most_words}
 use Rattle.fe_state.specs.Directory.{named, word_count}
 use Rattle.fe_state.specs.Effect.{new_array, put_word}
 use Rattle.fe_state.specs.Sessions.{keeping, put_session}
@@ -52,7 +56,8 @@ row n bytes = if nat_lt (length bytes) n then Err 0 else Ok (take n bytes, drop 
 
 unfoldable pub number : Width → List ℕ → Result (ℕ × List ℕ) ℕ
 number w bytes =
-    if nat_lt (length bytes) (byte_len w) then Err 0 else Ok (from_be_bytes w (take (byte_len w) bytes), drop (byte_len w) bytes)
+    if nat_lt (length bytes) (byte_len w) then Err 0 else Ok
+    (from_be_bytes w (take (byte_len w) bytes), drop (byte_len w) bytes)
 
 -- a number from the least on, and below the limit
 unfoldable pub number_in : Width → ℕ → ℕ → List ℕ → Result (ℕ × List ℕ) ℕ
@@ -134,7 +139,8 @@ next_word array x =
     Ok (x.0 + 1, with_word_at x.1 array x.0 w.0, w.1)
 
 -- the next array, given the id of the previous one, the state so far and the bytes that are left
-unfoldable pub next_array : Format → Option ℕ × ServerState × List ℕ → Result (Option ℕ × ServerState × List ℕ) ℕ
+unfoldable pub next_array : Format → Option ℕ × ServerState × List ℕ
+    → Result (Option ℕ × ServerState × List ℕ) ℕ
 next_array format x =
     id_at x.0 x.1.next_id x.2 followed_by λ id.
     new_name_at format x.1.arrays id.1 followed_by λ name.
@@ -144,14 +150,17 @@ next_array format x =
 
 -- ---- sessions
 
--- a number that may come next among those for which something is kept: in the window, and above the previous one
+-- a number that may come next among those for which something is kept: in the window, and above the previous
+-- one
 abbrev pub is_next_number : ℕ → Option ℕ → ℕ → Bool
 is_next_number floor previous n = nat_le floor n && nat_lt n (floor + window_length) && is_after previous n
 
--- the number and what is kept for it, if this entry finished a request of the session under a number that may come next
+-- the number and what is kept for it, if this entry finished a request of the session under a number that may
+-- come next
 abbrev pub kept_of : ℕ → ℕ → Option ℕ → ℕ → Option Entry → Option (ℕ × Kept)
 kept_of session floor previous place (Some (Finished owner n request answer)) =
-    if owner == session && is_next_number floor previous n then Some (n, record { request = request; answer = answer; place = place }) else None
+    if owner == session && is_next_number floor previous n then Some
+    (n, record { request = request; answer = answer; place = place }) else None
 kept_of session floor previous place _ = None
 
 -- a place below the image's, and the record of what is kept; a fault in the record is at its first byte
@@ -159,20 +168,25 @@ unfoldable pub kept_at : Format → ℕ → ℕ → ℕ → Option ℕ → List 
 kept_at format limit session floor previous bytes =
     number_in w64 0 limit bytes followed_by λ place.
     row (record_bytes format) place.1 followed_by λ cells.
-    or_fault (length place.1) (kept_of session floor previous place.0 (record_entry format cells.0)) followed_by λ kept.
+    or_fault (length place.1) (kept_of session floor previous place.0 (record_entry format cells.0))
+    followed_by λ kept.
     Ok (kept, cells.1)
 
 -- the state that keeps this answer too
 abbrev pub with_kept : ServerState → ℕ → ℕ × Kept → ServerState
 with_kept s session k =
-    with_sessions s (put_session s.sessions session (option_map (λ x. keeping x k.0 k.1) (get s.sessions session)))
+    with_sessions s (put_session s.sessions session
+    (option_map (λ x. keeping x k.0 k.1) (get s.sessions session)))
 
 -- the state with one session more, whose kept answers are read afterwards
 abbrev pub with_new_session : ServerState → ℕ → ℕ → ServerState
-with_new_session s session floor = with_sessions s (insert s.sessions session (record { floor = floor; kept = empty }))
+with_new_session s session floor =
+    with_sessions s (insert s.sessions session (record { floor = floor; kept = empty }))
 
--- the next kept answer of a session, given the number of the previous one, the state so far and the bytes that are left
-unfoldable pub next_kept : Format → ℕ → ℕ → Option ℕ × ServerState × List ℕ → Result (Option ℕ × ServerState × List ℕ) ℕ
+-- the next kept answer of a session, given the number of the previous one, the state so far and the bytes
+-- that are left
+unfoldable pub next_kept : Format → ℕ → ℕ → Option ℕ × ServerState × List ℕ
+    → Result (Option ℕ × ServerState × List ℕ) ℕ
 next_kept format session floor x =
     kept_at format x.1.place session floor x.0 x.2 followed_by λ kept.
     Ok (Some kept.0.0, with_kept x.1 session kept.0, kept.1)
@@ -184,12 +198,14 @@ session_at previous bytes =
     if is_after previous session.0 then Ok session else Err (length bytes)
 
 -- the next session, given the number of the previous one, the state so far and the bytes that are left
-unfoldable pub next_session : Format → Option ℕ × ServerState × List ℕ → Result (Option ℕ × ServerState × List ℕ) ℕ
+unfoldable pub next_session : Format → Option ℕ × ServerState × List ℕ
+    → Result (Option ℕ × ServerState × List ℕ) ℕ
 next_session format x =
     session_at x.0 x.2 followed_by λ session.
     number_in w64 1 (greatest_floor + 1) session.1 followed_by λ floor.
     number_in w32 0 (window_length + 1) floor.1 followed_by λ count.
-    repeated (next_kept format session.0 floor.0) count.0 (None, with_new_session x.1 session.0 floor.0, count.1) followed_by λ kept.
+    repeated (next_kept format session.0 floor.0) count.0
+    (None, with_new_session x.1 session.0 floor.0, count.1) followed_by λ kept.
     Ok (Some session.0, kept.1, kept.2)
 
 -- ---- images

@@ -1,5 +1,7 @@
--- What loading a part of an image, the bytes of a server state, keeps and what it may add (`docs/model.md`, "Records, groups and images").
-use Rattle.std.specs.Prelude.{◌≡◌, ℕ, ◌+◌, ◌≤◌, Option, Some, None, IsSome, true, ◌<◌, List, Result, Ok, Err, IfOk}
+-- What loading a part of an image, the bytes of a server state, keeps and what it may add (`docs/model.md`,
+-- "Records, groups and images").
+use Rattle.std.specs.Prelude.{◌≡◌, ℕ, ◌+◌, ◌≤◌, Option, Some, None, IsSome, true, ◌<◌, List, Result, Ok, Err}
+use Rattle.std.specs.Prelude.{IfOk}
 use Rattle.std.specs.Ordering.{nat_cmp}
 use Rattle.std.specs.FinMap.{FinMap, get, len}
 use Rattle.fe_state.specs.Directory.{word_in}
@@ -63,7 +65,8 @@ Reads view (Err fault) given = ReadsFault fault given
 -- a number of this width is read as the rule gives it; it is from the least on, and below the limit
 abbrev pub ReadsNumberIn : Width → ℕ → ℕ → Result (ℕ × Bor (List ℕ)) Fault → List ℕ → Type 0
 ReadsNumberIn w least limit result bytes =
-    Reads (λ x. (x.0, x.1.now)) result (number_in w least limit bytes) × IfOk result (λ x. (least ≤ x.0) × (x.0 < limit))
+    Reads (λ x. (x.0, x.1.now)) result (number_in w least limit bytes)
+    × IfOk result (λ x. (least ≤ x.0) × (x.0 < limit))
 
 -- the fault of a whole image, an offset, is the one that the rule gives, unless memory ran out
 abbrev pub ImageFails : {Y : Type 0} → ImageFault → Result Y ℕ → Type 0

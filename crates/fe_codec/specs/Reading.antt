@@ -1,6 +1,7 @@
--- Which entry a record, a row of bytes, spells: its fields are read, and then all bytes are compared with the spelling of that
--- entry (`docs/formats.md`, "Entry record").
-use Rattle.std.specs.Prelude.{ℕ, ◌+◌, ◌^◌, Bool, true, ◌&&◌, List, length, take, drop, slice_index, Option, Some, None, nat_le, nat_lt, ◌==◌, if◌then◌else◌}
+-- Which entry a record, a row of bytes, spells: its fields are read, and then all bytes are compared with the
+-- spelling of that entry (`docs/formats.md`, "Entry record").
+use Rattle.std.specs.Prelude.{ℕ, ◌+◌, ◌^◌, Bool, true, ◌&&◌, List, length, take, drop, slice_index, Option}
+use Rattle.std.specs.Prelude.{Some, None, nat_le, nat_lt, ◌==◌, if◌then◌else◌}
 use Rattle.std.specs.Str.{bytes_eq}
 use Rattle.std.specs.Int.{w32, w64}
 use Rattle.fe_state.specs.declared.request.Request.{Request}
@@ -18,7 +19,8 @@ pub use Rattle.fe_fields.specs.Fields.{field_at}
 -- the name in the row of a record, unless it is longer than the row
 unfoldable pub name_of : Format → List ℕ → Option (List ℕ)
 name_of format bytes =
-    if nat_le (slice_index bytes 3) (name_bytes format) then Some (take (slice_index bytes 3) (drop 24 bytes)) else None
+    if nat_le (slice_index bytes 3) (name_bytes format) then Some (take (slice_index bytes 3) (drop 24 bytes))
+    else None
 
 unfoldable pub create_of : Format → List ℕ → Option Request
 create_of format bytes = do
@@ -34,7 +36,8 @@ find_of format bytes = do
 unfoldable pub access_of : Format → List ℕ → Option Request
 access_of format bytes = do
   op ← op_of (slice_index bytes 1) (field_at w64 bytes 32)
-  Some (Access (field_at w64 bytes 24) (field_at w32 bytes (24 + name_bytes format)) op (slice_index bytes 5 == 1))
+  Some (Access (field_at w64 bytes 24) (field_at w32 bytes (24 + name_bytes format)) op
+      (slice_index bytes 5 == 1))
 
 unfoldable pub request_of : Format → List ℕ → Option Request
 request_of format bytes =
@@ -46,7 +49,8 @@ request_of format bytes =
 unfoldable pub finished_of : Format → List ℕ → Option Entry
 finished_of format bytes = do
   request ← request_of format bytes
-  answer ← answer_of (slice_index bytes 2) (field_at w64 bytes (32 + name_bytes format)) (field_at w32 bytes (28 + name_bytes format))
+  answer ← answer_of (slice_index bytes 2) (field_at w64 bytes (32 + name_bytes format))
+      (field_at w32 bytes (28 + name_bytes format))
   Some (Finished (field_at w64 bytes 8) (field_at w64 bytes 16) request answer)
 
 -- the entry that these bytes spell, if they are a record at all; they have a record's length
@@ -72,7 +76,8 @@ is_of_format Two entry = true
 
 -- the bytes are the entry's record
 abbrev pub is_record : Format → Entry → List ℕ → Bool
-is_record format entry bytes = is_numbered entry && is_of_format format entry && bytes_eq (entry_spelling format entry) bytes
+is_record format entry bytes =
+    is_numbered entry && is_of_format format entry && bytes_eq (entry_spelling format entry) bytes
 
 -- the entry, if the bytes are its record
 abbrev pub if_record : Format → List ℕ → Option Entry → Option Entry
@@ -81,4 +86,5 @@ if_record format bytes (Some entry) = if is_record format entry bytes then Some 
 
 -- the entry whose record the bytes are, if there is one
 unfoldable pub record_entry : Format → List ℕ → Option Entry
-record_entry format bytes = if length bytes == record_bytes format then if_record format bytes (entry_of format bytes) else None
+record_entry format bytes =
+    if length bytes == record_bytes format then if_record format bytes (entry_of format bytes) else None

@@ -1,5 +1,7 @@
--- The one spelling of each entry, a step of the history, as a record; which entries have one (`docs/formats.md`, "Entry record").
-use Rattle.std.specs.Prelude.{◌≡◌, ℕ, ◌-◌, ◌*◌, ◌%◌, ◌<◌, ◌≤◌, ◌^◌, Bool, true, false, List, [], ◌∷◌, ◌++◌, length, replicate, flat_map}
+-- The one spelling of each entry, a step of the history, as a record; which entries have one
+-- (`docs/formats.md`, "Entry record").
+use Rattle.std.specs.Prelude.{◌≡◌, ℕ, ◌-◌, ◌*◌, ◌%◌, ◌<◌, ◌≤◌, ◌^◌, Bool, true, false, List, [], ◌∷◌, ◌++◌}
+use Rattle.std.specs.Prelude.{length, replicate, flat_map}
 use Rattle.std.specs.List.{AllByRecursion}
 use Rattle.std.specs.Int.{w32, w64, to_be_bytes}
 use Rattle.fe_state.specs.Format.{entry_fits_format_1}
@@ -28,7 +30,8 @@ name_field format name = length name ∷ name_row format name
 
 -- an array and an operand, with zeros after them
 abbrev pub array_row : Format → ℕ → ℕ → List ℕ
-array_row format array operand = to_be_bytes w64 array ++ to_be_bytes w64 operand ++ replicate (name_bytes format - 16) 0
+array_row format array operand =
+    to_be_bytes w64 array ++ to_be_bytes w64 operand ++ replicate (name_bytes format - 16) 0
 
 -- the flag: 1 for an access that must not wait
 abbrev pub flag_code : Bool → ℕ
@@ -40,7 +43,8 @@ abbrev pub request_codes : ℕ → Request → List ℕ
 request_codes answer (Create name size tag) = codes_field 4 1 answer (length name) (tag_code tag) 0
 request_codes answer (Find name) = codes_field 4 2 answer (length name) 0 0
 request_codes answer (Remove array) = codes_field 4 3 answer 0 0 0
-request_codes answer (Access array index op no_wait) = codes_field 4 (op_code op) answer 0 0 (flag_code no_wait)
+request_codes answer (Access array index op no_wait) =
+    codes_field 4 (op_code op) answer 0 0 (flag_code no_wait)
 
 -- what a request names: an array by its name, or by its id and then an operand, 0 for a remove
 abbrev pub request_row : Format → Request → List ℕ
@@ -56,11 +60,12 @@ request_size (Find name) = 0
 request_size (Remove array) = 0
 request_size (Access array index op no_wait) = index
 
--- a record: codes, session, number or floor, row, length or index, the answer's length and number, and eight unused
--- bytes
+-- a record: codes, session, number or floor, row, length or index, the answer's length and number, and eight
+-- unused bytes
 abbrev pub record_spelling : List ℕ → ℕ → ℕ → List ℕ → ℕ → ℕ → ℕ → List ℕ
 record_spelling codes session number row size answer_size answer_value =
-    codes ++ to_be_bytes w64 session ++ to_be_bytes w64 number ++ row ++ to_be_bytes w32 size ++ to_be_bytes w32 answer_size ++ to_be_bytes w64 answer_value ++ replicate 8 0
+    codes ++ to_be_bytes w64 session ++ to_be_bytes w64 number ++ row ++ to_be_bytes w32 size
+    ++ to_be_bytes w32 answer_size ++ to_be_bytes w64 answer_value ++ replicate 8 0
 
 -- a record with nothing after the number or the floor
 abbrev pub short_spelling : Format → ℕ → ℕ → ℕ → List ℕ
@@ -72,7 +77,8 @@ entry_spelling format (Attached session floor) = short_spelling format 1 session
 entry_spelling format (Closed session) = short_spelling format 2 session 0
 entry_spelling format (Settled session floor) = short_spelling format 3 session floor
 entry_spelling format (Finished session number request answer) =
-    record_spelling (request_codes (answer_code answer) request) session number (request_row format request) (request_size request) (answer_length answer) (answer_number answer)
+    record_spelling (request_codes (answer_code answer) request) session number (request_row format request)
+    (request_size request) (answer_length answer) (answer_number answer)
 
 -- the format has room for the entry
 abbrev pub IsOfFormat : Format → Entry → Type 0
@@ -123,7 +129,8 @@ FieldsFit (Attached session floor) = session < 2 ^ 64
 FieldsFit (Closed session) = session < 2 ^ 64
 FieldsFit (Settled session floor) = session < 2 ^ 64
 FieldsFit (Finished session number request answer) =
-    (session < 2 ^ 64) × RequestFits request × (answer_number answer < 2 ^ 64) × (answer_length answer < 2 ^ 32)
+    (session < 2 ^ 64) × RequestFits request × (answer_number answer < 2 ^ 64)
+    × (answer_length answer < 2 ^ 32)
 
 -- an entry that has a record in the format
 pub record FitsRecord (format : Format) (entry : Entry) : Type 0 where

@@ -1,5 +1,6 @@
-//! Appends fields of an image, the bytes of a server state (`docs/formats.md`, "Image"), to a vector. A call fails only if the vector
-//! lacks room and memory runs out. What was in the vector stays; a `put_words` that fails may leave some words after it.
+//! Appends fields of an image, the bytes of a server state (`docs/formats.md`, "Image"), to a vector. A call
+//! fails only if the vector lacks room and memory runs out. What was in the vector stays; a `put_words` that
+//! fails may leave some words after it.
 
 ghost use Rattle.std.specs.Prelude.{◌<◌, ◌^◌, flat_map, is_ok, OnOk, vec_capacity};
 ghost use Rattle.std.specs.List.{AllByRecursion};
@@ -42,7 +43,8 @@ pub fn put_u64(out: &mut Vec<u8>, value: u64) -> Result<(), OutOfMemory>
 
 /// Appends a word: its tag in one byte, and its value in eight, big-endian.
 pub fn put_word(out: &mut Vec<u8>, word: Word) -> Result<(), OutOfMemory>
-    ensures appends { Appends out.old.items out.new.items (vec_capacity out.old) (vec_capacity out.new) (is_ok result)
+    ensures appends { Appends out.old.items out.new.items (vec_capacity out.old) (vec_capacity out.new)
+        (is_ok result)
         (word_spelling word) }
     ensures fits { word.value < 2 ^ 64 }
 {
@@ -54,7 +56,8 @@ pub fn put_word(out: &mut Vec<u8>, word: Word) -> Result<(), OutOfMemory>
 
 /// Appends words, one after another.
 pub fn put_words(out: &mut Vec<u8>, words: &[Word]) -> Result<(), OutOfMemory>
-    ensures appends { Appends out.old.items out.new.items (vec_capacity out.old) (vec_capacity out.new) (is_ok result)
+    ensures appends { Appends out.old.items out.new.items (vec_capacity out.old) (vec_capacity out.new)
+        (is_ok result)
         (flat_map word_spelling words.now) }
     ensures fits { OnOk result (AllByRecursion (λ w. w.value < 2 ^ 64) words.now) }
 {

@@ -1,13 +1,15 @@
 //! Reading the arrays of an image, the bytes of a server state (`docs/formats.md`, "Image").
 
-ghost use Rattle.std.specs.Prelude.{◌≡◌, ℕ, ◌+◌, ◌-◌, ◌≤◌, ◌<◌, ◌&&◌, not, false, ◌==◌, take, if◌then◌else◌, true, length, is_some, IfOk, OnOk, IsSome, None};
+ghost use Rattle.std.specs.Prelude.{◌≡◌, ℕ, ◌+◌, ◌-◌, ◌≤◌, ◌<◌, ◌&&◌, not, false, ◌==◌, take, if◌then◌else◌};
+ghost use Rattle.std.specs.Prelude.{true, length, is_some, IfOk, OnOk, IsSome, None};
 ghost use Rattle.std.specs.List.{list_all};
 ghost use Rattle.std.specs.Int.{w32};
 ghost use Rattle.std.specs.FinMap.{get, len};
 ghost use Rattle.fe_state.specs.Name.{is_plain};
 ghost use Rattle.fe_state.specs.Directory.{named, word_in, word_count};
 ghost use Rattle.fe_format.specs.Layout.{name_bytes};
-ghost use Rattle.fe_codec.specs.FirstFault.{number_in, is_after, id_at, name_length_at, is_name_row, new_name_at, tag_at, word_at, next_word, next_array, repeated};
+ghost use Rattle.fe_codec.specs.FirstFault.{number_in, is_after, id_at, name_length_at, is_name_row};
+ghost use Rattle.fe_codec.specs.FirstFault.{new_name_at, tag_at, word_at, next_word, next_array, repeated};
 ghost use Rattle.fe_codec.specs.Loading.{Gives, ChangesWords, AddsArray, HasNoneAfter};
 ghost use Rattle.fe_state.specs.Limits.{most_arrays, most_words};
 
@@ -103,7 +105,8 @@ fn length_at<'a>(state: &State, name: &Name, bytes: &'a [u8]) -> Result<(u32, &'
     requires free { is_some (named state.now.arrays name.now) ≡ false }
     requires few { len state.now.arrays < most_arrays }
     ensures given { Gives
-        (λ x. (x.0, x.1.now)) result (number_in w32 1 (most_words + 1 - word_count state.now.arrays) bytes.now) }
+        (λ x. (x.0, x.1.now)) result (number_in w32 1 (most_words + 1 - word_count state.now.arrays)
+        bytes.now) }
     ensures range { IfOk result (λ x. (1 ≤ x.0) × (word_count state.now.arrays + x.0 ≤ most_words)) }
 {
     let (length, rest) = u32_next(bytes)?;
@@ -151,7 +154,8 @@ fn load_words<'a>(
 ) -> Result<&'a [u8], Fault>
     requires { (i : ℕ) → i < count → IsSome (word_in (get state.old.arrays array) i) }
     ensures given { Gives
-        (λ rest. (count, state.new, rest.now)) result (repeated (next_word array) count (0, state.old, bytes.now)) }
+        (λ rest. (count, state.new, rest.now)) result
+        (repeated (next_word array) count (0, state.old, bytes.now)) }
     ensures words { OnOk result (ChangesWords state.old state.new) }
 {
     let mut rest = bytes;
@@ -188,8 +192,8 @@ fn next_array<'a>(
     Ok((id, rest))
 }
 
-/// Loads `count` arrays, at most 64, into a state without any. Returns the id of the last one, or `None` if there are none, and the bytes
-/// after it. After a fault some of them may be loaded.
+/// Loads `count` arrays, at most 64, into a state without any. Returns the id of the last one, or `None` if
+/// there are none, and the bytes after it. After a fault some of them may be loaded.
 pub fn read_arrays<'a>(
     format: Format,
     count: u32,
@@ -200,7 +204,8 @@ pub fn read_arrays<'a>(
     requires none { len state.old.arrays ≡ 0 }
     requires few { count ≤ most_arrays }
     ensures given { Gives
-        (λ x. (x.0, state.new, x.1.now)) result (repeated (next_array format) count (None, state.old, bytes.now)) }
+        (λ x. (x.0, state.new, x.1.now)) result (repeated (next_array format) count
+        (None, state.old, bytes.now)) }
     ensures sessions { OnOk result (state.new.sessions ≡ state.old.sessions) }
 {
     let mut previous = None;

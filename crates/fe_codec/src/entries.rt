@@ -1,6 +1,7 @@
 //! Entries, the steps of the history, as records (`docs/formats.md`, "Entry record").
 
-ghost use Rattle.std.specs.Prelude.{◌≡◌, ◌+◌, ◌<◌, ◌≤◌, ◌↔◌, ◌++◌, Some, IfSome, OnOk, OnErr, IsOk, IsTrue, vec_len, vec_capacity};
+ghost use Rattle.std.specs.Prelude.{◌≡◌, ◌+◌, ◌<◌, ◌≤◌, ◌↔◌, ◌++◌, Some, IfSome, OnOk, OnErr, IsOk, IsTrue};
+ghost use Rattle.std.specs.Prelude.{vec_len, vec_capacity};
 ghost use Rattle.fe_format.specs.Layout.{record_bytes};
 ghost use Rattle.fe_codec.specs.Reading.{is_numbered, is_of_format, is_record, record_entry};
 ghost use Rattle.fe_codec.specs.Record.{entry_spelling, FitsRecord, IsOfFormat, IsNumbered, CanPut};
@@ -15,8 +16,9 @@ use fe_state::Entry;
 /// Numbers and floors are below this.
 const NUMBER_LIMIT: u64 = 1 << 63;
 
-/// Appends the record of an entry. It must have one in the format: the format has room for it, and its number or floor is below 2^63.
-/// Returns `OutOfMemory`, with nothing appended, if the vector's spare room doesn't hold the record and memory runs out.
+/// Appends the record of an entry. It must have one in the format: the format has room for it, and its number
+/// or floor is below 2^63. Returns `OutOfMemory`, with nothing appended, if the vector's spare room doesn't
+/// hold the record and memory runs out.
 pub fn put_entry(format: Format, entry: &Entry, out: &mut Vec<u8>) -> Result<(), OutOfMemory>
     requires { CanPut format entry.now }
     ensures ok { OnOk result (out.new.items ≡ out.old.items ++ entry_spelling format entry.now) }
@@ -57,7 +59,8 @@ fn is_of_format(format: Format, entry: &Entry) -> bool
 /// Whether the bytes are the record of the entry.
 fn is_record(format: Format, entry: &Entry, bytes: &[u8]) -> bool
     ensures value { result ≡ is_record format entry.now bytes.now }
-    ensures fact { IsTrue result ↔ (FitsRecord format entry.now × (bytes.now ≡ entry_spelling format entry.now)) }
+    ensures fact { IsTrue result ↔ (FitsRecord format entry.now
+        × (bytes.now ≡ entry_spelling format entry.now)) }
 {
     is_numbered(entry) && is_of_format(format, entry) && record_of(format, entry).bytes() == bytes
 }
@@ -66,7 +69,8 @@ fn is_record(format: Format, entry: &Entry, bytes: &[u8]) -> bool
 #[tactic(auto, unfolding(crate::specs::Reading::record_entry))]
 pub fn read_entry(format: Format, bytes: &[u8]) -> Option<Entry>
     // What is read has this record.
-    ensures found { IfSome result (λ entry. FitsRecord format entry × (bytes.now ≡ entry_spelling format entry)) }
+    ensures found { IfSome result (λ entry. FitsRecord format entry
+        × (bytes.now ≡ entry_spelling format entry)) }
     // Every record in the grammar is read, so `None` means that the bytes are outside it.
     ensures only { (entry : Step) → FitsRecord format entry → bytes.now ≡ entry_spelling format entry
         → result ≡ Some entry }

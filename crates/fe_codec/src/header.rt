@@ -37,7 +37,8 @@ pub fn row(count: usize, bytes: &[u8]) -> Result<(&[u8], &[u8]), Fault>
     next_bytes(count, bytes).ok_or(Fault::Left(0))
 }
 
-/// The next number, of four bytes, and the bytes after it, or a fault at the end of the bytes if there are fewer.
+/// The next number, of four bytes, and the bytes after it, or a fault at the end of the bytes if there are
+/// fewer.
 #[tactic(auto, unfolding(crate::specs::FirstFault::number))]
 pub fn u32_next(bytes: &[u8]) -> Result<(u32, &[u8]), Fault>
     ensures { Reads (λ x. (x.0, x.1.now)) result (number w32 bytes.now) }
@@ -45,7 +46,8 @@ pub fn u32_next(bytes: &[u8]) -> Result<(u32, &[u8]), Fault>
     next_u32(bytes).ok_or(Fault::Left(0))
 }
 
-/// The next number, of eight bytes, and the bytes after it, or a fault at the end of the bytes if there are fewer.
+/// The next number, of eight bytes, and the bytes after it, or a fault at the end of the bytes if there are
+/// fewer.
 #[tactic(auto, unfolding(crate::specs::FirstFault::number))]
 pub fn u64_next(bytes: &[u8]) -> Result<(u64, &[u8]), Fault>
     ensures { Reads (λ x. (x.0, x.1.now)) result (number w64 bytes.now) }
@@ -53,7 +55,8 @@ pub fn u64_next(bytes: &[u8]) -> Result<(u64, &[u8]), Fault>
     next_u64(bytes).ok_or(Fault::Left(0))
 }
 
-/// The next number, of four bytes, and the bytes after it. It is a fault, at its first byte, if it is below `least` or not below `limit`.
+/// The next number, of four bytes, and the bytes after it. It is a fault, at its first byte, if it is below
+/// `least` or not below `limit`.
 #[tactic(auto, unfolding(crate::specs::FirstFault::number_in))]
 pub fn u32_in(least: u32, limit: u32, bytes: &[u8]) -> Result<(u32, &[u8]), Fault>
     ensures { ReadsNumberIn w32 least limit result bytes.now }
@@ -66,7 +69,8 @@ pub fn u32_in(least: u32, limit: u32, bytes: &[u8]) -> Result<(u32, &[u8]), Faul
     }
 }
 
-/// The next number, of eight bytes, and the bytes after it. It is a fault, at its first byte, if it is below `least` or not below `limit`.
+/// The next number, of eight bytes, and the bytes after it. It is a fault, at its first byte, if it is below
+/// `least` or not below `limit`.
 #[tactic(auto, unfolding(crate::specs::FirstFault::number_in))]
 pub fn u64_in(least: u64, limit: u64, bytes: &[u8]) -> Result<(u64, &[u8]), Fault>
     ensures { ReadsNumberIn w64 least limit result bytes.now }

@@ -1,11 +1,14 @@
-//! Facts about how entries, groups of entries and states are written as bytes (`docs/formats.md`, "Entry record" and "Image"). The bytes of
-//! an entry are its record, those of a state its image. Each function states one, the last the limits of the fields, and does nothing.
+//! Facts about how entries, groups of entries and states are written as bytes (`docs/formats.md`, "Entry
+//! record" and "Image"). The bytes of an entry are its record, those of a state its image. Each function
+//! states one, the last the limits of the fields, and does nothing.
 
 ghost use Rattle.std.specs.Prelude.{◌≡◌, ◌+◌, ◌^◌};
-ghost use Rattle.fe_codec.specs.Image.{EntryHasOneSpelling, GroupHasOneSpelling, ImageIsSpelled, SpellingIsRead, ImageHasOneSpelling};
+ghost use Rattle.fe_codec.specs.Image.{EntryHasOneSpelling, GroupHasOneSpelling, ImageIsSpelled};
+ghost use Rattle.fe_codec.specs.Image.{SpellingIsRead, ImageHasOneSpelling};
 ghost use Rattle.fe_format.specs.Layout.{record_bytes};
 ghost use Rattle.fe_format.specs.declared.format.Format.TheVariants.{Two};
-ghost use Rattle.fe_state.specs.Limits.{most_sessions, window_length, greatest_floor, most_arrays, greatest_place};
+ghost use Rattle.fe_state.specs.Limits.{most_sessions, window_length, greatest_floor, most_arrays};
+ghost use Rattle.fe_state.specs.Limits.{greatest_place};
 ghost use Rattle.fe_codec.specs.declared.header.TheConstants.{PLACE_LIMIT, ARRAY_LIMIT, SESSION_LIMIT};
 ghost use Rattle.fe_codec.specs.declared.sessions.TheConstants.{FLOOR_LIMIT, KEPT_LIMIT};
 ghost use Rattle.fe_codec.specs.declared.entries.TheConstants.{NUMBER_LIMIT};
@@ -36,8 +39,8 @@ pub fn one_image_spelling()
     ensures { ImageHasOneSpelling }
 {}
 
-/// The constants of the code are the limits in the definitions: each limit of a field is 1 above the greatest value, and
-/// the longest record is one of format 2.
+/// The constants of the code are the limits in the definitions: each limit of a field is 1 above the greatest
+/// value, and the longest record is one of format 2.
 pub fn limits_are()
     ensures place { PLACE_LIMIT ≡ greatest_place + 1 }
     ensures arrays { ARRAY_LIMIT ≡ most_arrays + 1 }

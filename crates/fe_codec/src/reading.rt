@@ -34,13 +34,14 @@ fn state_at(alloc: Global, format: Format, bytes: &[u8]) -> Result<State, Fault>
     }
 }
 
-/// The state whose image the bytes are. `Damaged` with the offset of the first fault, in bytes, if they are no
-/// image (`docs/formats.md`, "Image"), and `NoMemory` if memory runs out for the state or the words of an
+/// The state whose image the bytes are. `Damaged` with the offset of the first fault, in bytes, if they are
+/// no image (`docs/formats.md`, "Image"), and `NoMemory` if memory runs out for the state or the words of an
 /// array.
 #[tactic(auto, unfolding(crate::specs::FirstFault::image_at))]
 pub fn read_image(alloc: Global, format: Format, bytes: &[u8]) -> Result<State, ImageFault>
     // What is read has this image.
-    ensures found { IfOk result (λ state. FitsImage format state × (bytes.now ≡ image_spelling format state)) }
+    ensures found { IfOk result (λ state. FitsImage format state
+        × (bytes.now ≡ image_spelling format state)) }
     // Every image of a state is read, unless memory runs out.
     ensures only { (state : ServerState) → FitsImage format state → bytes.now ≡ image_spelling format state
         → ImageGives result (Ok state) }

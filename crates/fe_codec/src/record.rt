@@ -4,7 +4,9 @@ ghost use Rattle.std.specs.Prelude.{◌≡◌, ◌+◌, ◌≤◌, ◌++◌, len
 ghost use Rattle.std.specs.Int.{w32, to_be_bytes};
 ghost use Rattle.fe_format.specs.Layout.{name_bytes, record_bytes};
 ghost use Rattle.fe_format.specs.declared.format.Format.TheVariants.{Two};
-ghost use Rattle.fe_codec.specs.Record.{name_field, name_row, array_row, request_row, request_codes, request_size, short_spelling, entry_spelling, IsShort, HasRoomForEntry, HasRow, RequestFits, FieldsFit};
+ghost use Rattle.fe_codec.specs.Record.{name_field, name_row, array_row, request_row, request_codes};
+ghost use Rattle.fe_codec.specs.Record.{request_size, short_spelling, entry_spelling, IsShort};
+ghost use Rattle.fe_codec.specs.Record.{HasRoomForEntry, HasRow, RequestFits, FieldsFit};
 ghost use Rattle.fe_state.specs.Limits.{longest_name};
 
 use crate::Format;
@@ -30,7 +32,8 @@ fn put_name(fields: &mut Record, format: Format, name: &Name)
     fields.put(&[0; NAME_BYTES][bytes.len()..format.name_bytes()]);
 }
 
-/// A name as images have it: its length, and its bytes with zeros after them. The format must have room for the name.
+/// A name as images have it: its length, and its bytes with zeros after them. The format must have room for
+/// the name.
 pub fn name_record(format: Format, name: &Name) -> Record
     requires { IsShort format name.now }
     ensures { result ≡ name_field format name.now }
@@ -99,7 +102,8 @@ fn short_record(format: Format, kind: u8, session: u64, number: u64) -> Record
     record
 }
 
-/// The spelling of an entry: its record, if it has one in the format. If the request has a name, the format must have room for the name.
+/// The spelling of an entry: its record, if it has one in the format. If the request has a name, the format
+/// must have room for the name.
 pub fn record_of(format: Format, entry: &Entry) -> Record
     requires { HasRoomForEntry format entry.now }
     ensures bytes { result ≡ entry_spelling format entry.now }

@@ -1,5 +1,5 @@
-//! Reading an entry, a step of the server's history, from its record (`docs/formats.md`, "Entry record"), without a look at the bytes
-//! that are unused there.
+//! Reading an entry, a step of the server's history, from its record (`docs/formats.md`, "Entry record"),
+//! without a look at the bytes that are unused there.
 
 ghost use Rattle.std.specs.Prelude.{◌≡◌, length};
 ghost use Rattle.fe_format.specs.Layout.{record_bytes};

@@ -20,8 +20,8 @@ const FLOOR_LIMIT: u64 = GREATEST_FLOOR + 1;
 /// A session keeps fewer answers than this.
 const KEPT_LIMIT: u32 = WINDOW as u32 + 1;
 
-/// What a session keeps of an entry, with the number. `None` if there is no entry, or it finishes no request of the session, or the number
-/// is outside the window or not above the previous one.
+/// What a session keeps of an entry, with the number. `None` if there is no entry, or it finishes no request
+/// of the session, or the number is outside the window or not above the previous one.
 fn kept_of(
     session: u64,
     floor: u64,
@@ -71,7 +71,8 @@ fn kept_at(
     bytes: &[u8],
 ) -> Result<(u64, Kept, &[u8]), Fault>
     requires { floor < 2 ^ 63 }
-    ensures given { Gives (λ x. ((x.0, x.1), x.2.now)) result (kept_at format limit session floor previous bytes.now) }
+    ensures given { Gives (λ x. ((x.0, x.1), x.2.now)) result
+        (kept_at format limit session floor previous bytes.now) }
     ensures window { IfOk result (λ x. IsInWindow floor x.0) }
     ensures place { IfOk result (λ x. x.1.place < limit) }
 {
@@ -140,8 +141,8 @@ fn next_session<'a>(
     Ok((session, rest))
 }
 
-/// Loads `count` sessions, at most 64, into a state without any. Returns the number of the last one, or `None` if there are none, and the
-/// bytes after it. After a fault some of them may be loaded.
+/// Loads `count` sessions, at most 64, into a state without any. Returns the number of the last one, or
+/// `None` if there are none, and the bytes after it. After a fault some of them may be loaded.
 pub fn read_sessions<'a>(
     format: Format,
     count: u32,

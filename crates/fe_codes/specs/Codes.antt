@@ -1,11 +1,15 @@
--- The codes of tags, operations and answers in records and frames, and the numbers with them (`docs/formats.md`, "Codes").
+-- The codes of tags, operations and answers in records and frames, and the numbers with them
+-- (`docs/formats.md`, "Codes").
 use Rattle.std.specs.Prelude.{ℕ}
 use Rattle.fe_words.specs.declared.word.Tag.{Tag}
 use Rattle.fe_words.specs.declared.word.Tag.TheVariants.{Full, Empty}
 use Rattle.fe_words.specs.declared.op.Op.{Op}
-use Rattle.fe_words.specs.declared.op.Op.TheVariants.{ReadFe, ReadFf, ReadXx, WriteEf, WriteFf, WriteXf, Purge, IntFetchAdd}
+use Rattle.fe_words.specs.declared.op.Op.TheVariants.{ReadFe, ReadFf, ReadXx, WriteEf, WriteFf, WriteXf}
+use Rattle.fe_words.specs.declared.op.Op.TheVariants.{Purge, IntFetchAdd}
 use Rattle.fe_state.specs.declared.answer.Answer.{Answer}
-use Rattle.fe_state.specs.declared.answer.Answer.TheVariants.{Value, Done, Array, NoArray, BadIndex, NameTaken, ArrayLimit, WordLimit, BadName, BadLength, NotNow}
+use Rattle.fe_state.specs.declared.answer.Answer.TheVariants.{Value, Done, Array, NoArray, BadIndex}
+use Rattle.fe_state.specs.declared.answer.Answer.TheVariants.{NameTaken, ArrayLimit, WordLimit, BadName}
+use Rattle.fe_state.specs.declared.answer.Answer.TheVariants.{BadLength, NotNow}
 
 abbrev pub tag_code : Tag → ℕ
 tag_code Empty = 0

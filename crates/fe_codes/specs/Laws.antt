@@ -16,7 +16,8 @@ AreCodesOf code operand op = (op_code op ≡ code) × (operand_of op ≡ operand
 
 -- the code, the number and the length of the answer are these
 abbrev pub AreNumbersOf : ℕ → ℕ → ℕ → Answer → Type 0
-AreNumbersOf code number size answer = (answer_code answer ≡ code) × (answer_number answer ≡ number) × (answer_length answer ≡ size)
+AreNumbersOf code number size answer =
+    (answer_code answer ≡ code) × (answer_number answer ≡ number) × (answer_length answer ≡ size)
 
 -- A code is read as a tag exactly if it is the tag's code.
 abbrev pub TagsAreTheirCodes : Type 0
@@ -28,4 +29,5 @@ OpsAreTheirCodes = (code operand : ℕ) (op : Op) → (op_of code operand ≡ So
 
 -- A code, a number and a length are read as an answer exactly if they are those of the answer.
 abbrev pub AnswersAreTheirCodes : Type 0
-AnswersAreTheirCodes = (code number size : ℕ) (answer : Answer) → (answer_of code number size ≡ Some answer) ↔ AreNumbersOf code number size answer
+AnswersAreTheirCodes = (code number size : ℕ) (answer : Answer)
+    → (answer_of code number size ≡ Some answer) ↔ AreNumbersOf code number size answer

@@ -1,9 +1,12 @@
--- What a code is read as: the tag, the operation or the answer that has it, or None if there is none (`docs/formats.md`, "Codes").
-use Rattle.std.specs.Prelude.{ℕ, ◌<◌, List, slice_index_or, Option, option_and_then, Some, None, ◌==◌, if◌then◌else◌}
+-- What a code is read as: the tag, the operation or the answer that has it, or None if there is none
+-- (`docs/formats.md`, "Codes").
+use Rattle.std.specs.Prelude.{ℕ, ◌<◌, List, slice_index_or, Option, option_and_then, Some, None, ◌==◌}
+use Rattle.std.specs.Prelude.{if◌then◌else◌}
 use Rattle.fe_words.specs.declared.word.Tag.{Tag}
 use Rattle.fe_words.specs.declared.word.Tag.TheVariants.{Full, Empty}
 use Rattle.fe_words.specs.declared.op.Op.{Op}
-use Rattle.fe_words.specs.declared.op.Op.TheVariants.{ReadFe, ReadFf, ReadXx, WriteEf, WriteFf, WriteXf, Purge, IntFetchAdd}
+use Rattle.fe_words.specs.declared.op.Op.TheVariants.{ReadFe, ReadFf, ReadXx, WriteEf, WriteFf, WriteXf}
+use Rattle.fe_words.specs.declared.op.Op.TheVariants.{Purge, IntFetchAdd}
 use Rattle.fe_state.specs.declared.answer.Answer.{Answer}
 use Rattle.fe_state.specs.declared.answer.Answer.TheVariants as answers
 

@@ -6,8 +6,8 @@ ghost use Rattle.fe_codes.specs.Reading.{answer_of};
 
 use fe_state::Answer;
 
-/// The code of an answer, 1 to 11; the value or array id that it carries; and the length, in words, of the array that it names. Each
-/// of the last two is 0 if the answer has none.
+/// The code of an answer, 1 to 11; the value or array id that it carries; and the length, in words, of the
+/// array that it names. Each of the last two is 0 if the answer has none.
 pub fn answer_fields(answer: Answer) -> (u8, u64, u32)
     ensures code { result.0 ≡ answer_code answer }
     ensures number { result.1 ≡ answer_number answer }
@@ -28,8 +28,8 @@ pub fn answer_fields(answer: Answer) -> (u8, u64, u32)
     }
 }
 
-/// The answer with this code, number and length. `None` if no answer has the code, or if the number or the length is not 0 although that
-/// answer carries none.
+/// The answer with this code, number and length. `None` if no answer has the code, or if the number or the
+/// length is not 0 although that answer carries none.
 #[tactic(auto, unfolding(crate::specs::Reading::answer_of))]
 pub fn answer_of(code: u8, number: u64, length: u32) -> Option<Answer>
     ensures { result ≡ answer_of code number length }

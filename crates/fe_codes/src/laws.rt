@@ -1,5 +1,5 @@
-//! Laws of the codes of tags, operations and answers (`docs/formats.md`, "Codes"): each is read as exactly what it encodes. Each function
-//! states one, and does nothing.
+//! Laws of the codes of tags, operations and answers (`docs/formats.md`, "Codes"): each is read as exactly
+//! what it encodes. Each function states one, and does nothing.
 
 ghost use Rattle.fe_codes.specs.Laws.{TagsAreTheirCodes, OpsAreTheirCodes, AnswersAreTheirCodes};
 

@@ -38,8 +38,8 @@ pub fn operand_of(op: Op) -> u64
     }
 }
 
-/// The operation with this code and operand, or `None` if there is none. The operand of an operation without one must
-/// be 0.
+/// The operation with this code and operand, or `None` if there is none. The operand of an operation without
+/// one must be 0.
 #[tactic(auto, unfolding(crate::specs::Reading::op_of))]
 pub fn op_of(code: u8, operand: u64) -> Option<Op>
     ensures { result ≡ op_of code operand }

@@ -1,6 +1,8 @@
--- Where a run of the desk stands, apart from the store: the front, what was written to each connection number, the batch on its way to
--- the store, and the groups that were handed to it (`docs/model.md`, "The desk").
-use Rattle.std.specs.Prelude.{ℕ, zero, suc, length, ◌≡◌, Bool, false, List, [], ◌∷◌, ◌++◌, Option, None, if◌then◌else◌, nat_eq}
+-- Where a run of the desk stands, apart from the store: the front, what was written to each connection
+-- number, the batch on its way to the store, and the groups that were handed to it (`docs/model.md`, "The
+-- desk").
+use Rattle.std.specs.Prelude.{ℕ, zero, suc, length, ◌≡◌, Bool, false, List, [], ◌∷◌, ◌++◌, Option, None}
+use Rattle.std.specs.Prelude.{if◌then◌else◌, nat_eq}
 use Rattle.fe_mail.specs.Connections.{mails_on}
 use Rattle.fe_front.specs.Front.{FrontState, IsFirst, has_room}
 use Rattle.fe_front.specs.Steps.{taken}
@@ -29,8 +31,9 @@ emptied_box f conn = taken_times (length (mails_on f.connections conn)) f conn
 
 -- ---- the state of a run
 
--- A connection number as the desk knows it: what it has read of the stream; the messages that came whole and were not taken, because
--- memory was short or the device failed; the reply of a mail that was taken out of its box and is not written; and what was written to it.
+-- A connection number as the desk knows it: what it has read of the stream; the messages that came whole and
+-- were not taken, because memory was short or the device failed; the reply of a mail that was taken out of
+-- its box and is not written; and what was written to it.
 pub record Client : Type 0 where
   pub conn : ℕ
   pub decoder : Decoding
@@ -38,9 +41,9 @@ pub record Client : Type 0 where
   pub reply : Option ServerMessage
   pub written : List ℕ
 
--- The front; the clients in the order in which they came first; the batch that is out of the front; the connection for
--- whose message room is being made; the groups handed to the store, in their order; and whether mails of an earlier step
--- are still to be written.
+-- The front; the clients in the order in which they came first; the batch that is out of the front; the
+-- connection for whose message room is being made; the groups handed to the store, in their order; and
+-- whether mails of an earlier step are still to be written.
 pub record DeskRunState : Type 0 where
   pub front : FrontState
   pub clients : List Client
@@ -80,7 +83,11 @@ all_emptied f (c ∷ cs) = all_emptied (emptied_box f c.conn) cs
 
 -- every box is emptied, and its mails are written to their client
 abbrev pub emptied : DeskRunState → DeskRunState
-emptied s = record s { front = all_emptied s.front s.clients; clients = all_written_out s.front s.clients; owes = false }
+emptied s = record s {
+  front = all_emptied s.front s.clients;
+  clients = all_written_out s.front s.clients;
+  owes = false;
+}
 
 -- the mails that an earlier step left are written first
 abbrev pub discharged : DeskRunState → DeskRunState
@@ -92,7 +99,8 @@ discharged s = if s.owes then emptied s else s
 abbrev pub output_of : Client → ℕ × List ℕ
 output_of c = (c.conn, c.written)
 
--- What was written to each connection number comes first in what is written to it now, and numbers that came since come after.
+-- What was written to each connection number comes first in what is written to it now, and numbers that came
+-- since come after.
 abbrev pub Extends : List (ℕ × List ℕ) → List (ℕ × List ℕ) → Type 0
 Extends [] new = Unit {0}
 Extends (x ∷ xs) [] = ⊥
@@ -125,7 +133,8 @@ stored s = stored_from s.handed s
 abbrev pub posted_from : Handed → DeskRunState → DeskRunState
 posted_from Nothing s = s
 posted_from (Cut batch) s = s
-posted_from (Stored batch) s = record s { front = posting.posted s.front batch; handed = Nothing; making = None }
+posted_from (Stored batch) s =
+    record s { front = posting.posted s.front batch; handed = Nothing; making = None }
 
 abbrev pub posted : DeskRunState → DeskRunState
 posted s = posted_from s.handed s
@@ -146,7 +155,8 @@ is_making s conn = option_map_or (nat_eq conn) s.making false
 abbrev pub made : DeskRunState → DeskRunState
 made s = record s { making = None }
 
--- Room is made for a message: if too much is pending, what is out is stored and posted, and then what is pending.
+-- Room is made for a message: if too much is pending, what is out is stored and posted, and then what is
+-- pending.
 abbrev pub with_room : DeskRunState → DeskRunState
 with_room s = if has_room s.front then s else made (committed (cleared s))
 

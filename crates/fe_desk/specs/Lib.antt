@@ -1,5 +1,5 @@
--- Definitions about a desk: a front, its connections' streams and a store's keeper, in one thread (`docs/model.md`, "The desk").
--- `within` has those that no public clause rests on.
+-- Definitions about a desk: a front, its connections' streams and a store's keeper, in one thread
+-- (`docs/model.md`, "The desk"). `within` has those that no public clause rests on.
 pub mod DeskRunState
 pub mod Steps
 pub mod Messages

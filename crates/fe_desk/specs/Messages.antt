@@ -1,6 +1,7 @@
--- The messages that a step may leave of a client, what was written to each connection number, and what a step that found no memory
--- says of its bytes (`docs/model.md`, "The desk").
-use Rattle.std.specs.Prelude.{◌≡◌, ◌≢◌, ℕ, ◌<◌, Bool, true, false, List, [], ◌∷◌, ◌++◌, length, map, Option, Some}
+-- The messages that a step may leave of a client, what was written to each connection number, and what a step
+-- that found no memory says of its bytes (`docs/model.md`, "The desk").
+use Rattle.std.specs.Prelude.{◌≡◌, ◌≢◌, ℕ, ◌<◌, Bool, true, false, List, [], ◌∷◌, ◌++◌, length, map, Option}
+use Rattle.std.specs.Prelude.{Some}
 use Rattle.std.specs.Option.{option_map, option_map_or}
 use Rattle.fe_state.specs.declared.entry.Entry.{Entry}
 use Rattle.fe_front.specs.Front.{FrontState}
@@ -54,8 +55,8 @@ EndsWith all last = (first : List ClientMessage) × (all ≡ first ++ last)
 abbrev pub ReadsNone : DeskRunState → DeskRunState → Type 0
 ReadsNone s t = (conn : ℕ) → read_by t conn ≡ read_by s conn
 
--- The piece was read as the continuation of this connection's stream, and nothing of another connection's. Of the messages that it
--- completes the first, maybe none, were taken; the others, at least one, are left.
+-- The piece was read as the continuation of this connection's stream, and nothing of another connection's. Of
+-- the messages that it completes the first, maybe none, were taken; the others, at least one, are left.
 pub record ReadsPiece (s : DeskRunState) (conn : ℕ) (piece : List ℕ) (t : DeskRunState) : Type 0 where
   pub before : Decoding
   pub after : Decoding

@@ -1,11 +1,13 @@
--- What each step of a desk (a front, its connections' streams and a keeper, which owns the store, in one thread) does.
--- See `docs/model.md`, "The desk".
-use Rattle.std.specs.Prelude.{◌≡◌, ℕ, List, [], ◌∷◌, Bool, true, false, nat_eq, ◌++◌, Option, Some, None, if◌then◌else◌, is_some, MatchBool, ⊤}
+-- What each step of a desk (a front, its connections' streams and a keeper, which owns the store, in one
+-- thread) does. See `docs/model.md`, "The desk".
+use Rattle.std.specs.Prelude.{◌≡◌, ℕ, List, [], ◌∷◌, Bool, true, false, nat_eq, ◌++◌, Option, Some, None}
+use Rattle.std.specs.Prelude.{if◌then◌else◌, is_some, MatchBool, ⊤}
 use Rattle.fe_state.specs.declared.entry.Entry.{Entry}
 use Rattle.fe_wire.specs.declared.client_message.ClientMessage.{ClientMessage}
 use Rattle.fe_front.specs.Front.{FrontState, is_connected}
 use Rattle.fe_messages.specs.Taking.{Takes}
-use Rattle.fe_desk.specs.DeskRunState.{DeskRunState, Client, emptied, discharged, roomy, cut, stored, posted, is_making}
+use Rattle.fe_desk.specs.DeskRunState.{DeskRunState, Client, emptied, discharged, roomy, cut, stored, posted}
+use Rattle.fe_desk.specs.DeskRunState.{is_making}
 use Rattle.fe_wire.specs.Stream.{Decoding, HasRead, HasReadFrom}
 use Rattle.fe_wire.specs.declared.version.Version.TheVariants.{Two}
 use Rattle.fe_front.specs.Steps as front
@@ -59,7 +61,8 @@ new_client conn d = record { conn = conn; decoder = d; left = []; reply = None; 
 -- the clients after a connection came: what is written to it goes after what was written to its number before
 abbrev pub clients_with : List Client → ℕ → Decoding → List Client
 clients_with cs conn d =
-    if is_some (find conn cs) then on_client conn (λ c. record c { decoder = d; left = [] }) cs else cs ++ new_client conn d ∷ []
+    if is_some (find conn cs) then on_client conn (λ c. record c { decoder = d; left = [] }) cs else cs
+    ++ new_client conn d ∷ []
 
 -- room is not being made for this connection any more
 abbrev pub unmade : DeskRunState → ℕ → DeskRunState
@@ -69,7 +72,10 @@ unmade s conn = if is_making s conn then record s { making = None } else s
 pub record Connects (s : DeskRunState) (conn : ℕ) (t : DeskRunState) : Type 0 where
   pub decoder : Decoding
   pub begins : BeginsStream decoder
-  pub after : t ≡ record (unmade s conn) { front = front.connected s.front conn; clients = clients_with s.clients conn decoder }
+  pub after : t ≡ record (unmade s conn) {
+    front = front.connected s.front conn;
+    clients = clients_with s.clients conn decoder;
+  }
 
 -- a connection goes, and the messages that were left are dropped
 abbrev pub gone : DeskRunState → ℕ → DeskRunState
@@ -80,7 +86,8 @@ gone s conn = record (with_left (unmade s conn) conn []) { front = front.dropped
 -- The piece is read after what was read before, and completes these messages.
 pub record Reads (old new : Decoding) (piece : List ℕ) (more : List ClientMessage) : Type 0 where
   pub version : new.version ≡ old.version
-  pub reads : (start : ℕ) (before : List ℕ) (earlier : List ClientMessage) → HasReadFrom start old before earlier
+  pub reads : (start : ℕ) (before : List ℕ) (earlier : List ClientMessage)
+      → HasReadFrom start old before earlier
       → HasReadFrom start new (before ++ piece) (earlier ++ more)
 
 -- a connection with a bad frame goes
@@ -88,7 +95,8 @@ abbrev pub after_frame : Bool → DeskRunState → ℕ → DeskRunState
 after_frame bad s conn = if bad then gone s conn else s
 
 -- The piece is read, and the messages that it completes are taken. After a bad frame the connection goes.
-pub record TakesPiece (s : DeskRunState) (conn : ℕ) (before : Decoding) (piece : List ℕ) (t : DeskRunState) : Type 0 where
+pub record TakesPiece (s : DeskRunState) (conn : ℕ) (before : Decoding) (piece : List ℕ)
+    (t : DeskRunState) : Type 0 where
   pub decoder : Decoding
   pub more : List ClientMessage
   pub last : DeskRunState
@@ -96,8 +104,10 @@ pub record TakesPiece (s : DeskRunState) (conn : ℕ) (before : Decoding) (piece
   pub takes : TakesAll (with_decoder s conn decoder) conn more last
   pub after : t ≡ after_frame decoder.is_bad last conn
 
--- The messages that were left of a connection are taken, and then the piece is, if the connection is still there.
-pub record TakesFrom (s : DeskRunState) (conn : ℕ) (left : List ClientMessage) (before : Decoding) (piece : List ℕ) (t : DeskRunState) : Type 0 where
+-- The messages that were left of a connection are taken, and then the piece is, if the connection is still
+-- there.
+pub record TakesFrom (s : DeskRunState) (conn : ℕ) (left : List ClientMessage) (before : Decoding)
+    (piece : List ℕ) (t : DeskRunState) : Type 0 where
   pub mid : DeskRunState
   pub leftovers : TakesAll (with_left s conn []) conn left mid
   pub reading : MatchBool (is_connected mid.front conn) (TakesPiece mid conn before piece t) (t ≡ mid)

@@ -1,5 +1,5 @@
-//! The steps of a desk: what each does, and how it ends (`docs/model.md`, "The desk"). A mail is a reply on its way out; it waits in its
-//! connection's box.
+//! The steps of a desk: what each does, and how it ends (`docs/model.md`, "The desk"). A mail is a reply on
+//! its way out; it waits in its connection's box.
 
 ghost use Rattle.std.specs.Prelude.{◌≡◌, ◌⊎◌, ℕ, true, false, IsTrue, OnOk, MatchResult};
 ghost use Rattle.fe_desk.specs.DeskRunState.{Extends};
@@ -8,7 +8,8 @@ ghost use Rattle.fe_desk.specs.Crash.{Advances};
 ghost use Rattle.fe_front.specs.Posting.{may_have, HasItsBox};
 ghost use Rattle.fe_desk.specs.Steps.{AreWritten, HasNoMail};
 ghost use Rattle.fe_desk.specs.Runs.{IsStep};
-ghost use Rattle.fe_desk.specs.within.Desk.{ArePlaces, IsMailedFrom, IsSilentFrom, HasAllWithMail, port_bit, desk_of, run_state_of, IsDesk, IsReady, OnlyWrites};
+ghost use Rattle.fe_desk.specs.within.Desk.{ArePlaces, IsMailedFrom, IsSilentFrom, HasAllWithMail, port_bit};
+ghost use Rattle.fe_desk.specs.within.Desk.{desk_of, run_state_of, IsDesk, IsReady, OnlyWrites};
 ghost use Rattle.fe_desk.specs.within.Goes.{Empties, GoesAct, Settles};
 
 use crate::box_emptying::{add_mailed, empty_boxes, has_lone_mail};
@@ -28,7 +29,8 @@ use fe_memory::OutOfMemory;
 const FEW: usize = 64;
 
 impl<D: Disk> DeskInner<D> {
-    /// Takes a step. With `quiet`, there is no mail before it. Adds the ports to which it may have written to `written`, if it does not fail.
+    /// Takes a step. With `quiet`, there is no mail before it. Adds the ports to which it may have written to
+    /// `written`, if it does not fail.
     pub(crate) fn step(
         &mut self,
         step: &Step,
@@ -96,8 +98,8 @@ impl<D: Disk> DeskInner<D> {
         outcome
     }
 
-    /// Adds the ports to which something is to be written, and maybe others. With `quiet`, no reply waits. The only mail is mostly that of
-    /// the connection whose bytes came last.
+    /// Adds the ports to which something is to be written, and maybe others. With `quiet`, no reply waits.
+    /// The only mail is mostly that of the connection whose bytes came last.
     fn add_mailed_ports(
         &self,
         quiet: bool,
@@ -131,7 +133,8 @@ impl<D: Disk> DeskInner<D> {
         places.add_ports(ports, mailed, written);
     }
 
-    /// What a step does before the boxes are emptied. A post adds the connections whose boxes it changed to the set.
+    /// What a step does before the boxes are emptied. A post adds the connections whose boxes it changed to
+    /// the set.
     fn act(
         &mut self,
         step: &Step,

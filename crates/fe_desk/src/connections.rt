@@ -1,6 +1,7 @@
 //! The connections of a desk come and go (`docs/model.md`, "The desk").
 
-ghost use Rattle.std.specs.Prelude.{◌≡◌, false, nat_eq, [], map, position, IfSome, IfNone, None, OnOk, OnErr, MatchBool, if◌then◌else◌};
+ghost use Rattle.std.specs.Prelude.{◌≡◌, false, nat_eq, [], map, position, IfSome, IfNone, None, OnOk, OnErr};
+ghost use Rattle.std.specs.Prelude.{MatchBool, if◌then◌else◌};
 ghost use Rattle.fe_front.specs.Front.{is_connected};
 ghost use Rattle.fe_desk.specs.Steps as steps;
 ghost use Rattle.fe_desk.specs.Steps.{find, on_client, Connects};

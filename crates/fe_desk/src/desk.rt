@@ -1,7 +1,9 @@
-//! The desk: a server in one thread, which takes steps, one at a time (`docs/model.md`, "The desk"). Its front has the state, the
-//! sessions, and mails, replies on their way out, in a box for each connection ("The front"); its keeper has the store ("The keeper").
+//! The desk: a server in one thread, which takes steps, one at a time (`docs/model.md`, "The desk"). Its
+//! front has the state, the sessions, and mails, replies on their way out, in a box for each connection ("The
+//! front"); its keeper has the store ("The keeper").
 
-ghost use Rattle.std.specs.Prelude.{◌≡◌, ◌≤◌, ℕ, Bool, false, List, drop, length, IfOk, IfErr, IfSome, IfNone};
+ghost use Rattle.std.specs.Prelude.{◌≡◌, ◌≤◌, ℕ, Bool, false, List, drop, length, IfOk, IfErr, IfSome};
+ghost use Rattle.std.specs.Prelude.{IfNone};
 ghost use Rattle.fe_memory.specs.Memory.{out_of_memory};
 ghost use Rattle.fe_state.specs.State.{ServerState, IsWithinLimits};
 ghost use Rattle.fe_journal.specs.Layout.{device_bytes};
@@ -28,13 +30,14 @@ use std::marker::Model;
 
 /// The front, its connections' streams, and the keeper of a store.
 ///
-/// An answer comes into a box only once its entry is synced. Mails are written at the end of the step that puts them there or, if memory
-/// is short, in a later one.
+/// An answer comes into a box only once its entry is synced. Mails are written at the end of the step that
+/// puts them there or, if memory is short, in a later one.
 pub struct Desk<D: Disk> {
     inner: DeskInner<D>,
     /// No box has a mail, and no reply waits. False where that is not known.
     quiet: bool,
-    /// The ports to which something was written since the desk was opened, or since its trace was cleared, and maybe others.
+    /// The ports to which something was written since the desk was opened, or since its trace was cleared,
+    /// and maybe others.
     written: PortSet,
     places: PortPlaces,
 }
@@ -80,7 +83,8 @@ impl<D: Disk> Desk<D> {
     pub(crate) fn over(alloc: Global, keeper: Keeper<D>) -> Result<Desk<D>, (DeskFault, D)>
         requires { keeper.store.has_failed ≡ false }
         ensures first { IfOk result (λ desk. IsFirstRunState keeper.state desk.run_state) }
-        ensures acknowledged { (asked : ℕ → ℕ → Bool) → IfOk result (λ desk. IsAcknowledged keeper.state asked desk) }
+        ensures acknowledged { (asked : ℕ → ℕ → Bool)
+            → IfOk result (λ desk. IsAcknowledged keeper.state asked desk) }
         ensures keeper { IfOk result (λ desk. desk.keeper ≡ keeper) }
         ensures synced { IfOk result (λ desk. desk.synced ≡ 0) }
         ensures fault { IfErr result (λ e. e.0 ≡ NoMemory out_of_memory false) }
@@ -123,23 +127,25 @@ impl<D: Disk> Desk<D> {
     ///
     /// After a fault of the device each step answers `Store(Failed)` and does nothing.
     pub fn step(&mut self, step: &Step) -> Result<(), DeskFault>
-        // Its answer says what it did: it was taken, all of it or all but some mails; memory was short; or the device failed, now or
-        // earlier.
+        // Its answer says what it did: it was taken, all of it or all but some mails; memory was short; or
+        // the device failed, now or earlier.
         ensures is_step { IsStep D.Disk self.old step.now result self.new }
         // What is written goes on from what was.
         ensures extends { Extends (outputs self.old.run_state) (outputs self.new.run_state) }
 
-        // Of a crash: the groups are a history from the state that was opened. A stop at any moment leaves a prefix of it, with
-        // all groups that were stored before.
+        // Of a crash: the groups are a history from the state that was opened. A stop at any moment leaves a
+        // prefix of it, with all groups that were stored before.
         ensures advances { Advances D.Disk self.old self.new }
-        ensures stands { D.honest (disk_of self.new) → (begun : ServerState) → IsFrom begun self.new → (image : List ℕ)
+        ensures stands { D.honest (disk_of self.new) → (begun : ServerState) → IsFrom begun self.new
+            → (image : List ℕ)
             → D.may_leave (disk_of self.new) image
             → LeavesPrefix begun self.new.run_state.groups self.new.synced image }
         ensures few { self.new.synced ≤ length self.new.run_state.groups }
-        ensures synced { self.new.keeper.store.has_failed ≡ false → self.new.synced ≡ length self.new.run_state.groups }
+        ensures synced { self.new.keeper.store.has_failed ≡ false
+            → self.new.synced ≡ length self.new.run_state.groups }
 
-        // Of answers, whatever the step answers: if it asks only for sessions that its connection may ask for (`asked`), all mails that
-        // were written stand on the groups that are stored.
+        // Of answers, whatever the step answers: if it asks only for sessions that its connection may ask for
+        // (`asked`), all mails that were written stand on the groups that are stored.
         ensures acknowledged { (begun : ServerState) (asked : ℕ → ℕ → Bool) → IsWithinLimits begun
             → StepAsksFor asked self.old step.now
             → IsAcknowledged begun asked self.old → IsAcknowledged begun asked self.new }
@@ -154,8 +160,9 @@ impl<D: Disk> Desk<D> {
         outcome
     }
 
-    /// The trace begins anew, so that a long run does not keep all that it did. If the disk is honest, each image that a stop may leave has
-    /// to stand for the keeper's state. No batch may be stored and not posted, and no mail left to be written.
+    /// The trace begins anew, so that a long run does not keep all that it did. If the disk is honest, each
+    /// image that a stop may leave has to stand for the keeper's state. No batch may be stored and not
+    /// posted, and no mail left to be written.
     pub fn clear_trace(&mut self)
         requires stands { D.honest (disk_of self.old)
             → EachStandsFor D.Disk (disk_of self.old) self.old.keeper.state }
@@ -169,8 +176,9 @@ impl<D: Disk> Desk<D> {
         self.written = PortSet::new();
     }
 
-    /// The index in the trace of the next port, from an index on, to which something was written since the desk was opened, or since its
-    /// trace was cleared; or maybe of another one. Nothing was written to those that it passes over.
+    /// The index in the trace of the next port, from an index on, to which something was written since the
+    /// desk was opened, or since its trace was cleared; or maybe of another one. Nothing was written to those
+    /// that it passes over.
     pub fn next_written(&self, from: usize) -> Option<usize>
         ensures next { IfSome result (IsNextWritten (outputs self.now.run_state) from) }
         ensures none { IfNone result (AreSilent (drop from (outputs self.now.run_state))) }
@@ -202,7 +210,8 @@ impl<D: Disk> Desk<D> {
         ensures trace { IsTraceOf result.0 self.run_state self.synced }
         ensures disk { result.1 ≡ disk_of self }
         ensures size { D.size result.1 ≡ device_bytes }
-        ensures stands { D.honest (disk_of self) → (begun : ServerState) → IsFrom begun self → (image : List ℕ)
+        ensures stands { D.honest (disk_of self) → (begun : ServerState) → IsFrom begun self
+            → (image : List ℕ)
             → D.may_leave (disk_of self) image
             → LeavesPrefix begun self.run_state.groups self.synced image }
     {

@@ -1,4 +1,5 @@
-//! The way of a batch: it is cut from pending entries, stored, and then posted: its mails go into boxes (`docs/model.md`, "The desk").
+//! The way of a batch: it is cut from pending entries, stored, and then posted: its mails go into boxes
+//! (`docs/model.md`, "The desk").
 
 use fe_state::Batch;
 

@@ -1,7 +1,8 @@
 //! A desk: the front, its connections' streams and the keeper of the store, in one thread.
 //!
-//! Bytes of connections come in as steps, and the frames of the mails to them go out. The desk's trace records what was handed to the
-//! store and what was written to each connection (`docs/model.md`, "The desk").
+//! Bytes of connections come in as steps, and the frames of the mails to them go out. The desk's trace
+//! records what was handed to the store and what was written to each connection (`docs/model.md`, "The
+//! desk").
 #![tactic(auto)]
 
 mod acting;

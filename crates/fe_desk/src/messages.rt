@@ -1,12 +1,13 @@
-//! The bytes that a desk reads from a connection, and the messages in them (`docs/model.md`, "The desk"). A message is left if it came
-//! whole and is not yet taken.
+//! The bytes that a desk reads from a connection, and the messages in them (`docs/model.md`, "The desk"). A
+//! message is left if it came whole and is not yet taken.
 
 ghost use Rattle.std.specs.Prelude.{◌≡◌, ◌<◌, ◌∷◌, length};
 ghost use Rattle.fe_desk.specs.Steps.{with_left};
 ghost use Rattle.fe_desk.specs.within.Desk.{ArePlaces, IsFirstAt, client_of, desk_of, run_state_of, IsReady};
 ghost use Rattle.fe_desk.specs.Messages.{left_of, outputs, desk_fault_of, EndsWith};
 ghost use Rattle.fe_desk.specs.Ends.{StopsBefore};
-ghost use Rattle.fe_desk.specs.within.Goes.{Goes, GoesPiece, LeavesSome, LeavesStream, StopsStream, TakesLeft, TakesStream};
+ghost use Rattle.fe_desk.specs.within.Goes.{Goes, GoesPiece, LeavesSome, LeavesStream, StopsStream};
+ghost use Rattle.fe_desk.specs.within.Goes.{TakesLeft, TakesStream};
 
 use crate::desk_inner::DeskInner;
 use crate::fault::DeskFault;
@@ -18,8 +19,8 @@ use fe_messages::take_message;
 use fe_wire::ClientMessage;
 
 impl<D: Disk> DeskInner<D> {
-    /// Takes the bytes of a connection: first the messages of it that are left, then those that the piece completes, if the
-    /// connection is still connected.
+    /// Takes the bytes of a connection: first the messages of it that are left, then those that the piece
+    /// completes, if the connection is still connected.
     pub(crate) fn bytes(
         &mut self,
         conn: u64,
@@ -31,7 +32,8 @@ impl<D: Disk> DeskInner<D> {
         ensures places { ArePlaces places.new (run_state_of self.old).clients }
         ensures outputs { outputs (run_state_of self.new) ≡ outputs (run_state_of self.old) }
         ensures goes { GoesPiece D.Disk (TakesStream (run_state_of self.old) conn piece.now)
-            (LeavesStream (run_state_of self.old) conn piece.now) (StopsStream (run_state_of self.old) conn piece.now)
+            (LeavesStream (run_state_of self.old) conn piece.now)
+            (StopsStream (run_state_of self.old) conn piece.now)
             result (desk_of self.old) (desk_of self.new) }
     {
         let Some(at) = places.find(&self.trace.ports, conn) else {
@@ -64,9 +66,11 @@ impl<D: Disk> DeskInner<D> {
         ensures place { IsFirstAt (run_state_of self.new).clients conn at }
         ensures clients { (run_state_of self.new).clients
             ≡ (with_left (run_state_of self.old) conn (left_of (run_state_of self.new) conn)).clients }
-        ensures rest { EndsWith (left_of (run_state_of self.old) conn) (left_of (run_state_of self.new) conn) }
+        ensures rest { EndsWith (left_of (run_state_of self.old) conn)
+            (left_of (run_state_of self.new) conn) }
         ensures goes { Goes D.Disk (TakesLeft (run_state_of self.old) conn)
-            (λ d. LeavesSome (run_state_of self.old) conn d.run_state) (StopsBefore (run_state_of self.old) conn) result
+            (λ d. LeavesSome (run_state_of self.old) conn d.run_state)
+            (StopsBefore (run_state_of self.old) conn) result
             (desk_of self.old) (desk_of self.new) }
     {
         while self.trace.ports[at].has_left() {

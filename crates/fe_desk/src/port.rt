@@ -1,7 +1,9 @@
-//! The server's end of the connections of one number, a client in the model: what is read from them, and what is written to them
-//! (`docs/model.md`, "The desk"). A mail is a reply on its way out; it waits in its connection's box.
+//! The server's end of the connections of one number, a client in the model: what is read from them, and what
+//! is written to them (`docs/model.md`, "The desk"). A mail is a reply on its way out; it waits in its
+//! connection's box.
 
-ghost use Rattle.std.specs.Prelude.{◌≡◌, ◌≢◌, ℕ, [], nat_lt, length, ◌++◌, None, Some, true, false, IsTrue, OnOk, OnErr, IfOk, slice_get};
+ghost use Rattle.std.specs.Prelude.{◌≡◌, ◌≢◌, ℕ, [], nat_lt, length, ◌++◌, None, Some, true, false, IsTrue};
+ghost use Rattle.std.specs.Prelude.{OnOk, OnErr, IfOk, slice_get};
 ghost use Rattle.std.specs.Option.{option_map_or};
 ghost use Rattle.fe_mail.specs.Connections.{mails_on};
 ghost use Rattle.fe_front.specs.Posting.{may_have};
@@ -11,7 +13,8 @@ ghost use Rattle.fe_wire.specs.Stream.{CompletesMessage};
 ghost use Rattle.fe_desk.specs.DeskRunState.{emptied_box, written_out};
 ghost use Rattle.fe_desk.specs.Steps.{BeginsStream, Reads, new_client};
 ghost use Rattle.fe_desk.specs.Ends.{StopsWriting};
-ghost use Rattle.fe_desk.specs.within.Desk.{HasAllWithMail, client_of, KeepsFront, KeepsEmpty, IsWrittenOutLater};
+ghost use Rattle.fe_desk.specs.within.Desk.{HasAllWithMail, client_of, KeepsFront, KeepsEmpty};
+ghost use Rattle.fe_desk.specs.within.Desk.{IsWrittenOutLater};
 
 use crate::written::Written;
 use fe_front::{ConnectionSet, Front};
@@ -26,7 +29,8 @@ use std::mem;
 #[derive(Drop)]
 pub struct Port {
     pub conn: u64,
-    /// The frames of its mails that were written, in order. If the number was connected again, they follow the earlier ones.
+    /// The frames of its mails that were written, in order. If the number was connected again, they follow
+    /// the earlier ones.
     pub written: Written,
     pub(crate) decoder: Decoder,
     /// Messages that came whole. Those before `next` are taken, and the others are left.
@@ -54,7 +58,8 @@ impl Port {
 
     /// Begins the stream anew, for another connection of the number.
     pub(crate) fn restart(&mut self)
-        ensures client { client_of self.new ≡ record (client_of self.old) { decoder = self.new.decoder; left = [] } }
+        ensures client { client_of self.new ≡ record (client_of self.old)
+            { decoder = self.new.decoder; left = [] } }
         ensures begins { BeginsStream self.new.decoder }
     {
         self.decoder = Decoder::with_version(Version::Two);
@@ -76,11 +81,12 @@ impl Port {
         self.next < self.left.len()
     }
 
-    /// Reads the next piece of the stream. No message may be left. Returns whether the stream is then at a bad frame, one that is no
-    /// message. Fails only if memory runs out, and then nothing is read.
+    /// Reads the next piece of the stream. No message may be left. Returns whether the stream is then at a
+    /// bad frame, one that is no message. Fails only if memory runs out, and then nothing is read.
     pub(crate) fn feed(&mut self, alloc: Global, piece: &[u8]) -> Result<bool, OutOfMemory>
         requires { (client_of self.old).left ≡ [] }
-        ensures reads { OnOk result (Reads self.old.decoder self.new.decoder piece.now (client_of self.new).left) }
+        ensures reads { OnOk result (Reads self.old.decoder self.new.decoder piece.now
+            (client_of self.new).left) }
         ensures client { OnOk result (client_of self.new
             ≡ record (client_of self.old) { decoder = self.new.decoder; left = (client_of self.new).left }) }
         ensures bad { IfOk result (λ bad. bad ≡ self.new.decoder.is_bad) }
@@ -94,8 +100,8 @@ impl Port {
         Ok(bad)
     }
 
-    /// Whether something may have to be written to the connection: a reply that waits, or a mail. Each connection with a mail is in
-    /// the set.
+    /// Whether something may have to be written to the connection: a reply that waits, or a mail. Each
+    /// connection with a mail is in the set.
     fn may_owe(&self, mailed: &ConnectionSet) -> bool
         ensures { result ≡ false
             → ((client_of self.now).reply ≡ None) × (¬ IsTrue (may_have mailed.now self.now.conn)) }
@@ -103,7 +109,8 @@ impl Port {
         self.reply.is_some() || mailed.may_have(self.conn)
     }
 
-    /// Writes the reply that waits, and all mails of the connection. If memory is short, what is not written stays.
+    /// Writes the reply that waits, and all mails of the connection. If memory is short, what is not written
+    /// stays.
     pub(crate) fn take_mails(
         &mut self,
         front: &mut Front,
@@ -113,8 +120,10 @@ impl Port {
         ensures written_out { OnOk result (client_of self.new ≡ written_out front.old (client_of self.old)) }
         ensures emptied { OnOk result (front.new ≡ emptied_box front.old self.old.conn) }
         // What is not written now is written later, to the same effect.
-        ensures later { OnErr result (IsWrittenOutLater front.old (client_of self.old) front.new (client_of self.new)) }
-        ensures stops { OnErr result (StopsWriting front.old (client_of self.old) front.new (client_of self.new)) }
+        ensures later { OnErr result (IsWrittenOutLater front.old (client_of self.old) front.new
+            (client_of self.new)) }
+        ensures stops { OnErr result (StopsWriting front.old (client_of self.old) front.new
+            (client_of self.new)) }
         ensures front { KeepsFront front.old front.new }
         ensures empty { KeepsEmpty front.old front.new }
     {
@@ -161,7 +170,8 @@ impl Port {
     }
 }
 
-/// The next mail of a connection, if there is one. If the books show that no box has a mail, none is looked for.
+/// The next mail of a connection, if there is one. If the books show that no box has a mail, none is looked
+/// for.
 fn next_mail(front: &mut Front, conn: u64) -> Option<Mail>
     ensures mail { result ≡ slice_get (mails_on front.old.connections conn) 0 }
     ensures taken { front.new ≡ taken front.old conn }
@@ -172,7 +182,8 @@ fn next_mail(front: &mut Front, conn: u64) -> Option<Mail>
     front.take_mail(conn)
 }
 
-/// Whether the books, the counts of calls and mails, show that no box has a mail. Books whose counts are used up (spent) show nothing.
+/// Whether the books, the counts of calls and mails, show that no box has a mail. Books whose counts are used
+/// up (spent) show nothing.
 pub(crate) fn has_no_mail(front: &Front) -> bool
     ensures { result ≡ true → (conn : ℕ) → mails_on front.now.connections conn ≡ [] }
 {

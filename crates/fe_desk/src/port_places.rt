@@ -4,7 +4,8 @@ ghost use Rattle.std.specs.Prelude.{◌≡◌, ◌≤◌, ℕ, [], None, Some, I
 ghost use Rattle.indexmap.specs.IndexMap.{get};
 ghost use Rattle.fe_front.specs.Posting.{may_have};
 ghost use Rattle.fe_desk.specs.Steps.{find};
-ghost use Rattle.fe_desk.specs.within.Desk.{ArePlaces, IsFirstAt, alike_bit, client_number_at, client_of, port_bit};
+ghost use Rattle.fe_desk.specs.within.Desk.{ArePlaces, IsFirstAt, alike_bit, client_number_at, client_of};
+ghost use Rattle.fe_desk.specs.within.Desk.{port_bit};
 
 use crate::connections::place_of;
 use crate::port::Port;
@@ -13,13 +14,14 @@ use fe_front::{ConnectionSet, REMAINDERS};
 use indexmap::IndexMap;
 use std::alloc::Global;
 
-/// The indexes of ports that were looked for before, so that a step does not go over all ports. One that memory was short for is
-/// looked for again.
+/// The indexes of ports that were looked for before, so that a step does not go over all ports. One that
+/// memory was short for is looked for again.
 pub(crate) struct PortPlaces {
     indexes: IndexMap<u64, usize>,
     /// The connection number that was looked for last.
     pub last: u64,
-    /// For each remainder of a `ConnectionSet`, the ports whose numbers leave it. If memory was short, the last sets are missing.
+    /// For each remainder of a `ConnectionSet`, the ports whose numbers leave it. If memory was short, the
+    /// last sets are missing.
     alike: Vec<PortSet>,
     /// How many ports, the first ones, are in those sets.
     sorted: usize,
@@ -119,14 +121,16 @@ impl PortPlaces {
 /// Adds a port to the set of a remainder, if it is not missing.
 fn add_to(alike: &mut Vec<PortSet>, remainder: usize, at: usize)
     ensures added { alike_bit alike.new.items remainder at ≡ 1 }
-    ensures still { (other i : ℕ) → alike_bit alike.old.items other i ≡ 1 → alike_bit alike.new.items other i ≡ 1 }
+    ensures still { (other i : ℕ) → alike_bit alike.old.items other i ≡ 1
+        → alike_bit alike.new.items other i ≡ 1 }
 {
     if remainder < alike.len() {
         alike[remainder].add(at);
     }
 }
 
-/// If a set of connections has this remainder, adds the ports whose numbers leave it, or all where their set is missing.
+/// If a set of connections has this remainder, adds the ports whose numbers leave it, or all where their set
+/// is missing.
 fn add_alike(alike: &[PortSet], mailed: &ConnectionSet, remainder: u64, written: &mut PortSet)
     ensures added { IsTrue (may_have mailed.now remainder) → (at : ℕ) → alike_bit alike.now remainder at ≡ 1
         → port_bit written.new at ≡ 1 }

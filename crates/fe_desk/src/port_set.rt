@@ -10,8 +10,8 @@ const BITS: usize = 64;
 /// How many words a set has.
 const WORDS: usize = 16;
 
-/// A set of ports, by their indexes, that takes a fixed amount of memory: a bit for each index. Indexes that leave the same remainder when
-/// divided by the number of bits share one.
+/// A set of ports, by their indexes, that takes a fixed amount of memory: a bit for each index. Indexes that
+/// leave the same remainder when divided by the number of bits share one.
 #[derive(Drop)]
 pub(crate) struct PortSet {
     words: [u64; WORDS],

@@ -1,9 +1,10 @@
-//! The steps of a desk, a server in one thread: what comes to it, and what it does to its store (`docs/model.md`, "The desk").
+//! The steps of a desk, a server in one thread: what comes to it, and what it does to its store
+//! (`docs/model.md`, "The desk").
 
 ghost use Rattle.std.specs.Prelude.{◌≡◌, true};
 
-/// A step of a desk. A step with nothing to act on only writes the mails, replies on their way out, that an earlier step left
-/// unwritten.
+/// A step of a desk. A step with nothing to act on only writes the mails, replies on their way out, that an
+/// earlier step left unwritten.
 #[derive(Drop)]
 pub enum Step {
     /// A connection comes, with a stream of its own. If its number is connected, nothing is done.
@@ -27,7 +28,8 @@ pub enum Step {
 }
 
 impl Step {
-    /// Whether no box had a mail before the step (`quiet`) and the step posts the batch that is stored, if there is one.
+    /// Whether no box had a mail before the step (`quiet`) and the step posts the batch that is stored, if
+    /// there is one.
     pub(crate) fn posts(&self, quiet: bool) -> bool
         ensures { result ≡ true → (quiet ≡ true) × (self.now ≡ Step.Post) }
     {

@@ -1,5 +1,5 @@
-//! The way of a batch, entries that follow one another, through a desk: it is cut, stored as a group, and posted
-//! (`docs/model.md`, "The desk").
+//! The way of a batch, entries that follow one another, through a desk: it is cut, stored as a group, and
+//! posted (`docs/model.md`, "The desk").
 
 ghost use Rattle.std.specs.Prelude.{◌≡◌, ◌⊎◌, ℕ, IsTrue, IfOk, OnOk};
 ghost use Rattle.fe_front.specs.Front.{has_room};
@@ -23,7 +23,8 @@ use std::alloc::Global;
 use std::mem;
 
 impl<D: Disk> DeskInner<D> {
-    /// Cuts what is pending into a batch, which is out from then on, if there is something and no batch is out.
+    /// Cuts what is pending into a batch, which is out from then on, if there is something and no batch is
+    /// out.
     pub(crate) fn cut(&mut self)
         ensures cut { run_state_of self.new ≡ way.cut (run_state_of self.old) }
         ensures stays { Stays D.Disk (desk_of self.old) (desk_of self.new) }
@@ -52,8 +53,8 @@ impl<D: Disk> DeskInner<D> {
         }
     }
 
-    /// Hands a batch to the store, as a group of the trace. If there is no memory, the trace is left without it. If the device fails, it
-    /// stays there, not counted as stored.
+    /// Hands a batch to the store, as a group of the trace. If there is no memory, the trace is left without
+    /// it. If the device fails, it stays there, not counted as stored.
     fn store_batch(&mut self, batch: Batch) -> (Handed, Result<(), Fault>)
         requires { IsReady D.Disk (with_handed (desk_of self.old) (Cut batch)) }
         ensures { let old = with_handed (desk_of self.old) (Cut batch) in
@@ -87,8 +88,8 @@ impl<D: Disk> DeskInner<D> {
         }
     }
 
-    /// Posts the batch that is stored, if there is one, and adds each connection whose box that changed. Room that was begun
-    /// is made then.
+    /// Posts the batch that is stored, if there is one, and adds each connection whose box that changed. Room
+    /// that was begun is made then.
     pub(crate) fn post(&mut self, changed: &mut ConnectionSet)
         requires { IsDesk D.Disk (desk_of self.old) }
         ensures posted { run_state_of self.new ≡ posted (run_state_of self.old) }
@@ -117,11 +118,13 @@ impl<D: Disk> DeskInner<D> {
         Ok(())
     }
 
-    /// Makes room for a message of a connection. If memory is short, the rest of it is done for the connection's next message.
+    /// Makes room for a message of a connection. If memory is short, the rest of it is done for the
+    /// connection's next message.
     pub(crate) fn make_room(&mut self, conn: u64) -> Result<(), Fault>
         requires { IsReady D.Disk (desk_of self.old) }
         ensures room { OnOk result (IsTrue (has_room self.new.front)) }
-        ensures goes { GoesTo D.Disk (roomy (run_state_of self.old) conn) (StopsMaking (run_state_of self.old) conn)
+        ensures goes { GoesTo D.Disk (roomy (run_state_of self.old) conn)
+            (StopsMaking (run_state_of self.old) conn)
             result (desk_of self.old) (desk_of self.new) }
     {
         self.go_on(conn)?;
@@ -140,7 +143,8 @@ impl<D: Disk> DeskInner<D> {
     /// Goes on with the room that was begun for a message of this connection, if it was.
     fn go_on(&mut self, conn: u64) -> Result<(), Fault>
         requires { IsReady D.Disk (desk_of self.old) }
-        ensures { GoesTo D.Disk (begun_room (run_state_of self.old) conn) (WasBegun (run_state_of self.old) conn)
+        ensures { GoesTo D.Disk (begun_room (run_state_of self.old) conn)
+            (WasBegun (run_state_of self.old) conn)
             result (desk_of self.old) (desk_of self.new) }
     {
         if self.making == Some(conn) {

@@ -1,4 +1,5 @@
-//! What a desk did: which entries it gave to its store, and what it wrote to which connections (`docs/model.md`, "The desk").
+//! What a desk did: which entries it gave to its store, and what it wrote to which connections
+//! (`docs/model.md`, "The desk").
 
 ghost use Rattle.std.specs.Prelude.{◌≡◌, [], map};
 ghost use Rattle.fe_desk.specs.Crash.{unwritten_to};
@@ -46,12 +47,14 @@ impl Trace {
         }
     }
 
-    /// The trace begins anew. Its ports stay, with nothing written. Nothing may be written to ports that are not in the set.
+    /// The trace begins anew. Its ports stay, with nothing written. Nothing may be written to ports that are
+    /// not in the set.
     pub(crate) fn clear(&mut self, written: &PortSet)
         requires { IsSilentFrom 0 (written_of self.old) written.now }
         ensures groups { self.new.groups.items ≡ [] }
         ensures synced { self.new.synced ≡ 0 }
-        ensures ports { map client_of self.new.ports.items ≡ map unwritten_to (map client_of self.old.ports.items) }
+        ensures ports { map client_of self.new.ports.items
+            ≡ map unwritten_to (map client_of self.old.ports.items) }
     {
         self.groups.clear();
         self.synced = 0;

@@ -1,4 +1,5 @@
-//! What a desk has written to its connections (`docs/model.md`, "The desk"). A frame is the bytes of a reply (`docs/formats.md`, "Frames").
+//! What a desk has written to its connections (`docs/model.md`, "The desk"). A frame is the bytes of a reply
+//! (`docs/formats.md`, "Frames").
 
 ghost use Rattle.std.specs.Prelude.{◌≡◌, ◌++◌, [], OnOk, OnErr};
 ghost use Rattle.fe_wire.specs.Spelling.{reply_spelling};

@@ -1,6 +1,7 @@
--- What the calls of a disk do to its bytes, and what a stop leaves of them. An image is the list of all bytes of a disk.
--- See `docs/model.md`, "The disk".
-use Rattle.std.specs.Prelude.{◌≡◌, ◌⊎◌, ℕ, ◌+◌, ◌-◌, ◌^◌, ◌<◌, ◌≤◌, List, ◌++◌, length, take, drop, slice_index, ◌↔◌, Result, IsErr, OnOk}
+-- What the calls of a disk do to its bytes, and what a stop leaves of them. An image is the list of all bytes
+-- of a disk. See `docs/model.md`, "The disk".
+use Rattle.std.specs.Prelude.{◌≡◌, ◌⊎◌, ℕ, ◌+◌, ◌-◌, ◌^◌, ◌<◌, ◌≤◌, List, ◌++◌, length, take, drop}
+use Rattle.std.specs.Prelude.{slice_index, ◌↔◌, Result, IsErr, OnOk}
 use Rattle.fe_disk.specs.declared.calls.Calls.{Calls}
 
 -- an image of a disk: this many bytes
@@ -34,11 +35,13 @@ AddsNone old new = (image : List ℕ) → new image → old image
 abbrev pub LeavesJust : List ℕ → (List ℕ → Type 0) → Type 0
 LeavesJust image may_leave = (left : List ℕ) → may_leave left → left ≡ image
 
--- Time goes on through a call: what a stop since a moment before it may have left is all that it might have left then already, and
--- otherwise only what a stop may leave now.
-pub record Elapses {D : Type 0} (moment : D → ℕ) (left_since : D → ℕ → List ℕ → Type 0) (may_leave : D → List ℕ → Type 0) (old new : D) : Type 0 where
+-- Time goes on through a call: what a stop since a moment before it may have left is all that it might have
+-- left then already, and otherwise only what a stop may leave now.
+pub record Elapses {D : Type 0} (moment : D → ℕ) (left_since : D → ℕ → List ℕ → Type 0)
+    (may_leave : D → List ℕ → Type 0) (old new : D) : Type 0 where
   pub later : moment old ≤ moment new
-  pub nothing_else : (t : ℕ) (image : List ℕ) → t ≤ moment old → left_since new t image → left_since old t image ⊎ may_leave new image
+  pub nothing_else : (t : ℕ) (image : List ℕ) → t ≤ moment old → left_since new t image
+      → left_since old t image ⊎ may_leave new image
   pub keeps : (t : ℕ) (image : List ℕ) → t ≤ moment old → left_since old t image → left_since new t image
 
 -- A count of faults rose in a call. At the top of a `u64` it stays as it is, and that counts as a rise.
@@ -52,19 +55,22 @@ RisesAtMost most before now = (before ≤ now) × (now ≤ before + most)
 -- This many reads, writes and syncs, or fewer, were made between two counts.
 abbrev pub MakesAtMost : ℕ → ℕ → ℕ → Calls → Calls → Type 0
 MakesAtMost reads writes syncs before now =
-    RisesAtMost reads before.reads now.reads × RisesAtMost writes before.writes now.writes × RisesAtMost syncs before.syncs now.syncs
+    RisesAtMost reads before.reads now.reads × RisesAtMost writes before.writes now.writes
+    × RisesAtMost syncs before.syncs now.syncs
 
 -- Exactly this many reads, writes and syncs were made between two counts.
 abbrev pub MakesJust : ℕ → ℕ → ℕ → Calls → Calls → Type 0
 MakesJust reads writes syncs before now =
-    (now.reads ≡ before.reads + reads) × (now.writes ≡ before.writes + writes) × (now.syncs ≡ before.syncs + syncs)
+    (now.reads ≡ before.reads + reads) × (now.writes ≡ before.writes + writes)
+    × (now.syncs ≡ before.syncs + syncs)
 
 -- ---- how a call ends
 
--- A call counts as exactly this many reads, writes and syncs if it succeeds, and as at most this many if it fails. It fails exactly if the
--- count of faults rises, by one at most. Size and honesty stay. The parameters are members of the trait `Disk`, since the trait's own
--- clauses can't name the record that has them all.
-pub record EndsCall {D T E : Type 0} (size failures : D → ℕ) (calls : D → Calls) (honest : D → Type 0) (reads writes syncs : ℕ) (result : Result T E) (old new : D) : Type 0 where
+-- A call counts as exactly this many reads, writes and syncs if it succeeds, and as at most this many if it
+-- fails. It fails exactly if the count of faults rises, by one at most. Size and honesty stay. The parameters
+-- are members of the trait `Disk`, since the trait's own clauses can't name the record that has them all.
+pub record EndsCall {D T E : Type 0} (size failures : D → ℕ) (calls : D → Calls) (honest : D → Type 0)
+    (reads writes syncs : ℕ) (result : Result T E) (old new : D) : Type 0 where
   pub fault : IsErr result ↔ Rises (failures old) (failures new)
   pub still : OnOk result (failures new ≡ failures old)
   pub one_fault : failures new ≤ failures old + 1
@@ -74,7 +80,8 @@ pub record EndsCall {D T E : Type 0} (size failures : D → ℕ) (calls : D → 
   pub same_size : size new ≡ size old
 
 -- No call was made: the counts, size and honesty stay.
-pub record MakesNoCall {D : Type 0} (size failures : D → ℕ) (calls : D → Calls) (honest : D → Type 0) (old new : D) : Type 0 where
+pub record MakesNoCall {D : Type 0} (size failures : D → ℕ) (calls : D → Calls) (honest : D → Type 0)
+    (old new : D) : Type 0 where
   pub still : failures new ≡ failures old
   pub none : calls new ≡ calls old
   pub honesty : honest new ↔ honest old

@@ -1,4 +1,5 @@
--- What contracts see of a `FileDisk`: its file, its count of faults, and the bytes that the file has to have (`docs/store.md`, "The file").
+-- What contracts see of a `FileDisk`: its file, its count of faults, and the bytes that the file has to have
+-- (`docs/store.md`, "The file").
 use Rattle.std.specs.Prelude.{ℕ}
 use Rattle.fe_disk.specs.declared.file_disk.FileDisk.{FileDisk}
 use Rattle.fe_disk.specs.declared.samples.Samples.{Samples}

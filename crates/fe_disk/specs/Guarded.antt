@@ -1,6 +1,7 @@
--- What contracts see of a `Guarded` disk, whose policy lets some calls through to another disk and fails the others.
--- See `docs/proved.md`, "The store".
-use Rattle.std.specs.Prelude.{◌≡◌, ◌↔◌, ℕ, ◌-◌, ◌^◌, ◌<◌, Result, IsErr, ◌==◌, Option, Some, None, if◌then◌else◌}
+-- What contracts see of a `Guarded` disk, whose policy lets some calls through to another disk and fails the
+-- others. See `docs/proved.md`, "The store".
+use Rattle.std.specs.Prelude.{◌≡◌, ◌↔◌, ℕ, ◌-◌, ◌^◌, ◌<◌, Result, IsErr, ◌==◌, Option, Some, None}
+use Rattle.std.specs.Prelude.{if◌then◌else◌}
 use Rattle.fe_disk.specs.Disk.{Rises}
 use Rattle.fe_disk.specs.declared.guarded.Guarded.{Guarded}
 use Rattle.fe_disk.specs.declared.disk.Disk.{Ghosts}
@@ -26,12 +27,15 @@ policy_of disk = disk.policy
 abbrev pub fault_count : {D P : Type 0} → Guarded D P → ℕ
 fault_count disk = disk.failures
 
--- The policy counts each call. A call that it doesn't pass on fails and leaves the disk as it is. Any other call fails exactly if the
--- disk's count of faults rises; nothing is said once the guard's own count is at 2^64 - 1.
-pub record Guards {D P T E : Type 0} (passes : P → Type 0) (next : P → P) (model : Ghosts D) (result : Result T E) (old new : Guarded D P) : Type 0 where
+-- The policy counts each call. A call that it doesn't pass on fails and leaves the disk as it is. Any other
+-- call fails exactly if the disk's count of faults rises; nothing is said once the guard's own count is at
+-- 2^64 - 1.
+pub record Guards {D P T E : Type 0} (passes : P → Type 0) (next : P → P) (model : Ghosts D)
+    (result : Result T E) (old new : Guarded D P) : Type 0 where
   pub counted : policy_of new ≡ next (policy_of old)
   pub refused : (passes (policy_of old) → ⊥) → IsErr result × (disk_of new ≡ disk_of old)
-  pub passed : passes (policy_of old) → fault_count old < 2 ^ 64 - 1 → (IsErr result ↔ Rises (model.failures (disk_of old)) (model.failures (disk_of new)))
+  pub passed : passes (policy_of old) → fault_count old < 2 ^ 64 - 1
+      → (IsErr result ↔ Rises (model.failures (disk_of old)) (model.failures (disk_of new)))
 
 -- ---- the policy that fails one call
 

@@ -1,7 +1,8 @@
--- What a `MemoryDisk` is, and which images its record of writes and syncs says that a stop may leave. An image is the
--- list of all bytes of a disk (`docs/model.md`, "The disk").
+-- What a `MemoryDisk` is, and which images its record of writes and syncs says that a stop may leave. An
+-- image is the list of all bytes of a disk (`docs/model.md`, "The disk").
 use Rattle.fe_disk.specs.declared.calls.Calls.{Calls}
-use Rattle.std.specs.Prelude.{◌≡◌, ◌⊎◌, ℕ, ◌+◌, ◌-◌, ◌^◌, ◌<◌, ◌≤◌, min, List, [], ◌∷◌, length, slice_index, replicate}
+use Rattle.std.specs.Prelude.{◌≡◌, ◌⊎◌, ℕ, ◌+◌, ◌-◌, ◌^◌, ◌<◌, ◌≤◌, min, List, [], ◌∷◌, length, slice_index}
+use Rattle.std.specs.Prelude.{replicate}
 use Rattle.fe_disk.specs.Disk.{IsImage, bytes_at, after_write}
 use Rattle.fe_disk.specs.declared.memory_disk.Torn.{Torn}
 use Rattle.fe_disk.specs.declared.memory_disk.Torn.TheVariants.{Kept, Lost, Byte}
@@ -10,13 +11,14 @@ use Rattle.fe_disk.specs.declared.memory_disk.Torn.TheVariants.{Kept, Lost, Byte
 abbrev pub none : Calls
 none = record { reads = 0; writes = 0; syncs = 0 }
 
--- an event of the record: a write that succeeded, by its offset and the bytes that it replaced, or a sync that succeeded
+-- an event of the record: a write that succeeded, by its offset and the bytes that it replaced, or a sync
+-- that succeeded
 pub data DiskEvent : Type 0 where
   Write : (at : ℕ) → (before : List ℕ) → DiskEvent
   Sync : DiskEvent
 
--- what a disk in memory is: its bytes, the events since it was made with the latest first, how many calls of each kind
--- (read, write, sync) succeeded, and its count of faults
+-- what a disk in memory is: its bytes, the events since it was made with the latest first, how many calls of
+-- each kind (read, write, sync) succeeded, and its count of faults
 pub record MemoryState : Type 0 where
   pub image : List ℕ
   pub events : List DiskEvent
@@ -60,7 +62,8 @@ pub record MayLeave (size : ℕ) (image : List ℕ) (events : List DiskEvent) (l
 abbrev pub LeftSince : ℕ → List ℕ → List DiskEvent → ℕ → List ℕ → Type 0
 LeftSince size image [] t left = (t ≤ 0) × MayLeave size image [] left
 LeftSince size image (event ∷ earlier) t left =
-    ((t ≤ length (event ∷ earlier)) × MayLeave size image (event ∷ earlier) left) ⊎ LeftSince size (image_before event image) earlier t left
+    ((t ≤ length (event ∷ earlier)) × MayLeave size image (event ∷ earlier) left)
+    ⊎ LeftSince size (image_before event image) earlier t left
 
 -- a disk is honest if its image consists of bytes (numbers below 2^8): nothing else is assumed
 abbrev pub IsHonest : MemoryState → Type 0
@@ -130,7 +133,12 @@ disk_after_sync disk =
 
 -- the disk after a call that fails: the fault is counted, up to 2^64 - 1, and nothing else is done
 abbrev pub disk_after_fault : MemoryState → MemoryState
-disk_after_fault disk = record { image = disk.image; events = disk.events; calls = disk.calls; failures = min (disk.failures + 1) (2 ^ 64 - 1) }
+disk_after_fault disk = record {
+  image = disk.image;
+  events = disk.events;
+  calls = disk.calls;
+  failures = min (disk.failures + 1) (2 ^ 64 - 1);
+}
 
 -- ---- the ranges that were written since the last sync, as a stop goes through them
 
@@ -150,4 +158,5 @@ image_with_tear (Byte byte) image at before = after_write image at (replicate (l
 abbrev pub image_with_tears : Torn → List ℕ → List DiskEvent → List ℕ
 image_with_tears torn image [] = image
 image_with_tears torn image (Sync ∷ earlier) = image
-image_with_tears torn image (Write at before ∷ earlier) = image_with_tears torn (image_with_tear torn image at before) earlier
+image_with_tears torn image (Write at before ∷ earlier) =
+    image_with_tears torn (image_with_tear torn image at before) earlier

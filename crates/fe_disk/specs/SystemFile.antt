@@ -1,4 +1,5 @@
--- What contracts see of a `SystemFile`: its size and its counts, and nothing of its bytes (`docs/store.md`, "The file").
+-- What contracts see of a `SystemFile`: its size and its counts, and nothing of its bytes (`docs/store.md`,
+-- "The file").
 use Rattle.std.specs.Prelude.{ℕ}
 use Rattle.fe_disk.specs.declared.calls.Calls.{Calls}
 use Rattle.fe_disk.specs.declared.system_file.SystemFile.{SystemFile}

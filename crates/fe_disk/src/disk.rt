@@ -1,6 +1,8 @@
-// A disk as its users see it. An image is the list of all its bytes. `docs/model.md` has the model in plain words.
+// A disk as its users see it. An image is the list of all its bytes. `docs/model.md` has the model in plain
+// words.
 ghost use Rattle.std.specs.Prelude.{◌≡◌, ◌+◌, ◌≤◌, ℕ, List, length, OnOk};
-ghost use Rattle.fe_disk.specs.Disk.{IsImage, bytes_at, after_write, IsTorn, Follows, AddsNone, LeavesJust, Elapses, EndsCall, MakesNoCall};
+ghost use Rattle.fe_disk.specs.Disk.{IsImage, bytes_at, after_write, IsTorn, Follows, AddsNone, LeavesJust};
+ghost use Rattle.fe_disk.specs.Disk.{Elapses, EndsCall, MakesNoCall};
 ghost use Rattle.fe_disk.specs.declared.calls.Calls.{Calls};
 
 /// A device call failed. It carries no reason.
@@ -9,8 +11,9 @@ pub struct DeviceFault;
 
 /// A disk of a fixed size, in bytes, that may stop at any moment.
 ///
-/// Each device call (`read_at`, `write_at`, `sync`) returns a fault exactly when the count of `failures` rises in that call, or is
-/// at `u64::MAX`. The facts about bytes and stops hold only of an `honest` disk, and a call never changes whether the disk is honest.
+/// Each device call (`read_at`, `write_at`, `sync`) returns a fault exactly when the count of `failures`
+/// rises in that call, or is at `u64::MAX`. The facts about bytes and stops hold only of an `honest` disk,
+/// and a call never changes whether the disk is honest.
 pub trait Disk {
     /// How many bytes the disk has. It never changes.
     ghost size: { Self → ℕ };
@@ -48,7 +51,8 @@ pub trait Disk {
     fn read_at(&mut self, at: usize, buffer: &mut [u8]) -> Result<(), DeviceFault>
         requires { at + length buffer.old ≤ size self.old }
 
-        ensures read { honest self.old → OnOk result (buffer.new ≡ bytes_at (seen self.old) at (length buffer.old)) }
+        ensures read { honest self.old → OnOk result
+            (buffer.new ≡ bytes_at (seen self.old) at (length buffer.old)) }
 
         // A read changes nothing, whether it fails or not.
         ensures same { honest self.old → seen self.new ≡ seen self.old }
@@ -56,12 +60,14 @@ pub trait Disk {
         ensures time { honest self.old → Elapses moment left_since may_leave self.old self.new }
         ensures device { EndsCall size failures calls honest 1 0 0 result self.old self.new };
 
-    /// Writes the bytes from `at` on. Until a sync succeeds, a stop may leave any bytes in their range.
-    /// A write that fails may have written: in its range a read may give anything, and a stop may leave anything.
+    /// Writes the bytes from `at` on. Until a sync succeeds, a stop may leave any bytes in their range. A
+    /// write that fails may have written: in its range a read may give anything, and a stop may leave
+    /// anything.
     fn write_at(&mut self, at: usize, bytes: &[u8]) -> Result<(), DeviceFault>
         requires { at + length bytes.now ≤ size self.old }
 
-        ensures written { honest self.old → OnOk result (seen self.new ≡ after_write (seen self.old) at bytes.now) }
+        ensures written { honest self.old → OnOk result
+            (seen self.new ≡ after_write (seen self.old) at bytes.now) }
         ensures torn { honest self.old → IsTorn at (length bytes.now) (seen self.old) (seen self.new) }
         ensures stop { honest self.old
             → Follows (IsTorn at (length bytes.now)) (may_leave self.old) (may_leave self.new) }
@@ -77,8 +83,9 @@ pub trait Disk {
         ensures time { honest self.old → Elapses moment left_since may_leave self.old self.new }
         ensures device { EndsCall size failures calls honest 0 0 1 result self.old self.new };
 
-    /// Tells the disk that its user found these bytes from `at` on, and relies on them. It is no device call. A disk that other programs
-    /// may write compares them before it writes more (`docs/store.md`, "The file").
+    /// Tells the disk that its user found these bytes from `at` on, and relies on them. It is no device call.
+    /// A disk that other programs may write compares them before it writes more (`docs/store.md`, "The
+    /// file").
     fn rely_on(&mut self, at: usize, bytes: &[u8])
         requires within { at + length bytes.now ≤ size self.old }
         requires right { honest self.old → bytes.now ≡ bytes_at (seen self.old) at (length bytes.now) }

@@ -16,10 +16,11 @@ use std::rt::Files;
 
 /// A disk over a file that other programs may write too.
 ///
-/// A long write (one of 16 bytes or more, such as that of a group) is made only while the file still has what was written or read there
-/// before, as far as `Samples` knows it: this finds a program that wrote another file over it, but no change elsewhere. A sync behind a
-/// short write (such as a gate, the byte that makes a group count) succeeds only if the file afterwards still has its size and its path:
-/// what is written into a file that was cut, renamed, replaced or removed is lost.
+/// A long write (one of 16 bytes or more, such as that of a group) is made only while the file still has what
+/// was written or read there before, as far as `Samples` knows it: this finds a program that wrote another
+/// file over it, but no change elsewhere. A sync behind a short write (such as a gate, the byte that makes a
+/// group count) succeeds only if the file afterwards still has its size and its path: what is written into a
+/// file that was cut, renamed, replaced or removed is lost.
 ///
 /// It is honest if its file is, and behaves as any disk then: it never fails because of itself.
 #[derive(Drop)]
@@ -80,8 +81,8 @@ impl<D: StoreFile> FileDisk<D> {
         }
     }
 
-    // Whether this many bytes may be written: before a long write the file must still have the samples, so that what another program put
-    // there is not overwritten.
+    // Whether this many bytes may be written: before a long write the file must still have the samples, so
+    // that what another program put there is not overwritten.
     fn may_write(&mut self, count: usize) -> bool
         ensures kept { D.gives self.old.file → IsTrue result → 16 ≤ count
             → Holds (D.contents self.old.file) self.old.samples.kept }
@@ -145,16 +146,19 @@ impl<D: StoreFile> Disk for FileDisk<D> {
         ensures torn { D.honest (file_of self.old)
             → IsTorn at (length bytes.now) (D.seen (file_of self.old)) (D.seen (file_of self.new)) }
         ensures stop { D.honest (file_of self.old)
-            → Follows (IsTorn at (length bytes.now)) (D.may_leave (file_of self.old)) (D.may_leave (file_of self.new)) }
+            → Follows (IsTorn at (length bytes.now)) (D.may_leave (file_of self.old))
+            (D.may_leave (file_of self.new)) }
         ensures time { D.honest (file_of self.old) → HasElapsed D.Disk (file_of self.old) (file_of self.new) }
         ensures device { EndsCall (inner D.size) fault_count (inner D.calls) (inner_holds D.honest)
             0 1 0 result self.old self.new }
-        // A long write succeeds only if the file still had the samples before it, and a write keeps them right.
+        // A long write succeeds only if the file still had the samples before it, and a write keeps them
+        // right.
         ensures kept { D.gives (file_of self.old) → OnOk result (16 ≤ length bytes.now
             → Holds (D.contents (file_of self.old)) (samples_of self.old).kept) }
         ensures opened { D.gives (file_of self.old) → OnOk result (16 ≤ length bytes.now
             → Holds (D.contents (file_of self.old)) (samples_of self.old).opened) }
-        ensures noted { OnOk result (StaysRight at bytes.now (samples_of self.old).kept (samples_of self.new).kept) }
+        ensures noted { OnOk result (StaysRight at bytes.now (samples_of self.old).kept
+            (samples_of self.new).kept) }
     {
         let _size = self.file.size();
         if self.failures == u64::MAX || !self.may_write(bytes.len()) {

@@ -5,7 +5,7 @@ pub enum FileFault {
     Missing,
     /// The file has this size in bytes, and not the one asked for.
     WrongSize { found: u64 },
-    /// The system refused a call; the path leads to no plain file, or no longer to the one that was opened; or another disk, in
-    /// this process or another, has the file locked.
+    /// The system refused a call; the path leads to no plain file, or no longer to the one that was opened;
+    /// or another disk, in this process or another, has the file locked.
     Device,
 }

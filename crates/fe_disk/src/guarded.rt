@@ -1,4 +1,5 @@
-//! A disk that passes on to another disk the calls that a policy lets through, and fails the others (`docs/proved.md`, "The store").
+//! A disk that passes on to another disk the calls that a policy lets through, and fails the others
+//! (`docs/proved.md`, "The store").
 
 ghost use Rattle.std.specs.Prelude.{◌≡◌, ◌↔◌, ◌-◌, ◌^◌, ◌<◌, IsTrue};
 
@@ -8,8 +9,8 @@ use crate::{Asked, DeviceFault, Disk, Policy};
 /// A disk under a policy. The policy passes some calls on to the disk; every other call fails, and the disk
 /// is left alone.
 ///
-/// What a read gives and what a stop may leave are those of the disk, so a call that isn't passed on changes no
-/// byte and syncs none. The count of faults starts with the disk's. At `u64::MAX` every call fails.
+/// What a read gives and what a stop may leave are those of the disk, so a call that isn't passed on changes
+/// no byte and syncs none. The count of faults starts with the disk's. At `u64::MAX` every call fails.
 #[derive(Drop)]
 pub struct Guarded<D, P> {
     inner: D,
@@ -63,7 +64,8 @@ impl<D: Disk, P: Policy + Drop> Guarded<D, P> {
 
 impl<D: Disk, P: Policy> Disk for Guarded<D, P> {
     ghost use Rattle.std.specs.Prelude.{◌≡◌, ◌+◌, ◌≤◌, length, OnOk};
-    ghost use Rattle.fe_disk.specs.Disk.{bytes_at, after_write, IsTorn, Follows, AddsNone, LeavesJust, EndsCall};
+    ghost use Rattle.fe_disk.specs.Disk.{bytes_at, after_write, IsTorn, Follows, AddsNone, LeavesJust};
+    ghost use Rattle.fe_disk.specs.Disk.{EndsCall};
     ghost use Rattle.fe_disk.specs.Runs.{HasElapsed};
     ghost use Rattle.fe_disk.specs.Guarded.{disk_of, fault_count, inner, inner_holds, Guards};
 
@@ -127,7 +129,8 @@ impl<D: Disk, P: Policy> Disk for Guarded<D, P> {
         ensures torn { D.honest (disk_of self.old)
             → IsTorn at (length bytes.now) (D.seen (disk_of self.old)) (D.seen (disk_of self.new)) }
         ensures stop { D.honest (disk_of self.old)
-            → Follows (IsTorn at (length bytes.now)) (D.may_leave (disk_of self.old)) (D.may_leave (disk_of self.new)) }
+            → Follows (IsTorn at (length bytes.now)) (D.may_leave (disk_of self.old))
+            (D.may_leave (disk_of self.new)) }
         ensures time { D.honest (disk_of self.old) → HasElapsed D.Disk (disk_of self.old) (disk_of self.new) }
         ensures device { EndsCall (inner D.size) fault_count (inner D.calls) (inner_holds D.honest)
             0 1 0 result self.old self.new }

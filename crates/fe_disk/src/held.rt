@@ -1,5 +1,5 @@
-//! A policy that lets another thread hold the syncs of a disk back, for tests of what happens between a write and its sync
-//! (`docs/proved.md`, "The store").
+//! A policy that lets another thread hold the syncs of a disk back, for tests of what happens between a write
+//! and its sync (`docs/proved.md`, "The store").
 
 ghost use Rattle.std.specs.Prelude.{⊤};
 

@@ -1,4 +1,5 @@
-//! A disk that always reads the same bytes, for tests of a store over any bytes (`docs/proved.md`, "The store").
+//! A disk that always reads the same bytes, for tests of a store over any bytes (`docs/proved.md`, "The
+//! store").
 
 ghost use Rattle.std.specs.Prelude.{◌≡◌, ◌⊎◌, ◌+◌, ◌-◌, ◌^◌, ◌≤◌, length, IsErr, OnOk};
 ghost use Rattle.fe_disk.specs.Disk.{bytes_at, EndsCall};
@@ -6,8 +7,9 @@ ghost use Rattle.fe_disk.specs.Disk.{bytes_at, EndsCall};
 use crate::faults::fault;
 use crate::{Calls, DeviceFault, Disk};
 
-/// A disk whose reads give a fixed list of bytes, whatever was written. A call fails only once the count of its kind, or that
-/// of faults, is at `u64::MAX`. Nothing is claimed about what a stop leaves, so it is not honest.
+/// A disk whose reads give a fixed list of bytes, whatever was written. A call fails only once the count of
+/// its kind, or that of faults, is at `u64::MAX`. Nothing is claimed about what a stop leaves, so it is not
+/// honest.
 #[derive(Drop)]
 pub struct Liar {
     bytes: Vec<u8>,
@@ -71,7 +73,8 @@ impl Disk for Liar {
 
     fn read_at(&mut self, at: usize, buffer: &mut [u8]) -> Result<(), DeviceFault>
         requires { at + length buffer.old ≤ byte_count self.old }
-        ensures liar_bytes { OnOk result (buffer.new ≡ bytes_at (liar_bytes self.old) at (length buffer.old)) }
+        ensures liar_bytes { OnOk result (buffer.new
+            ≡ bytes_at (liar_bytes self.old) at (length buffer.old)) }
         ensures same { liar_bytes self.new ≡ liar_bytes self.old }
         ensures only_at_top { IsErr result
             → (fault_count self.old ≡ 2 ^ 64 - 1) ⊎ ((calls_of self.old).reads ≡ 2 ^ 64 - 1) }

@@ -1,10 +1,15 @@
-//! A disk in memory, for `femem run`, `femem look` and tests. It records its writes and syncs, so that `stopped` can make the disk
-//! that a stop leaves (`docs/model.md`, "The disk"). An image is all bytes of a disk.
+//! A disk in memory, for `femem run`, `femem look` and tests. It records its writes and syncs, so that
+//! `stopped` can make the disk that a stop leaves (`docs/model.md`, "The disk"). An image is all bytes of a
+//! disk.
 
 ghost use Rattle.std.specs.Prelude.{◌≡◌, ◌⊎◌, ◌+◌, ◌-◌, ◌^◌, ◌≤◌, ◌↔◌, length, IfOk, IsErr, OnOk, OnErr};
-ghost use Rattle.fe_disk.specs.Disk.{bytes_at, after_write, IsTorn, Follows, AddsNone, LeavesJust, Elapses, Rises, EndsCall};
-ghost use Rattle.fe_disk.specs.Memory.{size_of, failures_of, calls_of, seen_of, moment_of, IsHonest, LeavesNow, LeavesSince, IsLeftBy, IsFresh, IsBlank, disk_after_read, disk_after_write, disk_after_sync, disk_after_fault};
-ghost use Rattle.fe_disk.specs.within.Memory.{seen_may_stay_law, left_is_image_law, counts_now_law, only_now_law};
+ghost use Rattle.fe_disk.specs.Disk.{bytes_at, after_write, IsTorn, Follows, AddsNone, LeavesJust, Elapses};
+ghost use Rattle.fe_disk.specs.Disk.{Rises, EndsCall};
+ghost use Rattle.fe_disk.specs.Memory.{size_of, failures_of, calls_of, seen_of, moment_of, IsHonest};
+ghost use Rattle.fe_disk.specs.Memory.{LeavesNow, LeavesSince, IsLeftBy, IsFresh, IsBlank, disk_after_read};
+ghost use Rattle.fe_disk.specs.Memory.{disk_after_write, disk_after_sync, disk_after_fault};
+ghost use Rattle.fe_disk.specs.within.Memory.{seen_may_stay_law, left_is_image_law, counts_now_law};
+ghost use Rattle.fe_disk.specs.within.Memory.{only_now_law};
 
 use crate::faults::fault;
 use crate::record::{Record, replace};
@@ -24,8 +29,8 @@ pub enum Torn {
     Byte(u8),
 }
 
-/// A disk in memory. Beside its bytes it keeps those that the writes since the last sync replaced. A write that finds no memory for
-/// them fails and does nothing.
+/// A disk in memory. Beside its bytes it keeps those that the writes since the last sync replaced. A write
+/// that finds no memory for them fails and does nothing.
 #[derive(Drop)]
 pub struct MemoryDisk {
     alloc: Global,
@@ -150,7 +155,8 @@ impl Disk for MemoryDisk {
     ghost counts_now = { λ disk t image honest now may. counts_now_law
         (length disk.image) disk.image disk.events t image now may };
 
-    ghost only_now = { λ disk image honest left. only_now_law (length disk.image) disk.image disk.events image left };
+    ghost only_now = { λ disk image honest left. only_now_law
+        (length disk.image) disk.image disk.events image left };
 
     fn size(&self) -> usize {
         self.bytes.len()
@@ -162,14 +168,17 @@ impl Disk for MemoryDisk {
 
     fn read_at(&mut self, at: usize, buffer: &mut [u8]) -> Result<(), DeviceFault>
         requires { at + length buffer.old ≤ length self.old.image }
-        ensures read { IsHonest self.old → OnOk result (buffer.new ≡ bytes_at self.old.image at (length buffer.old)) }
+        ensures read { IsHonest self.old → OnOk result
+            (buffer.new ≡ bytes_at self.old.image at (length buffer.old)) }
         ensures same { IsHonest self.old → self.new.image ≡ self.old.image }
         ensures stop { IsHonest self.old → AddsNone (LeavesNow self.old) (LeavesNow self.new) }
         ensures time { IsHonest self.old → Elapses moment_of LeavesSince LeavesNow self.old self.new }
         ensures device { EndsCall size_of failures_of calls_of IsHonest 1 0 0 result self.old self.new }
 
-        // A read takes no memory, so it fails exactly if the count of faults, or that of reads, is at its top.
-        ensures only_at_top { IsErr result ↔ ((self.old.failures ≡ 2 ^ 64 - 1) ⊎ (self.old.calls.reads ≡ 2 ^ 64 - 1)) }
+        // A read takes no memory, so it fails exactly if the count of faults, or that of reads, is at its
+        // top.
+        ensures only_at_top { IsErr result ↔ ((self.old.failures ≡ 2 ^ 64 - 1)
+            ⊎ (self.old.calls.reads ≡ 2 ^ 64 - 1)) }
         ensures ok { OnOk result (self.new ≡ disk_after_read self.old) }
         ensures err { OnErr result (self.new ≡ disk_after_fault self.old) }
     {
@@ -183,7 +192,8 @@ impl Disk for MemoryDisk {
 
     fn write_at(&mut self, at: usize, bytes: &[u8]) -> Result<(), DeviceFault>
         requires { at + length bytes.now ≤ length self.old.image }
-        ensures written { IsHonest self.old → OnOk result (self.new.image ≡ after_write self.old.image at bytes.now) }
+        ensures written { IsHonest self.old → OnOk result
+            (self.new.image ≡ after_write self.old.image at bytes.now) }
         ensures torn { IsHonest self.old → IsTorn at (length bytes.now) self.old.image self.new.image }
         ensures stop { IsHonest self.old
             → Follows (IsTorn at (length bytes.now)) (LeavesNow self.old) (LeavesNow self.new) }
@@ -204,8 +214,10 @@ impl Disk for MemoryDisk {
         ensures time { IsHonest self.old → Elapses moment_of LeavesSince LeavesNow self.old self.new }
         ensures device { EndsCall size_of failures_of calls_of IsHonest 0 0 1 result self.old self.new }
 
-        // A sync takes no memory, so it fails exactly if the count of faults, or that of syncs, is at its top.
-        ensures only_at_top { IsErr result ↔ ((self.old.failures ≡ 2 ^ 64 - 1) ⊎ (self.old.calls.syncs ≡ 2 ^ 64 - 1)) }
+        // A sync takes no memory, so it fails exactly if the count of faults, or that of syncs, is at its
+        // top.
+        ensures only_at_top { IsErr result ↔ ((self.old.failures ≡ 2 ^ 64 - 1)
+            ⊎ (self.old.calls.syncs ≡ 2 ^ 64 - 1)) }
 
         // The record has one sync more, or only the fault was counted.
         ensures ok { OnOk result (self.new ≡ disk_after_sync self.old) }

@@ -1,5 +1,5 @@
-//! Names of files. A stop, also a loss of power, during a call leaves the name there or not, and nothing in between
-//! (`docs/store.md`, "The file").
+//! Names of files. A stop, also a loss of power, during a call leaves the name there or not, and nothing in
+//! between (`docs/store.md`, "The file").
 
 use std::fs::File;
 use std::io::ErrorKind;
@@ -7,8 +7,9 @@ use std::path::Path;
 use std::rt::Files;
 use std::{fs, io};
 
-/// Makes `name`, a path, one more name (a hard link) of the file at `path`, and syncs its folder. `false` if that name is taken
-/// already; nothing changes then. After an error the name may be there: the sync may have failed.
+/// Makes `name`, a path, one more name (a hard link) of the file at `path`, and syncs its folder. `false` if
+/// that name is taken already; nothing changes then. After an error the name may be there: the sync may have
+/// failed.
 pub fn add_name<R: Files<File = File>>(rt: &R, path: &str, name: &str) -> io::Result<bool> {
     match fs::hard_link(rt, path, name) {
         Ok(()) => {

@@ -1,5 +1,5 @@
-//! The record of the calls of a disk in memory, and what a stop does to the ranges in it (`docs/model.md`, "The disk"). An image is
-//! all bytes of a disk.
+//! The record of the calls of a disk in memory, and what a stop does to the ranges in it (`docs/model.md`,
+//! "The disk"). An image is all bytes of a disk.
 
 ghost use Rattle.std.specs.Prelude.{◌≡◌, ◌+◌, ◌≤◌, ◌∷◌, [], length, IfOk, OnOk, OnErr};
 ghost use Rattle.fe_disk.specs.Disk.{IsImage, bytes_at, after_write};

@@ -1,4 +1,5 @@
-//! Samples: some bytes that a file has to have, to see whether another process overwrote them (`docs/store.md`, "The file").
+//! Samples: some bytes that a file has to have, to see whether another process overwrote them
+//! (`docs/store.md`, "The file").
 ghost use Rattle.std.specs.Prelude.{◌≡◌, ◌↔◌, ◌+◌, ◌-◌, ◌^◌, ◌<◌, ◌≤◌, length, IsTrue, IfOk};
 
 use crate::StoreFile;
@@ -76,7 +77,8 @@ impl Sample {
 
     /// Whether the file still has these bytes. It is one read, or none if there are no bytes.
     pub(crate) fn is_in<F: StoreFile>(&self, file: &F) -> io::Result<bool>
-        ensures found { F.gives file.now → IfOk result (λ same. IsTrue same ↔ Holds (F.contents file.now) self.now) }
+        ensures found { F.gives file.now → IfOk result
+            (λ same. IsTrue same ↔ Holds (F.contents file.now) self.now) }
     {
         if self.length == 0 {
             return Ok(true);

@@ -1,19 +1,19 @@
-//! What a disk that writes a file knows of the bytes in it. A group is what one append writes to the store. It ends in a closed gate,
-//! the byte that the next append opens (`docs/store.md`).
+//! What a disk that writes a file knows of the bytes in it. A group is what one append writes to the store.
+//! It ends in a closed gate, the byte that the next append opens (`docs/store.md`).
 ghost use Rattle.std.specs.Prelude.{◌≡◌, ◌↔◌, ◌+◌, ◌^◌, ◌<◌, ◌≤◌, length, IsTrue, IsFalse};
 ghost use Rattle.fe_disk.specs.within.Samples.{Holds, StaysRight, IsOf};
 
 use crate::StoreFile;
 use crate::sample::{LONG, Sample};
 
-/// Samples of a file. It must still have them before the next long write, such as that of a group. One that another write overwrote is
-/// empty.
+/// Samples of a file. It must still have them before the next long write, such as that of a group. One that
+/// another write overwrote is empty.
 #[derive(Clone, Copy)]
 pub(crate) struct Samples {
     /// The last bytes of the last long write.
     written: Sample,
-    /// What `written` was at the last sync right after a long write: the end of the last group, with the closed gate after it. At first
-    /// it is what the user of the disk relied on last.
+    /// What `written` was at the last sync right after a long write: the end of the last group, with the
+    /// closed gate after it. At first it is what the user of the disk relied on last.
     kept: Sample,
     /// What the user relied on before that. It is compared once.
     opened: Sample,
@@ -42,8 +42,8 @@ impl Samples {
         self.written = self.kept;
     }
 
-    /// After a write: takes a sample of it if it was long, and forgets a sample if the write overwrote one of its bytes. A write that
-    /// failed leaves no sample.
+    /// After a write: takes a sample of it if it was long, and forgets a sample if the write overwrote one of
+    /// its bytes. A write that failed leaves no sample.
     pub(crate) fn after_write(&mut self, at: usize, bytes: &[u8], is_written: bool)
         requires { at + length bytes.now < 2 ^ 64 }
         ensures written { IsTrue is_written → StaysRight at bytes.now self.old.written self.new.written }

@@ -1,4 +1,5 @@
-//! What holds the syncs of a disk back until another thread lets them go, for the policy `Held` (`docs/proved.md`, "The store").
+//! What holds the syncs of a disk back until another thread lets them go, for the policy `Held`
+//! (`docs/proved.md`, "The store").
 
 use std::sync::{Condvar, Mutex, Wait};
 

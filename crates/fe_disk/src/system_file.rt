@@ -1,5 +1,5 @@
-//! A file of the operating system as a disk (`docs/store.md`, "The file"). A disk is honest if it does what its model says
-//! (`docs/model.md`, "The disk").
+//! A file of the operating system as a disk (`docs/store.md`, "The file"). A disk is honest if it does what
+//! its model says (`docs/model.md`, "The disk").
 
 ghost use Rattle.std.specs.Prelude.{◌≡◌, ◌≢◌, ◌-◌, ◌<◌, ℕ, [], IfOk, IsErrOf};
 ghost use Rattle.fe_disk.specs.declared.file_fault.FileFault.TheVariants.{WrongSize, Device};
@@ -24,24 +24,27 @@ const STREAMS: i32 = 3;
 /// The mode of a new file: only its owner may read and write it.
 const MODE: u32 = 0o600;
 
-/// A file of a fixed size. Each read and write goes straight to the file at its offset, without a buffer, and a sync puts the file's
-/// bytes on its device.
+/// A file of a fixed size. Each read and write goes straight to the file at its offset, without a buffer, and
+/// a sync puts the file's bytes on its device.
 ///
-/// The first sync that succeeds also makes the system forget what it holds of the file in memory, so that later reads
-/// come from the device. After a sync that failed, in this process or an earlier one, Linux treats pages as written
-/// that are not on the device, and would give their bytes to every reader until it needs the memory.
+/// The first sync that succeeds also makes the system forget what it holds of the file in memory, so that
+/// later reads come from the device. After a sync that failed, in this process or an earlier one, Linux
+/// treats pages as written that are not on the device, and would give their bytes to every reader until it
+/// needs the memory.
 ///
-/// One that writes holds an advisory lock on its file for as long as it lives, so no other writes the file meanwhile.
+/// One that writes holds an advisory lock on its file for as long as it lives, so no other writes the file
+/// meanwhile.
 ///
-/// No contract can say what the system gives or keeps, so it is not honest. What is proved of a store is proved for every file that
-/// is (`StoreFile`).
+/// No contract can say what the system gives or keeps, so it is not honest. What is proved of a store is
+/// proved for every file that is (`StoreFile`).
 #[derive(Drop)]
 pub struct SystemFile {
     file: File,
     size: usize,
     calls: Calls,
     failures: u64,
-    // Whether a sync succeeded. Only the first one makes the system forget what it holds of the file in memory.
+    // Whether a sync succeeded. Only the first one makes the system forget what it holds of the file in
+    // memory.
     is_settled: bool,
     // The path that the file has to keep, if it is written.
     watch: Option<Watch>,
@@ -76,7 +79,8 @@ impl SystemFile {
             return Err(FileFault::WrongSize { found });
         }
         let watch = is_watched.then(|| Watch::of(&file));
-        // A file that was replaced or removed meanwhile never changes the path that the system has for it, so `Watch` would not notice.
+        // A file that was replaced or removed meanwhile never changes the path that the system has for it, so
+        // `Watch` would not notice.
         if is_watched && !is_at(rt, path, &file) {
             return Err(FileFault::Device);
         }
@@ -90,8 +94,8 @@ impl SystemFile {
         })
     }
 
-    // Asks by `lseek`, since a file whose times were asked for gets new ones at its next write, and a sync may have
-    // to write those too.
+    // Asks by `lseek`, since a file whose times were asked for gets new ones at its next write, and a sync
+    // may have to write those too.
     fn has_size(&self) -> bool {
         match u64::try_from(libc::lseek(self.file.as_raw_fd(), 0, libc::SEEK_END)) {
             Ok(found) => found == self.size as u64,
@@ -137,8 +141,8 @@ fn made<R: Files<File = File>>(rt: &R, path: &str, size: u64) -> io::Result<File
     Ok(file)
 }
 
-// Writes this many zeros. A file that only has the length would have holes, and a sync of what is written into one
-// later has to find room for it.
+// Writes this many zeros. A file that only has the length would have holes, and a sync of what is written
+// into one later has to find room for it.
 fn fill(mut file: &File, size: u64) -> io::Result<()> {
     let zeros = [0; ZEROS];
     for _k in 0..size / ZEROS as u64 {
@@ -154,8 +158,8 @@ fn locked(file: File) -> io::Result<File> {
     Ok(file)
 }
 
-// The file with a descriptor above those of the standard streams. If one of those is closed, what is meant for it must
-// not be written into the file.
+// The file with a descriptor above those of the standard streams. If one of those is closed, what is meant
+// for it must not be written into the file.
 fn above_streams(file: File) -> io::Result<File> {
     if file.as_raw_fd() < STREAMS {
         file.try_clone()
@@ -164,8 +168,8 @@ fn above_streams(file: File) -> io::Result<File> {
     }
 }
 
-// Syncs the file. The first sync also makes the system forget what it holds of the file in memory, which is all on the
-// device then.
+// Syncs the file. The first sync also makes the system forget what it holds of the file in memory, which is
+// all on the device then.
 fn settled(file: &File, is_settled: bool) -> io::Result<()> {
     file.sync_data()?;
     if is_settled {

@@ -1,4 +1,5 @@
-//! The path that the system knows for an open file. A store's file has to keep its own (`docs/store.md`, "The file").
+//! The path that the system knows for an open file. A store's file has to keep its own (`docs/store.md`, "The
+//! file").
 
 ghost use Rattle.std.specs.Prelude.{◌≤◌, length};
 
@@ -15,7 +16,8 @@ type CPath = [u8; PATH_MAX];
 
 /// The path that the system has for an open file, and the link by which it gives it.
 ///
-/// The path changes when the file or a folder above it is renamed, and ends in ` (deleted)` once the name is removed.
+/// The path changes when the file or a folder above it is renamed, and ends in ` (deleted)` once the name is
+/// removed.
 #[derive(Drop)]
 pub(crate) struct Watch {
     link: CPath,

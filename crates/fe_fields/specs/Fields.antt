@@ -1,5 +1,6 @@
 -- Reading fields of fixed width: at an offset, or at the front together with the remaining bytes.
-use Rattle.std.specs.Prelude.{◌≡◌, ℕ, List, [], ◌∷◌, length, take, drop, Option, Some, None, nat_lt, if◌then◌else◌}
+use Rattle.std.specs.Prelude.{◌≡◌, ℕ, List, [], ◌∷◌, length, take, drop, Option, Some, None, nat_lt}
+use Rattle.std.specs.Prelude.{if◌then◌else◌}
 use Rattle.std.specs.Int.{Width, byte_len, from_be_bytes}
 
 -- what a function returned, a value seen through `view` or None, is what the definition of the reading gives
@@ -13,7 +14,8 @@ field_at w bytes at = from_be_bytes w (take (byte_len w) (drop at bytes))
 
 -- the number at the front and the remaining bytes, or None if there are too few bytes
 abbrev pub next_number : Width → List ℕ → Option (ℕ × List ℕ)
-next_number w bytes = if nat_lt (length bytes) (byte_len w) then None else Some (from_be_bytes w (take (byte_len w) bytes), drop (byte_len w) bytes)
+next_number w bytes = if nat_lt (length bytes) (byte_len w) then None else Some
+    (from_be_bytes w (take (byte_len w) bytes), drop (byte_len w) bytes)
 
 -- the first byte and the remaining ones, or None if there are none
 abbrev pub next_byte : List ℕ → Option (ℕ × List ℕ)

@@ -1,4 +1,5 @@
-//! Writing big-endian fields, as frames, records and images have them (`docs/formats.md`, "Frames", "Entry record" and "Image").
+//! Writing big-endian fields, as frames, records and images have them (`docs/formats.md`, "Frames", "Entry
+//! record" and "Image").
 
 ghost use Rattle.std.specs.Prelude.{◌≡◌, ◌+◌, ◌≤◌, [], ◌∷◌, ◌++◌, length};
 ghost use Rattle.std.specs.Int.{w32, w64, to_be_bytes};

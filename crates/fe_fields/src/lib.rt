@@ -1,4 +1,5 @@
-//! Writing and reading big-endian fields of fixed width, as frames, records and images have them (`docs/formats.md`).
+//! Writing and reading big-endian fields of fixed width, as frames, records and images have them
+//! (`docs/formats.md`).
 #![tactic(auto)]
 
 mod fields;

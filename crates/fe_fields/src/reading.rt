@@ -1,5 +1,5 @@
-//! Reading big-endian fields of frames, records and images (`docs/formats.md`, "Frames", "Entry record" and "Image"): at an offset, or at
-//! the front together with the remaining bytes.
+//! Reading big-endian fields of frames, records and images (`docs/formats.md`, "Frames", "Entry record" and
+//! "Image"): at an offset, or at the front together with the remaining bytes.
 
 ghost use Rattle.std.specs.Prelude.{◌≡◌, ◌+◌, ◌≤◌, length, IfSome};
 ghost use Rattle.std.specs.Int.{w32, w64};

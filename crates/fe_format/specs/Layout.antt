@@ -1,6 +1,6 @@
--- The two formats of a store: the sizes in which they differ, and the lengths that they allow. A slot, half of a store,
--- has an image of the server's state, and groups, each the records of entries that were stored together: the group's payload.
--- See `docs/model.md`, "The two formats".
+-- The two formats of a store: the sizes in which they differ, and the lengths that they allow. A slot, half
+-- of a store, has an image of the server's state, and groups, each the records of entries that were stored
+-- together: the group's payload. See `docs/model.md`, "The two formats".
 use Rattle.std.specs.Prelude.{◌≡◌, ℕ, ◌%◌, ◌≤◌}
 use Rattle.fe_format.specs.declared.format.Format.{Format}
 use Rattle.fe_format.specs.declared.format.Format.TheVariants.{One, Two}
@@ -30,8 +30,8 @@ abbrev pub longest_payload : Format → ℕ
 longest_payload One = 1048512
 longest_payload Two = 1048560
 
--- the length of the longest image, in bytes: its first fields, 64 arrays with 65,536 words in all, and 64 sessions with 32 answers
--- each
+-- the length of the longest image, in bytes: its first fields, 64 arrays with 65,536 words in all, and 64
+-- sessions with 32 answers each
 abbrev pub longest_image : Format → ℕ
 longest_image One = 740440
 longest_image Two = 774232
@@ -42,7 +42,8 @@ pub record IsPayloadLength (format : Format) (length : ℕ) : Type 0 where
   pub within : length ≤ longest_payload format
   pub whole : length % record_bytes format ≡ 0
 
--- the length of an image: at least its first four fields, 24 bytes (`docs/formats.md`, "Image"), and at most the longest
+-- the length of an image: at least its first four fields, 24 bytes (`docs/formats.md`, "Image"), and at most
+-- the longest
 pub record IsImageLength (format : Format) (length : ℕ) : Type 0 where
   pub some : 24 ≤ length
   pub within : length ≤ longest_image format

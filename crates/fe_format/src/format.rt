@@ -1,8 +1,10 @@
 ghost use Rattle.std.specs.Prelude.{◌≡◌, ◌+◌, ◌≤◌, ◌↔◌, IsTrue};
-ghost use Rattle.fe_format.specs.Layout.{magic_of, name_bytes, record_bytes, group_records, longest_payload, longest_image, IsPayloadLength, IsImageLength};
+ghost use Rattle.fe_format.specs.Layout.{magic_of, name_bytes, record_bytes, group_records, longest_payload};
+ghost use Rattle.fe_format.specs.Layout.{longest_image, IsPayloadLength, IsImageLength};
 
-/// The format of a store. It says how entries and images of the state are spelled as bytes, and how long groups of
-/// entries and images may be (`docs/formats.md`). Each of a store's two slots has its own. New stores have format 2.
+/// The format of a store. It says how entries and images of the state are spelled as bytes, and how long
+/// groups of entries and images may be (`docs/formats.md`). Each of a store's two slots has its own. New
+/// stores have format 2.
 #[derive(Clone, Copy, PartialEq, Eq)]
 pub enum Format {
     /// Names of up to 16 bytes, no access that must not wait, and no answer `NotNow`.

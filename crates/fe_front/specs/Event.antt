@@ -1,5 +1,5 @@
--- The events of a front that are not refused, some with what they came to. A comment says what an event carries.
--- See `docs/model.md`, "The front".
+-- The events of a front that are not refused, some with what they came to. A comment says what an event
+-- carries. See `docs/model.md`, "The front".
 use Rattle.std.specs.Prelude.{ℕ, Option}
 use Rattle.fe_state.specs.declared.batch.Batch.{Batch}
 use Rattle.fe_state.specs.declared.request.Request.{Request}

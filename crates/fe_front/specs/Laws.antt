@@ -1,6 +1,6 @@
--- Laws of the front: what is always true of its boxes, where mails to connections wait, and how its books, the counts of calls and mails,
--- rise with each event. An entry is durable once its batch was stored and posted, or if it was there from the beginning.
--- See `docs/model.md`, "The front".
+-- Laws of the front: what is always true of its boxes, where mails to connections wait, and how its books,
+-- the counts of calls and mails, rise with each event. An entry is durable once its batch was stored and
+-- posted, or if it was there from the beginning. See `docs/model.md`, "The front".
 use Rattle.std.specs.Prelude.{ℕ, ◌≤◌, ◌<◌, List, length, All, ◌≡◌, ◌+◌, false, Some}
 use Rattle.fe_state.specs.State.{ServerState}
 use Rattle.fe_state.specs.declared.entry.Entry.{Entry}
@@ -36,7 +36,8 @@ HasShortBoxes f = (conn : ℕ) → length (mails_on f.connections conn) ≤ most
 -- P is true of each front that begins, and stays true through each event and each refused call
 pub record IsAlwaysTrue (P : FrontState → Type 0) : Type 0 where
   pub first : (begun : ServerState) (f : FrontState) → IsFirst begun f → P f
-  pub step : (f f' : FrontState) (event : Event) (es : List Entry) → IsFront f → FrontStep f event es f' → P f → P f'
+  pub step : (f f' : FrontState) (event : Event) (es : List Entry) → IsFront f → FrontStep f event es f' → P f
+      → P f'
   pub refused : (f : FrontState) → P f → P (call_refused_by f)
 
 -- an answer comes into a box only once its entry is durable
@@ -55,8 +56,8 @@ pub record HaveRoom (b : Books) (calls mails : ℕ) : Type 0 where
   pub few_calls : b.calls + calls ≤ most_booked
   pub few_mails : b.mails + mails ≤ most_booked
 
--- Books become others that are not spent, with this many more calls, this many more mails that were taken, and at most
--- this many more mails in all.
+-- Books become others that are not spent, with this many more calls, this many more mails that were taken,
+-- and at most this many more mails in all.
 pub record Rise (b : Books) (called took most : ℕ) (b' : Books) : Type 0 where
   pub unspent : b'.spent ≡ false
   pub calls : b'.calls ≡ b.calls + called
@@ -74,7 +75,8 @@ abbrev pub taken_of : Event → ℕ
 taken_of (TakeMail conn (Some mail)) = 1
 taken_of _ = 0
 
--- how many mails an event makes at most: one for each entry that is posted, and one for an event that may be answered at once
+-- how many mails an event makes at most: one for each entry that is posted, and one for an event that may be
+-- answered at once
 abbrev pub most_mails_of : Event → ℕ
 most_mails_of (Post batch) = length batch.entries
 most_mails_of (Call conn number request outcome) = 1
@@ -86,11 +88,14 @@ most_mails_of _ = 0
 abbrev pub refused_to : FrontState → ℕ → ℕ → Refusal → FrontState
 refused_to f conn number refusal = mailed (call_refused_by f) conn (mail.Refused number refusal)
 
--- Books that have room for an event stay unspent through it, and rise by it: by one call exactly for a call, refused or
--- not, and by one taken mail exactly for a mail that is taken. An event makes 4,097 mails at most.
+-- Books that have room for an event stay unspent through it, and rise by it: by one call exactly for a call,
+-- refused or not, and by one taken mail exactly for a mail that is taken. An event makes 4,097 mails at most.
 pub record BooksRise : Type 0 where
-  pub rises : (f f' : FrontState) (event : Event) (es : List Entry) → IsFront f → HaveRoom f.books (calls_of event) (most_mails_of event) → FrontStep f event es f'
+  pub rises : (f f' : FrontState) (event : Event) (es : List Entry) → IsFront f
+      → HaveRoom f.books (calls_of event) (most_mails_of event) → FrontStep f event es f'
       → Rise f.books (calls_of event) (taken_of event) (most_mails_of event) f'.books
-  pub few_mails : (f f' : FrontState) (event : Event) (es : List Entry) → IsFront f → FrontStep f event es f' → most_mails_of event ≤ most_batch_entries
+  pub few_mails : (f f' : FrontState) (event : Event) (es : List Entry) → IsFront f → FrontStep f event es f'
+      → most_mails_of event ≤ most_batch_entries
   pub refused : (f : FrontState) → HaveRoom f.books 1 0 → Rise f.books 1 0 0 (call_refused_by f).books
-  pub refused_to : (f : FrontState) (conn number : ℕ) (refusal : Refusal) → HaveRoom f.books 1 1 → Rise f.books 1 0 1 (refused_to f conn number refusal).books
+  pub refused_to : (f : FrontState) (conn number : ℕ) (refusal : Refusal) → HaveRoom f.books 1 1
+      → Rise f.books 1 0 1 (refused_to f conn number refusal).books

@@ -1,6 +1,7 @@
--- What posting a batch leaves of a front. A batch is posted once it is stored: each entry's mail goes to its connection.
--- See `docs/model.md`, "The front".
-use Rattle.std.specs.Prelude.{ℕ, ◌%◌, Bool, false, slice_index_or, ◌≡◌, ◌+◌, if◌then◌else◌, List, [], ◌∷◌, length, Option, Some, None, ◌⊎◌, IsTrue}
+-- What posting a batch leaves of a front. A batch is posted once it is stored: each entry's mail goes to its
+-- connection. See `docs/model.md`, "The front".
+use Rattle.std.specs.Prelude.{ℕ, ◌%◌, Bool, false, slice_index_or, ◌≡◌, ◌+◌, if◌then◌else◌, List, [], ◌∷◌}
+use Rattle.std.specs.Prelude.{length, Option, Some, None, ◌⊎◌, IsTrue}
 use Rattle.fe_front.specs.declared.connection_set.ConnectionSet.{ConnectionSet}
 use Rattle.std.specs.Option.{option_map_or}
 use Rattle.fe_state.specs.declared.batch.Batch.{Batch}
@@ -32,13 +33,16 @@ IsOut (Some o) batch = (batch.first ≡ o.first) × (length batch.entries ≡ o.
 
 -- the front once an entry's mail went to the connection that has its session, if one does
 abbrev pub delivered : FrontState → Entry → ℕ → FrontState
-delivered f e place = option_map_or (λ conn. mailed f conn (mail_of e place)) (holder_of f.service.attachments (session_of e)) f
+delivered f e place =
+    option_map_or (λ conn. mailed f conn (mail_of e place)) (holder_of f.service.attachments (session_of e)) f
 
 -- the front once a session that is closing lost its attachment
 abbrev pub vacated : FrontState → ℕ → FrontState
-vacated f session = if is_closing f.service.attachments session then record f { service = left f.service session } else f
+vacated f session =
+    if is_closing f.service.attachments session then record f { service = left f.service session } else f
 
--- the front once a session's close is posted: a connection that has the session loses it, and the attachment goes
+-- the front once a session's close is posted: a connection that has the session loses it, and the attachment
+-- goes
 abbrev pub ended : FrontState → ℕ → FrontState
 ended f session = vacated (freed f session) session
 
@@ -47,7 +51,8 @@ abbrev pub posted_entry : FrontState → Entry → ℕ → FrontState
 posted_entry f (Closed session) place = ended (delivered f (Closed session) place) session
 posted_entry f (Attached session floor) place = delivered f (Attached session floor) place
 posted_entry f (Settled session floor) place = delivered f (Settled session floor) place
-posted_entry f (Finished session number request answer) place = delivered f (Finished session number request answer) place
+posted_entry f (Finished session number request answer) place =
+    delivered f (Finished session number request answer) place
 
 -- the front once entries are posted in order, the first of them at this place
 abbrev pub posted_all : FrontState → List Entry → ℕ → FrontState
@@ -57,7 +62,8 @@ posted_all f (e ∷ es) place = posted_all (posted_entry f e place) es (place + 
 -- the front once the batch that was out is posted: all entries up to the batch's end are durable
 abbrev pub posted : FrontState → Batch → FrontState
 posted f batch =
-    record (posted_all f batch.entries batch.first) { durable = batch.first + length batch.entries; out = None }
+    record (posted_all f batch.entries batch.first)
+    { durable = batch.first + length batch.entries; out = None }
 
 -- ---- whose box it changes
 

@@ -1,5 +1,6 @@
 -- What the events leave of a front. A comment says what has happened (`docs/model.md`, "The front").
-use Rattle.std.specs.Prelude.{ℕ, ◌||◌, Bool, if◌then◌else◌, nat_lt, nat_eq, [], ◌∷◌, ◌++◌, length, drop, Option, Some, None, is_some}
+use Rattle.std.specs.Prelude.{ℕ, ◌||◌, Bool, if◌then◌else◌, nat_lt, nat_eq, [], ◌∷◌, ◌++◌, length, drop}
+use Rattle.std.specs.Prelude.{Option, Some, None, is_some}
 use Rattle.std.specs.Option.{option_map_or}
 use Rattle.std.specs.FinMap.{insert, remove}
 use Rattle.fe_state.specs.declared.batch.Batch.{Batch}
@@ -17,7 +18,10 @@ use Rattle.fe_front.specs.Front.{FrontState, is_connected}
 -- a session's waiting requests are withdrawn
 abbrev pub withdrawn_from : FrontState → ℕ → FrontState
 withdrawn_from f session =
-    record f { service = withdrawn f.service session; books = waiters_withdrawn (count_of f.service.waiting session) f.books }
+    record f {
+      service = withdrawn f.service session;
+      books = waiters_withdrawn (count_of f.service.waiting session) f.books;
+    }
 
 -- a connection loses the session that it has
 abbrev pub parted : FrontState → ℕ → ℕ → FrontState
@@ -35,12 +39,16 @@ freed f session = option_map_or (λ conn. parted f conn session) (holder_of f.se
 -- a connection leaves its session, if it has one, and the session's waiting requests are withdrawn
 abbrev pub departed : FrontState → ℕ → FrontState
 departed f conn =
-    option_map_or (λ session. parted (withdrawn_from f session) conn session) (session_on f.connections conn) f
+    option_map_or (λ session. parted (withdrawn_from f session) conn session) (session_on f.connections conn)
+    f
 
 -- a connection is removed with its box
 abbrev pub unboxed : FrontState → ℕ → FrontState
 unboxed f conn =
-    record f { connections = remove f.connections conn; books = box_dropped (length (mails_on f.connections conn)) f.books }
+    record f {
+      connections = remove f.connections conn;
+      books = box_dropped (length (mails_on f.connections conn)) f.books;
+    }
 
 -- a connection goes: it leaves its session, and its box is dropped
 abbrev pub dropped : FrontState → ℕ → FrontState
@@ -53,7 +61,10 @@ departing f conn = option_map_or (count_of f.service.waiting) (session_on f.conn
 -- a mail after the others in a box
 abbrev pub boxed : FrontState → ℕ → Mail → FrontState
 boxed f conn mail =
-    record f { connections = with_mails f.connections conn (mails_on f.connections conn ++ mail ∷ []); books = mail_boxed f.books }
+    record f {
+      connections = with_mails f.connections conn (mails_on f.connections conn ++ mail ∷ []);
+      books = mail_boxed f.books;
+    }
 
 -- a mail comes to a full box, and its connection goes
 abbrev pub overflowed : FrontState → ℕ → FrontState
@@ -63,7 +74,8 @@ overflowed f conn = dropped (record f { books = mail_refused_by_box f.books }) c
 abbrev pub mailed : FrontState → ℕ → Mail → FrontState
 mailed f conn mail =
     if is_connected f conn then
-    (if nat_lt (length (mails_on f.connections conn)) most_mails_in_box then boxed f conn mail else overflowed f conn)
+    (if nat_lt (length (mails_on f.connections conn)) most_mails_in_box then boxed f conn mail else overflowed
+    f conn)
     else f
 
 -- ---- events
@@ -75,9 +87,13 @@ connected f conn = record f { connections = insert f.connections conn first_conn
 -- a connection gets a session, and the session's entry is made; neither had one
 abbrev pub joined : FrontState → ℕ → ℕ → FrontState
 joined f conn session =
-    record f { service = attached f.service session conn; connections = with_session f.connections conn (Some session) }
+    record f {
+      service = attached f.service session conn;
+      connections = with_session f.connections conn (Some session);
+    }
 
--- a connection attaches a session: it leaves the one that it has, and a connection that had the session loses it
+-- a connection attaches a session: it leaves the one that it has, and a connection that had the session loses
+-- it
 abbrev pub attached_to : FrontState → ℕ → ℕ → FrontState
 attached_to f conn session = joined (freed (released f conn) session) conn session
 
@@ -88,7 +104,10 @@ settled_to f session floor = record f { service = settled f.service session floo
 -- a session is closed: its waiting requests are withdrawn; the connection keeps it until its entry is posted
 abbrev pub closed_by : FrontState → ℕ → FrontState
 closed_by f session =
-    record f { service = closed f.service session; books = waiters_withdrawn (count_of f.service.waiting session) f.books }
+    record f {
+      service = closed f.service session;
+      books = waiters_withdrawn (count_of f.service.waiting session) f.books;
+    }
 
 -- a waiting request is removed
 abbrev pub cancelled_from : FrontState → ℕ → ℕ → FrontState
@@ -103,7 +122,10 @@ cancelled_by f conn session number = mailed (cancelled_from f session number) co
 abbrev pub taken : FrontState → ℕ → FrontState
 taken f conn =
     if nat_lt 0 (length (mails_on f.connections conn)) then
-    record f { connections = with_mails f.connections conn (drop 1 (mails_on f.connections conn)); books = mail_taken f.books }
+    record f {
+      connections = with_mails f.connections conn (drop 1 (mails_on f.connections conn));
+      books = mail_taken f.books;
+    }
     else f
 
 -- whether no batch may be cut: one is out, or nothing is pending
@@ -118,4 +140,7 @@ next_batch f = if has_no_cut f then None else Some (record { first = f.durable; 
 abbrev pub cut : FrontState → FrontState
 cut f =
     if has_no_cut f then f
-    else record f { service = record f.service { pending = [] }; out = Some (record { first = f.durable; length = length f.service.pending }) }
+    else record f {
+      service = record f.service { pending = [] };
+      out = Some (record { first = f.durable; length = length f.service.pending });
+    }

@@ -1,9 +1,12 @@
-//! Calls: requests of clients, each under a number of its session (`docs/model.md`, "The front"). The books count them
-//! ("Mails, connections and books"). An entry is durable once the batch that has it is stored and posted.
+//! Calls: requests of clients, each under a number of its session (`docs/model.md`, "The front"). The books
+//! count them ("Mails, connections and books"). An entry is durable once the batch that has it is stored and
+//! posted.
 
 ghost use Rattle.std.specs.Prelude.{◌≡◌, ◌+◌, ◌⊎◌, ℕ, List, [], Some, None, Err, IfOk, IfErr, OnErr};
 ghost use Rattle.fe_memory.specs.Memory.{out_of_memory};
-ghost use Rattle.fe_front.specs.Call.{request_at, BeginsRequest, IsCallRefused, WantsMemory, Called, Completed, Waits, repeat_of, repeated, waiters_completed, addressed, IsAdmitted};
+ghost use Rattle.fe_front.specs.Call.{request_at, BeginsRequest, IsCallRefused, WantsMemory, Called};
+ghost use Rattle.fe_front.specs.Call.{Completed, Waits, repeat_of, repeated, waiters_completed, addressed};
+ghost use Rattle.fe_front.specs.Call.{IsAdmitted};
 ghost use Rattle.fe_mail.specs.Books.{Balances};
 ghost use Rattle.fe_mail.specs.declared.refusal.Refusal as refusals;
 ghost use Rattle.fe_service.specs.Events.{HasRoom};
@@ -19,8 +22,8 @@ use fe_mail::{Books, Mail, Refusal};
 use fe_state::{Answer, Effect, Request, WINDOW};
 
 impl Front {
-    /// The session of a call, or why it is refused. The look-ups of the session and of the request's array that follow
-    /// take one comparison each.
+    /// The session of a call, or why it is refused. The look-ups of the session and of the request's array
+    /// that follow take one comparison each.
     pub(crate) fn addressed(
         &mut self,
         conn: u64,
@@ -137,8 +140,9 @@ impl Front {
         self.books.call_waits();
     }
 
-    /// Makes a call whose number is in its session's window, or says why it is refused: its number belongs to another request, the
-    /// history has too few places left, or memory is short for a new array. A refusal is not yet counted in the books.
+    /// Makes a call whose number is in its session's window, or says why it is refused: its number belongs to
+    /// another request, the history has too few places left, or memory is short for a new array. A refusal is
+    /// not yet counted in the books.
     pub(crate) fn call_within(
         &mut self,
         conn: u64,
@@ -187,7 +191,8 @@ impl Front {
 /// Counts this many waiting calls as completed in the books.
 fn count_served(books: &mut Books, count: u32)
     ensures books { books.new ≡ waiters_completed count books.old }
-    ensures balance { (waiting left : ℕ) → Balances books.old (waiting + count) left → Balances books.new waiting left }
+    ensures balance { (waiting left : ℕ) → Balances books.old (waiting + count) left
+        → Balances books.new waiting left }
 {
     for done in 0..count {
         books.waiter_completed();

@@ -1,15 +1,15 @@
-//! A set of connections, such as those whose boxes a batch changed. A connection's box has its outgoing mails (`docs/model.md`, "Mails,
-//! connections and books").
+//! A set of connections, such as those whose boxes a batch changed. A connection's box has its outgoing mails
+//! (`docs/model.md`, "Mails, connections and books").
 
 ghost use Rattle.std.specs.Prelude.{◌≡◌, ◌≢◌, ◌%◌, ℕ, true, false, IsTrue};
 ghost use Rattle.fe_front.specs.Posting.{may_have, remainder_count};
 
-/// How many remainders there are. A set tells two connections apart only if their numbers leave different remainders when divided by
-/// this.
+/// How many remainders there are. A set tells two connections apart only if their numbers leave different
+/// remainders when divided by this.
 pub const REMAINDERS: u64 = 256;
 
-/// A set of connections that takes a fixed amount of memory. With each one that was added, it has all whose numbers leave the same
-/// remainder.
+/// A set of connections that takes a fixed amount of memory. With each one that was added, it has all whose
+/// numbers leave the same remainder.
 #[derive(Drop)]
 pub struct ConnectionSet {
     remainders: [bool; REMAINDERS as usize],

@@ -1,7 +1,9 @@
-//! The front of the server: it takes the events of connections, and mails what their entries bring once these are stored
-//! (`docs/model.md`, "The front"). "Mails, connections and books" there explains the books, "Waiting requests" the attachments.
+//! The front of the server: it takes the events of connections, and mails what their entries bring once these
+//! are stored (`docs/model.md`, "The front"). "Mails, connections and books" there explains the books,
+//! "Waiting requests" the attachments.
 
-ghost use Rattle.std.specs.Prelude.{◌≡◌, ◌⊎◌, ◌+◌, ◌↔◌, List, not, slice_get, Some, None, Ok, Err, IsTrue, IsOk, IsErr, IfOk, IfErr, OnOk, OnErr, MatchResult};
+ghost use Rattle.std.specs.Prelude.{◌≡◌, ◌⊎◌, ◌+◌, ◌↔◌, List, not, slice_get, Some, None, Ok, Err, IsTrue};
+ghost use Rattle.std.specs.Prelude.{IsOk, IsErr, IfOk, IfErr, OnOk, OnErr, MatchResult};
 ghost use Rattle.std.specs.Option.{option_map};
 ghost use Rattle.std.specs.FinMap.{get, len};
 ghost use Rattle.fe_memory.specs.Memory.{out_of_memory};
@@ -14,8 +16,10 @@ ghost use Rattle.fe_mail.specs.declared.refusal.Refusal as refusals;
 ghost use Rattle.fe_front.specs.Front.{IsFront, IsFirst, has_room, is_connected, is_attached};
 ghost use Rattle.fe_front.specs.Event as event;
 ghost use Rattle.fe_front.specs.Step.{FrontStep};
-ghost use Rattle.fe_front.specs.Steps.{connected, attached_to, settled_to, closed_by, cancelled_by, dropped, departing, has_no_cut, next_batch, cut, taken, mailed};
-ghost use Rattle.fe_front.specs.Call.{attaching, settling, leaving, cancelling, IsCallRefused, WantsMemory, call_refused_by};
+ghost use Rattle.fe_front.specs.Steps.{connected, attached_to, settled_to, closed_by, cancelled_by, dropped};
+ghost use Rattle.fe_front.specs.Steps.{departing, has_no_cut, next_batch, cut, taken, mailed};
+ghost use Rattle.fe_front.specs.Call.{attaching, settling, leaving, cancelling, IsCallRefused, WantsMemory};
+ghost use Rattle.fe_front.specs.Call.{call_refused_by};
 ghost use Rattle.fe_front.specs.Posting.{IsOut, posted, Notes};
 
 use crate::connection_set::ConnectionSet;
@@ -29,11 +33,11 @@ use fe_words::Op;
 use std::alloc::Global;
 use std::marker::Model;
 
-/// The state, the sessions' attachments and what waits, the connections with their boxes of mails, the entries on their
-/// way to the store, and the books, which count calls and mails.
+/// The state, the sessions' attachments and what waits, the connections with their boxes of mails, the
+/// entries on their way to the store, and the books, which count calls and mails.
 ///
-/// After each event none of the requests that wait may be served. Only `new`, `connect` and a request that makes an
-/// array take memory.
+/// After each event none of the requests that wait may be served. Only `new`, `connect` and a request that
+/// makes an array take memory.
 pub struct Front {
     pub(crate) service: Service,
     pub(crate) connections: Connections,
@@ -75,8 +79,8 @@ impl Model for Front {
 }
 
 impl Front {
-    /// A front over a state whose entries are all durable. Each session has an attachment and no connection. Only connections and
-    /// new arrays take memory later. Fails only if memory runs out.
+    /// A front over a state whose entries are all durable. Each session has an attachment and no connection.
+    /// Only connections and new arrays take memory later. Fails only if memory runs out.
     pub fn new(alloc: Global, state: State) -> Result<Front, OutOfMemory>
         ensures { IfOk result (IsFirst state) }
     {
@@ -108,17 +112,17 @@ impl Front {
         self.connections.connect(conn)
     }
 
-    /// Whether at most `WAITING` entries are pending, so that a batch has room for those of one more event. `attach`, `call`, `settle`
-    /// and `bye` need that.
+    /// Whether at most `WAITING` entries are pending, so that a batch has room for those of one more event.
+    /// `attach`, `call`, `settle` and `bye` need that.
     pub fn room(&self) -> bool
         ensures { result ≡ has_room self.now }
     {
         self.service.pending_count() <= WAITING
     }
 
-    /// Gives a session, which may be new, to a connection, with an entry. The connection leaves the session that it has, and a connection
-    /// that has the session loses it; the requests of both sessions go on waiting. The refusals are `NotAttached`, `Closing`,
-    /// `SessionLimit` and `Spent`.
+    /// Gives a session, which may be new, to a connection, with an entry. The connection leaves the session
+    /// that it has, and a connection that has the session loses it; the requests of both sessions go on
+    /// waiting. The refusals are `NotAttached`, `Closing`, `SessionLimit` and `Spent`.
     pub fn attach(&mut self, conn: u64, session: u64) -> Result<(), Refusal>
         requires room { IsTrue (has_room self.old) }
         ensures attached { MatchResult (attaching self.old conn session)
@@ -134,9 +138,9 @@ impl Front {
         Ok(())
     }
 
-    /// Completes a new request of the session that the connection has, and serves the waiting requests that may be served then; or lets
-    /// it wait. If the request repeats that of its number, its answer is mailed again if its entry is durable. The books count each call,
-    /// also one that is refused.
+    /// Completes a new request of the session that the connection has, and serves the waiting requests that
+    /// may be served then; or lets it wait. If the request repeats that of its number, its answer is mailed
+    /// again if its entry is durable. The books count each call, also one that is refused.
     pub fn call(&mut self, conn: u64, number: u64, request: Request) -> Result<TakenCall, Refusal>
         requires room { IsTrue (has_room self.old) }
         ensures step { IfOk result
@@ -165,8 +169,9 @@ impl Front {
         }
     }
 
-    /// Sets the floor of the connection's session, the least number of its window, with an entry, and returns the session. The floor may
-    /// stay as it is. The refusals are `NotAttached`, `Closing`, `BelowFloor`, `BeyondWindow`, `StillWaiting` and `Spent`.
+    /// Sets the floor of the connection's session, the least number of its window, with an entry, and returns
+    /// the session. The floor may stay as it is. The refusals are `NotAttached`, `Closing`, `BelowFloor`,
+    /// `BeyondWindow`, `StillWaiting` and `Spent`.
     pub fn settle(&mut self, conn: u64, floor: u64) -> Result<u64, Refusal>
         requires room { IsTrue (has_room self.old) }
         ensures settled { MatchResult (settling self.old conn floor)
@@ -180,8 +185,8 @@ impl Front {
         Ok(session)
     }
 
-    /// Closes the connection's session, with an entry, withdraws its waiting requests, and returns it. The session is closing until that
-    /// entry is posted. The refusals are `NotAttached`, `Closing` and `Spent`.
+    /// Closes the connection's session, with an entry, withdraws its waiting requests, and returns it. The
+    /// session is closing until that entry is posted. The refusals are `NotAttached`, `Closing` and `Spent`.
     pub fn bye(&mut self, conn: u64) -> Result<u64, Refusal>
         requires room { IsTrue (has_room self.old) }
         ensures closed { MatchResult (leaving self.old conn)
@@ -196,8 +201,8 @@ impl Front {
         Ok(session)
     }
 
-    /// Withdraws a waiting request of the connection's session, mails the connection a withdrawal, and returns the session. The refusals
-    /// are `NotAttached`, `Closing` and `NotWaiting`.
+    /// Withdraws a waiting request of the connection's session, mails the connection a withdrawal, and
+    /// returns the session. The refusals are `NotAttached`, `Closing` and `NotWaiting`.
     pub fn cancel(&mut self, conn: u64, number: u64) -> Result<u64, Refusal>
         ensures cancelled { MatchResult (cancelling self.old conn number)
             (λ session. IsOk result × (self.new ≡ cancelled_by self.old conn session number))
@@ -210,8 +215,8 @@ impl Front {
         Ok(session)
     }
 
-    /// Removes a connection with its box, and withdraws its session's waiting requests. Returns how many, 0 to
-    /// `WINDOW`.
+    /// Removes a connection with its box, and withdraws its session's waiting requests. Returns how many, 0
+    /// to `WINDOW`.
     pub fn gone(&mut self, conn: u64) -> u32
         ensures count { result ≡ departing self.old conn }
         ensures dropped { self.new ≡ dropped self.old conn }
@@ -247,11 +252,11 @@ impl Front {
         Some(Batch { first, entries })
     }
 
-    /// Takes the batch that is out as stored. Its entries become durable and are mailed to the connections that have
-    /// their sessions, and a session that it closes loses its attachment. Any other batch is refused and handed back: one while no
-    /// batch is out, or one with another first place or length. Adds to the set each connection whose box the batch
-    /// changed: it got a mail, or its box was full and the connection was removed. A connection that the set doesn't
-    /// have has its old box.
+    /// Takes the batch that is out as stored. Its entries become durable and are mailed to the connections
+    /// that have their sessions, and a session that it closes loses its attachment. Any other batch is
+    /// refused and handed back: one while no batch is out, or one with another first place or length. Adds to
+    /// the set each connection whose box the batch changed: it got a mail, or its box was full and the
+    /// connection was removed. A connection that the set doesn't have has its old box.
     pub fn post(&mut self, batch: Batch, changed: &mut ConnectionSet) -> Result<(), StrangeBatch>
         ensures refused { IsErr result ↔ (¬ IsOut self.old.out batch) }
         ensures returned { IfErr result (λ strange. strange.0 ≡ batch) }
@@ -277,7 +282,8 @@ impl Front {
         Ok(())
     }
 
-    /// Takes the first mail out of a connection's box. `None` if there is none, or the connection is not connected.
+    /// Takes the first mail out of a connection's box. `None` if there is none, or the connection is not
+    /// connected.
     pub fn take_mail(&mut self, conn: u64) -> Option<Mail>
         ensures mail { result ≡ slice_get (mails_on self.old.connections conn) 0 }
         ensures taken { self.new ≡ taken self.old conn }
@@ -303,8 +309,8 @@ impl Front {
         self.mail(conn, Mail::Report(text));
     }
 
-    /// Mails a refusal to a connection. The number is that of the call or cancel, the floor or session asked for, and
-    /// 0 for a bye or a report. A connection whose box is full is removed.
+    /// Mails a refusal to a connection. The number is that of the call or cancel, the floor or session asked
+    /// for, and 0 for a bye or a report. A connection whose box is full is removed.
     pub fn mail_refusal(&mut self, conn: u64, number: u64, refusal: Refusal)
         ensures { self.new ≡ mailed self.old conn (mails.Refused number refusal) }
     {
@@ -346,7 +352,8 @@ impl Front {
 
     /// The array, the index and the operation of a session's request, if it waits under the number.
     pub fn waiting(&self, session: u64, number: u64) -> Option<(u64, u32, Op)>
-        ensures { result ≡ option_map (λ w. (w.array, w.index, w.op)) (get self.now.service.waiting (session, number)) }
+        ensures { result ≡ option_map (λ w. (w.array, w.index, w.op))
+            (get self.now.service.waiting (session, number)) }
     {
         match self.service.attachments().find(session, number) {
             Some(waiter) => Some((waiter.array, waiter.index, waiter.op)),

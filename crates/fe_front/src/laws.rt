@@ -1,4 +1,5 @@
-//! Laws of the front, which hold apart from any code (`docs/model.md`, "The front"; of the books, "Mails, connections and books").
+//! Laws of the front, which hold apart from any code (`docs/model.md`, "The front"; of the books, "Mails,
+//! connections and books").
 
 ghost use Rattle.std.specs.Prelude.{◌≡◌};
 ghost use Rattle.fe_front.specs.Laws.{MailsStayDurable, BoxesStayShort, BooksRise};
@@ -16,14 +17,14 @@ pub fn steps_are_few()
     ensures { StepsAreFew }
 {}
 
-/// Books with room for an event stay unspent through it. A call books one call, refused or not; taking a mail books one
-/// taken mail; and no event books more mails than it may make, 4,097 at most.
+/// Books with room for an event stay unspent through it. A call books one call, refused or not; taking a mail
+/// books one taken mail; and no event books more mails than it may make, 4,097 at most.
 pub fn books_rise()
     ensures { BooksRise }
 {}
 
-/// A mail that carries a place is in a box only once the entry at that place is durable. The law is stated of the steps
-/// that the clauses of `Front` name: `step` of `call`, `posted`, `attached` and the like.
+/// A mail that carries a place is in a box only once the entry at that place is durable. The law is stated of
+/// the steps that the clauses of `Front` name: `step` of `call`, `posted`, `attached` and the like.
 pub fn mails_stay_durable()
     ensures { MailsStayDurable }
 {}

@@ -1,5 +1,5 @@
-//! The front of the server: it takes the events of connections, makes entries of the history, and mails the outcome of an entry once the
-//! batch that has it is stored and posted (`docs/model.md`, "The front").
+//! The front of the server: it takes the events of connections, makes entries of the history, and mails the
+//! outcome of an entry once the batch that has it is stored and posted (`docs/model.md`, "The front").
 #![tactic(auto)]
 
 mod asked;

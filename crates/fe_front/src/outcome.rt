@@ -5,7 +5,8 @@ use fe_state::Batch;
 /// The outcome of a call that was not refused.
 #[derive(Clone, Copy, PartialEq, Eq)]
 pub enum Outcome {
-    /// The request completed. This many entries were made, 1 to 2,049: its own, and one for each waiting request that it let complete.
+    /// The request completed. This many entries were made, 1 to 2,049: its own, and one for each waiting
+    /// request that it let complete.
     Completed { entries: u32 },
     /// The request waits.
     Waits,

@@ -1,11 +1,12 @@
-//! How a connection loses its session, or goes with its box, and how a mail comes into a box (`docs/model.md`, "The front"). A mail is a
-//! reply on its way out; it waits in its connection's box.
+//! How a connection loses its session, or goes with its box, and how a mail comes into a box
+//! (`docs/model.md`, "The front"). A mail is a reply on its way out; it waits in its connection's box.
 
 ghost use Rattle.std.specs.Prelude.{◌≡◌, Some, None, true};
 ghost use Rattle.fe_service.specs.AttachmentsState.{count_of};
 ghost use Rattle.fe_mail.specs.Connections.{session_on};
 ghost use Rattle.fe_front.specs.Front.{is_connected};
-ghost use Rattle.fe_front.specs.Steps.{withdrawn_from, parted, released, freed, departed, departing, unboxed, mailed};
+ghost use Rattle.fe_front.specs.Steps.{withdrawn_from, parted, released, freed, departed, departing, unboxed};
+ghost use Rattle.fe_front.specs.Steps.{mailed};
 
 use crate::front::Front;
 use fe_mail::Mail;
@@ -49,7 +50,8 @@ impl Front {
         }
     }
 
-    /// Takes a connection's session from it, if it has one, and withdraws its waiting requests. Returns how many.
+    /// Takes a connection's session from it, if it has one, and withdraws its waiting requests. Returns how
+    /// many.
     pub(crate) fn depart(&mut self, conn: u64) -> u32
         ensures count { result ≡ departing self.old conn }
         ensures departed { self.new ≡ departed self.old conn }
@@ -73,7 +75,8 @@ impl Front {
         self.books.box_dropped(mails);
     }
 
-    /// Puts a mail into a connection's box. A full box drops its connection; without a connection no mail is made.
+    /// Puts a mail into a connection's box. A full box drops its connection; without a connection no mail is
+    /// made.
     pub(crate) fn mail(&mut self, conn: u64, mail: Mail)
         ensures mailed { self.new ≡ mailed self.old conn mail }
     {

@@ -1,5 +1,5 @@
-//! Posting a batch that was stored: each entry's mail, the reply for it, goes to the connection that has its session (`docs/model.md`,
-//! "The front"; attachments: "Waiting requests").
+//! Posting a batch that was stored: each entry's mail, the reply for it, goes to the connection that has its
+//! session (`docs/model.md`, "The front"; attachments: "Waiting requests").
 
 ghost use Rattle.std.specs.Prelude.{◌≡◌, ◌+◌, ◌^◌, ◌<◌, length};
 ghost use Rattle.fe_front.specs.Posting.{ended, posted_entry, posted_all, Notes};
@@ -10,8 +10,8 @@ use fe_mail::{Mail, session_of};
 use fe_state::Entry;
 
 impl Front {
-    /// Takes a session from the connection that has it, if one does, and removes its attachment if it is closing: its close was made,
-    /// and is posted here.
+    /// Takes a session from the connection that has it, if one does, and removes its attachment if it is
+    /// closing: its close was made, and is posted here.
     fn end(&mut self, session: u64)
         ensures ended { self.new ≡ ended self.old session }
     {
@@ -21,8 +21,8 @@ impl Front {
         }
     }
 
-    /// Mails an entry to the connection that has its session, if one does, and adds the connection to the set. A session that the
-    /// entry closes ends.
+    /// Mails an entry to the connection that has its session, if one does, and adds the connection to the
+    /// set. A session that the entry closes ends.
     fn post_entry(&mut self, entry: &Entry, place: u64, changed: &mut ConnectionSet)
         ensures posted { self.new ≡ posted_entry self.old entry.now place }
         ensures notes { Notes self.old self.new changed.old changed.new }

@@ -1,10 +1,11 @@
-//! Which session an event of a connection is for, and why the event is refused (`docs/model.md`, "The front"). A session's floor is the
-//! least number of its window.
+//! Which session an event of a connection is for, and why the event is refused (`docs/model.md`, "The
+//! front"). A session's floor is the least number of its window.
 
 ghost use Rattle.std.specs.Prelude.{◌≡◌, None, IsTrue, IsSome};
 ghost use Rattle.std.specs.FinMap.{get};
 ghost use Rattle.fe_front.specs.Front.{is_connected, is_spent};
-ghost use Rattle.fe_front.specs.Call.{own, unclosing, attaching, settling, leaving, cancelling, may_settle, unspent, waits_below};
+ghost use Rattle.fe_front.specs.Call.{own, unclosing, attaching, settling, leaving, cancelling, may_settle};
+ghost use Rattle.fe_front.specs.Call.{unspent, waits_below};
 ghost use Rattle.fe_front.specs.Steps.{joined, cancelled_from};
 ghost use Rattle.fe_mail.specs.Connections.{session_on};
 ghost use Rattle.fe_service.specs.AttachmentsState.{holder_of, is_closing};

@@ -1,6 +1,7 @@
--- What the committing side of a hall, the thread that stores, does to the keeper that it is lent (`docs/headline.md`, "Whole groups,
--- whatever stops it").
-use Rattle.std.specs.Prelude.{◌≡◌, ◌⊎◌, ℕ, ◌+◌, ◌≤◌, true, false, List, [], ◌∷◌, ◌++◌, length, map, take, Option, Some, None, Result, Ok, Err}
+-- What the committing side of a hall, the thread that stores, does to the keeper that it is lent
+-- (`docs/headline.md`, "Whole groups, whatever stops it").
+use Rattle.std.specs.Prelude.{◌≡◌, ◌⊎◌, ℕ, ◌+◌, ◌≤◌, true, false, List, [], ◌∷◌, ◌++◌, length, map, take}
+use Rattle.std.specs.Prelude.{Option, Some, None, Result, Ok, Err}
 use mathlib.Core.List.{IsPrefix}
 use Rattle.fe_disk.specs.Runs.{LeavesOnly}
 use Rattle.fe_state.specs.State.{ServerState, after_all}
@@ -11,7 +12,8 @@ use Rattle.fe_keeper.specs.Ends.{IsStill, Breaks}
 use Rattle.fe_keeper.specs.Keeper.{KeeperState}
 use Rattle.fe_keeper.specs.Stands.{LeavesPrefix}
 use Rattle.fe_keeper.specs.declared.fault.Fault.{Fault}
-use Rattle.fe_keeper.specs.declared.fault.Fault.TheVariants.{Device, Failed, NoMemory, Mismatch, Damaged, Unformatted}
+use Rattle.fe_keeper.specs.declared.fault.Fault.TheVariants.{Device, Failed, NoMemory, Mismatch, Damaged}
+use Rattle.fe_keeper.specs.declared.fault.Fault.TheVariants.{Unformatted}
 use Rattle.fe_history.specs.Acts.{stores_in}
 use Rattle.fe_shared.specs.declared.shared.batches.Unposted.{Unposted}
 use Rattle.fe_shared.specs.declared.shared.batches.Unposted.TheVariants as unposted
@@ -32,11 +34,14 @@ AreAppends s [] [] = Unit {0}
 AreAppends s [] (append ∷ appends) = ⊥
 AreAppends s (group ∷ groups) [] = ⊥
 AreAppends s (group ∷ groups) (append ∷ appends) =
-    (append.before.state ≡ s) × (append.after.state ≡ after_all s group) × (append.batch.entries ≡ group) × AreAppends (after_all s group) groups appends
+    (append.before.state ≡ s) × (append.after.state ≡ after_all s group) × (append.batch.entries ≡ group)
+    × AreAppends (after_all s group) groups appends
 
--- From this disk on, up to the last, each image that a stop leaves stands for a prefix of the history with at least n groups; from
--- the end of the next append on, with one more; and so on. Each append begins when the one before it has ended, or later.
-abbrev pub HoldsSince : {D : Type 0} → Ghosts D → ServerState → List (List Entry) → ℕ → D → List (Append D) → D → Type 0
+-- From this disk on, up to the last, each image that a stop leaves stands for a prefix of the history with at
+-- least n groups; from the end of the next append on, with one more; and so on. Each append begins when the
+-- one before it has ended, or later.
+abbrev pub HoldsSince : {D : Type 0} → Ghosts D → ServerState → List (List Entry) → ℕ → D → List (Append D)
+    → D → Type 0
 HoldsSince model begun history n here [] last = LeavesOnly model here last (LeavesPrefix begun history n)
 HoldsSince model begun history n here (append ∷ appends) last =
     LeavesOnly model here last (LeavesPrefix begun history n)
@@ -44,10 +49,12 @@ HoldsSince model begun history n here (append ∷ appends) last =
     × (model.moment append.before.store.disk ≤ model.moment append.after.store.disk)
     × HoldsSince model begun history (n + 1) append.after.store.disk appends last
 
--- The groups that were appended are a history from the keeper's state. The keeper's state has all of them, or all but
--- the last if the side ended because the device failed. Over an honest disk that had not failed, each image that a stop leaves at any
--- moment stands for a prefix of that history, with all groups whose appends had ended by then. An end of `None`: the side goes on.
-pub record Commits {D : Type 0} (model : Ghosts D) (old new : KeeperState D) (end : Option CommitEnd) : Type 0 where
+-- The groups that were appended are a history from the keeper's state. The keeper's state has all of them, or
+-- all but the last if the side ended because the device failed. Over an honest disk that had not failed, each
+-- image that a stop leaves at any moment stands for a prefix of that history, with all groups whose appends
+-- had ended by then. An end of `None`: the side goes on.
+pub record Commits {D : Type 0} (model : Ghosts D) (old new : KeeperState D) (end : Option CommitEnd) : Type
+    0 where
   pub groups : List (List Entry)
   pub history : IsHistory old.state groups
   pub stored : ℕ
@@ -62,14 +69,19 @@ pub record Commits {D : Type 0} (model : Ghosts D) (old new : KeeperState D) (en
 abbrev pub note_of : {D : Type 0} → Ghosts D → Append D → Batch × ℕ
 note_of model append = (append.batch, model.moment append.after.store.disk)
 
--- What was noted of these appends, in their order: all of them, or all but the last if the side ended as `Strange`.
-abbrev pub AreNotesOf : {D : Type 0} → Ghosts D → List (Append D) → Option CommitEnd → List (Batch × ℕ) → Type 0
-AreNotesOf model appends end notes = (notes ≡ map (note_of model) appends) ⊎ ((end ≡ Some Strange) × (last : Batch × ℕ) × (notes ++ last ∷ [] ≡ map (note_of model) appends))
+-- What was noted of these appends, in their order: all of them, or all but the last if the side ended as
+-- `Strange`.
+abbrev pub AreNotesOf : {D : Type 0} → Ghosts D → List (Append D) → Option CommitEnd → List (Batch × ℕ)
+    → Type 0
+AreNotesOf model appends end notes = (notes ≡ map (note_of model) appends)
+    ⊎ ((end ≡ Some Strange) × (last : Batch × ℕ) × (notes ++ last ∷ [] ≡ map (note_of model) appends))
 
 -- The history notes these appends in their order, and none besides.
-abbrev pub AppendsAreNoted : {D : Type 0} → Ghosts D → List (Append D) → Option CommitEnd → List Act → List Act → Type 0
+abbrev pub AppendsAreNoted : {D : Type 0} → Ghosts D → List (Append D) → Option CommitEnd → List Act
+    → List Act → Type 0
 AppendsAreNoted model appends end before after =
-    IsPrefix before after × (notes : List (Batch × ℕ)) × (stores_in after ≡ stores_in before ++ notes) × AreNotesOf model appends end notes
+    IsPrefix before after × (notes : List (Batch × ℕ)) × (stores_in after ≡ stores_in before ++ notes)
+    × AreNotesOf model appends end notes
 
 -- ---- ends
 

@@ -1,6 +1,8 @@
 -- What the read side of a connection, the thread that reads, makes of the bytes of its client's stream.
 -- See `docs/model.md`, "The hall".
-use Rattle.std.specs.Prelude.{ℕ, ◌+◌, ◌≡◌, ◌≢◌, ◌<◌, ◌^◌, ◌-◌, ◌⊎◌, Bool, true, false, ◌&&◌, nat_lt, if◌then◌else◌, min, List, [], ◌∷◌, ◌++◌, length, take, filter, sum_by, Option, Some, None}
+use Rattle.std.specs.Prelude.{ℕ, ◌+◌, ◌≡◌, ◌≢◌, ◌<◌, ◌^◌, ◌-◌, ◌⊎◌, Bool, true, false, ◌&&◌, nat_lt}
+use Rattle.std.specs.Prelude.{if◌then◌else◌, min, List, [], ◌∷◌, ◌++◌, length, take, filter, sum_by, Option}
+use Rattle.std.specs.Prelude.{Some, None}
 use Rattle.fe_hall.specs.declared.read_count.Reads.{Reads}
 use Rattle.fe_hall.specs.declared.read_count.Reads.TheOpen as shape
 use Rattle.fe_hall.specs.declared.read_count.Reads.TheFolds.{fold-Reads}
@@ -9,10 +11,12 @@ use Rattle.fe_wire.specs.Spelling.{spelling}
 use Rattle.fe_wire.specs.Stream.{Decoding, HasRead, IsStream, IsUnfinished, IsBad}
 use Rattle.fe_codes.specs.Reading.{IsBytes}
 use Rattle.fe_wire.specs.declared.client_message.ClientMessage.{ClientMessage}
-use Rattle.fe_wire.specs.declared.client_message.ClientMessage.TheVariants.{Attach, Call, Cancel, Settle, Bye, Report}
+use Rattle.fe_wire.specs.declared.client_message.ClientMessage.TheVariants.{Attach, Call, Cancel, Settle, Bye}
+use Rattle.fe_wire.specs.declared.client_message.ClientMessage.TheVariants.{Report}
 use Rattle.fe_wire.specs.declared.version.Version.TheVariants.{Two}
 use Rattle.fe_hall.specs.declared.ends.ReadEnd.{ReadEnd}
-use Rattle.fe_hall.specs.declared.ends.ReadEnd.TheVariants.{Closed, Device, BadFrame, Gone, Turns, Stopped, Spent, NoMemory}
+use Rattle.fe_hall.specs.declared.ends.ReadEnd.TheVariants.{Closed, Device, BadFrame, Gone, Turns, Stopped}
+use Rattle.fe_hall.specs.declared.ends.ReadEnd.TheVariants.{Spent, NoMemory}
 use Rattle.fe_shared.specs.declared.last_answer.LastAnswer.{LastAnswer}
 use Rattle.fe_shared.specs.declared.last_answer.LastAnswer.TheVariants as last_answer
 use Rattle.fe_shared.specs.Seats.{CallSeatState, calls_in}
@@ -47,29 +51,33 @@ most_listed = 1024
 abbrev pub sent_among : List ClientMessage → List ClientMessage
 sent_among messages = take most_listed (filter is_sent messages)
 
--- Exactly these messages of a connection were handled, in this order: its seat has them and counts the calls among
--- them, and the list has the first attaches and calls.
+-- Exactly these messages of a connection were handled, in this order: its seat has them and counts the calls
+-- among them, and the list has the first attaches and calls.
 pub record AreHandled (before after : CallSeatState) (list messages : List ClientMessage) : Type 0 where
   pub conn : after.conn ≡ before.conn
   pub calls : after.calls ≡ before.calls + calls_among messages
   pub all : after.messages ≡ before.messages ++ messages
   pub listed : list ≡ sent_among messages
 
--- what each end says, where the stream is these messages and then this rest, and the first `count` messages were handled; `NoMemory`
--- may also come where the stream has no whole message: memory for the buffer runs out before anything is read
+-- what each end says, where the stream is these messages and then this rest, and the first `count` messages
+-- were handled; `NoMemory` may also come where the stream has no whole message: memory for the buffer runs
+-- out before anything is read
 abbrev pub EndsAt : ReadEnd → List ClientMessage → List ℕ → ℕ → Type 0
 EndsAt Closed messages rest count = (count ≡ length messages) × IsUnfinished Two rest
 EndsAt Device messages rest count = (count ≡ length messages) × IsUnfinished Two rest
 EndsAt Turns messages rest count = (count ≡ length messages) × IsUnfinished Two rest
 EndsAt (BadFrame offset) messages rest count =
-    (count ≡ length messages) × IsBad Two rest × (offset ≡ min (length (flat_map spelling messages)) (2 ^ 64 - 1))
+    (count ≡ length messages) × IsBad Two rest
+    × (offset ≡ min (length (flat_map spelling messages)) (2 ^ 64 - 1))
 EndsAt Gone messages rest count = count < length messages
 EndsAt Stopped messages rest count = count < length messages
 EndsAt Spent messages rest count = count < length messages
 EndsAt (NoMemory short) messages rest count = (count < length messages) ⊎ (messages ≡ [])
 
--- A side read these bytes, the stream of its client: the first `count` of the stream's messages were handled, and no others.
-pub record HandlesStream (bytes : List ℕ) (before after : CallSeatState) (list : List ClientMessage) (end : ReadEnd) : Type 0 where
+-- A side read these bytes, the stream of its client: the first `count` of the stream's messages were handled,
+-- and no others.
+pub record HandlesStream (bytes : List ℕ) (before after : CallSeatState) (list : List ClientMessage)
+    (end : ReadEnd) : Type 0 where
   pub messages : List ClientMessage
   pub rest : List ℕ
   pub is_stream : IsStream Two bytes messages rest
@@ -77,12 +85,13 @@ pub record HandlesStream (bytes : List ℕ) (before after : CallSeatState) (list
   pub handled : AreHandled before after list (take count messages)
   pub ends : EndsAt end messages rest count
 
--- an end at which all that the side may read was read: the stream ended, or as many reads were made as the side may make
+-- an end at which all that the side may read was read: the stream ended, or as many reads were made as the
+-- side may make
 abbrev pub IsQuietEnd : ReadEnd → Type 0
 IsQuietEnd end = (end ≡ Closed) ⊎ (end ≡ Turns)
 
--- an end that agrees with the hall's last answer: at `Gone`, `Stopped` and `Spent` the hall had answered so; the other ends go with
--- any answer
+-- an end that agrees with the hall's last answer: at `Gone`, `Stopped` and `Spent` the hall had answered so;
+-- the other ends go with any answer
 abbrev pub IsEndAfter : ReadEnd → LastAnswer → Type 0
 IsEndAfter Closed s = Unit {0}
 IsEndAfter Device s = Unit {0}
@@ -97,9 +106,11 @@ IsEndAfter (NoMemory short) s = Unit {0}
 
 -- the list once one more message was handled
 abbrev pub listed_with : List ClientMessage → ClientMessage → List ClientMessage
-listed_with list message = if is_sent message && nat_lt (length list) most_listed then list ++ message ∷ [] else list
+listed_with list message =
+    if is_sent message && nat_lt (length list) most_listed then list ++ message ∷ [] else list
 
--- of the reads that a side may make (first), these are left (second) after it made this many (third); `None` sets no bound
+-- of the reads that a side may make (first), these are left (second) after it made this many (third); `None`
+-- sets no bound
 abbrev pub AreLeft : Option ℕ → Option ℕ → ℕ → Type 0
 AreLeft None None made = Unit {0}
 AreLeft None (Some left) made = ⊥
@@ -117,13 +128,14 @@ EndsEarly Stopped = Unit {0}
 EndsEarly Spent = Unit {0}
 EndsEarly (NoMemory short) = Unit {0}
 
--- the side ended because of the messages, their frames, memory or what the hall answered: not because the stream ended, a read
--- failed, or no more reads may be made
+-- the side ended because of the messages, their frames, memory or what the hall answered: not because the
+-- stream ended, a read failed, or no more reads may be made
 abbrev pub IsOfMessages : ReadEnd → Type 0
 IsOfMessages end = (end ≢ Closed) × (end ≢ Device) × (end ≢ Turns)
 
 -- All messages of the bytes that came so far were handled, and more bytes may come.
-pub record IsAt (bytes : List ℕ) (before : CallSeatState) (decoder : Decoding) (after : CallSeatState) (list : List ClientMessage) : Type 0 where
+pub record IsAt (bytes : List ℕ) (before : CallSeatState) (decoder : Decoding) (after : CallSeatState)
+    (list : List ClientMessage) : Type 0 where
   pub are_bytes : IsBytes bytes
   pub version : decoder.version ≡ Two
   pub goes_on : decoder.is_bad ≡ false
@@ -131,9 +143,10 @@ pub record IsAt (bytes : List ℕ) (before : CallSeatState) (decoder : Decoding)
   pub reads : HasRead decoder bytes messages
   pub handled : AreHandled before after list messages
 
--- The earlier messages were all handled, and these came after them. The first `count` of these were handled, and the side ended
--- before the next one.
-pub record EndsAmong (before after : CallSeatState) (list earlier messages : List ClientMessage) (end : ReadEnd) : Type 0 where
+-- The earlier messages were all handled, and these came after them. The first `count` of these were handled,
+-- and the side ended before the next one.
+pub record EndsAmong (before after : CallSeatState) (list earlier messages : List ClientMessage)
+    (end : ReadEnd) : Type 0 where
   pub breaks : EndsEarly end
   pub count : ℕ
   pub fewer : count < length messages

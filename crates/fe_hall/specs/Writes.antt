@@ -1,6 +1,7 @@
--- What the write side of a connection, the thread that writes, takes out of the box of its mails, and what its client gets.
--- See `docs/model.md`, "The hall".
-use Rattle.std.specs.Prelude.{◌≡◌, ℕ, ◌+◌, ◌-◌, ◌<◌, ◌≤◌, List, ◌++◌, length, take, Option, Some, None, Result, Ok, Err}
+-- What the write side of a connection, the thread that writes, takes out of the box of its mails, and what
+-- its client gets. See `docs/model.md`, "The hall".
+use Rattle.std.specs.Prelude.{◌≡◌, ℕ, ◌+◌, ◌-◌, ◌<◌, ◌≤◌, List, ◌++◌, length, take, Option, Some, None}
+use Rattle.std.specs.Prelude.{Result, Ok, Err}
 use Rattle.std.specs.List.{filter_map}
 use Rattle.fe_mail.specs.declared.mail.Mail.{Mail}
 use Rattle.fe_messages.specs.Mails.{spelled}
@@ -22,8 +23,8 @@ most_receipts = 1024
 abbrev pub receipts_of : ℕ → List Mail → List Receipt
 receipts_of conn mails = take most_receipts (filter_map (receipt_of conn) mails)
 
--- Exactly these mails of a connection were taken, in this order: its seat has them and counts them, and the receipts
--- are those of their first answers.
+-- Exactly these mails of a connection were taken, in this order: its seat has them and counts them, and the
+-- receipts are those of their first answers.
 pub record AreTaken (before after : MailSeatState) (kept : List Receipt) (mails : List Mail) : Type 0 where
   pub conn : after.conn ≡ before.conn
   pub count : after.mails ≡ before.mails + length mails
@@ -51,8 +52,8 @@ pub record MayLackLast (before : List ℕ) (mails : List Mail) (after : List ℕ
   pub few : length last ≤ 1
   pub got : after ≡ before ++ spelled earlier
 
--- What a client had got before these mails were taken for it, and what it has got when its write side ends: the frames
--- of the mails in their order, all of them unless a write failed or memory was short.
+-- What a client had got before these mails were taken for it, and what it has got when its write side ends:
+-- the frames of the mails in their order, all of them unless a write failed or memory was short.
 abbrev pub IsWritten : List ℕ → List Mail → WriteEnd → List ℕ → Type 0
 IsWritten before mails Gone after = after ≡ before ++ spelled mails
 IsWritten before mails Stopped after = after ≡ before ++ spelled mails
@@ -60,7 +61,8 @@ IsWritten before mails Spent after = after ≡ before ++ spelled mails
 IsWritten before mails Device after = BreaksOff before mails after
 IsWritten before mails (NoMemory short) after = MayLackLast before mails after
 
--- an end as `Gone`, `Stopped` or `Spent` is what the hall last answered the side; the other two may follow any answer
+-- an end as `Gone`, `Stopped` or `Spent` is what the hall last answered the side; the other two may follow
+-- any answer
 abbrev pub IsEndAfter : WriteEnd → LastAnswer → Type 0
 IsEndAfter Gone s = s ≡ last_answer.Gone
 IsEndAfter Device s = Unit {0}
@@ -82,7 +84,8 @@ abbrev pub receipts_with : ℕ → List Receipt → List Mail → List Receipt
 receipts_with conn receipts mails = take most_receipts (receipts ++ filter_map (receipt_of conn) mails)
 
 -- a side took these mails next
-pub record TakesOn (before after : MailSeatState) (kept kept_after : List Receipt) (mails : List Mail) : Type 0 where
+pub record TakesOn (before after : MailSeatState) (kept kept_after : List Receipt) (mails : List Mail) : Type
+    0 where
   pub conn : after.conn ≡ before.conn
   pub count : after.mails ≡ before.mails + length mails
   pub taken : after.taken ≡ before.taken ++ mails
@@ -96,7 +99,8 @@ IsNoFault Spent = Unit {0}
 IsNoFault Device = ⊥
 IsNoFault (NoMemory short) = ⊥
 
--- the frames of the mails that were taken come after earlier frames: all of them, unless memory was short; no write fails here
+-- the frames of the mails that were taken come after earlier frames: all of them, unless memory was short; no
+-- write fails here
 abbrev pub AreSpelled : {A : Type 0} → List ℕ → Result A WriteEnd → List Mail → List ℕ → Type 0
 AreSpelled before (Ok a) mails frames = frames ≡ before ++ spelled mails
 AreSpelled before (Err Gone) mails frames = frames ≡ before ++ spelled mails

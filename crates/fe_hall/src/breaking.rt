@@ -8,10 +8,10 @@ use fe_keeper::Fault;
 use fe_shared::{Uncut, Unposted};
 use std::marker::Model;
 
-/// Why the committing side, the thread that stores, ends before all that is pending is posted. A batch of entries is cut from the front,
-/// stored, noted in the history and posted to the connections (`ARCHITECTURE.md`, "Threads"); one of these failed, or a checkpoint did.
-/// `Strange` is an end that shows a mistake of the program, and `Spent` one because a book of the hall is full. Contracts see the end
-/// alone.
+/// Why the committing side, the thread that stores, ends before all that is pending is posted. A batch of
+/// entries is cut from the front, stored, noted in the history and posted to the connections
+/// (`ARCHITECTURE.md`, "Threads"); one of these failed, or a checkpoint did. `Strange` is an end that shows a
+/// mistake of the program, and `Spent` one because a book of the hall is full. Contracts see the end alone.
 #[derive(Drop)]
 pub(crate) struct Break {
     end: CommitEnd,
@@ -26,8 +26,8 @@ impl Model for Break {
 }
 
 impl Break {
-    /// The batch was not stored: a device call failed, now or earlier, memory was short, or the keeper found that the batch does not follow
-    /// its state. Or a call of a checkpoint failed.
+    /// The batch was not stored: a device call failed, now or earlier, memory was short, or the keeper found
+    /// that the batch does not follow its state. Or a call of a checkpoint failed.
     pub(crate) fn of_store(fault: Fault) -> Break
         ensures { result ≡ end_of fault }
     {

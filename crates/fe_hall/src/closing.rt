@@ -1,5 +1,6 @@
-//! Closing a hall (`docs/model.md`, "The hall"): its books are compared with what its seats counted, and its receipts with what is stored
-//! and what was sent. What a hall leaves, closed or not, is its account (`docs/headline.md`, "Every acknowledged answer").
+//! Closing a hall (`docs/model.md`, "The hall"): its books are compared with what its seats counted, and its
+//! receipts with what is stored and what was sent. What a hall leaves, closed or not, is its account
+//! (`docs/headline.md`, "Every acknowledged answer").
 
 ghost use Rattle.std.specs.Prelude.{◌≡◌, ◌↔◌, ℕ, false, map, All, Any, Err, IfOk, IfErr, IsErr};
 ghost use Rattle.fe_mail.specs.Books.{AddUp};
@@ -28,14 +29,15 @@ pub struct Closing<D: Disk> {
 /// Why a hall is not closed. The hall is dropped all the same, and by `close` the keeper too.
 #[derive(Clone, Copy, PartialEq, Eq)]
 pub enum Unclosed {
-    /// The seats are not those of all connections that were made, or the history has groups that the committing side did not note.
+    /// The seats are not those of all connections that were made, or the history has groups that the
+    /// committing side did not note.
     SeatMissing(SeatMissing),
     /// What is stored, or what was sent, speaks against the receipt of this place, the first such one.
     StrangeReceipt { place: u64 },
 }
 
-/// The result of closing a hall: its books, the lists of its read sides, the receipts, each of them compared, and its
-/// history. Only `settle` makes one, so the books are those under the lock.
+/// The result of closing a hall: its books, the lists of its read sides, the receipts, each of them compared,
+/// and its history. Only `settle` makes one, so the books are those under the lock.
 pub struct Audit {
     books: Books,
     sent: Vec<Vec<ClientMessage>>,
@@ -88,7 +90,8 @@ impl Audit {
         self.books
     }
 
-    /// The receipts that were handed in: if they are whole, of each connection those of the first 1,024 answers that it took.
+    /// The receipts that were handed in: if they are whole, of each connection those of the first 1,024
+    /// answers that it took.
     pub fn receipts(&self) -> &[Receipt]
         ensures { result.now ≡ self.now.receipts }
     {
@@ -112,12 +115,14 @@ pub fn account_of<C: Tally, M: Tally>(
     account
 }
 
-/// Closes a hall that no thread has any more, with the seats of all its connections. Its books then count just the calls that the read
-/// sides made and the mails that the write sides took, and no receipt is strange.
+/// Closes a hall that no thread has any more, with the seats of all its connections. Its books then count
+/// just the calls that the read sides made and the mails that the write sides took, and no receipt is
+/// strange.
 ///
-/// `state` is what is stored. `sent` are the lists of the read sides: of each connection the first 1,024 attaches and calls. It
-/// takes no memory. A receipt is compared with all that the state keeps, at most 2,048 answers; one whose answer is still kept
-/// also with the lists, until one is found that has its call. If the hall is not closed, its account is returned.
+/// `state` is what is stored. `sent` are the lists of the read sides: of each connection the first 1,024
+/// attaches and calls. It takes no memory. A receipt is compared with all that the state keeps, at most 2,048
+/// answers; one whose answer is still kept also with the lists, until one is found that has its call. If the
+/// hall is not closed, its account is returned.
 pub fn settle<C: Tally, M: Tally>(
     hall: Hall<C, M>,
     calls: Seats<C>,
@@ -129,8 +134,8 @@ pub fn settle<C: Tally, M: Tally>(
     state: &State,
 ) -> Result<Audit, (Unclosed, Account)>
     ensures audit { IfOk result (IsAudit calls mails (map (λ v. v.items) sent.items) receipts.whole) }
-    // The account has these receipts. Its history goes on from that of the committing side and from `history`, and its `own` says
-    // whether it has only the groups that the side noted.
+    // The account has these receipts. Its history goes on from that of the committing side and from
+    // `history`, and its `own` says whether it has only the groups that the side noted.
     ensures leaves { IsAccountOf seat receipts.items history (account_left result) }
     ensures borne_out { IfOk result (λ audit. All (IsBorneOut state.now audit.sent) audit.receipts) }
     ensures strange { IfErr result (λ e. (place : ℕ) → e.0 ≡ StrangeReceipt place

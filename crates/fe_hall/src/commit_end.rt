@@ -1,4 +1,5 @@
-//! Part of the hall's committing thread, which cuts pending entries into batches, stores and posts them (`ARCHITECTURE.md`, "Threads").
+//! Part of the hall's committing thread, which cuts pending entries into batches, stores and posts them
+//! (`ARCHITECTURE.md`, "Threads").
 
 use fe_keeper::Fault;
 
@@ -9,9 +10,10 @@ pub enum CommitEnd {
     Stopped,
     /// The store is at fault: `Device`, `NoMemory` for a batch, or `Failed` if it had failed before.
     Store(Fault),
-    /// Only a mistake of the program ends it so: a batch does not continue what is stored, could not be cut or noted in the history, or
-    /// is not the one that is out (cut, and not posted).
+    /// Only a mistake of the program ends it so: a batch does not continue what is stored, could not be cut
+    /// or noted in the history, or is not the one that is out (cut, and not posted).
     Strange,
-    /// The hall's count of mails, one of its books, has no room for those of the last batch, which is stored and not posted.
+    /// The hall's count of mails, one of its books, has no room for those of the last batch, which is stored
+    /// and not posted.
     Spent,
 }

@@ -1,5 +1,5 @@
-//! The committing side of a hall, a thread of its own: it stores the batches, each as a group, and posts them (`docs/model.md`, "The
-//! hall").
+//! The committing side of a hall, a thread of its own: it stores the batches, each as a group, and posts them
+//! (`docs/model.md`, "The hall").
 
 ghost use Rattle.std.specs.Prelude.{◌≡◌, ◌↔◌, ◌+◌, false, Some, IfOk, IfErr, OnOk, length};
 ghost use Rattle.fe_keeper.specs.Ends.{IsStill, Breaks};
@@ -21,8 +21,9 @@ use std::sync::Wait;
 /// A checkpoint is begun once more than this many bytes of the journal are used.
 const MOST_USED: u32 = 524288;
 
-/// Stores what the calls of a hall make, batch by batch, and posts each batch once it is stored. After each batch it goes on with a
-/// checkpoint. It is for one thread, and ends once the hall is stopped and nothing is pending; every other end stops the hall.
+/// Stores what the calls of a hall make, batch by batch, and posts each batch once it is stored. After each
+/// batch it goes on with a checkpoint. It is for one thread, and ends once the hall is stopped and nothing is
+/// pending; every other end stops the hall.
 ///
 /// The history has each group after its append, and before any answer of it.
 pub fn commit_side<C: Tally, M: Tally, D: Disk, R: Wait>(
@@ -93,9 +94,9 @@ fn commit<C: Tally, M: Tally, D: Disk, R: Wait>(
     }
 }
 
-/// Goes on with the checkpoint, after a batch: writes a slice of it, or finishes it; if none is under way, begins one
-/// when it is due, or later if there is no memory for it. `slices` says whether slices may be left of it, and so does the
-/// answer. The fault is `Device`.
+/// Goes on with the checkpoint, after a batch: writes a slice of it, or finishes it; if none is under way,
+/// begins one when it is due, or later if there is no memory for it. `slices` says whether slices may be left
+/// of it, and so does the answer. The fault is `Device`.
 fn tend<D: Disk>(keeper: &mut Keeper<D>, slices: bool) -> Result<bool, Fault>
     requires works { keeper.old.store.has_failed ≡ false }
     ensures keeps { KeepsStanding D.Disk keeper.old keeper.new }

@@ -1,4 +1,5 @@
-//! The end of a hall's committing side, the thread that stores. It is made only from values that show why (`docs/proved.md`, "Server").
+//! The end of a hall's committing side, the thread that stores. It is made only from values that show why
+//! (`docs/proved.md`, "Server").
 
 ghost use Rattle.std.specs.Prelude.{◌≡◌};
 ghost use Rattle.fe_hall.specs.declared.commit_end.CommitEnd.TheVariants.{Stopped};

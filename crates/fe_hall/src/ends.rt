@@ -9,8 +9,8 @@ pub enum ReadEnd {
     Closed,
     /// A read failed.
     Device,
-    /// A frame was outside the grammar (`docs/formats.md`, "Frames"). The offset is that of its first byte in the
-    /// stream, counted from 0, or 2^64 - 1 if it is greater.
+    /// A frame was outside the grammar (`docs/formats.md`, "Frames"). The offset is that of its first byte in
+    /// the stream, counted from 0, or 2^64 - 1 if it is greater.
     BadFrame { offset: u64 },
     /// The hall had removed the connection.
     Gone,
@@ -20,6 +20,7 @@ pub enum ReadEnd {
     Stopped,
     /// A book of the hall is full.
     Spent,
-    /// There was no memory for the messages that came, for one more in the list, or for the buffer of the reads.
+    /// There was no memory for the messages that came, for one more in the list, or for the buffer of the
+    /// reads.
     NoMemory(OutOfMemory),
 }

@@ -1,7 +1,9 @@
-//! The hall: how a server's threads use one front, and wait for each other (`ARCHITECTURE.md`, "Threads"; `docs/model.md`, "The hall").
+//! The hall: how a server's threads use one front, and wait for each other (`ARCHITECTURE.md`, "Threads";
+//! `docs/model.md`, "The hall").
 
 ghost use Rattle.std.specs.Prelude.{◌≡◌, [], ◌+◌, ℕ, IfOk, IfErr, length, true};
-ghost use Rattle.fe_shared.specs.Seats.{HasRested, TookNoMessage, message_answered, taking_answered, IsBlankOf};
+ghost use Rattle.fe_shared.specs.Seats.{HasRested, TookNoMessage, message_answered, taking_answered};
+ghost use Rattle.fe_shared.specs.Seats.{IsBlankOf};
 ghost use mathlib.Core.List.{IsPrefix};
 ghost use Rattle.fe_history.specs.Acts.{WasStoredLast};
 ghost use Rattle.fe_shared.specs.Holds.{IsCutIn};
@@ -23,15 +25,16 @@ use std::sync::ledger::Blank;
 use std::sync::{Condvar, MutexGuard, Wait};
 use std::time::{Clock, Duration};
 
-/// A read side gives up waiting once all entries that it waits for are stored and posted, and its write side has taken no mail and
-/// written no byte for this many milliseconds (`Hall::await_room`).
+/// A read side gives up waiting once all entries that it waits for are stored and posted, and its write side
+/// has taken no mail and written no byte for this many milliseconds (`Hall::await_room`).
 const STILL_MILLIS: u64 = 30_000;
 
 /// The same for one that gave up before, and whose client has read nothing since.
 const STILL_AGAIN_MILLIS: u64 = 1000;
 
-/// A front that many threads share. A hold of its lock makes at most one event. A side is a connection's reading or writing
-/// thread, or the committing thread, which stores; each has a seat, which shows who it is and counts what it did.
+/// A front that many threads share. A hold of its lock makes at most one event. A side is a connection's
+/// reading or writing thread, or the committing thread, which stores; each has a seat, which shows who it is
+/// and counts what it did.
 ///
 /// `C` and `M` name its two ledgers (`Tally`), of the calls and of the mails that were taken.
 #[derive(Drop)]
@@ -47,9 +50,9 @@ pub struct Hall<C: Tally, M: Tally> {
 }
 
 impl<C: Tally, M: Tally> Hall<C, M> {
-    /// A hall around a front that is as `Front::new` made it, the seat of its committing side, and the right to make
-    /// its connections. The history begins with the front's state. The blanks make its ledgers, of 2^62 + 1 parts each.
-    /// If there is no memory, the front is returned.
+    /// A hall around a front that is as `Front::new` made it, the seat of its committing side, and the right
+    /// to make its connections. The history begins with the front's state. The blanks make its ledgers, of
+    /// 2^62 + 1 parts each. If there is no memory, the front is returned.
     pub fn new(
         alloc: Global,
         front: Front,
@@ -88,7 +91,8 @@ impl<C: Tally, M: Tally> Hall<C, M> {
         }
     }
 
-    /// Makes a connection with this number, and returns its seats. Only a caller with the right to make connections can.
+    /// Makes a connection with this number, and returns its seats. Only a caller with the right to make
+    /// connections can.
     pub fn connect<R: Wait>(
         &self,
         rt: &R,
@@ -100,8 +104,8 @@ impl<C: Tally, M: Tally> Hall<C, M> {
         self.lock.connect(rt, right, conn)
     }
 
-    /// Stops the hall, so that all sides end: a read side at its next message, a write side once its box is empty, the committing side once
-    /// all that is pending is stored and posted.
+    /// Stops the hall, so that all sides end: a read side at its next message, a write side once its box is
+    /// empty, the committing side once all that is pending is stored and posted.
     pub fn stop<R: Wait>(&self, rt: &R) -> HasStopped {
         let mut owed = Owed::none();
         let stopped = self.lock.stop(rt, &mut owed);
@@ -109,7 +113,8 @@ impl<C: Tally, M: Tally> Hall<C, M> {
         stopped
     }
 
-    /// Handles a message once the front has room for what comes of it, or records in the seat why it does not.
+    /// Handles a message once the front has room for what comes of it, or records in the seat why it does
+    /// not.
     pub(crate) fn handle<R: Wait>(
         &self,
         rt: &R,
@@ -136,8 +141,9 @@ impl<C: Tally, M: Tally> Hall<C, M> {
         unreachable!()
     }
 
-    /// Waits until the connection's box, its mails that wait to go out, is empty and the write side has written all that it took, or the
-    /// connection is gone, or the hall is stopped. It does not wait if there is no memory to note that it does.
+    /// Waits until the connection's box, its mails that wait to go out, is empty and the write side has
+    /// written all that it took, or the connection is gone, or the hall is stopped. It does not wait if there
+    /// is no memory to note that it does.
     pub(crate) fn await_rest<R: Wait>(&self, rt: &R, free: &mut Free, seat: &CallSeat<C>) {
         let conn = seat.conn();
         let mut hold = self.lock.enter(rt, free);
@@ -163,11 +169,12 @@ impl<C: Tally, M: Tally> Hall<C, M> {
         unreachable!()
     }
 
-    /// Waits until the write side of a connection is close behind its read side (by 64 mails at most), or has taken what came of its
-    /// messages before `place_then`, except the answers to requests that still wait; or the connection is gone, the hall stopped, or memory
-    /// short to note that it waits. If the entries before `place_then` are stored and posted, it gives up once the write side has taken no
-    /// mail and written no byte for 30 seconds, or for one if the side gave up before (`in_vain`) and nothing was taken or written since.
-    /// Returns the place, the number of entries made so far, and whether it gave up.
+    /// Waits until the write side of a connection is close behind its read side (by 64 mails at most), or has
+    /// taken what came of its messages before `place_then`, except the answers to requests that still wait;
+    /// or the connection is gone, the hall stopped, or memory short to note that it waits. If the entries
+    /// before `place_then` are stored and posted, it gives up once the write side has taken no mail and
+    /// written no byte for 30 seconds, or for one if the side gave up before (`in_vain`) and nothing was
+    /// taken or written since. Returns the place, the number of entries made so far, and whether it gave up.
     pub(crate) fn await_room<R: Clock + Wait>(
         &self,
         rt: &R,
@@ -213,9 +220,10 @@ impl<C: Tally, M: Tally> Hall<C, M> {
         self.lock.enter(rt, free).place_then()
     }
 
-    /// Waits until the write side has taken what comes of the connection's messages, except the answers to requests that still wait, and
-    /// removes the connection. No more messages of it come. A `Rest` shows that nothing is left to wait for, or that memory was short to
-    /// wait. If the hall is stopped, its write side goes on, and takes what is in the box.
+    /// Waits until the write side has taken what comes of the connection's messages, except the answers to
+    /// requests that still wait, and removes the connection. No more messages of it come. A `Rest` shows that
+    /// nothing is left to wait for, or that memory was short to wait. If the hall is stopped, its write side
+    /// goes on, and takes what is in the box.
     pub(crate) fn drain<R: Wait>(&self, rt: &R, free: &mut Free, seat: &mut CallSeat<C>)
         ensures untaken { TookNoMessage seat.old seat.new }
         ensures rested { HasRested seat.new }
@@ -256,7 +264,8 @@ impl<C: Tally, M: Tally> Hall<C, M> {
         self.bells.ring(owed);
     }
 
-    /// Waits for a mail in the box and takes it, or records in the seat why none comes. An answer is added to the history.
+    /// Waits for a mail in the box and takes it, or records in the seat why none comes. An answer is added to
+    /// the history.
     pub(crate) fn take_mail<R: Wait>(
         &self,
         rt: &R,
@@ -293,8 +302,8 @@ impl<C: Tally, M: Tally> Hall<C, M> {
         unreachable!()
     }
 
-    /// Waits for entries and cuts them into a batch, or says that the hall is stopped and nothing is left to store, or that another side
-    /// cut a batch. A cut makes room for events, and is added to the history.
+    /// Waits for entries and cuts them into a batch, or says that the hall is stopped and nothing is left to
+    /// store, or that another side cut a batch. A cut makes room for events, and is added to the history.
     pub(crate) fn next_batch<R: Wait>(
         &self,
         rt: &R,
@@ -320,8 +329,8 @@ impl<C: Tally, M: Tally> Hall<C, M> {
         unreachable!()
     }
 
-    /// Posts the batch that was stored last: puts each entry's mail into its connection's box. Rings for each such connection and, posted
-    /// or not, for those whose read sides wait.
+    /// Posts the batch that was stored last: puts each entry's mail into its connection's box. Rings for each
+    /// such connection and, posted or not, for those whose read sides wait.
     pub(crate) fn post<R: Wait>(
         &self,
         rt: &R,

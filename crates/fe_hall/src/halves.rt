@@ -1,5 +1,5 @@
-//! The two directions of a connection, its halves, for its read and its write side (`docs/model.md`, "The hall"), and the gate that each
-//! message passes first, by which tests hold messages back.
+//! The two directions of a connection, its halves, for its read and its write side (`docs/model.md`, "The
+//! hall"), and the gate that each message passes first, by which tests hold messages back.
 
 ghost use Rattle.std.specs.Prelude.{◌≡◌, ◌<◌, ◌≤◌, ◌+◌, ◌++◌, [], ℕ, List, length, take, IfOk, OnErr};
 
@@ -34,7 +34,8 @@ pub trait ReadHalf {
         requires { 0 < length buffer.old }
         ensures fits { IfOk result (λ n. n ≤ length buffer.old) }
         ensures is_known { is_known self.old → is_known self.new }
-        ensures known { is_known self.old → IfOk result (λ n. known self.new ≡ known self.old ++ take n buffer.new) }
+        ensures known { is_known self.old → IfOk result
+            (λ n. known self.new ≡ known self.old ++ take n buffer.new) }
         ensures err { is_known self.old → OnErr result (known self.new ≡ known self.old) }
         ensures reads { reads self.new ≡ reads self.old + 1 }
         ensures ended { IfOk result (λ n. n ≡ 0 → ended self.new) }

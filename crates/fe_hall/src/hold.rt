@@ -1,5 +1,5 @@
-//! The lock of a hall, and its holds: the times for which a thread has it (`docs/model.md`, "The hall"). An event is a message handled, a
-//! mail taken, a batch cut or posted, or a connection that comes or goes.
+//! The lock of a hall, and its holds: the times for which a thread has it (`docs/model.md`, "The hall"). An
+//! event is a message handled, a mail taken, a batch cut or posted, or a connection that comes or goes.
 
 ghost use Rattle.std.specs.Sync.Mutex.{mutex_guard_value as under};
 ghost use Rattle.std.specs.Prelude.{◌≡◌, false, IfOk};
@@ -59,7 +59,8 @@ impl<C: Tally, M: Tally> Lock<C, M> {
         self.lock(rt).stop(owed)
     }
 
-    /// Takes the lock. The standard library's `lock` sleeps at once if another thread sleeps already, so this tries first.
+    /// Takes the lock. The standard library's `lock` sleeps at once if another thread sleeps already, so this
+    /// tries first.
     fn lock<R: Wait>(&self, rt: &R) -> Hold<'_, C, M>
         ensures { (under result).used ≡ false }
     {
@@ -74,7 +75,8 @@ impl<C: Tally, M: Tally> Lock<C, M> {
         hold
     }
 
-    /// Releases the lock until a bell (a condition variable) is rung, and takes it again, for one event. A side that waits has no baton.
+    /// Releases the lock until a bell (a condition variable) is rung, and takes it again, for one event. A
+    /// side that waits has no baton.
     pub(crate) fn wait<'a, R: Wait>(
         &self,
         rt: &R,
@@ -90,8 +92,8 @@ impl<C: Tally, M: Tally> Lock<C, M> {
         hold
     }
 
-    /// Releases the lock until a read side need not wait any more or its write side takes a mail, but no longer than this. Says whether
-    /// the time was up.
+    /// Releases the lock until a read side need not wait any more or its write side takes a mail, but no
+    /// longer than this. Says whether the time was up.
     pub(crate) fn wait_at_most<'a, R: Clock + Wait>(
         &self,
         rt: &R,

@@ -1,7 +1,8 @@
-//! The hall: one front under a lock, for the threads of connections and the thread that stores (`ARCHITECTURE.md`, "Threads").
+//! The hall: one front under a lock, for the threads of connections and the thread that stores
+//! (`ARCHITECTURE.md`, "Threads").
 //!
-//! Each hold of the lock is at most one event of the front. What is under it is `fe_shared`'s; what happened in the hall, and the
-//! receipts that are left of it, are `fe_history`'s.
+//! Each hold of the lock is at most one event of the front. What is under it is `fe_shared`'s; what happened
+//! in the hall, and the receipts that are left of it, are `fe_history`'s.
 #![tactic(auto)]
 
 mod baton;

@@ -1,4 +1,5 @@
-//! How often a connection is read, for clauses alone, such as `turns` and `reads` of `read_side` (`docs/proved.md`, "Server").
+//! How often a connection is read, for clauses alone, such as `turns` and `reads` of `read_side`
+//! (`docs/proved.md`, "Server").
 
 ghost use Rattle.std.specs.Prelude.{◌≡◌, ◌+◌};
 

@@ -1,9 +1,11 @@
-//! The read side of a connection, its reading thread: the messages of its client's stream go to the hall, one after another
-//! (`docs/model.md`, "The hall").
+//! The read side of a connection, its reading thread: the messages of its client's stream go to the hall, one
+//! after another (`docs/model.md`, "The hall").
 
-ghost use Rattle.std.specs.Prelude.{◌≡◌, ◌≢◌, ◌+◌, ◌≤◌, ◌++◌, [], ℕ, List, Some, IfNone, IfSome, OnSome, MatchOption};
+ghost use Rattle.std.specs.Prelude.{◌≡◌, ◌≢◌, ◌+◌, ◌≤◌, ◌++◌, [], ℕ, List, Some, IfNone, IfSome, OnSome};
+ghost use Rattle.std.specs.Prelude.{MatchOption};
 ghost use Rattle.fe_shared.specs.Seats.{HasDeparted, HasRested, CallSeatState, TookNoMessage, message_taken};
-ghost use Rattle.fe_hall.specs.Reads.{IsQuietEnd, listed_with, EndsEarly, HandlesStream, IsAt, IsOfMessages, IsEndAfter};
+ghost use Rattle.fe_hall.specs.Reads.{IsQuietEnd, listed_with, EndsEarly, HandlesStream, IsAt, IsOfMessages};
+ghost use Rattle.fe_hall.specs.Reads.{IsEndAfter};
 ghost use Rattle.fe_hall.specs.within.Sides.{KeepsTurns};
 
 use crate::baton::BatonGuard;
@@ -21,16 +23,19 @@ use std::time::Clock;
 /// How many bytes a read brings at most.
 const PIECE_BYTES: u16 = 8192;
 
-/// How many messages make a run. After each run a read side looks whether what came of earlier ones was taken. A connection's box, its
-/// mails that wait to go out, takes 128: enough for two runs, and for the answers to requests that wait, 32 at most.
+/// How many messages make a run. After each run a read side looks whether what came of earlier ones was
+/// taken. A connection's box, its mails that wait to go out, takes 128: enough for two runs, and for the
+/// answers to requests that wait, 32 at most.
 const RUN_LENGTH: u64 = 32;
 
-/// Serves the direction from the client of a connection, until it ends. Each message passes the gate, outside the lock, and goes to the
-/// hall, where it may wait until the front has room for what comes of it. `turns` is the most reads that it makes; `None` sets no bound.
+/// Serves the direction from the client of a connection, until it ends. Each message passes the gate, outside
+/// the lock, and goes to the hall, where it may wait until the front has room for what comes of it. `turns`
+/// is the most reads that it makes; `None` sets no bound.
 ///
-/// It gives the seat back, with the first 1,024 attaches and calls that were handled. Every end makes the connection gone, unless the
-/// hall is stopped. At `Closed` and `Turns` it does so only once all that was made when the last message was handled is durable and the
-/// box is empty, or there is no memory to note that it waits for that.
+/// It gives the seat back, with the first 1,024 attaches and calls that were handled. Every end makes the
+/// connection gone, unless the hall is stopped. At `Closed` and `Turns` it does so only once all that was
+/// made when the last message was handled is durable and the box is empty, or there is no memory to note that
+/// it waits for that.
 pub fn read_side<C: Tally, M: Tally, H: ReadHalf, G: Gate, R: Clock + Wait>(
     rt: &R,
     alloc: Global,
@@ -54,7 +59,8 @@ pub fn read_side<C: Tally, M: Tally, H: ReadHalf, G: Gate, R: Clock + Wait>(
     // A side ends as `Gone`, `Stopped` or `Spent` only if that was the hall's last answer to it.
     ensures ended_as { IsEndAfter result.2 result.0.last_answer }
     ensures departed { result.2 ≢ ReadEnd.Stopped → HasDeparted result.0 }
-    // At the end of the stream, and after the last read, the connection goes only once the hall let the side rest, or is stopped.
+    // At the end of the stream, and after the last read, the connection goes only once the hall let the side
+    // rest, or is stopped.
     ensures rested { IsQuietEnd result.2 → HasRested result.0 }
 {
     let (seat, mut free) = seat.begin_side();
@@ -135,7 +141,8 @@ impl<C: Tally> Reading<C> {
         unreachable!()
     }
 
-    /// Takes the messages that the next piece of the stream completes, in their order. Returns why the side ends, if it does.
+    /// Takes the messages that the next piece of the stream completes, in their order. Returns why the side
+    /// ends, if it does.
     fn take_piece<M: Tally, G: Gate, R: Clock + Wait>(
         &mut self,
         rt: &R,
@@ -146,7 +153,8 @@ impl<C: Tally> Reading<C> {
     ) -> Option<ReadEnd>
         ensures handled { (before : CallSeatState) (bytes : List ℕ)
             → IsAt bytes before self.old.decoder self.old.seat self.old.listed.items
-            → MatchOption result (IsAt (bytes ++ piece.now) before self.new.decoder self.new.seat self.new.listed.items)
+            → MatchOption result (IsAt (bytes ++ piece.now) before self.new.decoder self.new.seat
+            self.new.listed.items)
             (HandlesStream (bytes ++ piece.now) before self.new.seat self.new.listed.items) }
         ensures own { self.new.seat.conn ≡ self.old.seat.conn }
         ensures of { IfSome result IsOfMessages }
@@ -173,8 +181,9 @@ impl<C: Tally> Reading<C> {
         })
     }
 
-    /// Takes a message. After each run but the first it waits until its write side is close behind, or what came of the messages before
-    /// that run is taken, so that a client that reads does not find its box full. Returns why the side ends before the message, if it does.
+    /// Takes a message. After each run but the first it waits until its write side is close behind, or what
+    /// came of the messages before that run is taken, so that a client that reads does not find its box full.
+    /// Returns why the side ends before the message, if it does.
     fn take<M: Tally, G: Gate, R: Clock + Wait>(
         &mut self,
         rt: &R,
@@ -184,8 +193,10 @@ impl<C: Tally> Reading<C> {
         message: &ClientMessage,
         baton_guard: &mut BatonGuard<'_>,
     ) -> Option<ReadEnd>
-        ensures seat { IfNone result ((place : ℕ) × (self.new.seat ≡ message_taken self.old.seat message.now place)) }
-        ensures listed { IfNone result (self.new.listed.items ≡ listed_with self.old.listed.items message.now) }
+        ensures seat { IfNone result ((place : ℕ)
+            × (self.new.seat ≡ message_taken self.old.seat message.now place)) }
+        ensures listed { IfNone result (self.new.listed.items
+            ≡ listed_with self.old.listed.items message.now) }
         ensures untaken { OnSome result (TookNoMessage self.old.seat self.new.seat
             × (self.new.listed.items ≡ self.old.listed.items)) }
         ensures end { IfSome result EndsEarly }
@@ -223,7 +234,8 @@ impl<C: Tally> Reading<C> {
             self.in_vain = in_vain;
             self.place_then = Some(place_then);
         }
-        // A report may be long, and a client may ask for many and read none. So each waits until the replies before it are written.
+        // A report may be long, and a client may ask for many and read none. So each waits until the replies
+        // before it are written.
         if matches!(message, ClientMessage::Report) {
             baton_guard.give_up();
             hall.await_rest(rt, free, &self.seat);
@@ -241,7 +253,8 @@ impl<C: Tally> Reading<C> {
     }
 }
 
-/// Removes the connection of a read side that ended so, except at `Stopped`; at `Closed` and `Turns` once it is drained (`Hall::drain`).
+/// Removes the connection of a read side that ended so, except at `Stopped`; at `Closed` and `Turns` once it
+/// is drained (`Hall::drain`).
 fn depart<C: Tally, M: Tally, R: Wait>(
     rt: &R,
     free: &mut Free,

@@ -1,4 +1,5 @@
-//! Part of a connection's write side, the thread that takes mails (replies) out of the connection's box (`docs/model.md`, "The hall").
+//! Part of a connection's write side, the thread that takes mails (replies) out of the connection's box
+//! (`docs/model.md`, "The hall").
 
 use fe_memory::OutOfMemory;
 

@@ -1,7 +1,9 @@
-//! The write side of a connection, its writing thread (`docs/model.md`, "The hall"): it takes the mails, replies that wait in the
-//! connection's box, sends their frames in order, and adds each answer to the history (`docs/headline.md`, "Every acknowledged answer").
+//! The write side of a connection, its writing thread (`docs/model.md`, "The hall"): it takes the mails,
+//! replies that wait in the connection's box, sends their frames in order, and adds each answer to the
+//! history (`docs/headline.md`, "Every acknowledged answer").
 
-ghost use Rattle.std.specs.Prelude.{◌≡◌, ◌≢◌, ◌⊎◌, true, ◌≤◌, ◌<◌, ◌++◌, [], ℕ, List, length, take, OnErr, IfOk, IfErr, MatchResult};
+ghost use Rattle.std.specs.Prelude.{◌≡◌, ◌≢◌, ◌⊎◌, true, ◌≤◌, ◌<◌, ◌++◌, [], ℕ, List, length, take, OnErr};
+ghost use Rattle.std.specs.Prelude.{IfOk, IfErr, MatchResult};
 ghost use Rattle.fe_mail.specs.declared.mail.Mail.{Mail as TakenMail};
 ghost use Rattle.fe_hall.specs.Writes.{AreTaken, IsWritten, IsEndAfter, TakesOn, IsBatch, AreSpelled};
 ghost use Rattle.fe_hall.specs.within.Sides.{IssuesOn};
@@ -19,20 +21,22 @@ use fe_shared::{Free, MailSeat, Taking};
 use std::alloc::Global;
 use std::sync::Wait;
 
-/// Once the frames of the mails that were taken have this many bytes, they are written, even if more mails are in the box.
+/// Once the frames of the mails that were taken have this many bytes, they are written, even if more mails
+/// are in the box.
 const BATCH_BYTES: usize = 65_536;
 
-/// A write has at most this many bytes while the read side waits for the box, so that it learns that bytes go out, however slowly.
+/// A write has at most this many bytes while the read side waits for the box, so that it learns that bytes go
+/// out, however slowly.
 const PIECE_BYTES: usize = 4096;
 
 /// The most receipts that a side keeps.
 const RECEIPTS: usize = 1024;
 
-/// Serves the direction to the client of a connection, until it ends. It waits for mail, takes all of it out of the
-/// box, or enough for some 64 KiB of frames, and makes one write of these, outside the lock.
+/// Serves the direction to the client of a connection, until it ends. It waits for mail, takes all of it out
+/// of the box, or enough for some 64 KiB of frames, and makes one write of these, outside the lock.
 ///
-/// It gives the seat back, with the receipts of the first 1,024 answers that it took. Every end but `Stopped` makes the
-/// connection gone.
+/// It gives the seat back, with the receipts of the first 1,024 answers that it took. Every end but `Stopped`
+/// makes the connection gone.
 pub fn write_side<C: Tally, M: Tally, H: WriteHalf, R: Wait>(
     rt: &R,
     alloc: Global,
@@ -40,14 +44,14 @@ pub fn write_side<C: Tally, M: Tally, H: WriteHalf, R: Wait>(
     seat: MailSeat<M>,
     half: &mut H,
 ) -> (MailSeat<M>, Receipts<M>, WriteEnd)
-    // For the mails that were taken: the seat counts them, the receipts are those of the first answers among them, a half whose bytes are
-    // known got their frames (not all of them after `Device` or `NoMemory`), and the history has each answer as issued (handed out) to
-    // this connection.
+    // For the mails that were taken: the seat counts them, the receipts are those of the first answers among
+    // them, a half whose bytes are known got their frames (not all of them after `Device` or `NoMemory`), and
+    // the history has each answer as issued (handed out) to this connection.
     ensures wrote { (mails : List TakenMail) × AreTaken seat result.0 result.1.items mails
         × (H.is_known half.old → IsWritten (H.got half.old) mails result.2 (H.got half.new))
         × AreIssued seat.conn mails result.1.history }
-    // In that history an answer is the one of its entry, which was stored before, and its connection asked for its
-    // session before.
+    // In that history an answer is the one of its entry, which was stored before, and its connection asked
+    // for its session before.
     ensures legal { IsLegal result.1.history }
     ensures own { result.1.conn ≡ result.0.conn }
     ensures is_known { H.is_known half.old → H.is_known half.new }
@@ -101,7 +105,8 @@ impl<M: Tally> Writing<M> {
         requires { self.old.frames.items ≡ [] }
         ensures wrote { (mails : List TakenMail)
             × TakesOn self.old.seat self.new.seat self.old.receipts.items self.new.receipts.items mails
-            × (H.is_known half.old → H.is_known half.new × IsWritten (H.got half.old) mails result (H.got half.new))
+            × (H.is_known half.old → H.is_known half.new
+            × IsWritten (H.got half.old) mails result (H.got half.new))
             × AreIssued self.old.seat.conn mails self.new.history }
         ensures failed { result ≡ WriteEnd.Device → H.failed half.new }
         ensures ended_as { IsEndAfter result self.new.seat.last_answer }
@@ -126,8 +131,8 @@ impl<M: Tally> Writing<M> {
         unreachable!()
     }
 
-    /// Waits for a mail, and takes and spells mails until the box is empty or enough bytes are spelled for a write. If
-    /// memory is short, at most the last mail that was taken is not spelled.
+    /// Waits for a mail, and takes and spells mails until the box is empty or enough bytes are spelled for a
+    /// write. If memory is short, at most the last mail that was taken is not spelled.
     fn take_mails<C: Tally, R: Wait>(
         &mut self,
         rt: &R,
@@ -155,8 +160,8 @@ impl<M: Tally> Writing<M> {
         unreachable!()
     }
 
-    /// Waits for a mail, takes it, keeps its receipt if it is one of the first 1,024 answers, and spells it. Returns whether more are in
-    /// the box.
+    /// Waits for a mail, takes it, keeps its receipt if it is one of the first 1,024 answers, and spells it.
+    /// Returns whether more are in the box.
     fn take_mail<C: Tally, R: Wait>(
         &mut self,
         rt: &R,
@@ -218,7 +223,8 @@ fn depart<C: Tally, M: Tally, R: Wait>(
     }
 }
 
-/// Writes all of these bytes, in one write if the half takes them at once; but in pieces while the read side waits.
+/// Writes all of these bytes, in one write if the half takes them at once; but in pieces while the read side
+/// waits.
 fn write_whole<C: Tally, M: Tally, H: WriteHalf, R: Wait>(
     rt: &R,
     free: &mut Free,

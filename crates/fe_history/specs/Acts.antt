@@ -1,7 +1,8 @@
--- What happened in a hall, a front that many threads share, in one order: batches were cut and stored, connections asked for
--- sessions and called requests, and answers were issued (taken out of their boxes for clients). A receipt is the record of an issued answer.
--- See `docs/model.md`, "The hall".
-use Rattle.std.specs.Prelude.{◌≡◌, ◌⊎◌, ℕ, ◌+◌, ◌<◌, Bool, List, [], ◌∷◌, ◌++◌, length, map, slice_get, take, Some, IfSome, MatchBool}
+-- What happened in a hall, a front that many threads share, in one order: batches were cut and stored,
+-- connections asked for sessions and called requests, and answers were issued (taken out of their boxes for
+-- clients). A receipt is the record of an issued answer. See `docs/model.md`, "The hall".
+use Rattle.std.specs.Prelude.{◌≡◌, ◌⊎◌, ℕ, ◌+◌, ◌<◌, Bool, List, [], ◌∷◌, ◌++◌, length, map, slice_get, take}
+use Rattle.std.specs.Prelude.{Some, IfSome, MatchBool}
 use Rattle.std.specs.List.{flat_map, AllByRecursion}
 use mathlib.Core.List.{IsPrefix}
 use Rattle.std.specs.FinMap.{get}
@@ -46,7 +47,8 @@ StandsIn acts act = (at : ℕ) × (slice_get acts at ≡ Some act)
 
 -- some connection called the request in these acts, under this number of the session
 abbrev pub WasCalled : List Act → ℕ → ℕ → Request → Type 0
-WasCalled acts session number request = (conn place : ℕ) × StandsIn acts (Called conn session number request place)
+WasCalled acts session number request =
+    (conn place : ℕ) × StandsIn acts (Called conn session number request place)
 
 -- the batches of stores
 abbrev pub batches_of : List (Batch × ℕ) → List Batch
@@ -60,9 +62,11 @@ entries_in batches = flat_map (λ b. b.entries) batches
 abbrev pub place_after : ServerState → List Batch → ℕ
 place_after begun batches = begun.place + length (entries_in batches)
 
--- Some connection called the request in these acts, under this number of the session, and the session was not closed since: of the entries,
--- which are all that were made after this state began the history, none from the place of the call on closes it.
-pub record WasCalledSince (begun : ServerState) (acts : List Act) (entries : List Entry) (session number : ℕ) (request : Request) : Type 0 where
+-- Some connection called the request in these acts, under this number of the session, and the session was not
+-- closed since: of the entries, which are all that were made after this state began the history, none from
+-- the place of the call on closes it.
+pub record WasCalledSince (begun : ServerState) (acts : List Act) (entries : List Entry) (session number : ℕ)
+    (request : Request) : Type 0 where
   pub conn : ℕ
   pub place : ℕ
   pub called : StandsIn acts (Called conn session number request place)
@@ -72,27 +76,32 @@ pub record WasCalledSince (begun : ServerState) (acts : List Act) (entries : Lis
   pub at : place ≡ begun.place + length before
   pub not_closed : AllByRecursion (LeavesOpen session) since
 
--- Each of the entries, which come after these earlier ones, finishes only a request that was called in these acts, under its number of its
--- session, and the session was not closed between the call and the entry.
+-- Each of the entries, which come after these earlier ones, finishes only a request that was called in these
+-- acts, under its number of its session, and the session was not closed between the call and the entry.
 abbrev pub AreOfCalls : ServerState → List Act → List Entry → List Entry → Type 0
 AreOfCalls begun acts earlier [] = Unit {0}
-AreOfCalls begun acts earlier (e ∷ entries) = FinishesOnly (WasCalledSince begun acts earlier) e × AreOfCalls begun acts (earlier ++ e ∷ []) entries
+AreOfCalls begun acts earlier (e ∷ entries) =
+    FinishesOnly (WasCalledSince begun acts earlier) e × AreOfCalls begun acts (earlier ++ e ∷ []) entries
 
--- The answer is that of one of these entries, or it was kept when the hall began and its request was called in these acts.
+-- The answer is that of one of these entries, or it was kept when the hall began and its request was called
+-- in these acts.
 abbrev pub IsAnswerOfCall : ServerState → List Act → List Entry → Receipt → Type 0
 IsAnswerOfCall begun acts entries r =
-    ((kept : IsKeptSince begun r.session r.number r.answer r.place) × WasCalled acts r.session r.number kept.request)
+    ((kept : IsKeptSince begun r.session r.number r.answer r.place)
+    × WasCalled acts r.session r.number kept.request)
     ⊎ IsFinishedAt begun entries r.session r.number r.answer r.place
 
--- What may happen in a hall that began with this state, after these acts. A batch is cut once those before it are stored, begins where
--- they end, is not empty, and finishes only requests that were called before, of sessions that were not closed since; the batch that was
--- cut is stored; a connection asks for a session whenever it likes, and calls requests of a session that it asked for; and an answer is
--- issued only if it is that of an entry that is stored, or was kept when the hall began and its request was called since; and to a
+-- What may happen in a hall that began with this state, after these acts. A batch is cut once those before it
+-- are stored, begins where they end, is not empty, and finishes only requests that were called before, of
+-- sessions that were not closed since; the batch that was cut is stored; a connection asks for a session
+-- whenever it likes, and calls requests of a session that it asked for; and an answer is issued only if it is
+-- that of an entry that is stored, or was kept when the hall began and its request was called since; and to a
 -- connection that asked for its session.
 abbrev pub MayFollow : ServerState → List Act → Act → Type 0
 MayFollow begun past (Began state) = ⊥
 MayFollow begun past (Cut batch) =
-    (cuts_in past ≡ batches_of (stores_in past)) × (batch.first ≡ place_after begun (cuts_in past)) × (0 < length batch.entries)
+    (cuts_in past ≡ batches_of (stores_in past)) × (batch.first ≡ place_after begun (cuts_in past))
+    × (0 < length batch.entries)
     × AreOfCalls begun past (entries_in (cuts_in past)) batch.entries
 MayFollow begun past (Stored batch moment) = cuts_in past ≡ batches_of (stores_in past) ++ batch ∷ []
 MayFollow begun past (Asked conn session) = Unit {0}
@@ -106,7 +115,8 @@ abbrev pub FollowEachOther : ServerState → List Act → List Act → Type 0
 FollowEachOther begun past [] = Unit {0}
 FollowEachOther begun past (a ∷ acts) = MayFollow begun past a × FollowEachOther begun (past ++ a ∷ []) acts
 
--- the history of a hall begins once, with a state within the limits, and then each act may follow those before it
+-- the history of a hall begins once, with a state within the limits, and then each act may follow those
+-- before it
 abbrev pub IsLegal : List Act → Type 0
 IsLegal [] = ⊥
 IsLegal (Began state ∷ acts) = IsWithinLimits state × FollowEachOther state [] acts
@@ -126,21 +136,27 @@ MayBeAppended (Asked conn session ∷ past) a = ⊥
 MayBeAppended (Called conn session number request place ∷ past) a = ⊥
 MayBeAppended (Issued r ∷ past) a = ⊥
 
--- The answer of the receipt is that of this very request, which some connection called in these acts, under its number of its session: it
--- was kept from the beginning, and called since; or it took effect at its place in a batch that was cut after the call, and from the place of
--- the call up to that place no entry closes the session.
+-- The answer of the receipt is that of this very request, which some connection called in these acts, under
+-- its number of its session: it was kept from the beginning, and called since; or it took effect at its place
+-- in a batch that was cut after the call, and from the place of the call up to that place no entry closes the
+-- session.
 pub data IsAnswerOf (begun : ServerState) (acts : List Act) (r : Receipt) (request : Request) : Type 0 where
-  Before : kept_in (get begun.sessions r.session) r.number ≡ Some (record { request = request; answer = r.answer; place = r.place })
+  Before : kept_in (get begun.sessions r.session) r.number
+      ≡ Some (record { request = request; answer = r.answer; place = r.place })
       → WasCalled acts r.session r.number request → IsAnswerOf begun acts r request
   Since : (earlier later : List Act) (batch : Batch) (at : ℕ) → acts ≡ earlier ++ Cut batch ∷ later
-      → WasCalledSince begun earlier (entries_in (cuts_in earlier) ++ take at batch.entries) r.session r.number request
-      → slice_get batch.entries at ≡ Some (Finished r.session r.number request r.answer) → r.place ≡ batch.first + at → IsAnswerOf begun acts r request
+      → WasCalledSince begun earlier (entries_in (cuts_in earlier) ++ take at batch.entries) r.session
+      r.number request
+      → slice_get batch.entries at ≡ Some (Finished r.session r.number request r.answer)
+      → r.place ≡ batch.first + at → IsAnswerOf begun acts r request
 
 -- a batch was cut, after this many others
 abbrev pub WasCut : List Act → ℕ → Batch → Type 0
-WasCut acts count batch = (before : List Batch) × (length before ≡ count) × IsPrefix (before ++ batch ∷ []) (cuts_in acts)
+WasCut acts count batch =
+    (before : List Batch) × (length before ≡ count) × IsPrefix (before ++ batch ∷ []) (cuts_in acts)
 
--- the batch continues the history of some state and leads to this one, as the last batch that a keeper stored leads to its state
+-- the batch continues the history of some state and leads to this one, as the last batch that a keeper stored
+-- leads to its state
 pub record IsStored (batch : Batch) (s : ServerState) : Type 0 where
   pub before : ServerState
   pub continues : Continues before batch.first batch.entries
@@ -148,7 +164,8 @@ pub record IsStored (batch : Batch) (s : ServerState) : Type 0 where
 
 -- a batch was stored, and none after it
 abbrev pub WasStoredLast : List Act → Batch → Type 0
-WasStoredLast acts batch = (before : List (Batch × ℕ)) × (moment : ℕ) × (stores_in acts ≡ before ++ (batch, moment) ∷ [])
+WasStoredLast acts batch =
+    (before : List (Batch × ℕ)) × (moment : ℕ) × (stores_in acts ≡ before ++ (batch, moment) ∷ [])
 
 -- the answer of each receipt was issued
 abbrev pub EachIssued : List Receipt → List Act → Type 0
@@ -185,25 +202,31 @@ pub record GatheredReceipts : Type 0 where
 abbrev pub GoesOnFrom : List Act → List Act → List Act → Type 0
 GoesOnFrom one other acts = IsPrefix one acts × IsPrefix other acts
 
--- the later acts go on from the earlier ones, and this batch, at this moment, is the one that was stored between them
+-- the later acts go on from the earlier ones, and this batch, at this moment, is the one that was stored
+-- between them
 abbrev pub HasStoredNext : List Act → Batch → ℕ → List Act → Type 0
-HasStoredNext before batch moment after = IsPrefix before after × (stores_in after ≡ stores_in before ++ (batch, moment) ∷ [])
+HasStoredNext before batch moment after =
+    IsPrefix before after × (stores_in after ≡ stores_in before ++ (batch, moment) ∷ [])
 
 -- the second list begins with the first, and has more
 abbrev pub HasMore : List (Batch × ℕ) → List (Batch × ℕ) → Type 0
 HasMore stores all = (other : Batch × ℕ) × (others : List (Batch × ℕ)) × (all ≡ stores ++ other ∷ others)
 
--- What a hall leaves: receipts, its history, and whether its committing side (which stores) noted every group in the history.
+-- What a hall leaves: receipts, its history, and whether its committing side (which stores) noted every group
+-- in the history.
 pub record Account : Type 0 where
   pub receipts : List Receipt
   pub history : List Act
   pub own : Bool
 
--- The account has these receipts. Its history is legal, and begins with that of the committing side and with what the write sides saw.
--- `own` says whether the stores in it are just those of the committing side; else it has more after them.
-pub record IsAccountOf (seat : List Act) (receipts : List Receipt) (seen : List Act) (account : Account) : Type 0 where
+-- The account has these receipts. Its history is legal, and begins with that of the committing side and with
+-- what the write sides saw. `own` says whether the stores in it are just those of the committing side; else
+-- it has more after them.
+pub record IsAccountOf (seat : List Act) (receipts : List Receipt) (seen : List Act)
+    (account : Account) : Type 0 where
   pub same_receipts : account.receipts ≡ receipts
   pub this : IsPrefix seat account.history
   pub that : IsPrefix seen account.history
   pub legal : IsLegal account.history
-  pub own : MatchBool account.own (stores_in account.history ≡ stores_in seat) (HasMore (stores_in seat) (stores_in account.history))
+  pub own : MatchBool account.own (stores_in account.history ≡ stores_in seat)
+      (HasMore (stores_in seat) (stores_in account.history))

@@ -1,17 +1,21 @@
--- The rule of a hall's history, and what the steps say that add to it. The history exists in proofs alone, except for two words that
--- count the batches that were stored and cut (`docs/headline.md`, "Every acknowledged answer").
-use Rattle.std.specs.Prelude.{ℕ, ◌≡◌, ◌<◌, ◌==◌, true, List, [], ◌∷◌, ◌++◌, length, Option, None, Some, MatchBool}
+-- The rule of a hall's history, and what the steps say that add to it. The history exists in proofs alone,
+-- except for two words that count the batches that were stored and cut (`docs/headline.md`, "Every
+-- acknowledged answer").
+use Rattle.std.specs.Prelude.{ℕ, ◌≡◌, ◌<◌, ◌==◌, true, List, [], ◌∷◌, ◌++◌, length, Option, None, Some}
+use Rattle.std.specs.Prelude.{MatchBool}
 use mathlib.Core.List.{IsPrefix}
 use Rattle.logbook.specs.Pages.{Cell, Step, View, Book, Named}
 use Rattle.fe_state.specs.State.{ServerState}
 use Rattle.fe_state.specs.declared.batch.Batch.{Batch}
 use Rattle.fe_state.specs.declared.request.Request.{Request}
 use Rattle.fe_wire.specs.declared.client_message.ClientMessage.{ClientMessage}
-use Rattle.fe_wire.specs.declared.client_message.ClientMessage.TheVariants.{Attach, Call, Cancel, Settle, Bye, Report}
+use Rattle.fe_wire.specs.declared.client_message.ClientMessage.TheVariants.{Attach, Call, Cancel, Settle, Bye}
+use Rattle.fe_wire.specs.declared.client_message.ClientMessage.TheVariants.{Report}
 use Rattle.fe_front.specs.Front.{FrontState}
 use Rattle.fe_history.specs.declared.act.Act.{Act}
 use Rattle.fe_history.specs.declared.act.Act.TheVariants.{Asked, Called, Began}
-use Rattle.fe_history.specs.Acts.{AreOfCalls, IsLegal, batches_of, cuts_in, entries_in, place_after, stores_in}
+use Rattle.fe_history.specs.Acts.{AreOfCalls, IsLegal, batches_of, cuts_in, entries_in, place_after}
+use Rattle.fe_history.specs.Acts.{stores_in}
 
 -- the two words count the batches that were stored and cut, and what happened is legal
 pub record IsKept (cells : List Cell) (log : List Act) : Type 0 where
@@ -34,8 +38,9 @@ pub record Unnamed : Type 0 where
 abbrev pub pending_batch : FrontState → Batch
 pending_batch f = record { first = f.durable; entries = f.service.pending }
 
--- A batch may be cut after this many others: they were stored in this history, it begins where they end, it is not empty, and it finishes
--- only requests that were called in this history, of sessions that were not closed since.
+-- A batch may be cut after this many others: they were stored in this history, it begins where they end, it
+-- is not empty, and it finishes only requests that were called in this history, of sessions that were not
+-- closed since.
 pub record CutsAfter (acts : List Act) (count : ℕ) (batch : Batch) : Type 0 where
   pub begun : ServerState
   pub past : List Act
@@ -53,13 +58,15 @@ pub record WasAppended (before : List Act) (act : Act) (after : List Act) : Type
   pub seen : IsPrefix before earlier
   pub is : after ≡ earlier ++ act ∷ []
 
--- what a call of a connection adds: the session that the connection had, if it had one, with the call's number, request and place
+-- what a call of a connection adds: the session that the connection had, if it had one, with the call's
+-- number, request and place
 abbrev pub HearsCall : List Act → ℕ → Option ℕ → ℕ → ℕ → Request → List Act → Type 0
 HearsCall before conn None place number request after = after ≡ before
-HearsCall before conn (Some session) place number request after = WasAppended before (Called conn session number request place) after
+HearsCall before conn (Some session) place number request after =
+    WasAppended before (Called conn session number request place) after
 
--- what a message of a connection, which had this session or none, adds to a history at this place: that it asks for a session or calls a
--- request, if it does
+-- what a message of a connection, which had this session or none, adds to a history at this place: that it
+-- asks for a session or calls a request, if it does
 abbrev pub Hears : List Act → ℕ → Option ℕ → ℕ → ClientMessage → List Act → Type 0
 Hears before conn had place (Attach session) after = WasAppended before (Asked conn session) after
 Hears before conn had place (Call number request) after = HearsCall before conn had place number request after
@@ -74,11 +81,13 @@ Adds s v found w = WasAppended v.0 s.ask w.0 × IsLegal w.0
 
 -- the cut was added if as many batches had been cut as were expected
 abbrev pub CutsNext : Step Act → View Act ℕ → ℕ → View Act ℕ → Type 0
-CutsNext s v found w = MatchBool (found == s.old) ((c : WasAppended v.0 s.ask w.0) × (length (cuts_in c.earlier) ≡ s.old)) (Unit {0}) × IsLegal w.0
+CutsNext s v found w = MatchBool (found == s.old)
+    ((c : WasAppended v.0 s.ask w.0) × (length (cuts_in c.earlier) ≡ s.old)) (Unit {0}) × IsLegal w.0
 
 -- the store was added if as many batches had been stored as were expected
 abbrev pub AddsNext : Step Act → View Act ℕ → ℕ → View Act ℕ → Type 0
-AddsNext s v found w = MatchBool (found == s.old) ((c : WasAppended v.0 s.ask w.0) × (length (stores_in c.earlier) ≡ s.old)) (Unit {0}) × IsLegal w.0
+AddsNext s v found w = MatchBool (found == s.old)
+    ((c : WasAppended v.0 s.ask w.0) × (length (stores_in c.earlier) ≡ s.old)) (Unit {0}) × IsLegal w.0
 
 -- the answer is how many batches were stored
 abbrev pub Counts : Step Act → View Act ℕ → ℕ → View Act ℕ → Type 0

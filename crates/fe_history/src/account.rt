@@ -1,5 +1,5 @@
-//! The account that a hall, which is what a server's threads share under one lock, leaves at its end (`docs/headline.md`, "Every
-//! acknowledged answer").
+//! The account that a hall, which is what a server's threads share under one lock, leaves at its end
+//! (`docs/headline.md`, "Every acknowledged answer").
 
 ghost use Rattle.std.specs.Prelude.{◌≡◌, true};
 ghost use Rattle.fe_history.specs.Acts.{IsAccountOf, IsLegal};
@@ -76,14 +76,16 @@ impl Account {
         }
     }
 
-    /// Whether the hall's committing side noted every batch in the history. Only a second committing side could make it false.
+    /// Whether the hall's committing side noted every batch in the history. Only a second committing side
+    /// could make it false.
     pub fn own(&self) -> bool
         ensures { result ≡ self.now.own }
     {
         self.own
     }
 
-    /// The receipts of the write sides that were kept: of each connection at most the first 1,024 answers that it took.
+    /// The receipts of the write sides that were kept: of each connection at most the first 1,024 answers
+    /// that it took.
     pub fn receipts(&self) -> &[Receipt]
         ensures { result.now ≡ self.now.receipts }
     {

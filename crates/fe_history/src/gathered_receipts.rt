@@ -1,4 +1,5 @@
-//! The receipts of a hall's write sides, the writing threads of its connections (`docs/headline.md`, "Every acknowledged answer").
+//! The receipts of a hall's write sides, the writing threads of its connections (`docs/headline.md`, "Every
+//! acknowledged answer").
 
 ghost use Rattle.std.specs.Prelude.{◌≡◌, ◌++◌, [], true, false, OnOk, OnErr};
 ghost use Rattle.fe_history.specs.Acts.{EachIssued, GatheredReceipts, GoesOnFrom, Receipts};
@@ -11,7 +12,8 @@ use fe_memory::OutOfMemory;
 use std::alloc::Global;
 use std::marker::Model;
 
-/// The receipts of one write side, and the history in which each of their answers was issued, that is handed out.
+/// The receipts of one write side, and the history in which each of their answers was issued, that is handed
+/// out.
 #[derive(Drop)]
 pub struct Receipts<M: Tally> {
     conn: u64,
@@ -79,7 +81,8 @@ impl<M: Tally> GatheredReceipts<M> {
         }
     }
 
-    /// Adds the receipts of another side of the same hall. If there is no memory for them, it is not whole any more.
+    /// Adds the receipts of another side of the same hall. If there is no memory for them, it is not whole
+    /// any more.
     pub fn add(&mut self, other: Receipts<M>) -> Result<(), OutOfMemory>
         ensures ok { OnOk result
             ((self.new.items ≡ self.old.items ++ other.items) × (self.new.whole ≡ self.old.whole)) }
@@ -94,7 +97,8 @@ impl<M: Tally> GatheredReceipts<M> {
         added
     }
 
-    /// Learns what another side of the same hall saw, and drops that side's receipts. It is not whole any more.
+    /// Learns what another side of the same hall saw, and drops that side's receipts. It is not whole any
+    /// more.
     pub fn learn(&mut self, other: Receipts<M>)
         ensures items { self.new.items ≡ self.old.items }
         ensures whole { self.new.whole ≡ false }

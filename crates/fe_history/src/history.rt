@@ -1,10 +1,12 @@
-//! The history of a hall (`docs/headline.md`, "Every acknowledged answer"). It exists in proofs alone, except for two atomic words
-//! (`Word` of the toolchain's `logbook`), which count the batches that were stored and cut.
+//! The history of a hall (`docs/headline.md`, "Every acknowledged answer"). It exists in proofs alone, except
+//! for two atomic words (`Word` of the toolchain's `logbook`), which count the batches that were stored and
+//! cut.
 
 ghost use Rattle.std.specs.Prelude.{◌≡◌, ◌^◌, ◌==◌, ◌<◌, ◌∷◌, [], true, length, IsTrue, IfSome};
 ghost use mathlib.Core.List.{IsPrefix};
 ghost use Rattle.fe_history.specs.declared.act.Act.TheVariants as act;
-ghost use Rattle.fe_history.specs.Acts.{GoesOnFrom, IsLegal, IsStored, MayBeAppended, StandsIn, WasCut, cuts_in, stores_in};
+ghost use Rattle.fe_history.specs.Acts.{GoesOnFrom, IsLegal, IsStored, MayBeAppended, StandsIn, WasCut};
+ghost use Rattle.fe_history.specs.Acts.{cuts_in, stores_in};
 ghost use Rattle.fe_history.specs.Rules.{WasAppended, CutsAfter, Hears, cuts_of, pending_batch, stores_of};
 
 use crate::account::Account;
@@ -22,7 +24,8 @@ use std::alloc::Global;
 use std::marker::{Model, PhantomData};
 use std::sync::ledger::Book;
 
-/// The rule of the history: its words count the batches that were stored and cut, and each act may follow those before it.
+/// The rule of the history: its words count the batches that were stored and cut, and each act may follow
+/// those before it.
 pub struct Law;
 
 impl Rule<Act, u64> for Law {
@@ -159,7 +162,8 @@ struct Appended<'a, D: Disk> {
     keeper: &'a Keeper<D>,
 }
 
-/// The step that adds a store of that batch, with the moment, by the clock of the disk model, at which its append had ended.
+/// The step that adds a store of that batch, with the moment, by the clock of the disk model, at which its
+/// append had ended.
 struct Storing;
 
 impl Play<Act, u64> for Storing {
@@ -186,7 +190,8 @@ impl Play<Act, u64> for Counting {
     ghost then = { Counts };
 }
 
-/// A history that has just begun. It has no name yet, the type by which contracts tell halls' histories apart: `named` gives it one.
+/// A history that has just begun. It has no name yet, the type by which contracts tell halls' histories
+/// apart: `named` gives it one.
 pub struct NewHistory {
     stores: Word<Act, u64, Law>,
     cuts: Word<Act, u64, Law>,
@@ -215,7 +220,8 @@ impl Model for NewHistory {
 
     ghost view = { λ n. record { book = n.seen.book; acts = n.seen.log } };
 
-    ghost invariant = { λ n. (n.stores ≡ stores_of n.seen.book) × (n.cuts ≡ cuts_of n.seen.book) × IsLegal n.seen.log };
+    ghost invariant = { λ n. (n.stores ≡ stores_of n.seen.book) × (n.cuts ≡ cuts_of n.seen.book)
+        × IsLegal n.seen.log };
 }
 
 impl NewHistory {
@@ -235,7 +241,8 @@ impl NewHistory {
         }
     }
 
-    /// The account of a server that ends before its hall is made: no receipts, and the history so far, which is only its beginning.
+    /// The account of a server that ends before its hall is made: no receipts, and the history so far, which
+    /// is only its beginning.
     pub fn account(&self, alloc: Global) -> Account
         ensures account { result ≡ record { receipts = []; history = self.now.acts; own = true } }
         ensures legal { IsLegal self.now.acts }
@@ -338,8 +345,8 @@ impl<M: Tally> History<M> {
         self.seen.learn(&other.seen);
     }
 
-    /// Adds that an answer was issued: its entry was stored before, or it was kept when the hall began; and its connection asked for its
-    /// session before.
+    /// Adds that an answer was issued: its entry was stored before, or it was kept when the hall began; and
+    /// its connection asked for its session before.
     pub fn issue(&mut self, history_words: &HistoryWords<M>, receipt: Receipt)
         requires { MayBeAppended self.old (act.Issued receipt) }
         ensures { WasAppended self.old (act.Issued receipt) self.new }
@@ -352,8 +359,9 @@ impl<M: Tally> History<M> {
             .load::<Issuing, Nothing>(&mut self.seen, &mut offer);
     }
 
-    /// Adds that a connection asks for a session, or calls a request of the session that it had, if this message does so; `took` shows that
-    /// it was handed to a front. Only the code under the hall's lock has `_mails`, the book of the ledger of mails.
+    /// Adds that a connection asks for a session, or calls a request of the session that it had, if this
+    /// message does so; `took` shows that it was handed to a front. Only the code under the hall's lock has
+    /// `_mails`, the book of the ledger of mails.
     pub fn hear(&mut self, history_words: &HistoryWords<M>, _mails: &Book<M>, took: Took)
         requires asked { IfSome took.had (λ session. StandsIn self.old (act.Asked took.conn session)) }
         ensures heard { Hears self.old took.conn took.had took.place took.message self.new }
@@ -389,7 +397,8 @@ impl<M: Tally> History<M> {
         }
     }
 
-    /// Adds a cut of all that is pending in a front, if the history has this many cuts so far. Returns whether it did.
+    /// Adds a cut of all that is pending in a front, if the history has this many cuts so far. Returns
+    /// whether it did.
     pub fn cut(&mut self, history_words: &HistoryWords<M>, count: u64, front: &Front) -> bool
         requires few { count < 2 ^ 63 }
         requires next { CutsAfter self.old count (pending_batch front.now) }
@@ -414,7 +423,8 @@ impl<M: Tally> History<M> {
         found == count
     }
 
-    /// Adds the store of a batch that was cut and just stored, if the history has this many stores so far. Returns whether it did.
+    /// Adds the store of a batch that was cut and just stored, if the history has this many stores so far.
+    /// Returns whether it did.
     pub(crate) fn store<D: Disk>(
         &mut self,
         history_words: &HistoryWords<M>,

@@ -1,4 +1,5 @@
-//! Part of a hall's account: a receipt is the record of an answer that was handed out (`docs/headline.md`, "Every acknowledged answer").
+//! Part of a hall's account: a receipt is the record of an answer that was handed out (`docs/headline.md`,
+//! "Every acknowledged answer").
 
 ghost use Rattle.std.specs.Prelude.{◌≡◌, ◌++◌, [], false, true, OnOk, OnErr};
 
@@ -43,7 +44,8 @@ impl ReceiptList {
         }
     }
 
-    /// Adds the receipts of one more side. If there is no memory for them, none of them is added, and the list is not whole any more.
+    /// Adds the receipts of one more side. If there is no memory for them, none of them is added, and the
+    /// list is not whole any more.
     pub(crate) fn add(&mut self, items: &[Receipt]) -> Result<(), OutOfMemory>
         ensures ok { OnOk result (self.new ≡ record self.old { items = self.old.items ++ items.now }) }
         ensures err { OnErr result (self.new ≡ record self.old { whole = false }) }

@@ -1,4 +1,5 @@
-//! Part of a hall's history: the batches that its committing thread has stored (`docs/headline.md`, "Every acknowledged answer").
+//! Part of a hall's history: the batches that its committing thread has stored (`docs/headline.md`, "Every
+//! acknowledged answer").
 
 ghost use Rattle.std.specs.Prelude.{◌≡◌, [], MatchBool, OnOk, OnErr};
 ghost use Rattle.fe_history.specs.Acts.{GoesOnFrom, HasMore, HasStoredNext, IsStored, WasCut, stores_in};
@@ -13,13 +14,13 @@ use std::marker::Model;
 /// The most batches that a side notes, that is adds to the history as stored.
 const BATCHES: u64 = 1 << 62;
 
-/// Shows that a batch was not noted: this side had noted another number of batches than were cut before it, or 2^62, or another side had
-/// noted one. Only `StoreSeat::note` makes it.
+/// Shows that a batch was not noted: this side had noted another number of batches than were cut before it,
+/// or 2^62, or another side had noted one. Only `StoreSeat::note` makes it.
 #[derive(Clone, Copy)]
 pub struct Unnoted(());
 
-/// The seat of a hall's committing side, its committing thread: the record of what it stored. Contracts see the history, with the batches
-/// that it noted.
+/// The seat of a hall's committing side, its committing thread: the record of what it stored. Contracts see
+/// the history, with the batches that it noted.
 #[derive(Drop)]
 pub struct StoreSeat<M: Tally> {
     /// How many batches it noted.
@@ -52,8 +53,8 @@ impl<M: Tally> StoreSeat<M> {
         StoreSeat { stored: 0, history }
     }
 
-    /// Notes the batch that a keeper has just stored; `count` batches were cut before it. Nothing changes if this side noted another number
-    /// of batches so far, or 2^62, or if another side noted one.
+    /// Notes the batch that a keeper has just stored; `count` batches were cut before it. Nothing changes if
+    /// this side noted another number of batches so far, or 2^62, or if another side noted one.
     pub fn note<D: Disk>(
         &mut self,
         history_words: &HistoryWords<M>,
@@ -64,7 +65,8 @@ impl<M: Tally> StoreSeat<M> {
     ) -> Result<(), Unnoted>
         requires cut { WasCut cuts.now count batch.now }
         requires stored { IsStored batch.now keeper.now.state }
-        ensures noted { OnOk result (HasStoredNext self.old batch.now (D.moment keeper.now.store.disk) self.new) }
+        ensures noted { OnOk result (HasStoredNext self.old batch.now (D.moment keeper.now.store.disk)
+            self.new) }
         ensures unnoted { OnErr result (self.new ≡ self.old) }
     {
         if self.stored >= BATCHES || self.stored != count {

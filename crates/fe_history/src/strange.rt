@@ -1,11 +1,13 @@
-//! Which receipts are strange: what is kept or what was sent speaks against them (`docs/model.md`, "The hall").
+//! Which receipts are strange: what is kept or what was sent speaks against them (`docs/model.md`, "The
+//! hall").
 
 ghost use Rattle.std.specs.Prelude.{◌≡◌, ◌↔◌, ℕ, IsTrue, Some, All, map, Any, IfSome, IfNone};
 ghost use Rattle.std.specs.Bool.{OnTrue, OnFalse};
 ghost use Rattle.std.specs.FinMap.{get};
 ghost use Rattle.fe_state.specs.declared.kept.Kept.{Kept};
 ghost use Rattle.fe_wire.specs.declared.client_message.ClientMessage.TheVariants.{Call};
-ghost use Rattle.fe_history.specs.Receipts.{IsAsIssued, IsCalledBehind, WasSent, AreWhole, IsStrange, IsBorneOut, IsFirstStrange, Keeps};
+ghost use Rattle.fe_history.specs.Receipts.{IsAsIssued, IsCalledBehind, WasSent, AreWhole, IsStrange};
+ghost use Rattle.fe_history.specs.Receipts.{IsBorneOut, IsFirstStrange, Keeps};
 
 use crate::receipt::Receipt;
 use fe_front::is_same;
@@ -21,7 +23,8 @@ pub fn first_strange(
     sent: &[Vec<ClientMessage>],
     receipts: &[Receipt],
 ) -> Option<u64>
-    ensures some { IfSome result (λ place. IsFirstStrange state.now (map (λ v. v.items) sent.now) receipts.now place) }
+    ensures some { IfSome result (λ place. IsFirstStrange state.now (map (λ v. v.items) sent.now) receipts.now
+        place) }
     ensures none { IfNone result (All (IsBorneOut state.now (map (λ v. v.items) sent.now)) receipts.now) }
 {
     for receipt in receipts {
@@ -54,7 +57,8 @@ fn is_strange(state: &State, sent: &[Vec<ClientMessage>], receipt: &Receipt) -> 
 
 /// Whether a state keeps something else than a receipt says, at the receipt's place.
 fn keeps_other(state: &State, receipt: &Receipt) -> bool
-    ensures other { OnTrue result ((session : ℕ) × (number : ℕ) × (k : Kept) × Keeps state.now session number k
+    ensures other { OnTrue result ((session : ℕ) × (number : ℕ) × (k : Kept)
+        × Keeps state.now session number k
         × (k.place ≡ receipt.now.place) × (IsAsIssued receipt.now session number k → ⊥)) }
     ensures none { OnFalse result ((session : ℕ) (number : ℕ) (k : Kept) → Keeps state.now session number k
         → k.place ≡ receipt.now.place → IsAsIssued receipt.now session number k) }
@@ -90,7 +94,8 @@ fn is_as_issued(receipt: &Receipt, session: u64, number: u64, kept: &Kept) -> bo
     session == receipt.session && number == receipt.number && kept.answer == receipt.answer
 }
 
-/// Whether the lists hold all that was sent, and none has a call of the receipt's number with this request behind an attach of its session.
+/// Whether the lists hold all that was sent, and none has a call of the receipt's number with this request
+/// behind an attach of its session.
 fn is_missed(sent: &[Vec<ClientMessage>], receipt: &Receipt, request: &Request) -> bool
     ensures missed { OnTrue result (AreWhole (map (λ v. v.items) sent.now)
         × (WasSent (map (λ v. v.items) sent.now) receipt.now.session receipt.now.number request.now → ⊥)) }
@@ -102,9 +107,11 @@ fn is_missed(sent: &[Vec<ClientMessage>], receipt: &Receipt, request: &Request) 
         && !was_sent(sent, receipt, request)
 }
 
-/// Whether one of the lists has a call of the receipt's number with this request behind an attach of its session.
+/// Whether one of the lists has a call of the receipt's number with this request behind an attach of its
+/// session.
 fn was_sent(sent: &[Vec<ClientMessage>], receipt: &Receipt, request: &Request) -> bool
-    ensures { IsTrue result ↔ WasSent (map (λ v. v.items) sent.now) receipt.now.session receipt.now.number request.now }
+    ensures { IsTrue result ↔ WasSent (map (λ v. v.items) sent.now) receipt.now.session receipt.now.number
+        request.now }
 {
     sent.iter().any(|messages| {
         is_called_behind(

@@ -5,8 +5,9 @@ ghost use Rattle.std.specs.Prelude.{ℕ};
 use std::marker::Brand;
 use std::sync::ledger::Ledger;
 
-/// A ledger of a hall, divided into 2^62 + 1 parts whose counts add up to its own: one for each connection that may ever be made
-/// and one for the hall. It exists in proofs alone. The ledger of the mails that were taken also names the hall's history.
+/// A ledger of a hall, divided into 2^62 + 1 parts whose counts add up to its own: one for each connection
+/// that may ever be made and one for the hall. It exists in proofs alone. The ledger of the mails that were
+/// taken also names the hall's history.
 pub trait Tally: Ledger {
     ghost use Rattle.logbook.specs.Pages.{Book};
 

@@ -1,13 +1,16 @@
--- What an image, all bytes of a device, holds: the one of two slots that counts, and what is in it (`docs/store.md`, "Two slots").
+-- What an image, all bytes of a device, holds: the one of two slots that counts, and what is in it
+-- (`docs/store.md`, "Two slots").
 use Rattle.std.specs.Prelude.{◌≡◌, ℕ, ◌+◌, ◌-◌, ◌≤◌, List, [], ◌∷◌, ◌++◌, length, ◌⊎◌, ◌<◌}
 use Rattle.byteorder.specs.Endian.{big_bytes}
 use Rattle.fe_disk.specs.Disk.{bytes_at}
-use Rattle.fe_journal.specs.Layout.{number_at, IsGateOpen, IsGateShut, area_bytes, empty_area_room, device_bytes, header_of, gate_of, image_of, area_of, other_than}
+use Rattle.fe_journal.specs.Layout.{number_at, IsGateOpen, IsGateShut, area_bytes, empty_area_room}
+use Rattle.fe_journal.specs.Layout.{device_bytes, header_of, gate_of, image_of, area_of, other_than}
 use Rattle.fe_format.specs.Layout.{IsPayloadLength, magic_of, IsImageLength}
 use Rattle.fe_format.specs.declared.format.Format.{Format}
 
--- ---- groups, of a journal area, which begins at `area` in a list of bytes. A group is a gate, the length of its payload in four
--- bytes, and the payload. A gate is a byte that is open at 1: the group counts then (`docs/formats.md`, "Journal area").
+-- ---- groups, of a journal area, which begins at `area` in a list of bytes. A group is a gate, the length
+-- of its payload in four bytes, and the payload. A gate is a byte that is open at 1: the group counts then
+-- (`docs/formats.md`, "Journal area").
 
 -- a payload of this length is allowed, and fits with its gate at `at` and one more gate after it
 pub record GroupFits (format : Format) (at n : ℕ) : Type 0 where
@@ -24,7 +27,8 @@ pub record IsGroup (format : Format) (bytes : List ℕ) (area at : ℕ) (payload
 -- these groups stand one after the other, the gate of the first at `at`
 abbrev pub StandFrom : Format → List ℕ → ℕ → ℕ → List (List ℕ) → Type 0
 StandFrom format bytes area at [] = Unit {0}
-StandFrom format bytes area at (payload ∷ payloads) = IsGroup format bytes area at payload × StandFrom format bytes area (at + (5 + length payload)) payloads
+StandFrom format bytes area at (payload ∷ payloads) =
+    IsGroup format bytes area at payload × StandFrom format bytes area (at + (5 + length payload)) payloads
 
 -- how many bytes groups take: the offset of the gate after them
 abbrev pub end_of_groups : List (List ℕ) → ℕ
@@ -32,7 +36,8 @@ end_of_groups [] = 0
 end_of_groups (payload ∷ payloads) = 5 + length payload + end_of_groups payloads
 
 -- The groups from `at` on, up to the first gate that is not open.
-pub record HoldsGroups (format : Format) (bytes : List ℕ) (area at : ℕ) (payloads : List (List ℕ)) : Type 0 where
+pub record HoldsGroups (format : Format) (bytes : List ℕ) (area at : ℕ) (payloads : List (List ℕ)) : Type
+    0 where
   pub stand : StandFrom format bytes area at payloads
   pub ended : IsGateShut bytes (area + (at + end_of_groups payloads))
 
@@ -77,13 +82,14 @@ generation_at image slot = number_at image (header_of slot + 8) 8
 abbrev pub image_length_at : List ℕ → ℕ → ℕ
 image_length_at image slot = number_at image (header_of slot + 16) 4
 
--- A slot counts if it alone is valid, or has the greater generation of two valid ones. Of equal generations slot 0 counts, whatever the
--- formats.
+-- A slot counts if it alone is valid, or has the greater generation of two valid ones. Of equal generations
+-- slot 0 counts, whatever the formats.
 pub record SlotCounts (image : List ℕ) (slot : ℕ) (format : Format) : Type 0 where
   pub is_slot : slot < 2
   pub valid : IsValidAs image slot format
   pub ahead : (f : Format) → IsValidAs image (other_than slot) f
-      → (generation_at image (other_than slot) < generation_at image slot) ⊎ ((generation_at image (other_than slot) ≡ generation_at image slot) × (slot ≡ 0))
+      → (generation_at image (other_than slot) < generation_at image slot)
+      ⊎ ((generation_at image (other_than slot) ≡ generation_at image slot) × (slot ≡ 0))
 
 -- an image of the device's size holds these contents
 pub record Holds (c : Contents) (image : List ℕ) : Type 0 where
@@ -98,15 +104,23 @@ pub record Holds (c : Contents) (image : List ℕ) : Type 0 where
 
 -- the contents with one group more at the end
 abbrev pub with_group : Contents → List ℕ → Contents
-with_group c payload = record { slot = c.slot; format = c.format; generation = c.generation; image = c.image; groups = c.groups ++ payload ∷ [] }
+with_group c payload = record {
+  slot = c.slot;
+  format = c.format;
+  generation = c.generation;
+  image = c.image;
+  groups = c.groups ++ payload ∷ [];
+}
 
 -- an image that holds one contents or the other
 abbrev pub HoldsEither : Contents → Contents → List ℕ → Type 0
 HoldsEither before after image = Holds before image ⊎ Holds after image
 
--- the image of an empty state, in both formats: place 0 (the number of entries so far), next array id 1, no arrays, no sessions
+-- the image of an empty state, in both formats: place 0 (the number of entries so far), next array id 1, no
+-- arrays, no sessions
 abbrev pub empty_image : List ℕ
-empty_image = 0 ∷ 0 ∷ 0 ∷ 0 ∷ 0 ∷ 0 ∷ 0 ∷ 0 ∷ 0 ∷ 0 ∷ 0 ∷ 0 ∷ 0 ∷ 0 ∷ 0 ∷ 1 ∷ 0 ∷ 0 ∷ 0 ∷ 0 ∷ 0 ∷ 0 ∷ 0 ∷ 0 ∷ []
+empty_image =
+    0 ∷ 0 ∷ 0 ∷ 0 ∷ 0 ∷ 0 ∷ 0 ∷ 0 ∷ 0 ∷ 0 ∷ 0 ∷ 0 ∷ 0 ∷ 0 ∷ 0 ∷ 1 ∷ 0 ∷ 0 ∷ 0 ∷ 0 ∷ 0 ∷ 0 ∷ 0 ∷ 0 ∷ []
 
 -- the contents of a new store
 abbrev pub first_contents : Format → Contents

@@ -1,9 +1,11 @@
--- What opening reads of a store, step by step, and what it has read then: the slot that counts, its journal area and its image
--- (`docs/store.md`).
+-- What opening reads of a store, step by step, and what it has read then: the slot that counts, its journal
+-- area and its image (`docs/store.md`).
 use Rattle.std.specs.Prelude.{◌≡◌, ◌⊎◌, ◌≤◌, ◌<◌, ◌+◌, ◌-◌, ℕ, List, Option, Some, None, vec_len}
-use Rattle.fe_journal.specs.Layout.{number_at, IsGateOpen, header_bytes, header_of, area_of, area_bytes, image_of}
+use Rattle.fe_journal.specs.Layout.{number_at, IsGateOpen, header_bytes, header_of, area_of, area_bytes}
+use Rattle.fe_journal.specs.Layout.{image_of}
 use Rattle.fe_format.specs.Layout.{magic_of, IsImageLength}
-use Rattle.fe_journal.specs.Contents.{StandFrom, HoldsGroups, end_of_groups, GroupFits, IsValidAs, SlotCounts, generation_at, image_length_at}
+use Rattle.fe_journal.specs.Contents.{StandFrom, HoldsGroups, end_of_groups, GroupFits, IsValidAs, SlotCounts}
+use Rattle.fe_journal.specs.Contents.{generation_at, image_length_at}
 use Rattle.fe_format.specs.declared.format.Format.{Format}
 use Rattle.fe_journal.specs.declared.header.Header.{Header}
 use Rattle.fe_journal.specs.declared.fault.StoreFault.{StoreFault}
@@ -26,15 +28,18 @@ pub record IsHeaderAt (bytes : List ℕ) (at : ℕ) (header : Header) : Type 0 w
   pub length_is : number_at bytes (at + 16) 4 ≡ header.image_length
 
 abbrev pub IsHeader : List ℕ → ℕ → Option Header → Type 0
-IsHeader bytes at None = (format : Format) → IsGateOpen bytes (at + (header_bytes - 1)) → number_at bytes at 8 ≡ magic_of format → ⊥
+IsHeader bytes at None = (format : Format) → IsGateOpen bytes (at + (header_bytes - 1))
+    → number_at bytes at 8 ≡ magic_of format → ⊥
 IsHeader bytes at (Some header) = IsHeaderAt bytes at header
 
 -- which of two slots' headers counts: the one with the greater generation, and the first of equal ones
 abbrev pub IsCounting : Option Header → Option Header → Option (ℕ × Header) → Type 0
 IsCounting first second None = (first ≡ None) × (second ≡ None)
 IsCounting first second (Some (slot, header)) =
-    ((slot ≡ 0) × (first ≡ Some header) × ((other : Header) → second ≡ Some other → other.generation ≤ header.generation))
-    ⊎ ((slot ≡ 1) × (second ≡ Some header) × ((other : Header) → first ≡ Some other → other.generation < header.generation))
+    ((slot ≡ 0) × (first ≡ Some header) × ((other : Header) → second ≡ Some other
+    → other.generation ≤ header.generation))
+    ⊎ ((slot ≡ 1) × (second ≡ Some header) × ((other : Header) → first ≡ Some other
+    → other.generation < header.generation))
 
 -- the length after the gate, if a group with a payload of that length fits
 abbrev pub IsFitting : Format → List ℕ → ℕ → Option ℕ → Type 0
@@ -65,14 +70,16 @@ pub record GroupsEndAt (format : Format) (bytes : List ℕ) (at : ℕ) : Type 0 
 abbrev pub HeaderFault : ℕ → Header → StoreFault → Type 0
 HeaderFault slot header (Damaged offset) =
     ((header.generation ≡ 0) × (offset ≡ header_of slot + 8))
-    ⊎ ((1 ≤ header.generation) × (IsImageLength header.format header.image_length → ⊥) × (offset ≡ header_of slot + 16))
+    ⊎ ((1 ≤ header.generation) × (IsImageLength header.format header.image_length → ⊥)
+    × (offset ≡ header_of slot + 16))
 HeaderFault slot header Unformatted = ⊥
 HeaderFault slot header Device = ⊥
 HeaderFault slot header (NoMemory error) = ⊥
 
 -- what is wrong with the groups of the slot's journal area
 abbrev pub GroupFault : ℕ → Format → List ℕ → StoreFault → Type 0
-GroupFault slot format area (Damaged offset) = (at : ℕ) × (at < area_bytes) × IsOddAt format area at × (offset ≡ area_of slot + at)
+GroupFault slot format area (Damaged offset) =
+    (at : ℕ) × (at < area_bytes) × IsOddAt format area at × (offset ≡ area_of slot + at)
 GroupFault slot format area Unformatted = ⊥
 GroupFault slot format area Device = ⊥
 GroupFault slot format area (NoMemory error) = ⊥
@@ -86,7 +93,8 @@ AsksNothing model old new = MakesNoCall model.size model.failures model.calls mo
 -- the slot that counts, with its header's fields; or no slot is valid
 abbrev pub CountsAs : List ℕ → Option (ℕ × Header) → Type 0
 CountsAs image None = (slot : ℕ) (format : Format) → slot < 2 → IsValidAs image slot format → ⊥
-CountsAs image (Some (slot, header)) = SlotCounts image slot header.format × (generation_at image slot ≡ header.generation) × (image_length_at image slot ≡ header.image_length)
+CountsAs image (Some (slot, header)) = SlotCounts image slot header.format
+    × (generation_at image slot ≡ header.generation) × (image_length_at image slot ≡ header.image_length)
 
 -- what was read of a slot: its journal area, with the offset where its groups end, and its image
 pub record IsSlotRead (image : List ℕ) (slot : ℕ) (header : Header) (parts : SlotParts) : Type 0 where
@@ -96,7 +104,8 @@ pub record IsSlotRead (image : List ℕ) (slot : ℕ) (header : Header) (parts :
 
 -- a slot, and a header that allows it to be read
 abbrev pub IsReadable : ℕ × Header → Type 0
-IsReadable (slot, header) = (slot < 2) × (1 ≤ header.generation) × IsImageLength header.format header.image_length
+IsReadable (slot, header) =
+    (slot < 2) × (1 ≤ header.generation) × IsImageLength header.format header.image_length
 
 -- over any disk: how long the area is that was read, and that its groups end in it
 pub record AreParts (parts : SlotParts) : Type 0 where

@@ -1,5 +1,5 @@
-// The two orders of writing that every crash promise rests on. A gate is a byte that makes what it guards count, if it
-// is 1 (`docs/store.md`, "Gates").
+// The two orders of writing that every crash promise rests on. A gate is a byte that makes what it guards
+// count, if it is 1 (`docs/store.md`, "Gates").
 ghost use Rattle.std.specs.Prelude.{◌≡◌, ◌+◌, ◌≤◌, length, OnOk};
 ghost use Rattle.fe_disk.specs.Disk.{IsTorn, LeavesJust};
 ghost use Rattle.fe_disk.specs.Runs.{LeavesOnly, Asks, AsksAtMost};
@@ -33,8 +33,8 @@ pub fn commit<D: Disk>(
     disk.sync()
 }
 
-/// Closes the gate if it is open. A closed gate is not written, since a torn write could open it. One read, and two
-/// more device calls if the gate is open.
+/// Closes the gate if it is open. A closed gate is not written, since a torn write could open it. One read,
+/// and two more device calls if the gate is open.
 pub fn shut<D: Disk>(disk: &mut D, gate: usize) -> Result<(), DeviceFault>
     requires gate_fits { gate + 1 ≤ D.size disk.old }
 

@@ -1,5 +1,5 @@
-//! The faults of a store's journal (`docs/store.md`, "When the device fails"). `docs/formats.md`, "Device", says when a slot is valid,
-//! and which one counts; "Journal area", at which offset it is damaged.
+//! The faults of a store's journal (`docs/store.md`, "When the device fails"). `docs/formats.md`, "Device",
+//! says when a slot is valid, and which one counts; "Journal area", at which offset it is damaged.
 
 use fe_disk::DeviceFault;
 use fe_memory::OutOfMemory;

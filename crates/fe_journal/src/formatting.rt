@@ -5,7 +5,8 @@ ghost use Rattle.fe_memory.specs.Memory.{out_of_memory};
 ghost use Rattle.fe_disk.specs.Disk.{LeavesJust};
 ghost use Rattle.fe_disk.specs.Runs.{Asks, without_disk};
 ghost use Rattle.fe_journal.specs.Layout.{device_bytes, area_bytes};
-ghost use Rattle.fe_journal.specs.Journal.{KeepsContents, new_journal, Formats, disk_left, IsCleared, IsFirstSlot};
+ghost use Rattle.fe_journal.specs.Journal.{KeepsContents, new_journal, Formats, disk_left, IsCleared};
+ghost use Rattle.fe_journal.specs.Journal.{IsFirstSlot};
 ghost use Rattle.fe_journal.specs.Contents.{Holds, first_contents};
 ghost use Rattle.fe_format.specs.declared.format.Format.TheVariants.{Two};
 ghost use Rattle.fe_journal.specs.declared.fault.StoreFault.TheVariants.{Unformatted, Device, NoMemory};
@@ -18,16 +19,17 @@ use crate::{Blank, Format, Journal, StoreFault};
 use fe_disk::{DeviceFault, Disk};
 use std::alloc::Global;
 
-/// The image of a state with no entries, arrays or sessions: place 0 (the number of entries so far), next array id 1. It is the same in
-/// both formats.
+/// The image of a state with no entries, arrays or sessions: place 0 (the number of entries so far), next
+/// array id 1. It is the same in both formats.
 const EMPTY_IMAGE: [u8; 24] = [
     0, 0, 0, 0, 0, 0, 0, 0, 0, 0, 0, 0, 0, 0, 0, 1, 0, 0, 0, 0, 0, 0, 0, 0,
 ];
 
 impl<D: Disk> Journal<D> {
-    /// Makes a new store of format 2 on the device, which an opening found unformatted. `Unformatted` (the device doesn't have the size of
-    /// a store) and `NoMemory` leave the device alone. If formatting stops, or a device call fails, nothing is promised about the
-    /// device's bytes, and it has to be opened and formatted again.
+    /// Makes a new store of format 2 on the device, which an opening found unformatted. `Unformatted` (the
+    /// device doesn't have the size of a store) and `NoMemory` leave the device alone. If formatting stops,
+    /// or a device call fails, nothing is promised about the device's bytes, and it has to be opened and
+    /// formatted again.
     pub fn format(alloc: Global, blank: Blank<D>) -> Result<Journal<D>, (StoreFault, D)>
         ensures formatted { D.honest blank
             → IfOk result (λ journal. KeepsContents D.Disk journal (first_contents Two) None) }
@@ -93,7 +95,8 @@ fn shut_both<D: Disk>(disk: &mut D) -> Result<(), DeviceFault>
     disk.sync()
 }
 
-// Writes the header's fields and the empty image into slot 0, once the gates are closed on the disk. Two device calls.
+// Writes the header's fields and the empty image into slot 0, once the gates are closed on the disk. Two
+// device calls.
 fn write_first<D: Disk>(disk: &mut D, format: Format) -> Result<(), DeviceFault>
     requires device { D.size disk.old ≡ device_bytes }
     requires settled { D.honest disk.old → LeavesJust (D.seen disk.old) (D.may_leave disk.old) }

@@ -1,10 +1,12 @@
-ghost use Rattle.std.specs.Prelude.{◌≡◌, ◌+◌, ◌≤◌, ◌<◌, length, Option, Some, None, false, vec_len, IsSomeAnd, IfSome, OnOk};
+ghost use Rattle.std.specs.Prelude.{◌≡◌, ◌+◌, ◌≤◌, ◌<◌, length, Option, Some, None, false, vec_len};
+ghost use Rattle.std.specs.Prelude.{IsSomeAnd, IfSome, OnOk};
 ghost use Rattle.fe_disk.specs.Disk.{MakesJust};
 ghost use Rattle.fe_disk.specs.Runs.{LeavesOnly};
 ghost use Rattle.fe_journal.specs.Layout.{device_bytes, area_bytes, slice_bytes, other_than, gate_of};
 ghost use Rattle.fe_format.specs.Layout.{IsPayloadLength, IsImageLength};
 ghost use Rattle.fe_journal.specs.Contents.{room_at, end_of_groups, Contents, HoldsEither, Holds, with_group};
-ghost use Rattle.fe_journal.specs.Journal.{Shuts, Draft, KeepsContents, CallEnds, new_draft, with_slice, IsCatchUp, catch_up_groups, with_draft};
+ghost use Rattle.fe_journal.specs.Journal.{Shuts, Draft, KeepsContents, CallEnds, new_draft, with_slice};
+ghost use Rattle.fe_journal.specs.Journal.{IsCatchUp, catch_up_groups, with_draft};
 
 use crate::begun::Begun;
 use crate::commit::commit;
@@ -15,11 +17,11 @@ use crate::{Format, JournalFault};
 use fe_disk::Disk;
 use std::marker::Model;
 
-/// The journal of an opened store. Groups are appended after the image of the slot that counts, while an image is
-/// written into the other slot in pieces, until that slot takes over (`docs/store.md`).
+/// The journal of an opened store. Groups are appended after the image of the slot that counts, while an
+/// image is written into the other slot in pieces, until that slot takes over (`docs/store.md`).
 ///
-/// After a fault of the device `append_group` and the three calls of a slot return `Failed` and make no device call. Opening the store
-/// again says what was stored. These four calls allocate no memory.
+/// After a fault of the device `append_group` and the three calls of a slot return `Failed` and make no
+/// device call. Opening the store again says what was stored. These four calls allocate no memory.
 pub struct Journal<D: Disk> {
     disk: D,
     buffer: Vec<u8>,
@@ -181,7 +183,10 @@ impl<D: Disk> Journal<D> {
             → OnOk result (KeepsContents D.Disk self.new (with_group c payload.now) draft) }
 
         ensures value { OnOk result
-            (self.new ≡ record self.old { disk = self.new.disk; used = self.old.used + (5 + length payload.now) }) }
+            (self.new ≡ record self.old {
+              disk = self.new.disk;
+              used = self.old.used + (5 + length payload.now);
+            }) }
         ensures made { OnOk result (MakesJust 0 2 2 (D.calls self.old.disk) (D.calls self.new.disk)) }
         ensures ends { CallEnds D.Disk 0 2 2 result self.old self.new }
     {
@@ -220,7 +225,12 @@ impl<D: Disk> Journal<D> {
 
         ensures value { OnOk result (self.new ≡ record self.old {
           disk = self.new.disk;
-          begun = Some (record { format = format; generation = generation; image_length = image_length; written = 0 });
+          begun = Some (record {
+            format = format;
+            generation = generation;
+            image_length = image_length;
+            written = 0;
+          });
         }) }
         ensures made { D.honest self.old.disk
             → OnOk result (Shuts (D.seen self.old.disk) (gate_of (other_than self.old.slot)) 1
@@ -284,8 +294,9 @@ impl<D: Disk> Journal<D> {
         Ok(())
     }
 
-    /// Finishes the slot begun, whose image is whole. What came since it was begun, if anything, goes into its journal
-    /// area as one group, and then its gate is opened. From then on the slot counts. Four device calls.
+    /// Finishes the slot begun, whose image is whole. What came since it was begun, if anything, goes into
+    /// its journal area as one group, and then its gate is opened. From then on the slot counts. Four device
+    /// calls.
     pub fn slot_finish(&mut self, catch_up: &[u8]) -> Result<(), JournalFault>
         requires begun { IsSomeAnd self.old.begun
             (λ b. (b.written ≡ b.image_length) × IsCatchUp b.format catch_up.now) }

@@ -1,10 +1,13 @@
-//! Laws of what the bytes of a device hold, in which no code occurs (`docs/model.md`, "The journal"), and one that the code's sizes and
-//! offsets are those of the definitions.
+//! Laws of what the bytes of a device hold, in which no code occurs (`docs/model.md`, "The journal"), and one
+//! that the code's sizes and offsets are those of the definitions.
 
 ghost use Rattle.std.specs.Prelude.{◌≡◌};
 ghost use Rattle.fe_journal.specs.Damage.{HasOneContents, IsHeldOrRefused};
-ghost use Rattle.fe_journal.specs.Layout.{header_bytes, area_begin, area_bytes, slot_bytes, device_bytes, empty_area_room, slice_bytes};
-ghost use Rattle.fe_journal.specs.declared.layout.TheConstants.{HEADER_BYTES, AREA_BEGIN, AREA_BYTES, SLOT_BYTES, DEVICE_BYTES, LONGEST_PAYLOAD, SLICE_BYTES};
+ghost use Rattle.fe_journal.specs.Layout.{header_bytes, area_begin, area_bytes, slot_bytes, device_bytes};
+ghost use Rattle.fe_journal.specs.Layout.{empty_area_room, slice_bytes};
+ghost use Rattle.fe_journal.specs.declared.layout.TheConstants.{HEADER_BYTES, AREA_BEGIN, AREA_BYTES};
+ghost use Rattle.fe_journal.specs.declared.layout.TheConstants.{SLOT_BYTES, DEVICE_BYTES, LONGEST_PAYLOAD};
+ghost use Rattle.fe_journal.specs.declared.layout.TheConstants.{SLICE_BYTES};
 
 /// The bytes of a device hold at most one contents.
 pub fn one_contents()
@@ -16,8 +19,8 @@ pub fn held_or_refused()
     ensures { IsHeldOrRefused }
 {}
 
-/// The constants of `layout.rt` are the sizes and offsets of the definitions (`docs/formats.md`, "Device"). Contracts
-/// are stated with the definitions, and this law fails if a constant differs from its definition.
+/// The constants of `layout.rt` are the sizes and offsets of the definitions (`docs/formats.md`, "Device").
+/// Contracts are stated with the definitions, and this law fails if a constant differs from its definition.
 pub fn layout_is()
     ensures header { HEADER_BYTES ≡ header_bytes }
     ensures begin { AREA_BEGIN ≡ area_begin }

@@ -16,7 +16,8 @@ const SLOT_BYTES: usize = AREA_BEGIN + AREA_BYTES;
 /// The length of a device, in bytes: two slots.
 pub const DEVICE_BYTES: usize = 2 * SLOT_BYTES;
 
-/// The length in bytes of the longest payload that fits into an empty journal area, with its gate, its length and one more gate.
+/// The length in bytes of the longest payload that fits into an empty journal area, with its gate, its length
+/// and one more gate.
 pub const LONGEST_PAYLOAD: u32 = AREA_BYTES as u32 - 6;
 
 /// The length of the longest slice of an image that is written at a time, in bytes.

@@ -1,6 +1,7 @@
 //! The journal of a store: two slots on a device, each with an image and the groups after it.
 //!
-//! It knows bytes, gates, generations and lengths, and not what a payload or an image says. `docs/store.md` says what these are.
+//! It knows bytes, gates, generations and lengths, and not what a payload or an image says. `docs/store.md`
+//! says what these are.
 #![tactic(auto)]
 
 mod begun;

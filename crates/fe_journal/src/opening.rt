@@ -1,12 +1,13 @@
-//! Opening a store for the journal, which knows the bytes of its image and groups, and not what they say (`docs/store.md`, "Opening a
-//! store").
+//! Opening a store for the journal, which knows the bytes of its image and groups, and not what they say
+//! (`docs/store.md`, "Opening a store").
 
 ghost use Rattle.std.specs.Prelude.{◌≡◌, IfOk, IfErr};
 ghost use Rattle.fe_disk.specs.Runs.{without_disk};
 ghost use Rattle.fe_journal.specs.Damage.{IsUnformatted};
 ghost use Rattle.fe_journal.specs.Layout.{device_bytes};
 ghost use Rattle.fe_journal.specs.Journal.{IsIdle};
-ghost use Rattle.fe_journal.specs.Found.{FindsStore, AreListed, AsksToOpen, disk_after, refusal, told, BlankIsTold};
+ghost use Rattle.fe_journal.specs.Found.{FindsStore, AreListed, AsksToOpen, disk_after, refusal, told};
+ghost use Rattle.fe_journal.specs.Found.{BlankIsTold};
 ghost use Rattle.fe_journal.specs.declared.fault.StoreFault.TheVariants.{Device, Unformatted};
 
 use crate::layout::area_of;
@@ -16,8 +17,8 @@ use fe_disk::Disk;
 use std::alloc::Global;
 use std::marker::Model;
 
-/// An opened store: its journal, which goes on after the groups, the bytes of the state's image, and a cursor before
-/// the first group.
+/// An opened store: its journal, which goes on after the groups, the bytes of the state's image, and a cursor
+/// before the first group.
 #[derive(Drop)]
 pub struct Found<D: Disk> {
     pub journal: Journal<D>,
@@ -25,7 +26,8 @@ pub struct Found<D: Disk> {
     pub groups: Groups,
 }
 
-/// A disk that an opening found unformatted. Only `Journal::find` makes one, and formatting takes nothing else.
+/// A disk that an opening found unformatted. Only `Journal::find` makes one, and formatting takes nothing
+/// else.
 pub struct Blank<D: Disk> {
     disk: D,
 }
@@ -96,7 +98,8 @@ impl<D: Disk> Journal<D> {
     /// The fault of a damaged store is the first thing wrong in the slot that counts: its generation,
     /// its image's length, the lengths of its groups (`docs/formats.md`, "Device" and "Journal area").
     pub fn find(alloc: Global, disk: D) -> Result<Found<D>, Unopened<StoreFault, D>>
-        // Of an honest disk: what is found is what reads give, a reported fault is the store's, and it is only synced and read.
+        // Of an honest disk: what is found is what reads give, a reported fault is the store's, and it is
+        // only synced and read.
         ensures finds { D.honest disk → FindsStore D.Disk disk (told Unformatted result) }
 
         // Over any disk, no slot is begun and no call has failed.

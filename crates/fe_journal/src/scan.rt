@@ -1,4 +1,5 @@
-//! A pass over the lengths of all groups of a journal area, which finds their end (`docs/formats.md`, "Journal area").
+//! A pass over the lengths of all groups of a journal area, which finds their end (`docs/formats.md`,
+//! "Journal area").
 
 ghost use Rattle.std.specs.Prelude.{◌≡◌, ◌<◌, length, Option, Some, None, IfOk, IfErr};
 ghost use Rattle.fe_journal.specs.Layout.{area_bytes};

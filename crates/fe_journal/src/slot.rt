@@ -1,9 +1,11 @@
-// How a slot that does not count is begun: its gate is closed, and then its header is written (`docs/store.md`).
+// How a slot that does not count is begun: its gate is closed, and then its header is written
+// (`docs/store.md`).
 ghost use Rattle.std.specs.Prelude.{◌≡◌, ◌<◌, ◌^◌, ℕ, List, OnOk};
 ghost use Rattle.fe_disk.specs.Disk.{LeavesJust};
 ghost use Rattle.fe_disk.specs.Runs.{LeavesOnly, AsksAtMost};
 ghost use Rattle.fe_journal.specs.Layout.{device_bytes, gate_of};
-ghost use Rattle.fe_journal.specs.Journal.{header_fields, IsHeaderTorn, IsLeftInBeginning, IsSlotBegun, Shuts};
+ghost use Rattle.fe_journal.specs.Journal.{header_fields, IsHeaderTorn, IsLeftInBeginning, IsSlotBegun};
+ghost use Rattle.fe_journal.specs.Journal.{Shuts};
 
 use crate::Format;
 use crate::commit::shut;
@@ -27,9 +29,11 @@ pub fn begin_slot<D: Disk>(
     ensures any_moment { D.honest disk.old → LeavesJust (D.seen disk.old) (D.may_leave disk.old)
         → LeavesOnly D.Disk disk.old disk.new (IsLeftInBeginning (D.seen disk.old) slot) }
     ensures begun { D.honest disk.old → OnOk result
-        (IsSlotBegun (D.seen disk.old) slot (header_fields format generation image_length) (D.seen disk.new)) }
+        (IsSlotBegun (D.seen disk.old) slot (header_fields format generation image_length)
+        (D.seen disk.new)) }
     ensures left { D.honest disk.old → LeavesJust (D.seen disk.old) (D.may_leave disk.old)
-        → OnOk result ((image : List ℕ) → D.may_leave disk.new image → IsHeaderTorn (D.seen disk.old) slot image) }
+        → OnOk result ((image : List ℕ) → D.may_leave disk.new image
+        → IsHeaderTorn (D.seen disk.old) slot image) }
 
     ensures made { D.honest disk.old
         → OnOk result (Shuts (D.seen disk.old) (gate_of slot) 1 (D.calls disk.old) (D.calls disk.new)) }

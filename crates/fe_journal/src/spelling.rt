@@ -1,5 +1,5 @@
-//! The bytes that the journal writes: header fields (`docs/formats.md`, "Device"), groups, and the beginning of a journal area
-//! (`docs/formats.md`, "Journal area").
+//! The bytes that the journal writes: header fields (`docs/formats.md`, "Device"), groups, and the beginning
+//! of a journal area (`docs/formats.md`, "Journal area").
 
 ghost use Rattle.std.specs.Prelude.{◌≡◌, ◌+◌, ◌≤◌, ◌<◌, ◌^◌, ◌∷◌, length};
 ghost use Rattle.fe_journal.specs.Contents.{after_gate};
@@ -20,7 +20,8 @@ pub fn header_fields(format: Format, generation: u64, image_length: usize) -> [u
     fields
 }
 
-/// Puts an open gate, the payload's length, the payload and a closed gate into the buffer. Returns how many bytes that is.
+/// Puts an open gate, the payload's length, the payload and a closed gate into the buffer. Returns how many
+/// bytes that is.
 pub fn put_group(buffer: &mut [u8], payload: &[u8]) -> usize
     requires room { 6 + length payload.now ≤ length buffer.old }
     requires short { length payload.now < 2 ^ 32 }
@@ -36,8 +37,8 @@ pub fn put_group(buffer: &mut [u8], payload: &[u8]) -> usize
     end + 1
 }
 
-/// Puts the beginning of a new journal area into the buffer: the catch-up (all that came since the slot was begun) as a group, or
-/// a closed gate if there is none. Returns how many bytes that is.
+/// Puts the beginning of a new journal area into the buffer: the catch-up (all that came since the slot was
+/// begun) as a group, or a closed gate if there is none. Returns how many bytes that is.
 pub fn put_area_start(buffer: &mut [u8], catch_up: &[u8]) -> usize
     requires room { 6 + length catch_up.now ≤ length buffer.old }
     requires short { length catch_up.now < 2 ^ 32 }

@@ -1,5 +1,6 @@
 // A store as opening reads it from its device (`docs/store.md`, "Opening a store").
-ghost use Rattle.std.specs.Prelude.{◌≡◌, ◌⊎◌, ◌+◌, ◌≤◌, ◌<◌, length, Some, IfOk, IfErr, IsErrOf, OnOk, vec_len};
+ghost use Rattle.std.specs.Prelude.{◌≡◌, ◌⊎◌, ◌+◌, ◌≤◌, ◌<◌, length, Some, IfOk, IfErr, IsErrOf, OnOk};
+ghost use Rattle.std.specs.Prelude.{vec_len};
 ghost use Rattle.fe_memory.specs.Memory.{out_of_memory};
 ghost use Rattle.fe_disk.specs.Disk.{LeavesJust, bytes_at};
 ghost use Rattle.fe_disk.specs.Runs.{Asks, Runs};
@@ -7,7 +8,8 @@ ghost use Rattle.fe_journal.specs.Layout.{device_bytes, header_bytes, header_of}
 ghost use Rattle.fe_format.specs.Layout.{IsImageLength};
 ghost use Rattle.fe_journal.specs.Damage.{TellsFound};
 ghost use Rattle.fe_journal.specs.Found.{AsksToOpen, ReadsInPart};
-ghost use Rattle.fe_journal.specs.Store.{AsksNothing, IsHeader, HeaderFault, GroupsEndAt, CountsAs, IsSlotRead, AreParts, IsReadable, IsStore, IsWholeStore};
+ghost use Rattle.fe_journal.specs.Store.{AsksNothing, IsHeader, HeaderFault, GroupsEndAt, CountsAs};
+ghost use Rattle.fe_journal.specs.Store.{IsSlotRead, AreParts, IsReadable, IsStore, IsWholeStore};
 ghost use Rattle.fe_journal.specs.Journal.{OnlyReads};
 ghost use Rattle.fe_journal.specs.declared.fault.StoreFault.TheVariants.{Device, NoMemory};
 
@@ -19,7 +21,8 @@ use crate::scan::scan;
 use fe_disk::{DeviceFault, Disk};
 use std::alloc::Global;
 
-/// How many bytes of an image have its place, its next array id and how much it has (`docs/formats.md`, "Image").
+/// How many bytes of an image have its place, its next array id and how much it has (`docs/formats.md`,
+/// "Image").
 const IMAGE_HEAD: usize = 24;
 
 /// The bytes of a slot: its journal area with the offset of the closed gate after its groups, and its image.
@@ -39,12 +42,13 @@ pub struct Store {
     pub parts: SlotParts,
 }
 
-/// Reads a store, after a sync. It tells the disk by which bytes this store differs from another: the first of its image, and those at the
-/// end of its groups.
+/// Reads a store, after a sync. It tells the disk by which bytes this store differs from another: the first
+/// of its image, and those at the end of its groups.
 pub fn read_store<D: Disk>(alloc: Global, disk: &mut D) -> Result<Store, StoreFault>
     ensures store { D.honest disk.old → IfOk result (IsStore (D.seen disk.old)) }
     ensures faults { D.honest disk.old → IfErr result (λ fault. TellsFound fault (D.seen disk.old)) }
-    ensures memory { IsErrOf result (NoMemory out_of_memory) → ReadsInPart (D.calls disk.old) (D.calls disk.new) }
+    ensures memory { IsErrOf result (NoMemory out_of_memory)
+        → ReadsInPart (D.calls disk.old) (D.calls disk.new) }
     ensures settled { D.honest disk.old → OnOk result (LeavesJust (D.seen disk.new) (D.may_leave disk.new)) }
     ensures reads { D.honest disk.old → OnlyReads D.Disk disk.old disk.new }
 
@@ -61,7 +65,8 @@ pub fn read_store<D: Disk>(alloc: Global, disk: &mut D) -> Result<Store, StoreFa
     }
 }
 
-// Tells the disk the first bytes of the image, where the place is, and the end of the groups with the closed gate after them.
+// Tells the disk the first bytes of the image, where the place is, and the end of the groups with the closed
+// gate after them.
 fn rely_on<D: Disk>(disk: &mut D, store: &Store)
     requires store { D.honest disk.old → IsStore (D.seen disk.old) store.now }
     requires whole { IsWholeStore store.now }
@@ -79,7 +84,8 @@ fn rely_on<D: Disk>(disk: &mut D, store: &Store)
 fn read_parts<D: Disk>(alloc: Global, disk: &mut D) -> Result<Store, StoreFault>
     ensures store { D.honest disk.old → IfOk result (IsStore (D.seen disk.old)) }
     ensures faults { D.honest disk.old → IfErr result (λ fault. TellsFound fault (D.seen disk.old)) }
-    ensures memory { IsErrOf result (NoMemory out_of_memory) → ReadsInPart (D.calls disk.old) (D.calls disk.new) }
+    ensures memory { IsErrOf result (NoMemory out_of_memory)
+        → ReadsInPart (D.calls disk.old) (D.calls disk.new) }
     ensures settled { D.honest disk.old → OnOk result (LeavesJust (D.seen disk.new) (D.may_leave disk.new)) }
     ensures reads { D.honest disk.old → OnlyReads D.Disk disk.old disk.new }
 
@@ -102,8 +108,8 @@ fn read_parts<D: Disk>(alloc: Global, disk: &mut D) -> Result<Store, StoreFault>
     })
 }
 
-// The slot that counts, and its header, which was tested. Allocates nothing, so an unformatted store is reported as
-// such even if there is no memory.
+// The slot that counts, and its header, which was tested. Allocates nothing, so an unformatted store is
+// reported as such even if there is no memory.
 fn read_sound<D: Disk>(disk: &mut D) -> Result<(usize, Header), StoreFault>
     requires device { D.size disk.old ≡ device_bytes }
     ensures counts { D.honest disk.old → IfOk result (λ found. CountsAs (D.seen disk.old) (Some found)) }
@@ -145,7 +151,8 @@ fn read_header<D: Disk>(
 // Tests the generation and the image's length.
 fn check_header(slot: usize, header: &Header) -> Result<(), StoreFault>
     requires { slot < 2 }
-    ensures ok { OnOk result ((1 ≤ header.now.generation) × IsImageLength header.now.format header.now.image_length) }
+    ensures ok { OnOk result ((1 ≤ header.now.generation)
+        × IsImageLength header.now.format header.now.image_length) }
     ensures fault { IfErr result (HeaderFault slot header.now) }
 {
     if header.generation == 0 {
@@ -169,7 +176,8 @@ fn read_bytes<D: Disk>(
     length: usize,
 ) -> Result<Vec<u8>, StoreFault>
     requires within { at + length ≤ D.size disk.old }
-    ensures bytes { D.honest disk.old → IfOk result (λ bytes. bytes.items ≡ bytes_at (D.seen disk.old) at length) }
+    ensures bytes { D.honest disk.old → IfOk result
+        (λ bytes. bytes.items ≡ bytes_at (D.seen disk.old) at length) }
     ensures whole { IfOk result (λ bytes. vec_len bytes ≡ length) }
     ensures refused { IfErr result (λ fault. (fault ≡ Device) ⊎ (fault ≡ NoMemory out_of_memory)) }
     ensures memory { IsErrOf result (NoMemory out_of_memory) → D.calls disk.new ≡ D.calls disk.old }
@@ -196,7 +204,8 @@ fn read_slot<D: Disk>(
     ensures parts { D.honest disk.old → IfOk result (IsSlotRead (D.seen disk.old) slot header.now) }
     ensures faults { D.honest disk.old → CountsAs (D.seen disk.old) (Some (slot, header.now))
         → IfErr result (λ fault. TellsFound fault (D.seen disk.old)) }
-    ensures memory { IsErrOf result (NoMemory out_of_memory) → (D.calls disk.new).reads ≤ (D.calls disk.old).reads + 1 }
+    ensures memory { IsErrOf result (NoMemory out_of_memory)
+        → (D.calls disk.new).reads ≤ (D.calls disk.old).reads + 1 }
     ensures whole { IfOk result AreParts }
     ensures ends { IfOk result (λ parts. GroupsEndAt header.now.format parts.area.items parts.used) }
     ensures reads { D.honest disk.old → OnlyReads D.Disk disk.old disk.new }

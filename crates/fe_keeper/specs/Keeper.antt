@@ -1,7 +1,8 @@
--- A keeper as its callers see it, and what its calls leave of it. A checkpoint is an image of the state that is
--- written, slice by slice, into the slot that does not count; then that slot counts. A place is a number of entries.
--- See `docs/model.md`, "The keeper".
-use Rattle.std.specs.Prelude.{ℕ, zero, suc, ◌+◌, ◌-◌, ◌*◌, ◌/◌, Bool, true, false, ◌&&◌, nat_le, if◌then◌else◌, List, length, Option, Some, None, is_none, not}
+-- A keeper as its callers see it, and what its calls leave of it. A checkpoint is an image of the state that
+-- is written, slice by slice, into the slot that does not count; then that slot counts. A place is a number
+-- of entries. See `docs/model.md`, "The keeper".
+use Rattle.std.specs.Prelude.{ℕ, zero, suc, ◌+◌, ◌-◌, ◌*◌, ◌/◌, Bool, true, false, ◌&&◌, nat_le}
+use Rattle.std.specs.Prelude.{if◌then◌else◌, List, length, Option, Some, None, is_none, not}
 use Rattle.std.specs.Option.{option_map_or}
 use Rattle.std.specs.List.{list_all}
 use Rattle.fe_state.specs.State.{ServerState}
@@ -13,14 +14,15 @@ use Rattle.fe_format.specs.declared.format.Format.TheVariants.{One, Two}
 use Rattle.fe_journal.specs.Contents.{room_at}
 use Rattle.fe_journal.specs.Layout.{slice_bytes}
 
--- a checkpoint under way: how many bytes its image has, how many of them are written, and the place of the image's state
+-- a checkpoint under way: how many bytes its image has, how many of them are written, and the place of the
+-- image's state
 pub record Progress : Type 0 where
   pub size : ℕ
   pub written : ℕ
   pub place : ℕ
 
--- what a keeper knows of its store: the disk, how many entries are stored, the format of the slot that counts and where
--- its groups end, the checkpoint under way, and whether the disk has failed
+-- what a keeper knows of its store: the disk, how many entries are stored, the format of the slot that counts
+-- and where its groups end, the checkpoint under way, and whether the disk has failed
 pub record StoreState (D : Type 0) : Type 0 where
   pub disk : D
   pub place : ℕ
@@ -36,7 +38,8 @@ pub record KeeperState (D : Type 0) : Type 0 where
 
 -- the store that formatting leaves
 abbrev pub first_store : {D : Type 0} → D → StoreState D
-first_store disk = record { disk = disk; place = 0; format = Two; used = 0; checkpoint = None; has_failed = false }
+first_store disk =
+    record { disk = disk; place = 0; format = Two; used = 0; checkpoint = None; has_failed = false }
 
 -- ---- what fits
 
@@ -47,21 +50,25 @@ is_spellable Two entries = true
 
 -- whether n more entries fit into one group with those that came since the checkpoint under way was begun
 abbrev pub catches_up : ℕ → ℕ → Option Progress → Bool
-catches_up place n checkpoint = option_map_or (λ p. nat_le (place - p.place + n) (group_records Two)) checkpoint true
+catches_up place n checkpoint =
+    option_map_or (λ p. nat_le (place - p.place + n) (group_records Two)) checkpoint true
 
 -- whether a batch can be appended without a checkpoint first
 abbrev pub fits : {D : Type 0} → StoreState D → List Entry → Bool
 fits store entries =
-    is_spellable store.format entries && nat_le (length entries * record_bytes store.format) (room_at store.used) && catches_up store.place (length entries) store.checkpoint
+    is_spellable store.format entries && nat_le (length entries * record_bytes store.format)
+    (room_at store.used) && catches_up store.place (length entries) store.checkpoint
 
 -- ---- what calls leave
 
--- how many bytes this many entries take as a group of format 2, with its gate and length; no entries are no group
+-- how many bytes this many entries take as a group of format 2, with its gate and length; no entries are no
+-- group
 abbrev pub caught_up_bytes : ℕ → ℕ
 caught_up_bytes zero = 0
 caught_up_bytes (suc n) = 5 + suc n * record_bytes Two
 
--- whether a checkpoint can be begun: none is under way, and an entry came since the image or the slot is of format 1
+-- whether a checkpoint can be begun: none is under way, and an entry came since the image or the slot is of
+-- format 1
 abbrev pub is_behind : Format → ℕ → Bool
 is_behind One used = true
 is_behind Two zero = false
@@ -72,7 +79,8 @@ can_begin store = is_none store.checkpoint && is_behind store.format store.used
 
 -- the store once a checkpoint was begun whose image has this many bytes
 abbrev pub begun : {D : Type 0} → StoreState D → ℕ → StoreState D
-begun store size = record store { checkpoint = Some (record { size = size; written = 0; place = store.place }) }
+begun store size =
+    record store { checkpoint = Some (record { size = size; written = 0; place = store.place }) }
 
 -- how many bytes the next slice has
 abbrev pub slice_size : Progress → ℕ
@@ -97,9 +105,11 @@ slices_of bytes = (bytes + (slice_bytes - 1)) / slice_bytes
 abbrev pub slices_left : Option Progress → ℕ
 slices_left checkpoint = option_map_or (λ p. slices_of (p.size - p.written)) checkpoint 0
 
--- the store once the checkpoint under way is finished: its slot counts, with what came since its beginning as the first group
+-- the store once the checkpoint under way is finished: its slot counts, with what came since its beginning as
+-- the first group
 abbrev pub finished_by : {D : Type 0} → StoreState D → Progress → StoreState D
-finished_by store p = record store { format = Two; used = caught_up_bytes (store.place - p.place); checkpoint = None }
+finished_by store p =
+    record store { format = Two; used = caught_up_bytes (store.place - p.place); checkpoint = None }
 
 abbrev pub finished : {D : Type 0} → StoreState D → StoreState D
 finished store = option_map_or (finished_by store) store.checkpoint store
@@ -122,4 +132,7 @@ made_room store entries = if must_begin store entries then renewed store else pr
 -- the store once a batch that fits is appended
 abbrev pub appended : {D : Type 0} → StoreState D → List Entry → StoreState D
 appended store entries =
-    record store { place = store.place + length entries; used = store.used + (5 + length entries * record_bytes store.format) }
+    record store {
+      place = store.place + length entries;
+      used = store.used + (5 + length entries * record_bytes store.format);
+    }

@@ -1,4 +1,5 @@
--- What opening a store returns: a keeper, whose replica is the state that the store stands for (`docs/model.md`, "The keeper").
+-- What opening a store returns: a keeper, whose replica is the state that the store stands for
+-- (`docs/model.md`, "The keeper").
 use Rattle.std.specs.Prelude.{◌≡◌, ◌⊎◌, ℕ, ◌≤◌, List, [], ◌∷◌, None, false, Result, Ok, Err}
 use Rattle.fe_memory.specs.Memory.{out_of_memory}
 use Rattle.fe_state.specs.State.{ServerState}
@@ -24,18 +25,27 @@ IsSlotFault fault = (fault ≡ NoMemory out_of_memory) ⊎ ((offset : ℕ) × (f
 
 -- the faults of opening
 abbrev pub IsOpenFault : Fault → Type 0
-IsOpenFault fault = (fault ≡ Device) ⊎ ((fault ≡ NoMemory out_of_memory) ⊎ ((fault ≡ Unformatted) ⊎ ((offset : ℕ) × (fault ≡ Damaged offset))))
+IsOpenFault fault = (fault ≡ Device) ⊎ ((fault ≡ NoMemory out_of_memory)
+    ⊎ ((fault ≡ Unformatted) ⊎ ((offset : ℕ) × (fault ≡ Damaged offset))))
 
 -- the keeper of a state over a journal that has no slot begun
 abbrev pub keeper_over : {D : Type 0} → JournalState D → ServerState → KeeperState D
 keeper_over journal state =
     record {
       state = state;
-      store = record { disk = journal.disk; place = state.place; format = journal.format; used = journal.used; checkpoint = None; has_failed = false };
+      store = record {
+        disk = journal.disk;
+        place = state.place;
+        format = journal.format;
+        used = journal.used;
+        checkpoint = None;
+        has_failed = false;
+      };
     }
 
 -- Each image that a stop may leave holds contents that the journal knows, and these stand for the state.
-pub record KeepsState {D : Type 0} (model : Ghosts D) (journal : JournalState D) (state : ServerState) : Type 0 where
+pub record KeepsState {D : Type 0} (model : Ghosts D) (journal : JournalState D) (state : ServerState) : Type
+    0 where
   pub contents : Contents
   pub keeps : KeepsContents model journal contents None
   pub stands : Stands contents state
@@ -47,9 +57,10 @@ pub record IsStoreIn {D : Type 0} (image : List ℕ) (store : StoreState D) : Ty
   pub format_is : store.format ≡ contents.format
   pub used_is : store.used ≡ end_of_groups contents.groups
 
--- The image stands for the keeper's state, and so does each image that a stop may leave. The store is that of the slot that counts in
--- the image.
-pub record IsOpenedFrom {D : Type 0} (model : Ghosts D) (image : List ℕ) (keeper : KeeperState D) : Type 0 where
+-- The image stands for the keeper's state, and so does each image that a stop may leave. The store is that of
+-- the slot that counts in the image.
+pub record IsOpenedFrom {D : Type 0} (model : Ghosts D) (image : List ℕ) (keeper : KeeperState D) : Type
+    0 where
   pub state : StandsFor image keeper.state
   pub durable : EachStandsFor model keeper.store.disk keeper.state
   pub store : IsStoreIn image keeper.store
@@ -74,16 +85,19 @@ pub record IsBase (format : Format) (generation : ℕ) (image : List ℕ) (base 
 -- the payloads lead from the old state to the new, one after the other
 abbrev pub ReplaysAll : Format → List (List ℕ) → ServerState → ServerState → Type 0
 ReplaysAll format [] old new = new ≡ old
-ReplaysAll format (payload ∷ payloads) old new = (mid : ServerState) × Replays format payload old mid × ReplaysAll format payloads mid new
+ReplaysAll format (payload ∷ payloads) old new =
+    (mid : ServerState) × Replays format payload old mid × ReplaysAll format payloads mid new
 
 -- the image is that of a state from which the payloads lead to `state`
-pub record IsRecovered (format : Format) (generation : ℕ) (image : List ℕ) (payloads : List (List ℕ)) (state : ServerState) : Type 0 where
+pub record IsRecovered (format : Format) (generation : ℕ) (image : List ℕ) (payloads : List (List ℕ))
+    (state : ServerState) : Type 0 where
   pub base : ServerState
   pub is_base : IsBase format generation image base
   pub replays : ReplaysAll format payloads base state
 
 -- what was read of a slot is the format, the generation, the image and the groups of these contents
-pub record ArePartsOf (c : Contents) (format : Format) (generation : ℕ) (image : List ℕ) (groups : Cursor) : Type 0 where
+pub record ArePartsOf (c : Contents) (format : Format) (generation : ℕ) (image : List ℕ)
+    (groups : Cursor) : Type 0 where
   pub format_is : format ≡ c.format
   pub generation_is : generation ≡ c.generation
   pub image_is : image ≡ c.image

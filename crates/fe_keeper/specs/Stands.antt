@@ -1,5 +1,5 @@
--- What an image of a device, all of its bytes, stands for: a state of the server. No reader runs in the definition.
--- `docs/store.md` says what slots, groups and generations are.
+-- What an image of a device, all of its bytes, stands for: a state of the server. No reader runs in the
+-- definition. `docs/store.md` says what slots, groups and generations are.
 use Rattle.std.specs.Prelude.{◌≡◌, ◌⊎◌, ℕ, ◌+◌, ◌≤◌, List, [], ◌∷◌, length, take}
 use Rattle.fe_state.specs.State.{ServerState}
 use Rattle.fe_state.specs.History.{IsHistory, after_groups}
@@ -21,10 +21,11 @@ abbrev pub AreGroups : Format → List (List Entry) → List (List ℕ) → Type
 AreGroups format [] [] = Unit {0}
 AreGroups format [] (payload ∷ payloads) = ⊥
 AreGroups format (group ∷ groups) [] = ⊥
-AreGroups format (group ∷ groups) (payload ∷ payloads) = IsGroupOf format group payload × AreGroups format groups payloads
+AreGroups format (group ∷ groups) (payload ∷ payloads) =
+    IsGroupOf format group payload × AreGroups format groups payloads
 
--- What a slot stands for: its image is the spelling of a state, its generation is one that this image may have, its groups spell a history
--- from that state on, and the slot stands for the state after them.
+-- What a slot stands for: its image is the spelling of a state, its generation is one that this image may
+-- have, its groups spell a history from that state on, and the slot stands for the state after them.
 pub record Stands (c : Contents) (s : ServerState) : Type 0 where
   pub base : ServerState
   pub groups : List (List Entry)
@@ -49,17 +50,20 @@ StandsForEither before after image = StandsFor image before ⊎ StandsFor image 
 abbrev pub EachStandsFor : {D : Type 0} → Ghosts D → D → ServerState → Type 0
 EachStandsFor model disk s = (image : List ℕ) → model.may_leave disk image → StandsFor image s
 
--- ---- what a stop may leave of a history: the state after whole groups from its front (`docs/model.md`, "The keeper")
+-- ---- what a stop may leave of a history: the state after whole groups from its front
+-- (`docs/model.md`, "The keeper")
 
 -- The state is that after some groups from the front of the history, at least k of them, with none skipped.
-pub record IsCrashPrefix (beginning : ServerState) (history : List (List Entry)) (k : ℕ) (s : ServerState) : Type 0 where
+pub record IsCrashPrefix (beginning : ServerState) (history : List (List Entry)) (k : ℕ)
+    (s : ServerState) : Type 0 where
   pub kept : ℕ
   pub least : k ≤ kept
   pub most : kept ≤ length history
   pub state_is : s ≡ after_groups beginning (take kept history)
 
 -- The image stands for a state that a stop may leave of the history.
-pub record LeavesPrefix (beginning : ServerState) (history : List (List Entry)) (k : ℕ) (image : List ℕ) : Type 0 where
+pub record LeavesPrefix (beginning : ServerState) (history : List (List Entry)) (k : ℕ)
+    (image : List ℕ) : Type 0 where
   pub state : ServerState
   pub stands : StandsFor image state
   pub prefix : IsCrashPrefix beginning history k state

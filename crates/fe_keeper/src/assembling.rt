@@ -1,5 +1,5 @@
-//! Puts a keeper, which owns the store, together from its parts (`docs/store.md`, "The life of a store"). A batch is entries that are
-//! stored at once, as one group.
+//! Puts a keeper, which owns the store, together from its parts (`docs/store.md`, "The life of a store"). A
+//! batch is entries that are stored at once, as one group.
 
 ghost use Rattle.std.specs.Prelude.{◌≡◌, IfOk};
 ghost use Rattle.fe_journal.specs.Journal.{IsIdle};
@@ -15,7 +15,8 @@ use fe_memory::OutOfMemory;
 use fe_state::{BATCH_ENTRIES, State, UndoLog};
 use std::alloc::Global;
 
-/// The memory for the payload of a batch's group, and for the log by which the replica, the keeper's copy of the state, goes back.
+/// The memory for the payload of a batch's group, and for the log by which the replica, the keeper's copy of
+/// the state, goes back.
 #[derive(Drop)]
 pub(crate) struct Rooms {
     group: Vec<u8>,
@@ -33,8 +34,8 @@ impl Rooms {
 }
 
 /// The keeper of a state over a journal that keeps it, with the memory for the batches to come.
-// A keeper is some 9 KB. LLVM takes minutes over a function that moves one several times and also reaches into it, so what makes one or
-// takes one apart is not inlined.
+// A keeper is some 9 KB. LLVM takes minutes over a function that moves one several times and also reaches
+// into it, so what makes one or takes one apart is not inlined.
 #[inline(never)]
 pub(crate) fn keeper_over<D: Disk>(
     alloc: Global,

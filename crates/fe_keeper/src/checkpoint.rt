@@ -1,7 +1,8 @@
-//! How far a checkpoint is, which moves the store to the other of its two slots (`docs/store.md`, "Two slots" and
-//! "Making the other slot ready").
+//! How far a checkpoint is, which moves the store to the other of its two slots (`docs/store.md`, "Two slots"
+//! and "Making the other slot ready").
 
-ghost use Rattle.std.specs.Prelude.{◌≡◌, ◌+◌, ◌≤◌, true, not, nat_le, length, IfOk, IfErr, OnOk, OnErr, vec_len};
+ghost use Rattle.std.specs.Prelude.{◌≡◌, ◌+◌, ◌≤◌, true, not, nat_le, length, IfOk, IfErr, OnOk, OnErr};
+ghost use Rattle.std.specs.Prelude.{vec_len};
 ghost use Rattle.fe_memory.specs.Memory.{out_of_memory};
 ghost use Rattle.fe_disk.specs.Disk.{MakesAtMost};
 ghost use Rattle.fe_state.specs.State.{ServerState};
@@ -30,7 +31,8 @@ pub(crate) struct Checkpoint {
     pub(crate) written: usize,
     /// The place of that state: how many entries the history has before it.
     pub(crate) place: u64,
-    /// The catch-up: the records of the entries since then, in format 2. It has the memory for those of the longest group.
+    /// The catch-up: the records of the entries since then, in format 2. It has the memory for those of the
+    /// longest group.
     pub(crate) catch_up: Vec<u8>,
 }
 
@@ -76,7 +78,8 @@ impl Checkpoint {
             → CarriesDraft D.Disk result journal.old journal.new c self.new s }
         ensures written { OnOk result ((self.new ≡ sliced self.old)
             × (journal.new ≡ journal_sliced journal.old journal.new.disk (sliced self.old))) }
-        ensures more { IfOk result (λ more. more ≡ not (nat_le (vec_len self.old.image) (sliced self.old).written)) }
+        ensures more { IfOk result (λ more. more
+            ≡ not (nat_le (vec_len self.old.image) (sliced self.old).written)) }
         ensures rests { vec_len self.old.image ≤ self.old.written
             → (self.new ≡ self.old) × (journal.new ≡ journal.old) }
         ensures err { OnErr result ((self.new ≡ self.old)

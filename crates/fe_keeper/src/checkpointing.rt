@@ -1,11 +1,15 @@
-//! Checkpoints: the image of the state is written to the slot that does not count, slice by slice. Then the entries
-//! that came meanwhile, the catch-up, go there as a group, if any came, and the slot counts (`docs/store.md`).
+//! Checkpoints: the image of the state is written to the slot that does not count, slice by slice. Then the
+//! entries that came meanwhile, the catch-up, go there as a group, if any came, and the slot counts
+//! (`docs/store.md`).
 
 ghost use Rattle.std.specs.Prelude.{◌≡◌, ◌+◌, false, vec_len, IsTrue, IfOk, OnOk};
 ghost use Rattle.fe_disk.specs.Disk.{MakesAtMost};
 ghost use Rattle.fe_keeper.specs.Keeper as effect;
-ghost use Rattle.fe_keeper.specs.Keeper.{fits, has_slices, slices_of, slices_left, finished, renewed, made_room};
-ghost use Rattle.fe_keeper.specs.within.Ends.{StepEnds, Always, IsStepped, MakesRoom, IsImageOf, IsImageIfSome, whole_slices, HasCheckpoint, CanTake, CanStoreWith};
+ghost use Rattle.fe_keeper.specs.Keeper.{fits, has_slices, slices_of, slices_left, finished, renewed};
+ghost use Rattle.fe_keeper.specs.Keeper.{made_room};
+ghost use Rattle.fe_keeper.specs.within.Ends.{StepEnds, Always, IsStepped, MakesRoom, IsImageOf};
+ghost use Rattle.fe_keeper.specs.within.Ends.{IsImageIfSome, whole_slices, HasCheckpoint, CanTake};
+ghost use Rattle.fe_keeper.specs.within.Ends.{CanStoreWith};
 ghost use Rattle.fe_keeper.specs.within.Upholds.{store_of};
 
 use crate::Format;
@@ -79,8 +83,8 @@ impl<D: Disk> KeeperStore<D> {
         self.finish()
     }
 
-    /// Makes room for a batch, if it does not fit: finishes the checkpoint under way, and if that is not enough, makes
-    /// the whole one that the caller has prepared.
+    /// Makes room for a batch, if it does not fit: finishes the checkpoint under way, and if that is not
+    /// enough, makes the whole one that the caller has prepared.
     pub(crate) fn make_room(
         &mut self,
         entries: &[Entry],
@@ -91,7 +95,8 @@ impl<D: Disk> KeeperStore<D> {
         ensures value { OnOk result (store_of self.new
             ≡ record (made_room (store_of self.old) entries.now) { disk = self.new.journal.disk }) }
         ensures fits { OnOk result (IsTrue (fits (store_of self.new) entries.now)) }
-        ensures calls { MakesRoom (store_of self.old) entries.now (whole_slices whole) (D.calls self.old.journal.disk)
+        ensures calls { MakesRoom (store_of self.old) entries.now (whole_slices whole)
+            (D.calls self.old.journal.disk)
             (D.calls self.new.journal.disk) }
     {
         if self.fits(entries) {

@@ -15,7 +15,8 @@ pub enum Fault {
     NoMemory(OutOfMemory),
     /// The batch does not continue the history, first at this place.
     Mismatch { place: u64 },
-    /// The slot that counts is wrong at this offset of the device, in bytes (`docs/formats.md`, "Device" and "Journal area").
+    /// The slot that counts is wrong at this offset of the device, in bytes (`docs/formats.md`, "Device" and
+    /// "Journal area").
     Damaged { offset: usize },
     /// The device doesn't have the size of a store, or neither slot is valid.
     Unformatted,

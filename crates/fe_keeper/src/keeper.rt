@@ -1,5 +1,5 @@
-//! The keeper owns the store. It appends batches, entries of the history that are stored at once, and makes checkpoints between them
-//! (`docs/store.md`, "The life of a store"; `docs/model.md`, "The keeper").
+//! The keeper owns the store. It appends batches, entries of the history that are stored at once, and makes
+//! checkpoints between them (`docs/store.md`, "The life of a store"; `docs/model.md`, "The keeper").
 
 ghost use Rattle.std.specs.Prelude.{◌≡◌, ◌↔◌, false, IsTrue, ◌+◌, length, is_some, IfOk, IfErr, OnOk, OnErr};
 ghost use Rattle.fe_memory.specs.Memory.{out_of_memory};
@@ -11,8 +11,10 @@ ghost use Rattle.fe_format.specs.declared.format.Format.TheVariants.{Two};
 ghost use Rattle.fe_journal.specs.Layout.{device_bytes};
 ghost use Rattle.fe_replica.specs.Replaying.{Continues};
 ghost use Rattle.fe_keeper.specs.Stands.{StandsForEither};
-ghost use Rattle.fe_keeper.specs.Ends.{StopsLeave, IsDurable, Rests, Ends, ForDevice, ForDeviceAndMemory, HasBegun, IsAppended, AppendEnds, MakesToAppend, batch_of};
-ghost use Rattle.fe_keeper.specs.Keeper.{can_begin, has_slices, must_begin, slices_of, slices_left, stepped, finished};
+ghost use Rattle.fe_keeper.specs.Ends.{StopsLeave, IsDurable, Rests, Ends, ForDevice, ForDeviceAndMemory};
+ghost use Rattle.fe_keeper.specs.Ends.{HasBegun, IsAppended, AppendEnds, MakesToAppend, batch_of};
+ghost use Rattle.fe_keeper.specs.Keeper.{can_begin, has_slices, must_begin, slices_of, slices_left, stepped};
+ghost use Rattle.fe_keeper.specs.Keeper.{finished};
 ghost use Rattle.fe_keeper.specs.within.Ends.{HasBatch, HasTaken, IsMadeFor};
 ghost use Rattle.fe_keeper.specs.within.Upholds.{store_of};
 ghost use Rattle.fe_keeper.specs.declared.fault.Fault.TheVariants.{NoMemory};
@@ -26,10 +28,11 @@ use fe_state::{Batch, Entry, State, UndoLog};
 use std::alloc::Global;
 use std::marker::Model;
 
-/// The keeper of a store: a replica of the server's state, and the journal in which each batch is stored before it is answered.
+/// The keeper of a store: a replica of the server's state, and the journal in which each batch is stored
+/// before it is answered.
 ///
-/// After a fault of the device `append` and the three calls of a checkpoint return `Failed` and make no device call. Opening the store
-/// again says what was stored.
+/// After a fault of the device `append` and the three calls of a checkpoint return `Failed` and make no
+/// device call. Opening the store again says what was stored.
 pub struct Keeper<D: Disk> {
     pub(crate) store: KeeperStore<D>,
     pub(crate) state: State,
@@ -69,7 +72,8 @@ impl<D: Disk> Model for Keeper<D> {
 }
 
 impl<D: Disk> Keeper<D> {
-    /// The replica of the state. If the disk is honest and has not failed, each image that a stop may leave stands for it.
+    /// The replica of the state. If the disk is honest and has not failed, each image that a stop may leave
+    /// stands for it.
     pub fn state(&self) -> &State
         ensures state { result.now ≡ self.now.state }
         ensures durable { IsDurable D.Disk self.now }
@@ -78,12 +82,14 @@ impl<D: Disk> Keeper<D> {
         &self.state
     }
 
-    /// Appends a batch, entries that follow one another, and stores it as one group. Returns the batch unchanged, also beside a fault.
+    /// Appends a batch, entries that follow one another, and stores it as one group. Returns the batch
+    /// unchanged, also beside a fault.
     ///
     /// If the batch doesn't fit, the checkpoint under way is finished first. If it still doesn't fit, a whole
     /// checkpoint is made.
     pub fn append(&mut self, batch: Batch) -> Result<Batch, (Fault, Batch)>
-        // Each image that a stop at any moment leaves stands for the replica as it was, or with the whole batch.
+        // Each image that a stop at any moment leaves stands for the replica as it was, or with the whole
+        // batch.
         ensures any_moment { StopsLeave D.Disk self.old self.new
             (StandsForEither self.old.state (after_all self.old.state batch.entries)) }
         ensures durable { IsDurable D.Disk self.new }
@@ -128,14 +134,15 @@ impl<D: Disk> Keeper<D> {
         }
     }
 
-    /// Begins a checkpoint, which is written in slices between batches. `false` if one is under way already, or
-    /// if the slot that counts is of format 2 and no entry came since its image. It takes memory for the image
-    /// and for a group of 13,107 entries.
+    /// Begins a checkpoint, which is written in slices between batches. `false` if one is under way already,
+    /// or if the slot that counts is of format 2 and no entry came since its image. It takes memory for the
+    /// image and for a group of 13,107 entries.
     pub fn checkpoint_begin(&mut self) -> Result<bool, Fault>
         ensures rests { Rests D.Disk self.old self.new }
         ensures durable { IsDurable D.Disk self.new }
         ensures value { IfOk result (λ begun. begun ≡ can_begin self.old.store) }
-        ensures store { OnOk result (HasBegun self.old self.new (length (image_spelling Two self.old.state))) }
+        ensures store { OnOk result (HasBegun self.old self.new
+            (length (image_spelling Two self.old.state))) }
         ensures ends { Ends D.Disk
             (ForDeviceAndMemory (IsTrue (can_begin self.old.store))) result self.old self.new }
         ensures calls { MakesAtMost 1 2 1 (D.calls self.old.store.disk) (D.calls self.new.store.disk) }
@@ -151,13 +158,14 @@ impl<D: Disk> Keeper<D> {
         Ok(true)
     }
 
-    /// Writes the next slice of the checkpoint under way, at most 65,536 bytes. Returns whether slices are left after
-    /// it; `false` also if no checkpoint is under way. It takes no memory.
+    /// Writes the next slice of the checkpoint under way, at most 65,536 bytes. Returns whether slices are
+    /// left after it; `false` also if no checkpoint is under way. It takes no memory.
     pub fn checkpoint_step(&mut self) -> Result<bool, Fault>
         ensures rests { Rests D.Disk self.old self.new }
         ensures durable { IsDurable D.Disk self.new }
         ensures value { IfOk result (λ more. more ≡ has_slices self.new.store.checkpoint) }
-        ensures store { OnOk result (self.new.store ≡ record (stepped self.old.store) { disk = self.new.store.disk }) }
+        ensures store { OnOk result (self.new.store
+            ≡ record (stepped self.old.store) { disk = self.new.store.disk }) }
         // If no slice is left, it makes no device call.
         ensures idle { has_slices self.old.store.checkpoint ≡ false → self.new ≡ self.old }
         ensures ends { Ends D.Disk
@@ -174,18 +182,20 @@ impl<D: Disk> Keeper<D> {
         Ok(more)
     }
 
-    /// Finishes the checkpoint under way: writes the slices that are left and the entries since it was begun as
-    /// one group, and opens the gate. `false` if none is under way. It takes no memory.
+    /// Finishes the checkpoint under way: writes the slices that are left and the entries since it was begun
+    /// as one group, and opens the gate. `false` if none is under way. It takes no memory.
     pub fn checkpoint_finish(&mut self) -> Result<bool, Fault>
         ensures rests { Rests D.Disk self.old self.new }
         ensures durable { IsDurable D.Disk self.new }
         ensures value { IfOk result (λ was. was ≡ is_some self.old.store.checkpoint) }
-        ensures store { OnOk result (self.new.store ≡ record (finished self.old.store) { disk = self.new.store.disk }) }
+        ensures store { OnOk result (self.new.store
+            ≡ record (finished self.old.store) { disk = self.new.store.disk }) }
         // If none is under way, it makes no device call.
         ensures idle { is_some self.old.store.checkpoint ≡ false → self.new ≡ self.old }
         ensures ends { Ends D.Disk
             (ForDevice (IsTrue (is_some self.old.store.checkpoint))) result self.old self.new }
-        ensures calls { MakesAtMost 0 (slices_left self.old.store.checkpoint + 2) 2 (D.calls self.old.store.disk)
+        ensures calls { MakesAtMost 0 (slices_left self.old.store.checkpoint + 2) 2
+            (D.calls self.old.store.disk)
             (D.calls self.new.store.disk) }
     {
         if self.store.journal.has_failed() {
@@ -244,9 +254,9 @@ fn limits(state: &State)
     let _ = state.place();
 }
 
-/// The checkpoint of the state before a batch that the replica has taken, if a whole one, from beginning to end, has to be made for the
-/// batch. To spell it, the replica goes back to that state and then takes the batch again. So all memory is taken before any call of the
-/// device.
+/// The checkpoint of the state before a batch that the replica has taken, if a whole one, from beginning to
+/// end, has to be made for the batch. To spell it, the replica goes back to that state and then takes the
+/// batch again. So all memory is taken before any call of the device.
 fn whole_before<D: Disk>(
     alloc: Global,
     store: &KeeperStore<D>,
@@ -260,8 +270,10 @@ fn whole_before<D: Disk>(
     ensures taken { OnOk result (HasTaken (rewound log.old state.old) entries.now state.new log.new) }
     ensures room { log.new.room ≡ log.old.room }
     ensures made { IfOk result (IsMadeFor store.now (rewound log.old state.old) entries.now) }
-    ensures err { OnErr result ((state.new ≡ rewound log.old state.old) × (log.new ≡ empty_log log.old.room)) }
-    ensures memory { IfErr result (λ fault. (fault ≡ NoMemory out_of_memory) × IsTrue (must_begin (store_of store.now) entries.now)) }
+    ensures err { OnErr result ((state.new ≡ rewound log.old state.old)
+        × (log.new ≡ empty_log log.old.room)) }
+    ensures memory { IfErr result (λ fault. (fault ≡ NoMemory out_of_memory)
+        × IsTrue (must_begin (store_of store.now) entries.now)) }
 {
     if !store.must_begin(entries) {
         return Ok(None);

@@ -1,5 +1,5 @@
-//! The bytes side of a keeper: batches of entries become groups in the store's journal, and checkpoints go on between them
-//! (`docs/store.md`, "The life of a store").
+//! The bytes side of a keeper: batches of entries become groups in the store's journal, and checkpoints go on
+//! between them (`docs/store.md`, "The life of a store").
 
 ghost use Rattle.std.specs.Prelude.{◌≡◌, ◌+◌, ◌≤◌, length, IsTrue, OnOk, vec_capacity};
 ghost use Rattle.std.specs.List.{AllByRecursion, list_all};
@@ -11,9 +11,12 @@ ghost use Rattle.fe_format.specs.Layout.{group_records};
 ghost use Rattle.fe_format.specs.declared.format.Format.TheVariants.{Two};
 ghost use Rattle.fe_journal.specs.Contents.{room_at};
 ghost use Rattle.fe_keeper.specs.Ends.{MakesToAppend};
-ghost use Rattle.fe_keeper.specs.Keeper.{fits, is_spellable, caught_up_bytes, can_begin, appended, made_room, must_begin};
-ghost use Rattle.fe_keeper.specs.within.Upholds.{batch_bytes, HasRoomFor, CatchesUp, IsSpelledBatch, IsStore, store_of};
-ghost use Rattle.fe_keeper.specs.within.Ends.{Always, BatchEnds, IsImageIfSome, whole_slices, CanStore, CanStoreWith};
+ghost use Rattle.fe_keeper.specs.Keeper.{fits, is_spellable, caught_up_bytes, can_begin, appended, made_room};
+ghost use Rattle.fe_keeper.specs.Keeper.{must_begin};
+ghost use Rattle.fe_keeper.specs.within.Upholds.{batch_bytes, HasRoomFor, CatchesUp, IsSpelledBatch, IsStore};
+ghost use Rattle.fe_keeper.specs.within.Upholds.{store_of};
+ghost use Rattle.fe_keeper.specs.within.Ends.{Always, BatchEnds, IsImageIfSome, whole_slices, CanStore};
+ghost use Rattle.fe_keeper.specs.within.Ends.{CanStoreWith};
 
 use crate::Format;
 use crate::checkpoint::Checkpoint;
@@ -52,8 +55,8 @@ fn spell(format: Format, entries: &[Entry], group: &mut Vec<u8>)
     let _ = put_group(format, entries, group);
 }
 
-/// Adds entries, for which there is room, to those that a checkpoint under way catches up with. The group has their
-/// records in the store's format, which are copied if that is format 2.
+/// Adds entries, for which there is room, to those that a checkpoint under way catches up with. The group has
+/// their records in the store's format, which are copied if that is format 2.
 fn catch_up(checkpoint: &mut Option<Checkpoint>, format: Format, group: &[u8], entries: &[Entry])
     requires batch { IsSpelledBatch format group.now entries.now }
     requires room { HasRoomFor checkpoint.old (length entries.now) }
@@ -71,7 +74,8 @@ fn catch_up(checkpoint: &mut Option<Checkpoint>, format: Format, group: &[u8], e
     }
 }
 
-/// The length of the longest payload, in bytes, that fits after a catch-up of this many entries, whose gate and length take 5 bytes.
+/// The length of the longest payload, in bytes, that fits after a catch-up of this many entries, whose gate
+/// and length take 5 bytes.
 fn room_behind(entries: usize) -> usize
     requires few { entries ≤ group_records Two }
     ensures { result ≡ room_at (caught_up_bytes entries) }
@@ -82,8 +86,8 @@ fn room_behind(entries: usize) -> usize
     }
 }
 
-/// The bytes side of a keeper: the journal, the bytes of the group at hand, how many entries are stored, and the
-/// checkpoint under way.
+/// The bytes side of a keeper: the journal, the bytes of the group at hand, how many entries are stored, and
+/// the checkpoint under way.
 #[derive(Drop)]
 pub(crate) struct KeeperStore<D: Disk> {
     pub(crate) journal: Journal<D>,
@@ -109,8 +113,8 @@ impl<D: Disk> KeeperStore<D> {
             }
     }
 
-    /// Whether a checkpoint can be begun: none is under way, and an entry came since the image of the slot that counts, or that slot is
-    /// of format 1.
+    /// Whether a checkpoint can be begun: none is under way, and an entry came since the image of the slot
+    /// that counts, or that slot is of format 1.
     pub(crate) fn can_begin(&self) -> bool
         ensures { result ≡ can_begin (store_of self.now) }
     {
@@ -121,8 +125,8 @@ impl<D: Disk> KeeperStore<D> {
         self.checkpoint.is_none() && is_behind
     }
 
-    /// Whether a whole checkpoint has to be made for a batch: the batch does not fit, and would not once the checkpoint
-    /// under way is finished.
+    /// Whether a whole checkpoint has to be made for a batch: the batch does not fit, and would not once the
+    /// checkpoint under way is finished.
     pub(crate) fn must_begin(&self, entries: &[Entry]) -> bool
         requires sound { IsStore self.now }
         requires few { length entries.now ≤ most_batch_entries }
@@ -157,8 +161,8 @@ impl<D: Disk> KeeperStore<D> {
         Ok(())
     }
 
-    /// Stores a batch. If it does not fit, room is made first, with the whole checkpoint that the caller has prepared
-    /// if it needs one.
+    /// Stores a batch. If it does not fit, room is made first, with the whole checkpoint that the caller has
+    /// prepared if it needs one.
     pub(crate) fn put(
         &mut self,
         entries: &[Entry],

@@ -28,18 +28,21 @@ use fe_state::State;
 use std::alloc::Global;
 
 impl<D: Disk> Keeper<D> {
-    /// Opens a store: a sync, and then only reads. The keeper has the state that the disk stands for. It takes about three megabytes,
-    /// and the memory of the state and of a batch (`Rooms`).
+    /// Opens a store: a sync, and then only reads. The keeper has the state that the disk stands for. It
+    /// takes about three megabytes, and the memory of the state and of a batch (`Rooms`).
     ///
     /// The fault of a damaged store is the first thing wrong in the slot that counts: its generation, its
-    /// image's length, the lengths of its groups, its image, its generation against the image's place, and then
-    /// its records (`docs/formats.md`, "Device" and "Journal area").
+    /// image's length, the lengths of its groups, its image, its generation against the image's place, and
+    /// then its records (`docs/formats.md`, "Device" and "Journal area").
     pub fn open(alloc: Global, disk: D) -> Result<Keeper<D>, (Fault, D)>
-        // What reads of the disk give stands for the keeper's state, and so does each image that a stop may leave.
+        // What reads of the disk give stands for the keeper's state, and so does each image that a stop may
+        // leave.
         ensures opened { D.honest disk → IfOk result (IsOpenedFrom D.Disk (D.seen disk)) }
-        // A reported fault is the store's. A valid store is refused only if the device fails or memory runs out. Memory runs out only
-        // if the header of the slot that counts is right and, once all is read, so are the groups' lengths and the first four image fields.
-        ensures refused { D.honest disk → IfErr result (λ e. IsReason (D.seen disk) (D.calls disk) (D.calls e.1) e.0) }
+        // A reported fault is the store's. A valid store is refused only if the device fails or memory runs
+        // out. Memory runs out only if the header of the slot that counts is right and, once all is read, so
+        // are the groups' lengths and the first four image fields.
+        ensures refused { D.honest disk → IfErr result
+            (λ e. IsReason (D.seen disk) (D.calls disk) (D.calls e.1) e.0) }
         // An unformatted store is reported as such unless the device fails, however little memory there is.
         ensures unformatted { D.honest disk → IsUnformatted (D.seen disk)
             → IsErrAnd result (λ e. (e.0 ≡ Unformatted) ⊎ (e.0 ≡ Device)) }
@@ -98,9 +101,10 @@ impl<D: Disk> Keeper<D> {
         }
     }
 
-    /// Makes a new store of format 2 on the device, which an opening found unformatted. `Unformatted` (the device doesn't have the size of
-    /// a store) and `NoMemory` leave the device alone. If formatting stops, or a device call fails, nothing is promised about the device,
-    /// and it has to be opened and formatted again.
+    /// Makes a new store of format 2 on the device, which an opening found unformatted. `Unformatted` (the
+    /// device doesn't have the size of a store) and `NoMemory` leave the device alone. If formatting stops,
+    /// or a device call fails, nothing is promised about the device, and it has to be opened and formatted
+    /// again.
     pub fn format(alloc: Global, blank: Blank<D>) -> Result<Keeper<D>, (Fault, D)>
         ensures formatted { D.honest blank
             → IfOk result (λ keeper. EachStandsFor D.Disk keeper.store.disk first_state) }

@@ -1,5 +1,6 @@
-//! Reads the state that a slot stands for: the state of its image, with the groups after it replayed. A slot is one of
-//! the two halves of a store; of two valid ones the one with the greater generation counts (`docs/store.md`, "Two slots").
+//! Reads the state that a slot stands for: the state of its image, with the groups after it replayed. A slot
+//! is one of the two halves of a store; of two valid ones the one with the greater generation counts
+//! (`docs/store.md`, "Two slots").
 
 ghost use Rattle.std.specs.Prelude.{◌≡◌, ◌+◌, ◌<◌, ℕ, List, Ok, IsOk, IfOk, IfErr, OnOk, IsErrOf};
 ghost use Rattle.fe_memory.specs.Memory.{out_of_memory};
@@ -63,7 +64,8 @@ pub(crate) fn recovered(
     Ok(state)
 }
 
-/// The greatest generation of a slot whose image is of this state, by the state's place (how many entries led to it).
+/// The greatest generation of a slot whose image is of this state, by the state's place (how many entries led
+/// to it).
 fn greatest_generation(format: Format, state: &State) -> u64
     ensures { result ≡ greatest_generation format state.now.place }
 {
@@ -78,7 +80,8 @@ fn replay_all(format: Format, groups: &mut Groups, state: &mut State) -> Result<
     requires listing { IsListing groups.old }
     ensures all { (payloads : List (List ℕ)) → Lists groups.old payloads
         → OnOk result (ReplaysAll format payloads state.old state.new) }
-    ensures refused { (payloads : List (List ℕ)) → Lists groups.old payloads → CanGoOn format payloads state.old
+    ensures refused { (payloads : List (List ℕ)) → Lists groups.old payloads
+        → CanGoOn format payloads state.old
         → IfErr result (λ fault. fault ≡ NoMemory out_of_memory) }
     ensures damaged { (offset : ℕ) (payloads : List (List ℕ)) → IsErrOf result (Damaged offset)
         → Lists groups.old payloads

@@ -24,14 +24,17 @@ array_line e = line_of_array e.0 e.1.name (length e.1.words)
 -- the line of a session: its number, its floor, and how many answers are kept for it
 abbrev pub line_of_session : ℕ → ℕ → ℕ → List ℕ
 line_of_session number floor kept =
-    codes "session " ++ (decimal number ++ (codes " floor " ++ (decimal floor ++ (codes " kept " ++ (decimal kept ++ codes "\n")))))
+    codes "session " ++ (decimal number ++ (codes " floor "
+    ++ (decimal floor ++ (codes " kept " ++ (decimal kept ++ codes "\n")))))
 
 abbrev pub session_line : ℕ × Session → List ℕ
 session_line e = line_of_session e.0 e.1.floor (len e.1.kept)
 
--- The text of a state: its place, and a line for each array and then for each session, ascending by id and by number.
+-- The text of a state: its place, and a line for each array and then for each session, ascending by id and by
+-- number.
 abbrev pub state_text : ServerState → List ℕ
-state_text s = place_line s.place ++ (flat_map array_line (entries s.arrays) ++ flat_map session_line (entries s.sessions))
+state_text s = place_line s.place ++ (flat_map array_line (entries s.arrays)
+    ++ flat_map session_line (entries s.sessions))
 
 -- the text of some state was written
 pub record ShowsSome (before after : Option (List ℕ)) : Type 0 where

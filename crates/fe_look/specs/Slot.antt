@@ -1,17 +1,20 @@
--- How one slot of a store, a half of it, is copied. A gate is the byte in front of a group that is 1 if the group
--- counts (`docs/store.md`).
+-- How one slot of a store, a half of it, is copied. A gate is the byte in front of a group that is 1 if the
+-- group counts (`docs/store.md`).
 use Rattle.std.specs.Prelude.{◌≡◌, ◌+◌, ◌<◌, ℕ, List, [], ◌∷◌, Option, Some, None, ◌⊎◌, ◌≤◌, slice_index}
 use Rattle.fe_disk.specs.Disk.{IsTorn, bytes_at}
-use Rattle.fe_journal.specs.Layout.{area_bytes, header_of, gate_of, image_of, area_of, number_at, IsGateOpen, IsGateShut}
+use Rattle.fe_journal.specs.Layout.{area_bytes, header_of, gate_of, image_of, area_of, number_at, IsGateOpen}
+use Rattle.fe_journal.specs.Layout.{IsGateShut}
 use Rattle.fe_format.specs.Layout.{magic_of}
 use Rattle.fe_format.specs.declared.format.Format.{Format}
 use Rattle.fe_journal.specs.Contents.{IsValidAs, SlotCounts}
 use Rattle.fe_look.specs.declared.header.HeaderBytes.{HeaderBytes}
 
--- From the gate at `at` in an area on, each gate is open and has the next of these lengths after it, until one at `end` that is not open.
+-- From the gate at `at` in an area on, each gate is open and has the next of these lengths after it, until
+-- one at `end` that is not open.
 abbrev pub GatesEnd : List ℕ → ℕ → ℕ → List ℕ → ℕ → Type 0
 GatesEnd bytes area at [] end = (at ≡ end) × IsGateShut bytes (area + at)
-GatesEnd bytes area at (n ∷ ns) end = IsGateOpen bytes (area + at) × (number_at bytes (area + at + 1) 4 ≡ n) × GatesEnd bytes area (at + (5 + n)) ns end
+GatesEnd bytes area at (n ∷ ns) end = IsGateOpen bytes (area + at) × (number_at bytes (area + at + 1) 4 ≡ n)
+    × GatesEnd bytes area (at + (5 + n)) ns end
 
 -- the gate at `end` in an area is the first that is not open, whatever lengths the groups before it have
 pub record EndsAt (bytes : List ℕ) (area end : ℕ) : Type 0 where
@@ -22,7 +25,8 @@ pub record EndsAt (bytes : List ℕ) (area end : ℕ) : Type 0 where
 abbrev pub IsAreaCopied : List ℕ → List ℕ → ℕ → Option ℕ → Type 0
 IsAreaCopied image copy area None = bytes_at copy area area_bytes ≡ bytes_at image area area_bytes
 IsAreaCopied image copy area (Some end) =
-    (end < area_bytes) × EndsAt image area end × (bytes_at copy area end ≡ bytes_at image area end) × IsGateShut copy (area + end)
+    (end < area_bytes) × EndsAt image area end × (bytes_at copy area end ≡ bytes_at image area end)
+    × IsGateShut copy (area + end)
 
 -- the image and the journal area of a slot are copied, and nothing else is changed
 pub record HasParts (image : List ℕ) (slot : ℕ) (old new : List ℕ) : Type 0 where
@@ -63,10 +67,13 @@ pub record IsHeaderOf (image : List ℕ) (slot : ℕ) (header : HeaderBytes) : T
 abbrev pub IsChosen : HeaderBytes → HeaderBytes → Option (ℕ × HeaderBytes) → Type 0
 IsChosen first second None = ((f : Format) → IsValid first f → ⊥) × ((f : Format) → IsValid second f → ⊥)
 IsChosen first second (Some (slot, header)) =
-    ((slot ≡ 0) × (header ≡ first) × ((f : Format) × IsValid first f) × ((f : Format) → IsValid second f → generation_in second ≤ generation_in first))
-    ⊎ ((slot ≡ 1) × (header ≡ second) × ((f : Format) × IsValid second f) × ((f : Format) → IsValid first f → generation_in first < generation_in second))
+    ((slot ≡ 0) × (header ≡ first) × ((f : Format) × IsValid first f)
+    × ((f : Format) → IsValid second f → generation_in second ≤ generation_in first))
+    ⊎ ((slot ≡ 1) × (header ≡ second) × ((f : Format) × IsValid second f)
+    × ((f : Format) → IsValid first f → generation_in first < generation_in second))
 
 -- the slot that counts, with its header; or no slot is valid
 abbrev pub Counts : List ℕ → Option (ℕ × HeaderBytes) → Type 0
 Counts image None = (slot : ℕ) (format : Format) → slot < 2 → IsValidAs image slot format → ⊥
-Counts image (Some (slot, header)) = IsHeaderOf image slot header × ((format : Format) × SlotCounts image slot format)
+Counts image (Some (slot, header)) =
+    IsHeaderOf image slot header × ((format : Format) × SlotCounts image slot format)

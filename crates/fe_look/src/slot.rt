@@ -1,4 +1,5 @@
-//! Reading one slot, a half of a store. A gate is the byte in front of a group that is 1 if the group counts (`docs/store.md`).
+//! Reading one slot, a half of a store. A gate is the byte in front of a group that is 1 if the group counts
+//! (`docs/store.md`).
 
 ghost use Rattle.std.specs.Prelude.{◌≡◌, ◌+◌, ◌<◌, ◌≤◌, IsTrue, length, IfOk, IfSome, OnOk};
 ghost use Rattle.fe_disk.specs.Disk.{after_write};
@@ -11,8 +12,8 @@ use crate::parts::{read_byte, read_number, read_part};
 use fe_disk::{DeviceFault, Disk};
 use fe_journal::{AREA_BYTES, area_of, header_of, image_of};
 
-/// Reads a slot into the bytes, to where it is on the device, with the groups whose gates were open. Returns whether its header's fields
-/// are still these; if not, a checkpoint began in it, and it may not be whole.
+/// Reads a slot into the bytes, to where it is on the device, with the groups whose gates were open. Returns
+/// whether its header's fields are still these; if not, a checkpoint began in it, and it may not be whole.
 pub(crate) fn read_slot<D: Disk>(
     disk: &mut D,
     bytes: &mut [u8],
@@ -39,7 +40,8 @@ pub(crate) fn read_slot<D: Disk>(
     Ok(again.fields == header.fields)
 }
 
-// Reads the image and the journal area of a slot to where they are in the bytes. The gate that ended the groups is closed.
+// Reads the image and the journal area of a slot to where they are in the bytes. The gate that ended the
+// groups is closed.
 fn read_parts<D: Disk>(disk: &mut D, bytes: &mut [u8], slot: usize) -> Result<(), DeviceFault>
     requires is_slot { slot < 2 }
     requires device { D.size disk.old ≡ device_bytes }
@@ -67,8 +69,9 @@ fn put(bytes: &mut [u8], at: usize, part: &[u8])
     bytes[at..at + part.len()].copy_from_slice(part);
 }
 
-// The place in a journal area of the gate that ends its groups, which was not open. Each gate is read before what follows it. `None` if
-// the lengths of groups lead beyond the area, or to a gate in its last four bytes, after which no group has room.
+// The place in a journal area of the gate that ends its groups, which was not open. Each gate is read before
+// what follows it. `None` if the lengths of groups lead beyond the area, or to a gate in its last four bytes,
+// after which no group has room.
 fn end_of_groups<D: Disk>(disk: &mut D, area: usize) -> Result<Option<usize>, DeviceFault>
     requires area { area + area_bytes ≤ device_bytes }
     requires device { D.size disk.old ≡ device_bytes }

@@ -13,7 +13,8 @@ use std::alloc::Global;
 /// Writes the line of an array.
 fn put_array(text: &mut String, id: u64, name: &Name, length: usize) -> Result<(), OutOfMemory>
     requires { is_plain name.now ≡ true }
-    ensures { OnOk result (string_bytes text.new ≡ string_bytes text.old ++ line_of_array id name.now length) }
+    ensures { OnOk result (string_bytes text.new
+        ≡ string_bytes text.old ++ line_of_array id name.now length) }
 {
     let name = str::from_utf8(name.bytes()).unwrap();
     write!(text, "array {id} {name} {length}\n")?;
@@ -36,7 +37,8 @@ fn put_arrays(text: &mut String, state: &State) -> Result<(), OutOfMemory>
 
 /// Writes the line of a session.
 fn put_session(text: &mut String, number: u64, floor: u64, kept: usize) -> Result<(), OutOfMemory>
-    ensures { OnOk result (string_bytes text.new ≡ string_bytes text.old ++ line_of_session number floor kept) }
+    ensures { OnOk result (string_bytes text.new
+        ≡ string_bytes text.old ++ line_of_session number floor kept) }
 {
     write!(text, "session {number} floor {floor} kept {kept}\n")?;
     Ok(())

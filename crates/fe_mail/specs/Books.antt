@@ -1,12 +1,12 @@
--- The books: how many calls and mails there were, and what became of each. A call is a client's request, a mail a message
--- from the server to a connection, which waits in the connection's box until it is taken.
--- See `docs/model.md`, "Mails, connections and books".
+-- The books: how many calls and mails there were, and what became of each. A call is a client's request, a
+-- mail a message from the server to a connection, which waits in the connection's box until it is taken. See
+-- `docs/model.md`, "Mails, connections and books".
 use Rattle.std.specs.Prelude.{◌≡◌, ℕ, ◌+◌, ◌-◌, ◌≤◌, Bool, true, false, refl, min, nat_lt, if◌then◌else◌}
 use Rattle.std.specs.Coded.{Coded, code_by, coded×, coded_ℕ, coded_bool}
 use Rattle.fe_mail.specs.Limits.{most_booked}
 
--- The calls and how many completed, wait, were withdrawn, repeated and refused; the mails and how many were taken,
--- dropped and are left. Spent books never change.
+-- The calls and how many completed, wait, were withdrawn, repeated and refused; the mails and how many were
+-- taken, dropped and are left. Spent books never change.
 pub record Books : Type 0 where
   pub calls : ℕ
   pub completed : ℕ
@@ -23,7 +23,34 @@ pub record Books : Type 0 where
 -- for proofs, books are coded as the tuple of their columns
 abbrev pub books_code : Coded Books
 books_code =
-    code_by (ℕ × (ℕ × (ℕ × (ℕ × (ℕ × (ℕ × (ℕ × (ℕ × (ℕ × (ℕ × Bool)))))))))) (coded× coded_ℕ (coded× coded_ℕ (coded× coded_ℕ (coded× coded_ℕ (coded× coded_ℕ (coded× coded_ℕ (coded× coded_ℕ (coded× coded_ℕ (coded× coded_ℕ (coded× coded_ℕ coded_bool)))))))))) (λ b. (b.calls, (b.completed, (b.waiting, (b.withdrawn, (b.repeated, (b.refused, (b.mails, (b.taken, (b.dropped, (b.left, b.spent))))))))))) (λ p. record { calls = p.0; completed = p.1.0; waiting = p.1.1.0; withdrawn = p.1.1.1.0; repeated = p.1.1.1.1.0; refused = p.1.1.1.1.1.0; mails = p.1.1.1.1.1.1.0; taken = p.1.1.1.1.1.1.1.0; dropped = p.1.1.1.1.1.1.1.1.0; left = p.1.1.1.1.1.1.1.1.1.0; spent = p.1.1.1.1.1.1.1.1.1.1 }) (λ _. refl)
+    code_by (ℕ × (ℕ × (ℕ × (ℕ × (ℕ × (ℕ × (ℕ × (ℕ × (ℕ × (ℕ × Bool))))))))))
+    (coded× coded_ℕ (coded× coded_ℕ (coded× coded_ℕ
+    (coded× coded_ℕ (coded× coded_ℕ (coded× coded_ℕ
+    (coded× coded_ℕ (coded× coded_ℕ (coded× coded_ℕ (coded× coded_ℕ coded_bool))))))))))
+    (λ b. (
+      b.calls,
+      (
+        b.completed,
+        (
+          b.waiting,
+          (b.withdrawn, (b.repeated, (b.refused, (b.mails, (b.taken, (b.dropped, (b.left, b.spent))))))),
+        ),
+      ),
+    ))
+    (λ p. record {
+      calls = p.0;
+      completed = p.1.0;
+      waiting = p.1.1.0;
+      withdrawn = p.1.1.1.0;
+      repeated = p.1.1.1.1.0;
+      refused = p.1.1.1.1.1.0;
+      mails = p.1.1.1.1.1.1.0;
+      taken = p.1.1.1.1.1.1.1.0;
+      dropped = p.1.1.1.1.1.1.1.1.0;
+      left =
+          p.1.1.1.1.1.1.1.1.1.0;
+      spent = p.1.1.1.1.1.1.1.1.1.1;
+    }) (λ _. refl)
 
 -- the invariant of books, spent or not: each call is in exactly one column, and so is each mail
 pub record AddUp (b : Books) : Type 0 where
@@ -32,7 +59,8 @@ pub record AddUp (b : Books) : Type 0 where
   pub few_calls : b.calls ≤ most_booked
   pub few_mails : b.mails ≤ most_booked
 
--- the books balance: they are spent, or say that this many calls wait and this many mails are in boxes; and their columns add up
+-- the books balance: they are spent, or say that this many calls wait and this many mails are in boxes; and
+-- their columns add up
 pub record Balances (b : Books) (waiting left : ℕ) : Type 0 where
   pub columns : AddUp b
   pub waiting_is : b.spent ≡ false → b.waiting ≡ waiting
@@ -41,10 +69,22 @@ pub record Balances (b : Books) (waiting left : ℕ) : Type 0 where
 -- books with no calls and no mails
 abbrev pub first_books : Books
 first_books =
-    record { calls = 0; completed = 0; waiting = 0; withdrawn = 0; repeated = 0; refused = 0; mails = 0; taken = 0; dropped = 0; left = 0; spent = false }
+    record {
+      calls = 0;
+      completed = 0;
+      waiting = 0;
+      withdrawn = 0;
+      repeated = 0;
+      refused = 0;
+      mails = 0;
+      taken = 0;
+      dropped = 0;
+      left = 0;
+      spent = false;
+    }
 
--- the books after a call or a mail: `counted` if `count`, the number of its kind so far, is below `most_booked`, and
--- spent otherwise; spent books never change
+-- the books after a call or a mail: `counted` if `count`, the number of its kind so far, is below
+-- `most_booked`, and spent otherwise; spent books never change
 abbrev pub counting : Books → ℕ → Books → Books
 counting b count counted =
     if b.spent then b else if nat_lt count most_booked then counted else record b { spent = true }

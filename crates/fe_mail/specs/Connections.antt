@@ -1,5 +1,5 @@
--- The mail for an entry of the history; the connections, each with its session and its box of mails; and the number of mails in all boxes.
--- See `docs/model.md`, "Mails, connections and books".
+-- The mail for an entry of the history; the connections, each with its session and its box of mails; and the
+-- number of mails in all boxes. See `docs/model.md`, "Mails, connections and books".
 use Rattle.std.specs.Prelude.{ℕ, List, [], length, Option, None, option_and_then}
 use Rattle.fe_state.specs.declared.entry.Entry.{Entry}
 use Rattle.fe_state.specs.declared.entry.Entry.TheVariants.{Attached, Closed, Settled, Finished}

@@ -2,7 +2,9 @@
 -- See `docs/model.md`, "Mails, connections and books".
 use Rattle.std.specs.Prelude.{ℕ, List, codes}
 use Rattle.fe_mail.specs.declared.refusal.Refusal.{Refusal}
-use Rattle.fe_mail.specs.declared.refusal.Refusal.TheVariants.{NotAttached, SessionLimit, BelowFloor, BeyondWindow, NumberUsed, StillWaiting, Closing, NoMemory, Spent, NotWaiting}
+use Rattle.fe_mail.specs.declared.refusal.Refusal.TheVariants.{NotAttached, SessionLimit, BelowFloor}
+use Rattle.fe_mail.specs.declared.refusal.Refusal.TheVariants.{BeyondWindow, NumberUsed, StillWaiting}
+use Rattle.fe_mail.specs.declared.refusal.Refusal.TheVariants.{Closing, NoMemory, Spent, NotWaiting}
 
 -- the code in frames
 abbrev pub code_of : Refusal → ℕ

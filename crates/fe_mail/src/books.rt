@@ -1,8 +1,10 @@
-//! The books of a server: how many calls (requests of clients) and mails (the server's replies) there were, and what became of them
-//! (`docs/model.md`, "Mails, connections and books").
+//! The books of a server: how many calls (requests of clients) and mails (the server's replies) there were,
+//! and what became of them (`docs/model.md`, "Mails, connections and books").
 
 ghost use Rattle.std.specs.Prelude.{◌≡◌, ◌+◌, ◌&&◌, ◌||◌, ℕ, not, nat_lt, min};
-ghost use Rattle.fe_mail.specs.Books.{first_books, Balances, IsCounted, call_completed, call_waits, call_repeated, call_refused, waiter_completed, waiters_withdrawn, mail_boxed, mail_refused_by_box, mail_taken, box_dropped};
+ghost use Rattle.fe_mail.specs.Books.{first_books, Balances, IsCounted, call_completed, call_waits};
+ghost use Rattle.fe_mail.specs.Books.{call_repeated, call_refused, waiter_completed, waiters_withdrawn};
+ghost use Rattle.fe_mail.specs.Books.{mail_boxed, mail_refused_by_box, mail_taken, box_dropped};
 ghost use Rattle.fe_mail.specs.Limits.{most_booked};
 
 use std::marker::Model;
@@ -10,9 +12,9 @@ use std::marker::Model;
 /// The maximum number of calls, and of mails, that the books count.
 pub const MOST_BOOKED: u64 = (1 << 63) - 1;
 
-/// What became of the calls and the mails. Each call is counted in `calls` and in one of the five columns after it, each
-/// mail in `mails` and in one of the three columns after that. A call or a mail past `MOST_BOOKED` is not counted;
-/// it makes the books `spent`, and spent books never change.
+/// What became of the calls and the mails. Each call is counted in `calls` and in one of the five columns
+/// after it, each mail in `mails` and in one of the three columns after that. A call or a mail past
+/// `MOST_BOOKED` is not counted; it makes the books `spent`, and spent books never change.
 #[derive(Clone, Copy, PartialEq, Eq)]
 pub struct Books {
     pub calls: u64,
@@ -89,7 +91,8 @@ impl Books {
     /// Counts a call that waits.
     pub fn call_waits(&mut self)
         ensures books { self.new ≡ call_waits self.old }
-        ensures balance { (waiting left : ℕ) → Balances self.old waiting left → Balances self.new (waiting + 1) left }
+        ensures balance { (waiting left : ℕ) → Balances self.old waiting left
+            → Balances self.new (waiting + 1) left }
     {
         if can_count(self.calls, &mut self.spent) {
             self.calls += 1;
@@ -120,7 +123,8 @@ impl Books {
     /// Moves a waiting call, if there is one, to the completed ones.
     pub fn waiter_completed(&mut self)
         ensures books { self.new ≡ waiter_completed self.old }
-        ensures balance { (waiting left : ℕ) → Balances self.old (waiting + 1) left → Balances self.new waiting left }
+        ensures balance { (waiting left : ℕ) → Balances self.old (waiting + 1) left
+            → Balances self.new waiting left }
     {
         if !self.spent {
             let moved = at_most(1, self.waiting);
@@ -129,10 +133,12 @@ impl Books {
         }
     }
 
-    /// Moves this many waiting calls, or all if there are fewer, to the withdrawn ones, which wait no more and get no answer.
+    /// Moves this many waiting calls, or all if there are fewer, to the withdrawn ones, which wait no more
+    /// and get no answer.
     pub fn waiters_withdrawn(&mut self, n: u32)
         ensures books { self.new ≡ waiters_withdrawn n self.old }
-        ensures balance { (waiting left : ℕ) → Balances self.old (waiting + n) left → Balances self.new waiting left }
+        ensures balance { (waiting left : ℕ) → Balances self.old (waiting + n) left
+            → Balances self.new waiting left }
     {
         if !self.spent {
             let moved = at_most(n, self.waiting);
@@ -144,7 +150,8 @@ impl Books {
     /// Counts a mail that is in a box, where the mails of a connection wait.
     pub fn mail_boxed(&mut self)
         ensures books { self.new ≡ mail_boxed self.old }
-        ensures balance { (waiting left : ℕ) → Balances self.old waiting left → Balances self.new waiting (left + 1) }
+        ensures balance { (waiting left : ℕ) → Balances self.old waiting left
+            → Balances self.new waiting (left + 1) }
     {
         if can_count(self.mails, &mut self.spent) {
             self.mails += 1;
@@ -165,7 +172,8 @@ impl Books {
     /// Moves a mail that is in a box, if there is one, to the taken ones.
     pub fn mail_taken(&mut self)
         ensures books { self.new ≡ mail_taken self.old }
-        ensures balance { (waiting left : ℕ) → Balances self.old waiting (left + 1) → Balances self.new waiting left }
+        ensures balance { (waiting left : ℕ) → Balances self.old waiting (left + 1)
+            → Balances self.new waiting left }
     {
         if !self.spent {
             let moved = at_most(1, self.left);
@@ -177,7 +185,8 @@ impl Books {
     /// Moves this many mails that are in boxes, or all if there are fewer, to the dropped ones.
     pub fn box_dropped(&mut self, n: u32)
         ensures books { self.new ≡ box_dropped n self.old }
-        ensures balance { (waiting left : ℕ) → Balances self.old waiting (left + n) → Balances self.new waiting left }
+        ensures balance { (waiting left : ℕ) → Balances self.old waiting (left + n)
+            → Balances self.new waiting left }
     {
         if !self.spent {
             let moved = at_most(n, self.left);

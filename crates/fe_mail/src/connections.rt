@@ -1,6 +1,7 @@
 //! The connections of a server (`docs/model.md`, "Mails, connections and books").
 
-ghost use Rattle.std.specs.Prelude.{◌≡◌, ◌↔◌, ◌<◌, ◌≤◌, [], ◌∷◌, ◌++◌, length, nat_lt, drop, slice_get, is_some, None, IfErr, IfNone, OnOk, OnErr, IsOk, IsSome};
+ghost use Rattle.std.specs.Prelude.{◌≡◌, ◌↔◌, ◌<◌, ◌≤◌, [], ◌∷◌, ◌++◌, length, nat_lt, drop, slice_get};
+ghost use Rattle.std.specs.Prelude.{is_some, None, IfErr, IfNone, OnOk, OnErr, IsOk, IsSome};
 ghost use Rattle.std.specs.FinMap as map;
 ghost use Rattle.fe_mail.specs.Connections.{first_connection, session_on, mails_on, with_session, with_mails};
 ghost use Rattle.fe_mail.specs.Limits.{most_mails_in_box};
@@ -15,8 +16,8 @@ use std::marker::Model;
 
 /// The connections by number: the session of each, and the box in which its mails wait.
 ///
-/// Connections are in a hash map. `connect` allocates a box with room for `MAILS` mails, the most in a box, and may let the map grow;
-/// nothing else allocates.
+/// Connections are in a hash map. `connect` allocates a box with room for `MAILS` mails, the most in a box,
+/// and may let the map grow; nothing else allocates.
 pub struct Connections {
     connections: IndexMap<u64, Connection>,
     alloc: Global,
@@ -112,7 +113,8 @@ impl Connections {
     pub fn put(&mut self, conn: u64, mail: Mail) -> Result<(), Mail>
         requires connected { IsSome (map.get self.old conn) }
         ensures room { IsOk result ↔ (length (mails_on self.old conn) < most_mails_in_box) }
-        ensures put { OnOk result (self.new ≡ with_mails self.old conn (mails_on self.old conn ++ mail ∷ [])) }
+        ensures put { OnOk result (self.new ≡ with_mails self.old conn
+            (mails_on self.old conn ++ mail ∷ [])) }
         ensures full { OnErr result (length (mails_on self.old conn) ≡ most_mails_in_box) }
         ensures returned { IfErr result (λ back. back ≡ mail) }
         ensures err { OnErr result (self.new ≡ self.old) }
@@ -121,7 +123,8 @@ impl Connections {
         connection.mails.put(mail)
     }
 
-    /// Removes the oldest mail of a connection's box, or returns `None` if there is none or it is not connected.
+    /// Removes the oldest mail of a connection's box, or returns `None` if there is none or it is not
+    /// connected.
     pub fn take(&mut self, conn: u64) -> Option<Mail>
         ensures mail { result ≡ slice_get (mails_on self.old conn) 0 }
         ensures taken { self.new ≡ with_mails self.old conn (drop 1 (mails_on self.old conn)) }
@@ -133,8 +136,8 @@ impl Connections {
         }
     }
 
-    /// Removes a connection and its box, and returns the number of mails in the box, 0 to `MAILS`. Returns 0 if it is
-    /// not connected.
+    /// Removes a connection and its box, and returns the number of mails in the box, 0 to `MAILS`. Returns 0
+    /// if it is not connected.
     pub fn remove(&mut self, conn: u64) -> u32
         ensures mails { result ≡ length (mails_on self.old conn) }
         ensures few { result ≤ most_mails_in_box }

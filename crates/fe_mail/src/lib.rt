@@ -1,5 +1,5 @@
-//! Mails, the messages from the server to connections; the boxes in which they wait; and the books, which count calls and mails
-//! (`docs/model.md`, "Mails, connections and books").
+//! Mails, the messages from the server to connections; the boxes in which they wait; and the books, which
+//! count calls and mails (`docs/model.md`, "Mails, connections and books").
 #![tactic(auto)]
 
 mod books;

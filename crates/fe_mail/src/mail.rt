@@ -1,5 +1,5 @@
-//! Mails, one kind for each kind of reply (`docs/formats.md`, "Replies"), and the one that an entry of the history brings
-//! (`docs/model.md`, "Mails, connections and books").
+//! Mails, one kind for each kind of reply (`docs/formats.md`, "Replies"), and the one that an entry of the
+//! history brings (`docs/model.md`, "Mails, connections and books").
 
 ghost use Rattle.std.specs.Prelude.{◌≡◌};
 ghost use Rattle.fe_mail.specs.Connections.{mail_of, session_of};
@@ -35,8 +35,8 @@ pub enum Mail {
     Goodbye {
         session: u64,
     },
-    /// A message was refused. The number is that of the call or cancel, the session of an attach, the floor of a
-    /// settle, or 0 for a bye or a report.
+    /// A message was refused. The number is that of the call or cancel, the session of an attach, the floor
+    /// of a settle, or 0 for a bye or a report.
     Refused {
         number: u64,
         refusal: Refusal,

@@ -1,6 +1,8 @@
-//! The box of a connection, in which its mails wait until they are taken (`docs/model.md`, "Mails, connections and books").
+//! The box of a connection, in which its mails wait until they are taken (`docs/model.md`, "Mails,
+//! connections and books").
 
-ghost use Rattle.std.specs.Prelude.{◌≡◌, ◌↔◌, ◌<◌, ◌≤◌, [], ◌∷◌, ◌++◌, length, drop, slice_get, IfOk, IfErr, OnOk, OnErr, IsOk};
+ghost use Rattle.std.specs.Prelude.{◌≡◌, ◌↔◌, ◌<◌, ◌≤◌, [], ◌∷◌, ◌++◌, length, drop, slice_get, IfOk, IfErr};
+ghost use Rattle.std.specs.Prelude.{OnOk, OnErr, IsOk};
 ghost use Rattle.fe_mail.specs.Limits.{most_mails_in_box};
 
 use crate::mail::Mail;
@@ -28,7 +30,8 @@ impl Model for Mailbox {
 
     ghost view = { λ a. a.mails.items };
 
-    ghost invariant = { λ a. (deque_len a.mails ≤ most_mails_in_box) × (most_mails_in_box ≤ deque_capacity a.mails) };
+    ghost invariant = { λ a. (deque_len a.mails ≤ most_mails_in_box)
+        × (most_mails_in_box ≤ deque_capacity a.mails) };
 }
 
 impl Mailbox {

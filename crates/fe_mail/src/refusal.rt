@@ -3,8 +3,8 @@ ghost use Rattle.fe_mail.specs.Refusal.{code_of, name_of};
 
 use fe_memory::OutOfMemory;
 
-/// Why an event of the front was refused (`docs/formats.md`, "Replies"; `docs/model.md`, "Mails, connections and books"). A refused event
-/// changes nothing, except that the books count a refused call.
+/// Why an event of the front was refused (`docs/formats.md`, "Replies"; `docs/model.md`, "Mails, connections
+/// and books"). A refused event changes nothing, except that the books count a refused call.
 #[derive(Clone, Copy, PartialEq, Eq)]
 pub enum Refusal {
     /// The connection has no session. For an attach: no such connection is there.
@@ -13,13 +13,15 @@ pub enum Refusal {
     SessionLimit,
     /// The number, or the floor asked, is below the session's floor.
     BelowFloor,
-    /// The number is 32 or more above the session's floor, or the floor asked is more than 32 above it or above 2^63 - 32.
+    /// The number is 32 or more above the session's floor, or the floor asked is more than 32 above it or
+    /// above 2^63 - 32.
     BeyondWindow,
     /// The number belongs to another request, which is kept or waits.
     NumberUsed,
     /// A request of the session with a number below the floor asked is waiting.
     StillWaiting,
-    /// The session is being ended: its close is made, and not yet stored and posted (`docs/model.md`, "The front").
+    /// The session is being ended: its close is made, and not yet stored and posted (`docs/model.md`, "The
+    /// front").
     Closing,
     /// Memory ran out.
     NoMemory(OutOfMemory),

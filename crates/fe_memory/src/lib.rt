@@ -7,8 +7,9 @@ ghost use Rattle.std.specs.IoError.{error_kind};
 use std::alloc::{AllocError, AllocFailed, Global};
 use std::io::{Error, ErrorKind};
 
-/// An allocation failed: there was no memory, or more was asked than a block can have. It is made from an error of std's alone, and no
-/// crate above this one makes such an error. So one shows that an allocation failed.
+/// An allocation failed: there was no memory, or more was asked than a block can have. It is made from an
+/// error of std's alone, and no crate above this one makes such an error. So one shows that an allocation
+/// failed.
 #[derive(Clone, Copy, Debug, PartialEq, Eq)]
 pub struct OutOfMemory(());
 

@@ -9,8 +9,10 @@ use Rattle.fe_state.specs.declared.entry.Entry.{Entry}
 use Rattle.fe_state.specs.declared.entry.Entry.TheVariants.{Finished}
 use Rattle.fe_state.specs.declared.request.Request.{Request}
 
--- The answer is that of the entry at the place: the entry finishes the number with the reply to its request in the state before.
-pub record IsFinishedAt (begun : ServerState) (es : List Entry) (session number : ℕ) (answer : Answer) (place : ℕ) : Type 0 where
+-- The answer is that of the entry at the place: the entry finishes the number with the reply to its request
+-- in the state before.
+pub record IsFinishedAt (begun : ServerState) (es : List Entry) (session number : ℕ) (answer : Answer)
+    (place : ℕ) : Type 0 where
   pub before : List Entry
   pub request : Request
   pub behind : List Entry
@@ -21,12 +23,14 @@ pub record IsFinishedAt (begun : ServerState) (es : List Entry) (session number 
 -- The answer was kept for the number, with its place, when the state was opened.
 pub record IsKeptSince (begun : ServerState) (session number : ℕ) (answer : Answer) (place : ℕ) : Type 0 where
   pub request : Request
-  pub kept : kept_in (get begun.sessions session) number ≡ Some (record { request = request; answer = answer; place = place })
+  pub kept : kept_in (get begun.sessions session) number
+      ≡ Some (record { request = request; answer = answer; place = place })
   pub earlier : place < begun.place
 
 -- The answer of a number is that of its entry among these, or it was kept before them.
 abbrev pub IsAnswerIn : ServerState → List Entry → ℕ → ℕ → Answer → ℕ → Type 0
-IsAnswerIn begun es session number answer place = IsKeptSince begun session number answer place ⊎ IsFinishedAt begun es session number answer place
+IsAnswerIn begun es session number answer place =
+    IsKeptSince begun session number answer place ⊎ IsFinishedAt begun es session number answer place
 
 -- Each entry that finishes a request has the reply to it in the state before the entry.
 abbrev pub AreAnswered : ServerState → List Entry → Type 0

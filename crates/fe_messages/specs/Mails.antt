@@ -1,4 +1,5 @@
--- What is written to a client: the frames of the mails to its connection (`docs/model.md`, "Messages and mails").
+-- What is written to a client: the frames of the mails to its connection (`docs/model.md`, "Messages and
+-- mails").
 use Rattle.std.specs.Prelude.{ℕ, List}
 use Rattle.std.specs.List.{flat_map}
 use Rattle.fe_mail.specs.Refusal.{code_of}

@@ -46,12 +46,13 @@ impl Reply {
         Reply { message }
     }
 
-    /// Appends the reply's frame. Returns `OutOfMemory`, with nothing appended, if the vector's spare room doesn't hold
-    /// the frame and memory runs out.
+    /// Appends the reply's frame. Returns `OutOfMemory`, with nothing appended, if the vector's spare room
+    /// doesn't hold the frame and memory runs out.
     pub fn put(&self, out: &mut Vec<u8>) -> Result<(), OutOfMemory>
         ensures ok { OnOk result (out.new.items ≡ out.old.items ++ reply_spelling self.now) }
         ensures err { OnErr result (out.new.items ≡ out.old.items) }
-        ensures full { OnErr result (vec_capacity out.old < vec_len out.old + length (reply_spelling self.now)) }
+        ensures full { OnErr result (vec_capacity out.old
+            < vec_len out.old + length (reply_spelling self.now)) }
         ensures fits { ReplyFits self.now }
     {
         put_reply(out, &self.message)

@@ -16,11 +16,13 @@ use fe_report::report;
 use fe_wire::ClientMessage;
 use std::alloc::Global;
 
-/// Hands a connection's message to the front, which has to have room for the entries of one event. If the message is refused, the
-/// connection, if it is connected, gets a mail that says why, or is removed if its box is full.
+/// Hands a connection's message to the front, which has to have room for the entries of one event. If the
+/// message is refused, the connection, if it is connected, gets a mail that says why, or is removed if its
+/// box is full.
 pub fn take_message(alloc: Global, front: &mut Front, conn: u64, message: ClientMessage) -> Took
     requires room { IsTrue (has_room front.old) }
-    ensures taken { (es : List Entry) × Takes front.old conn message es front.new × Enters front.old es front.new }
+    ensures taken { (es : List Entry) × Takes front.old conn message es front.new
+        × Enters front.old es front.new }
     ensures took { result ≡ record {
       conn = conn;
       had = session_on front.old.connections conn;
@@ -33,11 +35,12 @@ pub fn take_message(alloc: Global, front: &mut Front, conn: u64, message: Client
     Took::of(conn, had, place, message)
 }
 
-/// Hands a message to the front, and returns the session that the connection had before. The front tells which session an event was for,
-/// so that it is looked up only for the other messages and for a refusal.
+/// Hands a message to the front, and returns the session that the connection had before. The front tells
+/// which session an event was for, so that it is looked up only for the other messages and for a refusal.
 fn hand_over(alloc: Global, front: &mut Front, conn: u64, message: &ClientMessage) -> Option<u64>
     requires room { IsTrue (has_room front.old) }
-    ensures taken { (es : List Entry) × Takes front.old conn message.now es front.new × Enters front.old es front.new }
+    ensures taken { (es : List Entry) × Takes front.old conn message.now es front.new
+        × Enters front.old es front.new }
     ensures had { result ≡ session_on front.old.connections conn }
 {
     // From here on the proof has what is always true of the front (`docs/DECISIONS.md`, "Toolchain").

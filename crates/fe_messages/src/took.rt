@@ -1,12 +1,13 @@
-//! What handing a message to the front returns (`docs/model.md`, "Messages and mails"). The front has the server's state, all that waits,
-//! and the connections ("The front").
+//! What handing a message to the front returns (`docs/model.md`, "Messages and mails"). The front has the
+//! server's state, all that waits, and the connections ("The front").
 
 ghost use Rattle.std.specs.Prelude.{◌≡◌};
 
 use fe_wire::ClientMessage;
 use std::marker::Model;
 
-/// Shows that this message of this connection was handed to a front, which took or refused it. Only `take_message` makes one.
+/// Shows that this message of this connection was handed to a front, which took or refused it. Only
+/// `take_message` makes one.
 #[derive(Drop)]
 pub struct Took {
     conn: u64,

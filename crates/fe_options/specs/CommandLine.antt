@@ -35,8 +35,10 @@ femem =
 -- the command with this name and these option values asks for this invocation
 abbrev pub IsCommand : Invocation → Text → List Row → Type 0
 IsCommand Run name found = name ≡ codes "run"
-IsCommand (Serve settings) name found = (name ≡ codes "serve") × (first_of (codes "settings") found ≡ Some settings.now)
-IsCommand (Call socket) name found = (name ≡ codes "call") × (first_of (codes "socket") found ≡ Some socket.now)
+IsCommand (Serve settings) name found =
+    (name ≡ codes "serve") × (first_of (codes "settings") found ≡ Some settings.now)
+IsCommand (Call socket) name found =
+    (name ≡ codes "call") × (first_of (codes "socket") found ≡ Some socket.now)
 IsCommand (Look store) name found = (name ≡ codes "look") × (first_of (codes "store") found ≡ Some store.now)
 
 -- the command that was entered, with its option values, asks for this invocation

@@ -1,5 +1,6 @@
 -- The settings of a server, as a TOML document has them (`docs/settings.md`).
-use Rattle.std.specs.Prelude.{ℕ, List, codes, ◌≡◌, ◌^◌, ◌||◌, ◌&&◌, ℤ, pos, Bool, true, false, nat_le, if◌then◌else◌, string_bytes, Option, Some, None, option_and_then}
+use Rattle.std.specs.Prelude.{ℕ, List, codes, ◌≡◌, ◌^◌, ◌||◌, ◌&&◌, ℤ, pos, Bool, true, false, nat_le}
+use Rattle.std.specs.Prelude.{if◌then◌else◌, string_bytes, Option, Some, None, option_and_then}
 use Rattle.fe_options.specs.declared.key.Key.{Key}
 use Rattle.fe_options.specs.declared.key.Key.TheVariants as key
 use Rattle.std.specs.Option.{option_map_or}
@@ -36,9 +37,11 @@ within least most other = None
 abbrev pub number_in : ℕ → ℕ → Data → Option ℕ
 number_in least most value = option_and_then (within least most) (as_integer value)
 
--- the number at a key, or the default if the key is absent; None if the value is not a number within the bounds
+-- the number at a key, or the default if the key is absent; None if the value is not a number within the
+-- bounds
 abbrev pub number_under : Key → ℕ → ℕ → ℕ → Members → Option ℕ
-number_under k least most usual document = option_map_or (number_in least most) (value_of k document) (Some usual)
+number_under k least most usual document =
+    option_map_or (number_in least most) (value_of k document) (Some usual)
 
 -- the flag at a key, or false if the key is absent; None if the value is not a boolean
 abbrev pub flag_under : Key → Members → Option Bool
@@ -48,7 +51,8 @@ flag_under k document = option_map_or as_bool (value_of k document) (Some false)
 abbrev pub is_known : List ℕ → Bool
 is_known name =
     bytes_eq name (codes "socket") || (bytes_eq name (codes "store") || (bytes_eq name (codes "connections")
-    || (bytes_eq name (codes "format") || (bytes_eq name (codes "accepts") || bytes_eq name (codes "turns")))))
+    || (bytes_eq name (codes "format") || (bytes_eq name (codes "accepts")
+    || bytes_eq name (codes "turns")))))
 
 -- every key is the name of a setting
 abbrev pub has_known_keys : Members → Bool
@@ -97,17 +101,19 @@ AreRightBefore key.Format document = AreFirstRight document
 AreRightBefore key.Accepts document = AreFirstRight document × IsRight key.Format document
 AreRightBefore key.Turns document = AreMostRight document
 
--- The document is refused with this fault: its first wrong key, or, if no key is wrong, that it has a key outside the
--- settings. A lack of memory says nothing about the document.
+-- The document is refused with this fault: its first wrong key, or, if no key is wrong, that it has a key
+-- outside the settings. A lack of memory says nothing about the document.
 abbrev pub RefusesDocument : Members → SettingsFault → Type 0
 RefusesDocument document (fault.Setting k) = IsWrong k document × AreRightBefore k document
-RefusesDocument document fault.UnknownKey = (has_known_keys document ≡ false) × (AreMostRight document × IsRight key.Turns document)
+RefusesDocument document fault.UnknownKey =
+    (has_known_keys document ≡ false) × (AreMostRight document × IsRight key.Turns document)
 RefusesDocument document fault.Memory = Unit {0}
 RefusesDocument document fault.NotToml = ⊥
 
--- The text is refused with this fault: it is not a document, or its document is refused. A lack of memory says
--- nothing about the text.
+-- The text is refused with this fault: it is not a document, or its document is refused. A lack of memory
+-- says nothing about the text.
 abbrev pub RefusesText : List ℕ → SettingsFault → Type 0
 RefusesText text fault.NotToml = parse_document text ≡ None
 RefusesText text fault.Memory = Unit {0}
-RefusesText text other = (document : Members) × (parse_document text ≡ Some document) × RefusesDocument document other
+RefusesText text other =
+    (document : Members) × (parse_document text ≡ Some document) × RefusesDocument document other

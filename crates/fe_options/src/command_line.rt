@@ -1,10 +1,13 @@
 //! The command line: the commands of the program, and their options (`docs/commands.md`, "Commands").
 
-ghost use Rattle.std.specs.Prelude.{◌≡◌, ◌⊎◌, codes, false, map, is_some, IfSome, IfOk, IfErr, Ok, option_map};
-ghost use Rattle.clap.specs.Words.{AddsSubcommand, HasKind, app_of, fault_of, first_of, found_of, kind_of, rows_of, subcommand_of, subcommand_rows_of};
+ghost use Rattle.std.specs.Prelude.{◌≡◌, ◌⊎◌, codes, false, map, is_some, IfSome, IfOk, IfErr, Ok};
+ghost use Rattle.std.specs.Prelude.{option_map};
+ghost use Rattle.clap.specs.Words.{AddsSubcommand, HasKind, app_of, fault_of, first_of, found_of, kind_of};
+ghost use Rattle.clap.specs.Words.{rows_of, subcommand_of, subcommand_rows_of};
 ghost use Rattle.clap.specs.declared.builder.command.Command.{Command};
 ghost use Rattle.clap.specs.declared.builder.command.Command.TheViews.{out-Command as fields_of};
-ghost use Rattle.fe_options.specs.CommandLine.{femem, program_with_run, with_option, IsCommand, IsAsked, is_complete, is_asked};
+ghost use Rattle.fe_options.specs.CommandLine.{femem, program_with_run, with_option, IsCommand, IsAsked};
+ghost use Rattle.fe_options.specs.CommandLine.{is_complete, is_asked};
 
 use clap::error::ErrorKind;
 use clap::{Arg, ArgMatches, Command, Error};
@@ -181,12 +184,13 @@ fn asked_by<'a>(matches: &ArgMatches<'a>) -> Option<Invocation<'a>>
     asked(name, found)
 }
 
-/// What a command line asks for; its first word is the program's name. The error says what is wrong with the words,
-/// or contains the help or the version that was asked for, or says that memory ran out.
+/// What a command line asks for; its first word is the program's name. The error says what is wrong with the
+/// words, or contains the help or the version that was asked for, or says that memory ran out.
 pub fn arguments<'a, S: AsStr>(alloc: Global, words: &'a [S]) -> Result<Invocation<'a>, Error>
     // It is the command that `clap` finds in the words, with the value of its option.
     ensures asked { IfOk result (λ asked. IsAsked asked (subcommand_of femem (map S.text words.entry.now))) }
-    // An error has a kind that `clap` finds in the words, or says that memory ran out. So words that it accepts ask for a command.
+    // An error has a kind that `clap` finds in the words, or says that memory ran out. So words that it
+    // accepts ask for a command.
     ensures refused { IfErr result (HasKind (fault_of femem (map S.text words.entry.now))) }
 {
     let program = commands(alloc)?;

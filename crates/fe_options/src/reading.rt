@@ -4,7 +4,8 @@ ghost use Rattle.std.specs.Prelude.{◌≡◌, Some, IfOk, IfErr, option_map};
 ghost use Rattle.toml.specs.Data.{Members};
 ghost use Rattle.toml.specs.Parse.{parse_document};
 ghost use Rattle.toml.specs.View.{table_view, view};
-ghost use Rattle.fe_options.specs.Settings.{value_of, text_of, number_in, number_under, flag_under, is_known, has_known_keys, IsSettingsOf, RefusesDocument, RefusesText};
+ghost use Rattle.fe_options.specs.Settings.{value_of, text_of, number_in, number_under, flag_under, is_known};
+ghost use Rattle.fe_options.specs.Settings.{has_known_keys, IsSettingsOf, RefusesDocument, RefusesText};
 
 use crate::key::Key;
 use crate::settings::Settings;
@@ -56,7 +57,8 @@ fn number_in(value: &Value, least: u64, most: u64) -> Option<u64>
     }
 }
 
-/// The number at a key, or `usual` if the key is absent. `None` if the value is not an integer within these bounds.
+/// The number at a key, or `usual` if the key is absent. `None` if the value is not an integer within these
+/// bounds.
 fn number_under(table: &Table, key: Key, least: u64, most: u64, usual: u64) -> Option<u64>
     ensures { result ≡ number_under key least most usual (table_view table.now) }
 {
@@ -141,11 +143,12 @@ fn settings_in(alloc: Global, table: &Table) -> Result<Settings, SettingsFault>
     })
 }
 
-/// Reads the settings from a text (`docs/settings.md`). The error is `NotToml` if the text is not a TOML document;
-/// otherwise `Setting` with the first key, in the order of the fields, that is required and missing or has a wrong
-/// value; otherwise `UnknownKey` if there is any other key; or `Memory` if memory runs out.
+/// Reads the settings from a text (`docs/settings.md`). The error is `NotToml` if the text is not a TOML
+/// document; otherwise `Setting` with the first key, in the order of the fields, that is required and missing
+/// or has a wrong value; otherwise `UnknownKey` if there is any other key; or `Memory` if memory runs out.
 pub fn read_settings(alloc: Global, text: &str) -> Result<Settings, SettingsFault>
-    ensures settings { IfOk result (λ settings. (document : Members) × (parse_document text.now ≡ Some document)
+    ensures settings { IfOk result (λ settings. (document : Members)
+        × (parse_document text.now ≡ Some document)
         × IsSettingsOf document settings) }
     ensures refused { IfErr result (RefusesText text.now) }
 {

@@ -11,7 +11,8 @@ pub struct Settings {
     pub connections: u64,
     /// Whether to make a store if the file is missing or holds none.
     pub format: bool,
-    /// After this many connections, once all of them ended, the server ends; at most 65,536, and 0 means no limit.
+    /// After this many connections, once all of them ended, the server ends; at most 65,536, and 0 means no
+    /// limit.
     pub accepts: u64,
     /// The maximum number of reads of one connection, 1 to 2^40.
     pub turns: u64,

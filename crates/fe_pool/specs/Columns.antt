@@ -1,6 +1,7 @@
 -- The contents of a pool's vector, one column for each field of a node. No public clause cites this module.
 -- See `docs/model.md`, "Waiting requests".
-use Rattle.std.specs.Prelude.{◌≡◌, ℕ, zero, suc, List, [], ◌∷◌, ◌++◌, Option, Some, None, IsSome, refl, slice_index_or}
+use Rattle.std.specs.Prelude.{◌≡◌, ℕ, zero, suc, List, [], ◌∷◌, ◌++◌, Option, Some, None, IsSome, refl}
+use Rattle.std.specs.Prelude.{slice_index_or}
 use Rattle.std.specs.Coded.{Coded, code_by, coded×, coded_ℕ, coded_list, coded_option}
 use Rattle.fe_pool.specs.declared.family.Family.{Family}
 use Rattle.fe_pool.specs.declared.family.Family.TheVariants.{OfWord, OfSession}
@@ -10,8 +11,8 @@ use Rattle.fe_pool.specs.declared.neighbours.Neighbours.{Neighbours}
 abbrev pub Link : Type 0
 Link = Option Neighbours
 
--- for each node: its item if it is taken, the next free node if it is free, and its neighbours on its list of each
--- family
+-- for each node: its item if it is taken, the next free node if it is free, and its neighbours on its list of
+-- each family
 pub record Columns (T : Type 0) : Type 0 where
   pub items : List (Option T)
   pub followers : List (Option ℕ)

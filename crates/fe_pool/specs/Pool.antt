@@ -1,13 +1,16 @@
--- A pool as contracts see it: a fixed number of nodes, each free or taken. A taken node holds an item and is on at most
--- one list of each of two families, the lists of words and those of sessions (`docs/model.md`, "Waiting requests").
-use Rattle.std.specs.Prelude.{◌≡◌, ◌≢◌, ◌==◌, ◌↔◌, ℕ, ◌<◌, ◌^◌, List, [], ◌∷◌, ◌++◌, length, filter, not, Option, Some, None, IsSome, refl, slice_index_or, AllPairs, Contains}
+-- A pool as contracts see it: a fixed number of nodes, each free or taken. A taken node holds an item and is
+-- on at most one list of each of two families, the lists of words and those of sessions (`docs/model.md`,
+-- "Waiting requests").
+use Rattle.std.specs.Prelude.{◌≡◌, ◌≢◌, ◌==◌, ◌↔◌, ℕ, ◌<◌, ◌^◌, List, [], ◌∷◌, ◌++◌, length, filter, not}
+use Rattle.std.specs.Prelude.{Option, Some, None, IsSome, refl, slice_index_or, AllPairs, Contains}
 use Rattle.std.specs.List.{last_or}
 use Rattle.std.specs.Coded.{Coded, code_by, coded×, coded_ℕ, coded_list, coded_option}
 use Rattle.fe_pool.specs.declared.chain.Chain.{Chain}
 use Rattle.fe_pool.specs.declared.family.Family.{Family}
 use Rattle.fe_pool.specs.declared.family.Family.TheVariants.{OfWord, OfSession}
 
--- for each node: its item if it is taken, and for each family the list that begins with it, empty if none does
+-- for each node: its item if it is taken, and for each family the list that begins with it, empty if none
+-- does
 pub record Contents (T : Type 0) : Type 0 where
   pub items : List (Option T)
   pub of_word : List (List ℕ)
@@ -39,13 +42,14 @@ list_from lists (Some first) = slice_index_or lists first []
 abbrev pub IsOnOne : List (List ℕ) → ℕ → Type 0
 IsOnOne lists node = (first : Option ℕ) × Contains (list_from lists first) node
 
--- the lists of a family are sound: there is one entry for each node, a list is kept at its first node and has no node
--- twice, no two lists share a node, and each node on a list has an item
+-- the lists of a family are sound: there is one entry for each node, a list is kept at its first node and has
+-- no node twice, no two lists share a node, and each node on a list has an item
 pub record AreSound {T : Type 0} (items : List (Option T)) (lists : List (List ℕ)) : Type 0 where
   pub sized : length lists ≡ length items
   pub begins : (index node : ℕ) → first_or None (list_from lists (Some index)) ≡ Some node → node ≡ index
   pub different : (first : Option ℕ) → AllPairs (λ a b. a ≢ b) (list_from lists first)
-  pub apart : (one other : Option ℕ) (node : ℕ) → Contains (list_from lists one) node → Contains (list_from lists other) node → one ≡ other
+  pub apart : (one other : Option ℕ) (node : ℕ) → Contains (list_from lists one) node
+      → Contains (list_from lists other) node → one ≡ other
   pub taken : (node : ℕ) → IsOnOne lists node → IsSome (slice_index_or items node None)
 
 -- the list with a node removed
@@ -94,18 +98,22 @@ module _ {T : Type 0} where
 
   -- each chain that is apart from this one is still a chain of the family, with the same list
   abbrev pub KeepsOtherChains : Contents T → Contents T → Family → Chain → Type 0
-  KeepsOtherChains old new family chain = (other : Chain) → IsApart other chain → IsChain old family other → IsChain new family other × (list_of new family other ≡ list_of old family other)
+  KeepsOtherChains old new family chain = (other : Chain) → IsApart other chain → IsChain old family other
+      → IsChain new family other × (list_of new family other ≡ list_of old family other)
 
   -- each other node is on a list of the family exactly if it was before
   abbrev pub KeepsOtherNodes : Contents T → Contents T → Family → ℕ → Type 0
-  KeepsOtherNodes old new family node = (other : ℕ) → other ≢ node → IsOn old family other ↔ IsOn new family other
+  KeepsOtherNodes old new family node =
+      (other : ℕ) → other ≢ node → IsOn old family other ↔ IsOn new family other
 
   -- the lists of the other family are unchanged
   abbrev pub KeepsOtherFamily : Contents T → Contents T → Family → Type 0
-  KeepsOtherFamily old new family = (other : Family) → other ≢ family → lists_of new other ≡ lists_of old other
+  KeepsOtherFamily old new family =
+      (other : Family) → other ≢ family → lists_of new other ≡ lists_of old other
 
   -- the chain's list became `nodes`, and nothing else changed but whether the node is on a list of the family
-  pub record ChangesList (old new : Contents T) (family : Family) (before after : Chain) (nodes : List ℕ) (node : ℕ) : Type 0 where
+  pub record ChangesList (old new : Contents T) (family : Family) (before after : Chain) (nodes : List ℕ)
+      (node : ℕ) : Type 0 where
     pub list : list_of new family after ≡ nodes
     pub chain : IsChain new family after
     pub other_chains : KeepsOtherChains old new family before
@@ -115,7 +123,8 @@ module _ {T : Type 0} where
 
   -- what `next` returns for a node: its successor on each list it is on
   abbrev pub IsNext : Contents T → Family → ℕ → Option ℕ → Type 0
-  IsNext p family node next = (first : Option ℕ) (before after : List ℕ) → list_from (lists_of p family) first ≡ before ++ node ∷ after → next ≡ first_or None after
+  IsNext p family node next = (first : Option ℕ) (before after : List ℕ)
+      → list_from (lists_of p family) first ≡ before ++ node ∷ after → next ≡ first_or None after
 
   -- the invariant of every pool: it has fewer than 2^32 nodes, and the lists of each family are sound
   pub record IsSound (p : Contents T) : Type 0 where

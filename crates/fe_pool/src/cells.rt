@@ -1,6 +1,8 @@
-//! The memory of a pool of nodes, which link waiting requests into lists of words and of sessions (`docs/model.md`, "Waiting requests").
+//! The memory of a pool of nodes, which link waiting requests into lists of words and of sessions
+//! (`docs/model.md`, "Waiting requests").
 
-ghost use Rattle.std.specs.Prelude.{◌≡◌, ◌<◌, ◌^◌, IfOk, IsSome, Some, None, length, slice_index_or, slice_set, replicate, Option};
+ghost use Rattle.std.specs.Prelude.{◌≡◌, ◌<◌, ◌^◌, IfOk, IsSome, Some, None, length, slice_index_or};
+ghost use Rattle.std.specs.Prelude.{slice_set, replicate, Option};
 ghost use Rattle.std.specs.Option.{ForSome};
 ghost use Rattle.fe_pool.specs.Columns.{links_of, with_links, link_at, before_each, IsLoose, IsLinked};
 ghost use Rattle.fe_pool.specs.within.Runs.{with_next, with_previous};
@@ -168,7 +170,8 @@ impl<T: Drop> Cells<T> {
     // Makes `previous` the predecessor of the node `at`, if there is such a node.
     pub(crate) fn set_previous(&mut self, family: Family, at: Option<Node>, previous: Option<Node>)
         requires { ForSome at (IsLinked self.old family) }
-        ensures { self.new ≡ with_links self.old family (with_previous (links_of self.old family) at previous) }
+        ensures { self.new ≡ with_links self.old family
+            (with_previous (links_of self.old family) at previous) }
     {
         if let Some(node) = at {
             let Neighbours { next, .. } = self.neighbours(family, node).unwrap();

@@ -2,7 +2,8 @@
 
 use std::marker::Model;
 
-/// A node of a `Pool`, as its index in the pool's vector. Those that a pool hands out are below its number of nodes.
+/// A node of a `Pool`, as its index in the pool's vector. Those that a pool hands out are below its number of
+/// nodes.
 #[derive(Clone, Copy, PartialEq, Eq)]
 pub struct Node {
     index: u32,

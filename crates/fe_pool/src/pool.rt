@@ -1,7 +1,9 @@
 //! A pool of list nodes; each waiting request takes one (`docs/model.md`, "Waiting requests").
 
-ghost use Rattle.std.specs.Prelude.{◌≡◌, ◌<◌, ◌+◌, ◌↔◌, ℕ, [], ◌∷◌, ◌++◌, length, replicate, slice_set, Some, None, Option, IfOk, IsNone, IfSome, IfNone, Contains};
-ghost use Rattle.fe_pool.specs.Pool.{item_at, IsTaken, IsFree, list_of, without, IsChain, IsOn, IsOff, ChangesList, IsNext, IsSound};
+ghost use Rattle.std.specs.Prelude.{◌≡◌, ◌<◌, ◌+◌, ◌↔◌, ℕ, [], ◌∷◌, ◌++◌, length, replicate, slice_set, Some};
+ghost use Rattle.std.specs.Prelude.{None, Option, IfOk, IsNone, IfSome, IfNone, Contains};
+ghost use Rattle.fe_pool.specs.Pool.{item_at, IsTaken, IsFree, list_of, without, IsChain, IsOn, IsOff};
+ghost use Rattle.fe_pool.specs.Pool.{ChangesList, IsNext, IsSound};
 
 use crate::cells::Cells;
 use crate::chain::Chain;
@@ -69,8 +71,8 @@ impl<T: Drop> Pool<T> {
         self.cells.count()
     }
 
-    /// Puts the item into a free node and returns the node, which is on no list. If no node is free, drops the item
-    /// and returns `None`.
+    /// Puts the item into a free node and returns the node, which is on no list. If no node is free, drops
+    /// the item and returns `None`.
     pub fn take(&mut self, item: T) -> Option<Node>
         ensures full { IsNone result ↔ ((node : ℕ) → ¬ (IsFree self.old node)) }
         ensures was_free { IfSome result (IsFree self.old) }

@@ -1,9 +1,10 @@
-//! Replaying a stored group, whose payload is the records of entries, one after another (`docs/model.md`, "The replica"). An entry is a
-//! step of the history.
+//! Replaying a stored group, whose payload is the records of entries, one after another (`docs/model.md`,
+//! "The replica"). An entry is a step of the history.
 
 ghost use Rattle.std.specs.Prelude.{◌≡◌, ℕ, Err, IfOk, OnOk, OnErr};
 ghost use Rattle.fe_memory.specs.Memory.{out_of_memory};
-ghost use Rattle.fe_replica.specs.Replaying.{Replays, IsFirstBad, MakesArrayIn, NoneFollows, Steps, MakesNext};
+ghost use Rattle.fe_replica.specs.Replaying.{Replays, IsFirstBad, MakesArrayIn, NoneFollows, Steps};
+ghost use Rattle.fe_replica.specs.Replaying.{MakesNext};
 ghost use Rattle.fe_replica.specs.declared.replaying.ReplayFault.TheVariants.{Damaged, NoMemory};
 ghost use Rattle.fe_replica.specs.declared.replaying.Fault.TheVariants as fault;
 
@@ -33,7 +34,8 @@ enum Fault {
 /// After a fault nothing is promised about the state.
 pub fn replay(format: Format, payload: &[u8], state: &mut State) -> Result<(), ReplayFault>
     ensures ok { OnOk result (Replays format payload.now state.old state.new) }
-    ensures damaged { (offset : ℕ) → result ≡ Err (Damaged offset) → IsFirstBad format payload.now state.old offset }
+    ensures damaged { (offset : ℕ) → result ≡ Err (Damaged offset)
+        → IsFirstBad format payload.now state.old offset }
     ensures memory { result ≡ Err (NoMemory out_of_memory) → MakesArrayIn format payload.now state.old }
 {
     let mut rest = payload;

@@ -1,5 +1,5 @@
-//! Taking a batch, entries that are to be stored at once, into the replica of the state (`docs/model.md`, "The replica"). An entry is a
-//! step of the history; its place is the number of entries before it.
+//! Taking a batch, entries that are to be stored at once, into the replica of the state (`docs/model.md`,
+//! "The replica"). An entry is a step of the history; its place is the number of entries before it.
 
 ghost use Rattle.std.specs.Prelude.{◌≡◌, ℕ, ◌≤◌, length, Err, OnOk, OnErr};
 ghost use Rattle.fe_memory.specs.Memory.{out_of_memory};
@@ -20,8 +20,9 @@ pub enum Refused {
     NoMemory(OutOfMemory),
 }
 
-/// Carries out entries that continue the history of the state, the first of them at the place `first`. Then the log, which has to be empty
-/// before and to have room for them, can restore the state before. If the entries are refused, state and log stay as they were.
+/// Carries out entries that continue the history of the state, the first of them at the place `first`. Then
+/// the log, which has to be empty before and to have room for them, can restore the state before. If the
+/// entries are refused, state and log stay as they were.
 pub fn take(
     state: &mut State,
     log: &mut UndoLog,
@@ -37,7 +38,8 @@ pub fn take(
     ensures beginning { OnOk result (rewound log.new state.new ≡ state.old) }
     ensures room { log.new.room ≡ log.old.room }
     ensures err { OnErr result ((state.new ≡ state.old) × (log.new ≡ log.old)) }
-    ensures mismatch { (place : ℕ) → result ≡ Err (Mismatch place) → IsMismatch state.old first entries.now place }
+    ensures mismatch { (place : ℕ) → result ≡ Err (Mismatch place)
+        → IsMismatch state.old first entries.now place }
     ensures memory { result ≡ Err (NoMemory out_of_memory) → MakesSomeArray entries.now }
 {
     if first != state.place() || entries.is_empty() {

@@ -71,8 +71,9 @@ lines_of waiting attached =
     ++ (flat_map session_line (entries (by_session waiting))
     ++ all_wait_line (do_all_wait waiting attached))
 
--- The report, given what waits and the attachments of the attached sessions: how many requests wait and, if any do, a line for each of
--- them by word, a line for each session that has any, and whether a session is attached and each attached one has a waiting request.
+-- The report, given what waits and the attachments of the attached sessions: how many requests wait and, if
+-- any do, a line for each of them by word, a line for each session that has any, and whether a session is
+-- attached and each attached one has a waiting request.
 abbrev pub report_text : WaitingAccesses → FinMap nat_cmp Attachment → List ℕ
 report_text waiting attached =
     count_line (len waiting) ++ (if len waiting == 0 then [] else lines_of waiting attached)

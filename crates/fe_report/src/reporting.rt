@@ -1,5 +1,5 @@
-//! Putting a report together (`docs/model.md`, "The report"). A front has the state of a server, all that waits, and the connections
-//! ("The front").
+//! Putting a report together (`docs/model.md`, "The report"). A front has the state of a server, all that
+//! waits, and the connections ("The front").
 
 ghost use Rattle.std.specs.Prelude.{◌≡◌, ◌≤◌, IfOk, string_bytes, string_len};
 ghost use Rattle.fe_mail.specs.Limits.{longest_report};
@@ -19,8 +19,9 @@ const OTHER_LINES: usize = 2976;
 
 /// The report of what waits in a front, 1 to 262,144 bytes long. Fails only if memory runs out.
 ///
-/// It walks each session's list of waiting requests once, and looks at no word of an array. It first allocates room for the longest text
-/// with that number of requests, and gives back what the text doesn't use.
+/// It walks each session's list of waiting requests once, and looks at no word of an array. It first
+/// allocates room for the longest text with that number of requests, and gives back what the text doesn't
+/// use.
 pub fn report(alloc: Global, front: &Front) -> Result<String, OutOfMemory>
     ensures text { IfOk result
         (λ text. string_bytes text ≡ report_text front.now.service.waiting (held_attachments front.now)) }

@@ -74,7 +74,8 @@ pub(crate) fn rows_by_session(
     Ok(rows)
 }
 
-/// Whether a session is attached (a connection has it, and it is not closing), and each attached session has a waiting request.
+/// Whether a session is attached (a connection has it, and it is not closing), and each attached session has
+/// a waiting request.
 pub(crate) fn do_all_wait(front: &Front) -> bool
     ensures { result ≡ do_all_wait front.now.service.waiting (held_attachments front.now) }
 {

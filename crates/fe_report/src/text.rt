@@ -1,6 +1,7 @@
 //! The lines of a report, the text that says what waits (`docs/model.md`, "The report").
 
-ghost use Rattle.std.specs.Prelude.{◌≡◌, ◌+◌, ◌*◌, ◌≤◌, ◌++◌, OnOk, codes, drop, length, string_bytes, string_len};
+ghost use Rattle.std.specs.Prelude.{◌≡◌, ◌+◌, ◌*◌, ◌≤◌, ◌++◌, OnOk, codes, drop, length, string_bytes};
+ghost use Rattle.std.specs.Prelude.{string_len};
 ghost use Rattle.std.specs.BTreeMap.{btree_map_len};
 ghost use Rattle.std.specs.Fmt.{decimal};
 ghost use Rattle.std.specs.List.{flat_map};
@@ -36,14 +37,16 @@ fn put_piece(line: &mut [u8], piece: &str, end: usize) -> usize
     start
 }
 
-/// Writes the second part of a request's line, at the end of `line`: its session, number and operation. Returns where that starts.
+/// Writes the second part of a request's line, at the end of `line`: its session, number and operation.
+/// Returns where that starts.
 fn put_caller(line: &mut [u8], session: u64, number: u64, op: Op) -> usize
     requires whole { length line.old ≡ 108 }
     ensures room { 36 ≤ result }
     ensures in_bounds { result ≤ 108 }
     ensures caller { drop result line.new
         ≡ codes " session " ++
-        (decimal session ++ (codes " number " ++ (decimal number ++ (codes " " ++ (name_of op ++ codes "\n"))))) }
+        (decimal session ++ (codes " number " ++ (decimal number
+        ++ (codes " " ++ (name_of op ++ codes "\n"))))) }
 {
     let at = put_piece(line, "\n", line.len());
     let at = put_piece(line, op.name(), at);
@@ -92,7 +95,8 @@ fn put_word(
 
 /// Writes the lines of the requests.
 pub(crate) fn put_words(text: &mut String, words: &[(Spot, Op)]) -> Result<(), OutOfMemory>
-    ensures lines { OnOk result (string_bytes text.new ≡ string_bytes text.old ++ flat_map word_line words.now) }
+    ensures lines { OnOk result (string_bytes text.new
+        ≡ string_bytes text.old ++ flat_map word_line words.now) }
     ensures few { OnOk result (string_len text.new ≤ string_len text.old + 108 * length words.now) }
 {
     for row in words {
@@ -104,7 +108,8 @@ pub(crate) fn put_words(text: &mut String, words: &[(Spot, Op)]) -> Result<(), O
 
 /// Writes the line of a session.
 fn put_session(text: &mut String, session: u64, count: u32) -> Result<(), OutOfMemory>
-    ensures line { OnOk result (string_bytes text.new ≡ string_bytes text.old ++ session_line (session, count)) }
+    ensures line { OnOk result (string_bytes text.new
+        ≡ string_bytes text.old ++ session_line (session, count)) }
     ensures few { OnOk result (string_len text.new ≤ string_len text.old + 46) }
 {
     write!(text, "session {session} waits {count}\n")?;

@@ -1,6 +1,7 @@
--- A desk (the front, its connections' streams and a store's keeper, in one thread) over a store in memory, between two steps.
--- See `docs/model.md`, "Schedules".
-use Rattle.fe_disk.specs.Memory.{MemoryState, IsBlank, size_of, failures_of, calls_of, seen_of, moment_of, IsHonest, LeavesNow, LeavesSince}
+-- A desk (the front, its connections' streams and a store's keeper, in one thread) over a store in memory,
+-- between two steps. See `docs/model.md`, "Schedules".
+use Rattle.fe_disk.specs.Memory.{MemoryState, IsBlank, size_of, failures_of, calls_of, seen_of, moment_of}
+use Rattle.fe_disk.specs.Memory.{IsHonest, LeavesNow, LeavesSince}
 use Rattle.fe_disk.specs.declared.disk.Disk.{Ghosts}
 use Rattle.std.specs.Prelude.{◌≡◌, false, List, [], ◌∷◌, length}
 use Rattle.fe_journal.specs.Layout.{device_bytes}
@@ -37,8 +38,9 @@ pub record IsNewDisk (disk : MemoryState) : Type 0 where
   pub zeros : IsBlank device_bytes disk
   pub honest : IsHonest disk
 
--- The store works, its disk does what its model says, and no call of it failed. The desk's groups are a history from some state, and all
--- are stored. Each image that a stop may leave stands for the state that the keeper has. No mail is left to be written.
+-- The store works, its disk does what its model says, and no call of it failed. The desk's groups are a
+-- history from some state, and all are stored. Each image that a stop may leave stands for the state that the
+-- keeper has. No mail is left to be written.
 pub record IsReady (d : DeskState MemoryState) : Type 0 where
   pub works : d.keeper.store.has_failed ≡ false
   pub calm : (disk_of d).failures ≡ 0
@@ -49,7 +51,8 @@ pub record IsReady (d : DeskState MemoryState) : Type 0 where
   pub synced : d.synced ≡ length d.run_state.groups
   pub quiet : HasNoMail d.run_state
 
--- A desk between two lines: what it wrote since the last line stands on what is stored, and no batch is stored and not posted.
+-- A desk between two lines: what it wrote since the last line stands on what is stored, and no batch is
+-- stored and not posted.
 pub record IsBetweenLines (d : DeskState MemoryState) : Type 0 where
   pub limits : IsWithinLimits d.keeper.state
   pub acknowledged : IsAcknowledged d.keeper.state may_ask_any d
@@ -64,5 +67,6 @@ ChecksEach d (step ∷ steps) e = (mid : DeskState MemoryState) × Checks step d
 pub record Moves (d : DeskState MemoryState) (steps : List Step) (e : DeskState MemoryState) : Type 0 where
   pub runs : DeskRun d.run_state steps e.run_state
   pub from : (begun : ServerState) → IsFrom begun d → IsFrom begun e
-  pub acknowledged : (begun : ServerState) → IsWithinLimits begun → IsAcknowledged begun may_ask_any d → IsAcknowledged begun may_ask_any e
+  pub acknowledged : (begun : ServerState) → IsWithinLimits begun → IsAcknowledged begun may_ask_any d
+      → IsAcknowledged begun may_ask_any e
   pub checks : ChecksEach d steps e

@@ -1,5 +1,6 @@
 -- What is always true of a run, and what its parts do (`docs/model.md`, "Schedules").
-use Rattle.std.specs.Prelude.{◌≡◌, ◌≢◌, ℕ, ◌+◌, ◌-◌, ◌^◌, ◌<◌, ◌≤◌, List, [], ◌++◌, length, Option, None, Some, string_bytes, vec_capacity}
+use Rattle.std.specs.Prelude.{◌≡◌, ◌≢◌, ℕ, ◌+◌, ◌-◌, ◌^◌, ◌<◌, ◌≤◌, List, [], ◌++◌, length, Option, None}
+use Rattle.std.specs.Prelude.{Some, string_bytes, vec_capacity}
 use Rattle.std.specs.Io.KnownBytes.{Appends}
 use Rattle.fe_disk.specs.Memory.{MemoryState, synced_image}
 use Rattle.fe_state.specs.State.{ServerState}
@@ -10,7 +11,8 @@ use Rattle.fe_desk.specs.DeskRunState.{DeskRunState, IsFirstRunState}
 use Rattle.fe_desk.specs.declared.step.Step.{Step}
 use Rattle.fe_schedules.specs.Ready.{IsReady, IsBetweenLines, Moves}
 use Rattle.fe_text.specs.Line.{parsed, lines_of, HasNoFeed, longest_line}
-use Rattle.fe_schedules.specs.Schedule.{Stage, AreStepsOf, holds_after, endings, RunsBytes, Prints, RunsLines, IsStart, EndsWithin, LeavesStored, IsPrinted}
+use Rattle.fe_schedules.specs.Schedule.{Stage, AreStepsOf, holds_after, endings, RunsBytes, Prints, RunsLines}
+use Rattle.fe_schedules.specs.Schedule.{IsStart, EndsWithin, LeavesStored, IsPrinted}
 use Rattle.fe_text.specs.declared.fault.StreamFault.{StreamFault}
 use Rattle.fe_schedules.specs.declared.fault.ScheduleFault.{ScheduleFault}
 use Rattle.fe_schedules.specs.declared.fault.ScheduleFault.TheVariants as fault
@@ -51,7 +53,8 @@ pub record TakesSteps (m : Machine) (steps : List Step) (n : Machine) : Type 0 w
 pub record PrintsTrace (m n : Machine) (before after : List ℕ) : Type 0 where
   pub machine : IsMachine n
   pub desk : n.desk ≡ desk_anew m.desk
-  pub acknowledged : (begun : ServerState) → IsFrom begun m.desk → IsAcknowledged begun may_ask_any m.desk → IsAcknowledged m.desk.keeper.state may_ask_any n.desk
+  pub acknowledged : (begun : ServerState) → IsFrom begun m.desk → IsAcknowledged begun may_ask_any m.desk
+      → IsAcknowledged m.desk.keeper.state may_ask_any n.desk
   pub text : PrintsMore m.desk.run_state before after
 
 -- A stop, after which the image of the last sync is opened: a fresh desk over what was stored.
@@ -77,8 +80,8 @@ pub record ActsOn (m : Machine) (l : Line) (n : Machine) : Type 0 where
 
 -- ---- a run
 
--- The machine is between two lines, and its trace has no groups. The unfinished line is no longer than the longest one, for which its
--- buffer has room. At most 2^64 - 2 lines were taken.
+-- The machine is between two lines, and its trace has no groups. The unfinished line is no longer than the
+-- longest one, for which its buffer has room. At most 2^64 - 2 lines were taken.
 pub record IsRun (r : Run) : Type 0 where
   pub machine : IsMachine r.machine
   pub none : r.machine.desk.run_state.groups ≡ []
@@ -87,8 +90,8 @@ pub record IsRun (r : Run) : Type 0 where
   pub room : longest_line ≤ vec_capacity r.begun
   pub count : r.lines < 2 ^ 64 - 1
 
--- The steps of the line were taken, and then, unless on hold, what is pending was stored and posted. The replies are printed, all
--- that was written stands on the groups that are stored, and the trace begins anew.
+-- The steps of the line were taken, and then, unless on hold, what is pending was stored and posted. The
+-- replies are printed, all that was written stands on the groups that are stored, and the trace begins anew.
 pub record RanLine (r : Run) (l : Line) (s : Run) : Type 0 where
   pub run : IsRun s
   pub lines : s.lines ≡ r.lines
@@ -135,8 +138,9 @@ IsStray number bytes end = (end ≡ fault.Line number) × (bytes ≢ []) × (par
 abbrev pub IsTooLong : ℕ → List ℕ → ScheduleFault → Type 0
 IsTooLong number bytes end = (end ≡ fault.Line number) × (longest_line < length bytes)
 
--- What a fault says of the line of these bytes with this number. For `Line` it does not parse; for `Memory` and
--- `Device` it parses, but memory ran out or the disk failed; for `Input` it is line 2^64 - 1, which is not counted.
+-- What a fault says of the line of these bytes with this number. For `Line` it does not parse; for `Memory`
+-- and `Device` it parses, but memory ran out or the disk failed; for `Input` it is line 2^64 - 1, which is
+-- not counted.
 abbrev pub IsFaultOf : ℕ → List ℕ → ScheduleFault → Type 0
 IsFaultOf number bytes (fault.Line found) = (found ≡ number) × (bytes ≢ []) × (parsed bytes ≡ None)
 IsFaultOf number bytes (fault.Memory error) = (bytes ≢ []) × (l : Line) × (parsed bytes ≡ Some l)
@@ -145,7 +149,8 @@ IsFaultOf number bytes fault.Input = number ≡ 2 ^ 64 - 1
 
 -- ---- pieces
 
--- The complete lines among these bytes ran, and the run has the unfinished one. What they print was written, except the run's text.
+-- The complete lines among these bytes ran, and the run has the unfinished one. What they print was written,
+-- except the run's text.
 pub record SoFar (read : List ℕ) (before now : Option (List ℕ)) (r : Run) : Type 0 where
   pub run : IsRun r
   pub lines : List (List ℕ)
@@ -160,8 +165,10 @@ pub record SoFar (read : List ℕ) (before now : Option (List ℕ)) (r : Run) : 
   pub runs : RunsLines start lines here (text ++ string_bytes r.text)
   pub written : Appends before now text
 
--- All of these bytes ran as lines. What they print was written, except the text `kept`. A stop leaves on the disk all that they stored.
-pub record Whole (input : List ℕ) (before now : Option (List ℕ)) (kept : List ℕ) (disk : MemoryState) : Type 0 where
+-- All of these bytes ran as lines. What they print was written, except the text `kept`. A stop leaves on the
+-- disk all that they stored.
+pub record Whole (input : List ℕ) (before now : Option (List ℕ)) (kept : List ℕ) (disk : MemoryState) : Type
+    0 where
   pub lines : List (List ℕ)
   pub all : lines_of input ≡ lines
   pub text : List ℕ
@@ -169,9 +176,10 @@ pub record Whole (input : List ℕ) (before now : Option (List ℕ)) (kept : Lis
   pub written : Appends before now text
   pub leaves : LeavesStored disk prints.end
 
--- A run over these bytes ended at a fault. What its lines print was written, without the text `kept`, and without `more` if the
--- writer failed.
-pub record Ended (writer : StreamFault → Type 0) (end : ScheduleFault) (input : List ℕ) (before now : Option (List ℕ)) (kept : List ℕ) : Type 0 where
+-- A run over these bytes ended at a fault. What its lines print was written, without the text `kept`, and
+-- without `more` if the writer failed.
+pub record Ended (writer : StreamFault → Type 0) (end : ScheduleFault) (input : List ℕ)
+    (before now : Option (List ℕ)) (kept : List ℕ) : Type 0 where
   pub lines : List (List ℕ)
   pub left : List (List ℕ)
   pub more : List ℕ
@@ -182,5 +190,7 @@ pub record Ended (writer : StreamFault → Type 0) (end : ScheduleFault) (input 
   pub written : Appends before now text
 
 -- A run ended at a fault within these bytes, whatever comes after them.
-abbrev pub EndedIn : (StreamFault → Type 0) → ScheduleFault → List ℕ → Option (List ℕ) → Option (List ℕ) → List ℕ → Type 0
-EndedIn writer end read before now kept = (others : List ℕ) → Ended writer end (read ++ others) before now kept
+abbrev pub EndedIn : (StreamFault → Type 0) → ScheduleFault → List ℕ → Option (List ℕ) → Option (List ℕ)
+    → List ℕ → Type 0
+EndedIn writer end read before now kept =
+    (others : List ℕ) → Ended writer end (read ++ others) before now kept

@@ -1,5 +1,6 @@
 -- What a schedule does, line by line, and what it prints (`docs/schedules.md`).
-use Rattle.std.specs.Prelude.{◌≡◌, ◌⊎◌, ◌<◌, Option, None, Some, ℕ, List, [], ◌∷◌, ◌++◌, map, ◌≢◌, ◌+◌, ◌-◌, ◌^◌, Bool, true, false, length, IfSome}
+use Rattle.std.specs.Prelude.{◌≡◌, ◌⊎◌, ◌<◌, Option, None, Some, ℕ, List, [], ◌∷◌, ◌++◌, map, ◌≢◌, ◌+◌, ◌-◌}
+use Rattle.std.specs.Prelude.{◌^◌, Bool, true, false, length, IfSome}
 use Rattle.fe_disk.specs.Memory.{MemoryState}
 use Rattle.fe_keeper.specs.declared.fault.Fault.TheVariants as store
 use Rattle.fe_desk.specs.declared.fault.DeskFault.{DeskFault}
@@ -37,7 +38,8 @@ use Rattle.fe_text.specs.Line.{parsed, lines_of}
 use Rattle.fe_text.specs.declared.line.Line.{Line}
 use Rattle.fe_text.specs.declared.line.Line.TheVariants as line
 
--- the machine's fault for a fault of its desk; None for those that a desk over a store that was formatted here does not have
+-- the machine's fault for a fault of its desk; None for those that a desk over a store that was formatted
+-- here does not have
 abbrev pub of_desk : DeskFault → Option MachineFault
 of_desk (desk.NoMemory error fed) = Some (machine.Memory error)
 of_desk (desk.Unwritten error) = Some (machine.Memory error)
@@ -92,8 +94,8 @@ key_of t = (t.conn, number_of t.reply)
 abbrev in_turn : ℕ × ℕ → ℕ × ℕ → Ordering
 in_turn x y = ordering_then (nat_cmp x.0 y.0) (nat_cmp x.1 y.1)
 
--- The replies in the order in which they are printed: by connection, then by number, and those of one number in the
--- order in which they came.
+-- The replies in the order in which they are printed: by connection, then by number, and those of one number
+-- in the order in which they came.
 pub record IsSorting (printed_replies order : List PrintedReply) : Type 0 where
   pub same : IsPermutation printed_replies order
   pub ascends : IsSortedByKey key_of in_turn order
@@ -113,7 +115,8 @@ printed_to conn reply = record { conn = conn; reply = reply }
 abbrev pub ArePrintedReplies : List (ℕ × List ℕ) → List PrintedReply → Type 0
 ArePrintedReplies [] printed_replies = printed_replies ≡ []
 ArePrintedReplies (o ∷ os) printed_replies =
-    (replies : List ServerMessage) × (others : List PrintedReply) × AreRepliesIn o.1 replies × ArePrintedReplies os others × (printed_replies ≡ map (printed_to o.0) replies ++ others)
+    (replies : List ServerMessage) × (others : List PrintedReply) × AreRepliesIn o.1 replies
+    × ArePrintedReplies os others × (printed_replies ≡ map (printed_to o.0) replies ++ others)
 
 -- ---- what is printed
 
@@ -130,7 +133,8 @@ pub record IsPrinted (outputs : List (ℕ × List ℕ)) (text : List ℕ) : Type
 
 -- ---- schedules
 
--- The stage of a schedule between two lines: all that is stored, the desk with an empty trace, and whether it is on hold.
+-- The stage of a schedule between two lines: all that is stored, the desk with an empty trace, and whether it
+-- is on hold.
 pub record Stage : Type 0 where
   pub stored : ServerState
   pub run_state : DeskRunState
@@ -153,10 +157,11 @@ abbrev pub IsFrame : ℕ → ClientMessage → Step → Type 0
 IsFrame conn message (step.Bytes c piece) = (c ≡ conn) × (piece.items ≡ spelling message)
 IsFrame conn message other = ⊥
 
--- The steps of a line. A message makes its connection, unless that is connected, and brings its frame. `Gone` removes
--- the connection. `Check` begins a checkpoint and finishes it. The other lines take no step.
+-- The steps of a line. A message makes its connection, unless that is connected, and brings its frame. `Gone`
+-- removes the connection. `Check` begins a checkpoint and finishes it. The other lines take no step.
 abbrev pub AreStepsOf : Line → List Step → Type 0
-AreStepsOf (line.Message conn message) steps = (frame : Step) × IsFrame conn message frame × (steps ≡ step.Connect conn ∷ frame ∷ [])
+AreStepsOf (line.Message conn message) steps =
+    (frame : Step) × IsFrame conn message frame × (steps ≡ step.Connect conn ∷ frame ∷ [])
 AreStepsOf (line.Gone conn) steps = steps ≡ step.Gone conn ∷ []
 AreStepsOf line.Hold steps = steps ≡ []
 AreStepsOf line.Flush steps = steps ≡ []
@@ -180,8 +185,9 @@ abbrev pub endings : Bool → List Step
 endings true = []
 endings false = step.Cut ∷ step.Append ∷ step.Post ∷ []
 
--- The steps of the line run, and then, unless on hold, what is pending is cut, stored and posted. The text is what the replies print. All
--- groups are stored, all that was written stands on them, and the trace begins anew.
+-- The steps of the line run, and then, unless on hold, what is pending is cut, stored and posted. The text is
+-- what the replies print. All groups are stored, all that was written stands on them, and the trace begins
+-- anew.
 pub record RunsLine (s : Stage) (l : Line) (t : Stage) (text : List ℕ) : Type 0 where
   pub mid : Stage
   pub begins : Begins l s mid
@@ -206,7 +212,8 @@ RunsBytes s (byte ∷ bytes) t text = (l : Line) × (parsed (byte ∷ bytes) ≡
 abbrev pub RunsLines : Stage → List (List ℕ) → Stage → List ℕ → Type 0
 RunsLines s [] t text = (t ≡ s) × (text ≡ [])
 RunsLines s (bytes ∷ others) t text =
-    (mid : Stage) × (first more : List ℕ) × RunsBytes s bytes mid first × RunsLines mid others t more × (text ≡ first ++ more)
+    (mid : Stage) × (first more : List ℕ) × RunsBytes s bytes mid first × RunsLines mid others t more
+    × (text ≡ first ++ more)
 
 -- The lines run from the start, and print this text.
 pub record Prints (lines : List (List ℕ)) (text : List ℕ) : Type 0 where
@@ -227,8 +234,9 @@ abbrev pub FirstIsValid : List (List ℕ) → Type 0
 FirstIsValid [] = ⊥
 FirstIsValid (bytes ∷ others) = (bytes ≢ []) × (l : Line) × (parsed bytes ≡ Some l)
 
--- What a fault says of the line that comes next. For `Line` it does not parse, and this is its number, counted from 1;
--- for `Memory` and `Device` it parses, but memory ran out or the disk failed; for `Input` no more lines can be counted.
+-- What a fault says of the line that comes next. For `Line` it does not parse, and this is its number,
+-- counted from 1; for `Memory` and `Device` it parses, but memory ran out or the disk failed; for `Input` no
+-- more lines can be counted.
 abbrev pub EndsAtLine : ScheduleFault → List (List ℕ) → List (List ℕ) → Type 0
 EndsAtLine (fault.Line number) lines left = (number ≡ length lines + 1) × FirstIsInvalid left
 EndsAtLine (fault.Memory error) lines left = FirstIsValid left
@@ -239,26 +247,34 @@ EndsAtLine fault.Input lines left = length lines ≡ 2 ^ 64 - 2
 abbrev pub IsOfStore : ScheduleFault → Type 0
 IsOfStore end = (end ≡ fault.Memory out_of_memory) ⊎ (end ≡ fault.Device)
 
--- A run ended within what was read: the next line is at fault, and all that was printed is written; or the writer failed.
-abbrev pub EndsWithin : (StreamFault → Type 0) → ScheduleFault → List (List ℕ) → List (List ℕ) → List ℕ → Type 0
+-- A run ended within what was read: the next line is at fault, and all that was printed is written; or the
+-- writer failed.
+abbrev pub EndsWithin : (StreamFault → Type 0) → ScheduleFault → List (List ℕ) → List (List ℕ) → List ℕ
+    → Type 0
 EndsWithin writer end lines left more = ((more ≡ []) × EndsAtLine end lines left) ⊎ IsOfStream writer end
 
--- A run ended within what was read, or the reader failed, or nothing was read, since memory or the disk failed as it began.
-abbrev pub EndsAt : (StreamFault → Type 0) → (StreamFault → Type 0) → Type 0 → ScheduleFault → List (List ℕ) → List (List ℕ) → List ℕ → Type 0
+-- A run ended within what was read, or the reader failed, or nothing was read, since memory or the disk
+-- failed as it began.
+abbrev pub EndsAt : (StreamFault → Type 0) → (StreamFault → Type 0) → Type 0 → ScheduleFault → List (List ℕ)
+    → List (List ℕ) → List ℕ → Type 0
 EndsAt reader writer unread end lines left more =
-    EndsWithin writer end lines left more ⊎ ((more ≡ []) × (IsOfStream reader end ⊎ ((lines ≡ []) × IsOfStore end × unread)))
+    EndsWithin writer end lines left more ⊎ ((more ≡ [])
+    × (IsOfStream reader end ⊎ ((lines ≡ []) × IsOfStore end × unread)))
 
 -- this many more reads were made
 abbrev pub IsReadMore : {R : Type 0} → (R → ℕ → Type 0) → R → R → ℕ → Type 0
 IsReadMore was_read old new more = (count : ℕ) → was_read old count → was_read new (count + more)
 
 -- a read failed with this fault, or 2^40 reads were made
-abbrev pub ReaderFails : {R : Type 0} → (R → StreamFault → Type 0) → (R → ℕ → Type 0) → R → R → StreamFault → Type 0
-ReaderFails has_failed was_read old new f = has_failed new f ⊎ ((f ≡ stream.Input) × IsReadMore was_read old new (2 ^ 40))
+abbrev pub ReaderFails : {R : Type 0} → (R → StreamFault → Type 0) → (R → ℕ → Type 0) → R → R → StreamFault
+    → Type 0
+ReaderFails has_failed was_read old new f =
+    has_failed new f ⊎ ((f ≡ stream.Input) × IsReadMore was_read old new (2 ^ 40))
 
 -- ---- a whole run
 
--- All lines of the input ran, if that is known, and what they print was written. A stop leaves all that they stored on the disk.
+-- All lines of the input ran, if that is known, and what they print was written. A stop leaves all that they
+-- stored on the disk.
 pub record RunsAll (input before after : Option (List ℕ)) (disk : MemoryState) : Type 0 where
   pub lines : List (List ℕ)
   pub all : IfSome input (λ bytes. lines_of bytes ≡ lines)
@@ -268,7 +284,8 @@ pub record RunsAll (input before after : Option (List ℕ)) (disk : MemoryState)
   pub leaves : LeavesStored disk prints.end
 
 -- The first lines of the input ran. What they print was written, except what a failed writer did not take.
-pub record RunsUntil (reader writer : StreamFault → Type 0) (unread : Type 0) (end : ScheduleFault) (input before after : Option (List ℕ)) : Type 0 where
+pub record RunsUntil (reader writer : StreamFault → Type 0) (unread : Type 0) (end : ScheduleFault)
+    (input before after : Option (List ℕ)) : Type 0 where
   pub lines : List (List ℕ)
   pub left : List (List ℕ)
   pub all : IfSome input (λ bytes. lines_of bytes ≡ lines ++ left)

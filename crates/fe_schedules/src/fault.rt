@@ -1,5 +1,5 @@
-//! How a schedule ends at a fault (`docs/schedules.md`, "Lines"). Its machine is what it runs on: a desk over a store in memory
-//! (`docs/model.md`, "The desk").
+//! How a schedule ends at a fault (`docs/schedules.md`, "Lines"). Its machine is what it runs on: a desk over
+//! a store in memory (`docs/model.md`, "The desk").
 
 ghost use Rattle.std.specs.Prelude.{◌≡◌, ◌≢◌, None, Some};
 ghost use Rattle.fe_schedules.specs.Schedule.{of_desk};

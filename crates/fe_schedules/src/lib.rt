@@ -1,4 +1,5 @@
-//! Schedules: lines that are run one after the other over a store in memory, and what they print (`docs/schedules.md`).
+//! Schedules: lines that are run one after the other over a store in memory, and what they print
+//! (`docs/schedules.md`).
 #![tactic(auto)]
 
 mod fault;

@@ -1,4 +1,5 @@
-//! What a line says to a schedule: a message, an end of a connection, or what to do with the store (`docs/schedules.md`, "Lines").
+//! What a line says to a schedule: a message, an end of a connection, or what to do with the store
+//! (`docs/schedules.md`, "Lines").
 
 ghost use Rattle.std.specs.Prelude.{◌≡◌, ◌≢◌, [], None, IfNone, IfSome};
 ghost use Rattle.fe_text.specs.Line.{parsed};
@@ -9,7 +10,8 @@ use fe_state::{Request, named};
 use fe_text::{Line, parse};
 use fe_wire::ClientMessage;
 
-/// The line that the bytes say, or none if they are empty. The outer `None` says that they are outside the syntax.
+/// The line that the bytes say, or none if they are empty. The outer `None` says that they are outside the
+/// syntax.
 pub(crate) fn line_in(bytes: &[u8]) -> Option<Option<Line>>
     ensures stray { IfNone result ((bytes.now ≢ []) × (parsed bytes.now ≡ None)) }
     ensures said { IfSome result (SaysLine bytes.now) }

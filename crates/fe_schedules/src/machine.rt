@@ -1,5 +1,6 @@
-//! What a schedule (`docs/schedules.md`) runs on: a desk, a server in one thread (`docs/model.md`, "The desk"), over a store in memory.
-//! It keeps the record of a line, the groups that were stored and the replies, only until the replies are printed.
+//! What a schedule (`docs/schedules.md`) runs on: a desk, a server in one thread (`docs/model.md`, "The
+//! desk"), over a store in memory. It keeps the record of a line, the groups that were stored and the
+//! replies, only until the replies are printed.
 
 ghost use Rattle.std.specs.Prelude.{◌≡◌, [], ◌∷◌, string_bytes, OnOk, IfOk, IfErr};
 ghost use Rattle.fe_desk.specs.Acknowledged.{HasNoneToPost};
@@ -138,7 +139,8 @@ impl Machine {
         self.step(&Step::Post)
     }
 
-    /// Stops, and opens the store again as it was at its last sync. No connection is there then, and nothing waits.
+    /// Stops, and opens the store again as it was at its last sync. No connection is there then, and nothing
+    /// waits.
     fn stop(&mut self) -> Result<(), MachineFault>
         requires { IsMachine self.old }
         // The image of the last sync is opened: all that was stored is there, and nothing else.
@@ -176,7 +178,8 @@ impl Machine {
         fault
     }
 
-    /// Prints the replies to each connection, and lets go of them and of the groups of entries that were stored.
+    /// Prints the replies to each connection, and lets go of them and of the groups of entries that were
+    /// stored.
     pub fn print(
         &mut self,
         text: &mut String,

@@ -16,7 +16,8 @@ pub(crate) struct PrintedReply {
 }
 
 impl PrintedReply {
-    /// Replies are sorted by this: the connection, and then the number of an answer, a withdrawal or a refusal, 0 for any other reply.
+    /// Replies are sorted by this: the connection, and then the number of an answer, a withdrawal or a
+    /// refusal, 0 for any other reply.
     pub fn key(&self) -> (u64, u64)
         ensures { result ≡ key_of self.now }
     {
@@ -35,7 +36,8 @@ pub(crate) fn print_replies(
     text: &mut String,
     printed_replies: &[PrintedReply],
 ) -> Result<(), OutOfMemory>
-    ensures { OnOk result (string_bytes text.new ≡ string_bytes text.old ++ flat_map printed_text printed_replies.now) }
+    ensures { OnOk result (string_bytes text.new
+        ≡ string_bytes text.old ++ flat_map printed_text printed_replies.now) }
 {
     for one in printed_replies {
         print_reply(text, Some(one.conn), &one.reply)?;

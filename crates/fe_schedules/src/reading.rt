@@ -1,5 +1,5 @@
-//! Reading back the replies that a desk wrote as frames, for a schedule to print them (`docs/schedules.md`, "Printed"). A frame is the
-//! bytes of a reply (`docs/formats.md`, "Replies").
+//! Reading back the replies that a desk wrote as frames, for a schedule to print them (`docs/schedules.md`,
+//! "Printed"). A frame is the bytes of a reply (`docs/formats.md`, "Replies").
 
 ghost use Rattle.std.specs.Prelude.{◌≡◌, ◌<◌, ◌++◌, List, length, map, IfOk, IfSome, OnOk};
 ghost use Rattle.std.specs.Option.{option_map};
@@ -56,8 +56,10 @@ fn read_replies(
 ) -> Result<(), OutOfMemory>
     requires { AreReplies frames.now }
     // Frames of replies are read as these, after what was there.
-    ensures { (replies : List Reply) → AllByRecursion ReplyFits replies → frames.now ≡ flat_map reply_spelling replies
-        → OnOk result (printed_replies.new.items ≡ printed_replies.old.items ++ map (printed_to conn) replies) }
+    ensures { (replies : List Reply) → AllByRecursion ReplyFits replies
+        → frames.now ≡ flat_map reply_spelling replies
+        → OnOk result (printed_replies.new.items
+        ≡ printed_replies.old.items ++ map (printed_to conn) replies) }
 {
     let mut rest = frames;
     while !rest.is_empty() {

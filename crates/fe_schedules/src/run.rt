@@ -1,10 +1,12 @@
 //! A run of a schedule: its lines as they come in pieces, and what they print (`docs/schedules.md`).
 
-ghost use Rattle.std.specs.Prelude.{◌≡◌, ◌+◌, ◌++◌, ℕ, List, Option, [], ◌∷◌, string_bytes, IfOk, IfErr, OnOk, OnErr, MatchResult};
+ghost use Rattle.std.specs.Prelude.{◌≡◌, ◌+◌, ◌++◌, ℕ, List, Option, [], ◌∷◌, string_bytes, IfOk, IfErr};
+ghost use Rattle.std.specs.Prelude.{OnOk, OnErr, MatchResult};
 ghost use Rattle.fe_text.specs.Line.{HasNoFeed};
 ghost use Rattle.fe_schedules.specs.Schedule.{TellsDisk, TellsOfDisk, TellsDiskOrWriter};
 ghost use Rattle.fe_schedules.specs.Ready.{IsNewDisk};
-ghost use Rattle.fe_schedules.specs.Runs.{IsRun, RanLine, RanBytes, SaysLine, IsStray, IsFaultOf, IsTooLong, SoFar, Whole, Ended, EndedIn, last_disk};
+ghost use Rattle.fe_schedules.specs.Runs.{IsRun, RanLine, RanBytes, SaysLine, IsStray, IsFaultOf, IsTooLong};
+ghost use Rattle.fe_schedules.specs.Runs.{SoFar, Whole, Ended, EndedIn, last_disk};
 
 use crate::fault::{MachineFault, ScheduleFault};
 use crate::line::{holds_after, line_in};
@@ -70,26 +72,34 @@ impl Run {
         machine.into_disk()
     }
 
-    /// Runs all lines that end in this piece, keeps what follows them, and writes what they printed, also if one is at fault.
+    /// Runs all lines that end in this piece, keeps what follows them, and writes what they printed, also if
+    /// one is at fault.
     pub fn take_piece<W: Sink>(&mut self, piece: &[u8], writer: &mut W) -> Result<(), ScheduleFault>
         requires { IsRun self.old }
         ensures none_kept { string_bytes self.new.text ≡ [] }
-        ensures disk { IfErr result (TellsDiskOrWriter (last_disk self.new.machine) (W.has_failed writer.new)) }
-        ensures taken { (read : List ℕ) (before : Option (List ℕ)) → SoFar read before (W.contents writer.old) self.old
+        ensures disk { IfErr result (TellsDiskOrWriter (last_disk self.new.machine)
+            (W.has_failed writer.new)) }
+        ensures taken { (read : List ℕ) (before : Option (List ℕ))
+            → SoFar read before (W.contents writer.old) self.old
             → MatchResult result (λ _. SoFar (read ++ piece.now) before (W.contents writer.new) self.new)
-            (λ end. EndedIn (W.has_failed writer.new) end (read ++ piece.now) before (W.contents writer.new) []) }
+            (λ end. EndedIn (W.has_failed writer.new) end (read ++ piece.now) before (W.contents writer.new)
+            []) }
     {
         let ended = self.run_lines(piece, writer);
         writer.write_whole(&mut self.text)?;
         ended
     }
 
-    /// Runs what follows the last line feed, if anything does, writes what it prints, and hands on all that was written.
+    /// Runs what follows the last line feed, if anything does, writes what it prints, and hands on all that
+    /// was written.
     pub fn finish<W: Sink>(&mut self, writer: &mut W) -> Result<(), ScheduleFault>
         requires { IsRun self.old }
-        ensures disk { IfErr result (TellsDiskOrWriter (last_disk self.new.machine) (W.has_failed writer.new)) }
-        ensures ended { (read : List ℕ) (before : Option (List ℕ)) → SoFar read before (W.contents writer.old) self.old
-            → MatchResult result (λ _. Whole read before (W.contents writer.new) [] (last_disk self.new.machine))
+        ensures disk { IfErr result (TellsDiskOrWriter (last_disk self.new.machine)
+            (W.has_failed writer.new)) }
+        ensures ended { (read : List ℕ) (before : Option (List ℕ))
+            → SoFar read before (W.contents writer.old) self.old
+            → MatchResult result (λ _. Whole read before (W.contents writer.new) []
+            (last_disk self.new.machine))
             (λ end. Ended (W.has_failed writer.new) end read before (W.contents writer.new) []) }
         ensures handed { OnOk result (W.is_handed_on writer.new) }
     {
@@ -102,8 +112,10 @@ impl Run {
     /// Runs all lines that end in this piece, and keeps what follows them.
     fn run_lines<W: Sink>(&mut self, piece: &[u8], writer: &mut W) -> Result<(), ScheduleFault>
         requires { IsRun self.old }
-        ensures disk { IfErr result (TellsDiskOrWriter (last_disk self.new.machine) (W.has_failed writer.new)) }
-        ensures taken { (read : List ℕ) (before : Option (List ℕ)) → SoFar read before (W.contents writer.old) self.old
+        ensures disk { IfErr result (TellsDiskOrWriter (last_disk self.new.machine)
+            (W.has_failed writer.new)) }
+        ensures taken { (read : List ℕ) (before : Option (List ℕ))
+            → SoFar read before (W.contents writer.old) self.old
             → MatchResult result (λ _. SoFar (read ++ piece.now) before (W.contents writer.new) self.new)
             (λ end. EndedIn (W.has_failed writer.new) end (read ++ piece.now) before (W.contents writer.new)
             (string_bytes self.new.text)) }
@@ -116,14 +128,18 @@ impl Run {
         self.begin_line(rest)
     }
 
-    /// Runs the line that ends with these bytes and a line feed, and writes what is printed if that is `FULL` bytes or more.
+    /// Runs the line that ends with these bytes and a line feed, and writes what is printed if that is `FULL`
+    /// bytes or more.
     fn run_whole<W: Sink>(&mut self, bytes: &[u8], writer: &mut W) -> Result<(), ScheduleFault>
         requires { IsRun self.old }
         ensures run { OnOk result (IsRun self.new) }
-        ensures disk { IfErr result (TellsDiskOrWriter (last_disk self.new.machine) (W.has_failed writer.new)) }
-        ensures taken { (read : List ℕ) (before : Option (List ℕ)) → SoFar read before (W.contents writer.old) self.old
+        ensures disk { IfErr result (TellsDiskOrWriter (last_disk self.new.machine)
+            (W.has_failed writer.new)) }
+        ensures taken { (read : List ℕ) (before : Option (List ℕ))
+            → SoFar read before (W.contents writer.old) self.old
             → HasNoFeed bytes.now
-            → MatchResult result (λ _. SoFar (read ++ (bytes.now ++ 10 ∷ [])) before (W.contents writer.new) self.new)
+            → MatchResult result (λ _. SoFar (read ++ (bytes.now ++ 10 ∷ [])) before (W.contents writer.new)
+            self.new)
             (λ end. EndedIn (W.has_failed writer.new) end (read ++ (bytes.now ++ 10 ∷ [])) before
             (W.contents writer.new) (string_bytes self.new.text)) }
     {
@@ -134,8 +150,8 @@ impl Run {
         Ok(writer.write_whole(&mut self.text)?)
     }
 
-    /// Appends bytes to the line that has not ended; `begun` has room for the longest line. If the line becomes longer, the
-    /// fault is `Line` with its number.
+    /// Appends bytes to the line that has not ended; `begun` has room for the longest line. If the line
+    /// becomes longer, the fault is `Line` with its number.
     fn begin_line(&mut self, bytes: &[u8]) -> Result<(), ScheduleFault>
         requires { IsRun self.old }
         ensures run { OnOk result (IsRun self.new) }
@@ -157,7 +173,8 @@ impl Run {
         requires { IsRun self.old }
         ensures disk { IfErr result (TellsOfDisk (last_disk self.new.machine)) }
         ensures ended { (read : List ℕ) (before now : Option (List ℕ)) → SoFar read before now self.old
-            → MatchResult result (λ _. Whole read before now (string_bytes self.new.text) (last_disk self.new.machine))
+            → MatchResult result (λ _. Whole read before now (string_bytes self.new.text)
+            (last_disk self.new.machine))
             (λ end. Ended (λ _. ⊥) end read before now (string_bytes self.new.text)) }
     {
         let begun = self.begun.as_slice();
@@ -173,8 +190,8 @@ impl Run {
         ensures ran { OnOk result (RanBytes self.old (self.old.begun.items ++ bytes.now) self.new) }
         ensures text { OnErr result (string_bytes self.new.text ≡ string_bytes self.old.text) }
         ensures disk { IfErr result (TellsOfDisk (last_disk self.new.machine)) }
-        // `Line` has the number of a line that does not parse. `Memory` and `Device` come of a line that parses. `Input` comes at
-        // line 2^64 - 1, whatever it says: it is neither counted nor run.
+        // `Line` has the number of a line that does not parse. `Memory` and `Device` come of a line that
+        // parses. `Input` comes at line 2^64 - 1, whatever it says: it is neither counted nor run.
         ensures err { IfErr result (IsFaultOf (self.old.lines + 1) (self.old.begun.items ++ bytes.now)) }
     {
         named::<Request>();

@@ -1,6 +1,8 @@
--- The service of waiting requests: which of them may be served, and what serving them leaves. A request may be served once it has a reply:
--- once its word has the tag that its operation needs, or its array is gone (`docs/model.md`, "The service").
-use Rattle.std.specs.Prelude.{◌≡◌, ℕ, Some, None, IsSome, IsSomeAnd, false, List, [], ◌∷◌, Bool, not, is_some, refl, ◌+◌, ◌≤◌, length}
+-- The service of waiting requests: which of them may be served, and what serving them leaves. A request may
+-- be served once it has a reply: once its word has the tag that its operation needs, or its array is gone
+-- (`docs/model.md`, "The service").
+use Rattle.std.specs.Prelude.{◌≡◌, ℕ, Some, None, IsSome, IsSomeAnd, false, List, [], ◌∷◌, Bool, not, is_some}
+use Rattle.std.specs.Prelude.{refl, ◌+◌, ◌≤◌, length}
 use Rattle.std.specs.FinMap.{FinMap, get, remove, code}
 use Rattle.fe_waits.specs.Waiting.{pair_cmp, WaitingAccess, waiting_access_code}
 use Rattle.fe_state.specs.State.{ServerState, reply, after, after_all, state_code}
@@ -35,11 +37,14 @@ IsEligible s w = IsSome (reply s (request_of w))
 
 -- no waiting request may be served
 abbrev pub IsQuiet : ServerState → WaitingAccesses → Type 0
-IsQuiet s waiting = (key : ℕ × ℕ) (w : WaitingAccess) → get waiting key ≡ Some w → reply s (request_of w) ≡ None
+IsQuiet s waiting =
+    (key : ℕ × ℕ) (w : WaitingAccess) → get waiting key ≡ Some w → reply s (request_of w) ≡ None
 
--- each waiting request has its session in the state, and its number is in the session's window with nothing kept
+-- each waiting request has its session in the state, and its number is in the session's window with nothing
+-- kept
 abbrev pub AreUsable : ServerState → WaitingAccesses → Type 0
-AreUsable s waiting = (key : ℕ × ℕ) (w : WaitingAccess) → get waiting key ≡ Some w → IsSomeAnd (get s.sessions key.0) (λ x. IsUsable x key.1)
+AreUsable s waiting = (key : ℕ × ℕ) (w : WaitingAccess) → get waiting key ≡ Some w
+    → IsSomeAnd (get s.sessions key.0) (λ x. IsUsable x key.1)
 
 -- the entry serves a waiting request, whichever may be served: it finishes the request with its reply
 pub record IsTurn (s : ServerState) (waiting : WaitingAccesses) (e : Entry) : Type 0 where
@@ -69,7 +74,8 @@ AreTurns s waiting [] = Unit {0}
 AreTurns s waiting (e ∷ es) = IsTurn s waiting e × AreTurns (after s e) (without_turn waiting e) es
 
 -- The service of what waits: one request after the other is served, in whichever order, until no more may be.
-pub record Serves (s : ServerState) (waiting : WaitingAccesses) (es : List Entry) (s' : ServerState) (waiting' : WaitingAccesses) : Type 0 where
+pub record Serves (s : ServerState) (waiting : WaitingAccesses) (es : List Entry) (s' : ServerState)
+    (waiting' : WaitingAccesses) : Type 0 where
   pub turns : AreTurns s waiting es
   pub state : s' ≡ after_all s es
   pub rest : waiting' ≡ without_turns waiting es
@@ -91,17 +97,20 @@ service_code =
     (ServerState × (FinMap nat_cmp Attachment × (WaitingAccesses × List Entry)))
     (coded×
     state_code
-    (coded× (code coded_ℕ attachment_row.coded) (coded× (code (coded× coded_ℕ coded_ℕ) waiting_access_code) (coded_list entry_row.coded))))
+    (coded× (code coded_ℕ attachment_row.coded)
+    (coded× (code (coded× coded_ℕ coded_ℕ) waiting_access_code) (coded_list entry_row.coded))))
     (λ s. (s.state, (s.attachments, (s.waiting, s.pending))))
     (λ t. record { state = t.0; attachments = t.1.0; waiting = t.1.1.0; pending = t.1.1.1 })
     (λ _. refl)
 
 -- the session has an attachment and is not closing
 abbrev pub is_open : FinMap nat_cmp Attachment → ℕ → Bool
-is_open attachments session = option_map_or (λ attachment. not attachment.closing) (get attachments session) false
+is_open attachments session =
+    option_map_or (λ attachment. not attachment.closing) (get attachments session) false
 
--- What is always true: each request that waits has its session in the state and a number that is usable there; none of them may be served;
--- and the sessions of the state are those that have an attachment and are not closing.
+-- What is always true: each request that waits has its session in the state and a number that is usable
+-- there; none of them may be served; and the sessions of the state are those that have an attachment and are
+-- not closing.
 pub record IsService (s : ServiceState) : Type 0 where
   pub usable : AreUsable s.state s.waiting
   pub quiet : IsQuiet s.state s.waiting
@@ -109,14 +118,22 @@ pub record IsService (s : ServiceState) : Type 0 where
 
 -- a service as its callers see it, given its parts
 abbrev pub service_of : ServiceInner → ServiceState
-service_of p = record { state = p.state; attachments = p.attachments.attachments; waiting = p.attachments.waiting; pending = p.pending }
+service_of p = record {
+  state = p.state;
+  attachments = p.attachments.attachments;
+  waiting = p.attachments.waiting;
+  pending = p.pending;
+}
 
--- the parts are those of a service, and the waiting lists have exactly the state's arrays, each with its length
+-- the parts are those of a service, and the waiting lists have exactly the state's arrays, each with its
+-- length
 pub record AreSoundParts (p : ServiceInner) : Type 0 where
   pub service : IsService (service_of p)
   pub arrays : (id : ℕ) → get p.attachments.arrays id ≡ words_in (get p.state.arrays id)
 
--- If each waiting request is usable and there is a place for each entry that serves one, these entries are legal one after the other.
+-- If each waiting request is usable and there is a place for each entry that serves one, these entries are
+-- legal one after the other.
 abbrev pub ServesLegally : Type 0
 ServesLegally = (s s' : ServerState) (waiting waiting' : WaitingAccesses) (es : List Entry)
-    → AreUsable s waiting → s.place + length es ≤ greatest_place → Serves s waiting es s' waiting' → AreLegal s es
+    → AreUsable s waiting → s.place + length es ≤ greatest_place → Serves s waiting es s' waiting'
+    → AreLegal s es

@@ -1,9 +1,11 @@
-//! The attachments of the sessions, and the requests that wait, by session (`docs/model.md`, "Waiting requests").
+//! The attachments of the sessions, and the requests that wait, by session (`docs/model.md`, "Waiting
+//! requests").
 
 ghost use Rattle.std.specs.Prelude.{◌≡◌, ◌↔◌, ◌<◌, ◌≤◌, Some, None, false, IfOk, IfSome, IsNone};
 ghost use Rattle.std.specs.FinMap as map;
 ghost use Rattle.fe_waits.specs.Waiting.{IsWord, NoneOnWord, ListsWaitingRequestsOf};
-ghost use Rattle.fe_service.specs.AttachmentsState.{holder_of, is_closing, waiting_request_at, count_of, IsRequestOn, IsWithinLimits};
+ghost use Rattle.fe_service.specs.AttachmentsState.{holder_of, is_closing, waiting_request_at, count_of};
+ghost use Rattle.fe_service.specs.AttachmentsState.{IsRequestOn, IsWithinLimits};
 ghost use Rattle.fe_service.specs.within.Slots.{AttachmentsBecome, DropsRequests};
 ghost use Rattle.fe_state.specs.Limits.{most_sessions};
 
@@ -25,7 +27,8 @@ pub(crate) const GUESSES: usize = 256;
 
 /// The attachments of the sessions, and the requests that wait, each on a word and in its session.
 ///
-/// Of its methods only `new` and `waiting_requests` allocate memory. A node stands for one waiting request until the next change.
+/// Of its methods only `new` and `waiting_requests` allocate memory. A node stands for one waiting request
+/// until the next change.
 pub struct Attachments {
     pub(crate) waits: Waits,
     pub(crate) occupants: Occupants,
@@ -33,8 +36,8 @@ pub struct Attachments {
     pub(crate) owners: Vec<Option<u64>>,
     /// The slots that no session has.
     pub(crate) slots: Vec<u8>,
-    /// The position where a session was found last among the occupants, in the cell that is its number's remainder by `GUESSES`. A
-    /// wrong position only makes a look-up take longer.
+    /// The position where a session was found last among the occupants, in the cell that is its number's
+    /// remainder by `GUESSES`. A wrong position only makes a look-up take longer.
     pub(crate) guesses: [usize; GUESSES],
 }
 
@@ -66,11 +69,13 @@ impl Model for Attachments {
 
     ghost view = { λ s. attachments_state_of s.waits s.occupants s.owners.items };
 
-    ghost invariant = { λ s. AreAttachments s.waits s.occupants s.owners.items s.slots.items (vec_capacity s.slots) };
+    ghost invariant = { λ s. AreAttachments s.waits s.occupants s.owners.items s.slots.items
+        (vec_capacity s.slots) };
 }
 
 impl Attachments {
-    /// No attachments, over lists on which nothing waits. Allocates all its memory; fails only if memory runs out.
+    /// No attachments, over lists on which nothing waits. Allocates all its memory; fails only if memory runs
+    /// out.
     pub(crate) fn new(alloc: Global, waits: Waits) -> Result<Attachments, OutOfMemory>
         requires none { waits.members ≡ map.empty }
         ensures arrays { IfOk result (λ attachments. attachments.arrays ≡ waits.arrays) }
@@ -123,7 +128,8 @@ impl Attachments {
         occupant.attachment.holder
     }
 
-    /// Gives a session that has no attachment one, held by a connection or by none. Fewer than `SESSIONS` sessions must have one.
+    /// Gives a session that has no attachment one, held by a connection or by none. Fewer than `SESSIONS`
+    /// sessions must have one.
     pub(crate) fn begin_session(&mut self, session: u64, holder: Option<u64>)
         requires new { map.get self.old.attachments session ≡ None }
         requires room { map.len self.old.attachments < most_sessions }
@@ -140,10 +146,12 @@ impl Attachments {
             .insert(session, Occupant { slot, attachment });
     }
 
-    /// Gives a session that is not closing to a connection. A session without an attachment gets one, for which there must be room.
+    /// Gives a session that is not closing to a connection. A session without an attachment gets one, for
+    /// which there must be room.
     pub(crate) fn attach(&mut self, session: u64, conn: u64)
         requires open { is_closing self.old.attachments session ≡ false }
-        requires room { map.get self.old.attachments session ≡ None → map.len self.old.attachments < most_sessions }
+        requires room { map.get self.old.attachments session ≡ None
+            → map.len self.old.attachments < most_sessions }
         ensures { AttachmentsBecome self.old self.new
             (map.insert self.old.attachments session (record { holder = Some conn; closing = false })) }
     {
@@ -184,8 +192,8 @@ impl Attachments {
         Some(WaitingRequest::of(session, row))
     }
 
-    /// The waiting requests of a session, at most `WINDOW`, in no particular order: the number of each, the array and
-    /// index of its word, and its operation. Fails only if memory runs out.
+    /// The waiting requests of a session, at most `WINDOW`, in no particular order: the number of each, the
+    /// array and index of its word, and its operation. Fails only if memory runs out.
     pub fn waiting_requests(
         &self,
         alloc: Global,
@@ -199,7 +207,8 @@ impl Attachments {
         }
     }
 
-    /// Takes out all requests of a session, and returns how many there were. The session keeps its attachment.
+    /// Takes out all requests of a session, and returns how many there were. The session keeps its
+    /// attachment.
     pub(crate) fn drop_session(&mut self, session: u64) -> u32
         ensures { DropsRequests self.old self.new session result }
     {

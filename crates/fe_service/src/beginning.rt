@@ -1,4 +1,5 @@
-//! What the service of a state begins with: its sessions' attachments and its arrays (`docs/model.md`, "Waiting requests").
+//! What the service of a state begins with: its sessions' attachments and its arrays (`docs/model.md`,
+//! "Waiting requests").
 
 ghost use Rattle.std.specs.Prelude.{◌≡◌, ℕ, IfOk};
 ghost use Rattle.std.specs.FinMap.{get, empty};
@@ -27,7 +28,8 @@ pub(crate) fn begin_sessions(state: &State, attachments: &mut Attachments)
 // Adds each array of the state, with its length, to the waiting lists. Fails only if memory runs out.
 pub(crate) fn add_arrays(state: &State, waits: &mut Waits) -> Result<(), OutOfMemory>
     requires { waits.old.arrays ≡ empty }
-    ensures arrays { IfOk result (λ _. (id : ℕ) → get waits.new.arrays id ≡ words_in (get state.now.arrays id)) }
+    ensures arrays { IfOk result (λ _. (id : ℕ)
+        → get waits.new.arrays id ≡ words_in (get state.now.arrays id)) }
     ensures members { IfOk result (λ _. waits.new.members ≡ waits.old.members) }
 {
     let _ = state.place();

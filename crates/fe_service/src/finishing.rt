@@ -1,5 +1,5 @@
-//! Completing a request that operates on a word, or makes or removes an array, and what it lets complete of those that wait
-//! (`docs/model.md`, "The service").
+//! Completing a request that operates on a word, or makes or removes an array, and what it lets complete of
+//! those that wait (`docs/model.md`, "The service").
 
 ghost use Rattle.std.specs.Prelude.{◌≡◌, ◌+◌, List, [], length as length_of, OnOk, OnErr};
 ghost use Rattle.fe_state.specs.declared.entry.Entry.{Entry};
@@ -14,8 +14,8 @@ use fe_state::{Answer, Effect, Entry, Name, Request};
 use fe_words::{Tag, Word};
 
 impl Service {
-    /// Finishes an operation on a word, and serves the requests that wait on the word and may then be served. Returns how many entries that
-    /// made.
+    /// Finishes an operation on a word, and serves the requests that wait on the word and may then be served.
+    /// Returns how many entries that made.
     pub(crate) fn finish_write(
         &mut self,
         session: u64,
@@ -43,7 +43,8 @@ impl Service {
         1 + self.inner.serve_word(array, index)
     }
 
-    /// Finishes a removal, and serves those that wait on the array's words. Returns how many entries that made.
+    /// Finishes a removal, and serves those that wait on the array's words. Returns how many entries that
+    /// made.
     pub(crate) fn finish_remove(
         &mut self,
         session: u64,
@@ -71,7 +72,8 @@ impl Service {
         1 + served
     }
 
-    /// Makes an array. Fails only if memory runs out for its words or its waiting lists; then nothing has changed.
+    /// Makes an array. Fails only if memory runs out for its words or its waiting lists; then nothing has
+    /// changed.
     pub(crate) fn finish_create(
         &mut self,
         session: u64,
@@ -81,7 +83,8 @@ impl Service {
         tag: Tag,
         id: u64,
     ) -> Result<(), OutOfMemory>
-        requires { MayComplete self.old session number (requests.Create name length tag) (answers.Array id length)
+        requires { MayComplete self.old session number (requests.Create name length tag)
+            (answers.Array id length)
             Effect.Create }
         ensures completes { OnOk result
             (Completes self.old self.new

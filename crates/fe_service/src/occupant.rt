@@ -1,4 +1,5 @@
-//! Which sessions have an attachment, and which slot of the waiting lists each has (`docs/model.md`, "Waiting requests").
+//! Which sessions have an attachment, and which slot of the waiting lists each has (`docs/model.md`, "Waiting
+//! requests").
 
 ghost use Rattle.std.specs.Prelude.{◌≡◌, option_copied};
 ghost use Rattle.std.specs.FinMap.{get};

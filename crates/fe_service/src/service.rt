@@ -1,7 +1,8 @@
-//! The service: a request completes or waits, and waiting requests are served as soon as they can complete (`docs/model.md`,
-//! "The service"; attachments: "Waiting requests").
+//! The service: a request completes or waits, and waiting requests are served as soon as they can complete
+//! (`docs/model.md`, "The service"; attachments: "Waiting requests").
 
-ghost use Rattle.std.specs.Prelude.{◌≡◌, ◌+◌, ◌≤◌, List, [], length, Some, None, IsSome, IfOk, OnErr, is_some, true, false};
+ghost use Rattle.std.specs.Prelude.{◌≡◌, ◌+◌, ◌≤◌, List, [], length, Some, None, IsSome, IfOk, OnErr};
+ghost use Rattle.std.specs.Prelude.{is_some, true, false};
 ghost use Rattle.std.specs.FinMap.{get, empty};
 ghost use Rattle.fe_state.specs.State as states;
 ghost use Rattle.fe_state.specs.State.{reply, MakesArray};
@@ -10,7 +11,9 @@ ghost use Rattle.fe_state.specs.declared.entry.Entry.TheVariants.{Finished};
 ghost use Rattle.fe_state.specs.declared.request.Request.TheVariants as requests;
 ghost use Rattle.fe_service.specs.AttachmentsState.{count_of, is_closing};
 ghost use Rattle.fe_service.specs.Service.{IsService};
-ghost use Rattle.fe_service.specs.Events.{IsFree, MayAttach, MayClose, MayComplete, MaySettle, Completes, AreFreeAttachments, floor_of, attached, settled, closed, withdrawn, cancelled, held, left, waited};
+ghost use Rattle.fe_service.specs.Events.{IsFree, MayAttach, MayClose, MayComplete, MaySettle, Completes};
+ghost use Rattle.fe_service.specs.Events.{AreFreeAttachments, floor_of, attached, settled, closed, withdrawn};
+ghost use Rattle.fe_service.specs.Events.{cancelled, held, left, waited};
 ghost use Rattle.fe_state.specs.Limits.{most_batch_entries};
 
 use crate::attachments::{Attachments, GUESSES};
@@ -25,10 +28,11 @@ use std::alloc::Global;
 use std::marker::Model;
 use std::mem;
 
-/// The state of the server with the sessions' attachments, what waits, and the entries that were made and not yet
-/// taken.
+/// The state of the server with the sessions' attachments, what waits, and the entries that were made and not
+/// yet taken.
 ///
-/// After each call no waiting request may be served. Only `new` and a request that makes an array allocate memory.
+/// After each call no waiting request may be served. Only `new` and a request that makes an array allocate
+/// memory.
 pub struct Service {
     pub(crate) inner: ServiceInner,
 }
@@ -53,8 +57,8 @@ impl Model for Service {
 }
 
 impl Service {
-    /// A service over a state, in which nothing waits and no connection has a session. Allocates the memory for all attachments, waiting
-    /// requests and pending entries; fails only if memory runs out.
+    /// A service over a state, in which nothing waits and no connection has a session. Allocates the memory
+    /// for all attachments, waiting requests and pending entries; fails only if memory runs out.
     pub fn new(alloc: Global, state: State) -> Result<Service, OutOfMemory>
         ensures state { IfOk result (λ service. service.state ≡ state) }
         ensures attachments { IfOk result (λ service. AreFreeAttachments state.sessions service.attachments) }
@@ -92,8 +96,8 @@ impl Service {
         &self.inner.attachments
     }
 
-    /// Looks for a session, and for the array of an access, so that the look-ups of them that follow take one comparison
-    /// each.
+    /// Looks for a session, and for the array of an access, so that the look-ups of them that follow take one
+    /// comparison each.
     pub fn aim(&mut self, session: u64, request: &Request)
         ensures { self.new ≡ self.old }
     {
@@ -145,8 +149,8 @@ impl Service {
             .enter(Entry::Settled { session, floor }, Effect::Nothing);
     }
 
-    /// Closes a session, with an entry, and marks it as closing. Its waiting requests are withdrawn. Returns how many
-    /// there were.
+    /// Closes a session, with an entry, and marks it as closing. Its waiting requests are withdrawn. Returns
+    /// how many there were.
     pub fn close(&mut self, session: u64) -> u32
         requires { MayClose self.old session }
         ensures count { result ≡ count_of self.old.waiting session }
@@ -199,9 +203,9 @@ impl Service {
         attachments.owners[occupant.slot as usize] = None;
     }
 
-    /// Completes a request with its reply and its effect, and serves the waiting requests that this lets through. It returns how many
-    /// entries were made, 1 to `EVENT_ENTRIES`. Fails only if memory runs out for the words or the waiting lists of a new array; then
-    /// nothing has changed.
+    /// Completes a request with its reply and its effect, and serves the waiting requests that this lets
+    /// through. It returns how many entries were made, 1 to `EVENT_ENTRIES`. Fails only if memory runs out
+    /// for the words or the waiting lists of a new array; then nothing has changed.
     pub fn complete(
         &mut self,
         session: u64,
@@ -250,7 +254,8 @@ impl Service {
     pub fn wait(&mut self, session: u64, number: u64, array: u64, index: u32, op: Op)
         requires free { IsFree self.old session number }
         requires waits { reply self.old.state (requests.Access array index op false) ≡ None }
-        ensures { self.new ≡ waited self.old session number (record { array = array; index = index; op = op }) }
+        ensures { self.new ≡ waited self.old session number
+            (record { array = array; index = index; op = op }) }
     {
         let attachments = &mut self.inner.attachments;
         let slot = slot_of(&attachments.occupants, session).unwrap();

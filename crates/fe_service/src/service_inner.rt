@@ -1,6 +1,8 @@
-//! The parts of the service. Waiting requests that can complete do so at once, each with an entry (`docs/model.md`, "The service").
+//! The parts of the service. Waiting requests that can complete do so at once, each with an entry
+//! (`docs/model.md`, "The service").
 
-ghost use Rattle.std.specs.Prelude.{◌≡◌, ◌≢◌, ◌+◌, ◌<◌, ℕ, true, false, List, [], ◌∷◌, ◌++◌, length as length_of, Some};
+ghost use Rattle.std.specs.Prelude.{◌≡◌, ◌≢◌, ◌+◌, ◌<◌, ℕ, true, false, List, [], ◌∷◌, ◌++◌};
+ghost use Rattle.std.specs.Prelude.{length as length_of, Some};
 ghost use Rattle.std.specs.FinMap.{get};
 ghost use Rattle.fe_words.specs.declared.word.Tag.{Tag};
 ghost use Rattle.fe_waits.specs.Waiting.{IsWord};
@@ -9,7 +11,8 @@ ghost use Rattle.fe_state.specs.State.{IsLegal, MakesArray, after, directory_of,
 ghost use Rattle.fe_state.specs.declared.entry.Entry.{Entry};
 ghost use Rattle.fe_service.specs.AttachmentsState.{waiting_access_of, IsWithinLimits};
 ghost use Rattle.fe_service.specs.Service.{request_of};
-ghost use Rattle.fe_service.specs.within.ServiceInner.{MayServe, IsQuietAt, WaitAtTag, IsAtRest, TakesTurn, TakesTurns};
+ghost use Rattle.fe_service.specs.within.ServiceInner.{MayServe, IsQuietAt, WaitAtTag, IsAtRest, TakesTurn};
+ghost use Rattle.fe_service.specs.within.ServiceInner.{TakesTurns};
 ghost use Rattle.fe_state.specs.Limits.{most_batch_entries};
 
 use crate::attachments::Attachments;
@@ -46,7 +49,8 @@ impl ServiceInner {
         let _ = self.attachments.waiting_count();
     }
 
-    /// Carries out a legal entry that makes no array, with its effect, and adds it to the pending ones. Allocates nothing.
+    /// Carries out a legal entry that makes no array, with its effect, and adds it to the pending ones.
+    /// Allocates nothing.
     pub(crate) fn enter(&mut self, entry: Entry, effect: Effect)
         requires legal { IsLegal self.old.state entry }
         requires effect { effect ≡ effect_in (directory_of self.old.state) entry }
@@ -91,8 +95,9 @@ impl ServiceInner {
         true
     }
 
-    /// Serves the requests that wait on the word one after another, up to one that may not be served. Returns how many it served. If there
-    /// is a tag at which all of them wait, none that is left on the word may be served.
+    /// Serves the requests that wait on the word one after another, up to one that may not be served. Returns
+    /// how many it served. If there is a tag at which all of them wait, none that is left on the word may be
+    /// served.
     pub(crate) fn serve_word(&mut self, array: u64, index: u32) -> u32
         requires word { IsWord self.old.attachments.arrays array index }
         requires able { MayServe self.old }
@@ -110,12 +115,14 @@ impl ServiceInner {
         count
     }
 
-    /// Serves the requests on each word of an array, which has this length, as `serve_word` does. Returns how many it served.
+    /// Serves the requests on each word of an array, which has this length, as `serve_word` does. Returns how
+    /// many it served.
     pub(crate) fn serve_array(&mut self, array: u64, length: u32) -> u32
         requires there { get self.old.attachments.arrays array ≡ Some length }
         requires able { MayServe self.old }
         ensures served { (es : List Entry) × TakesTurns self.old self.new es × (result ≡ length_of es) }
-        ensures here { (tag : ℕ → Tag) (j : ℕ) → j < length → WaitAtTag self.old.attachments.waiting array j (tag j)
+        ensures here { (tag : ℕ → Tag) (j : ℕ) → j < length
+            → WaitAtTag self.old.attachments.waiting array j (tag j)
             → IsQuietAt self.new.state self.new.attachments.waiting array j }
         ensures beside { (b j : ℕ) → b ≢ array → IsQuietAt self.old.state self.old.attachments.waiting b j
             → IsQuietAt self.new.state self.new.attachments.waiting b j }

@@ -1,4 +1,5 @@
-//! The slots of the waiting lists; each session with an attachment has one (`docs/model.md`, "Waiting requests").
+//! The slots of the waiting lists; each session with an attachment has one (`docs/model.md`, "Waiting
+//! requests").
 
 ghost use Rattle.std.specs.Prelude.{◌≡◌, ◌≤◌, IsSome, Some, IfOk, vec_capacity};
 ghost use Rattle.fe_service.specs.within.Slots.{owner_at, slots_below};

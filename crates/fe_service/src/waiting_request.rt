@@ -5,8 +5,9 @@ ghost use Rattle.std.specs.Prelude.{◌≡◌};
 use fe_waits::Row;
 use fe_words::Op;
 
-/// A request that waits for its word to have the tag that its operation needs. It also ends if its array is removed, or if it is withdrawn
-/// (cancelled, or its session closed or its connection ended). A `Row` is the same with the session's slot in place of the session.
+/// A request that waits for its word to have the tag that its operation needs. It also ends if its array is
+/// removed, or if it is withdrawn (cancelled, or its session closed or its connection ended). A `Row` is the
+/// same with the session's slot in place of the session.
 #[derive(Clone, Copy, PartialEq, Eq)]
 pub struct WaitingRequest {
     pub session: u64,

@@ -1,14 +1,16 @@
--- Whom a hold of a hall's lock owes the ring of a bell, a condition variable, since what it did may be what they wait for.
--- See `docs/model.md`, "The hall".
+-- Whom a hold of a hall's lock owes the ring of a bell, a condition variable, since what it did may be what
+-- they wait for. See `docs/model.md`, "The hall".
 use Rattle.std.specs.Prelude.{ℕ, Bool, not, ◌&&◌, ◌==◌, if◌then◌else◌, Option, None, Some}
 use Rattle.fe_shared.specs.declared.bells.Whom.{Whom}
-use Rattle.fe_shared.specs.declared.bells.Whom.TheVariants.{Nobody, Committing, Sides, CommittingAndSides, Room}
+use Rattle.fe_shared.specs.declared.bells.Whom.TheVariants.{Nobody, Committing, Sides, CommittingAndSides}
+use Rattle.fe_shared.specs.declared.bells.Whom.TheVariants.{Room}
 use Rattle.fe_shared.specs.declared.shared.batches.CutOutcome.{CutOutcome}
 use Rattle.fe_shared.specs.declared.shared.batches.CutOutcome.TheVariants as cutting
 use Rattle.fe_shared.specs.declared.taking.Taking.{Taking}
 use Rattle.fe_shared.specs.declared.taking.Taking.TheVariants as taking
 
--- A message of a connection was handled: the committing side, since entries may be pending; and the connection's sides, if mails were made.
+-- A message of a connection was handled: the committing side, since entries may be pending; and the
+-- connection's sides, if mails were made.
 abbrev pub owed_by_message : ℕ → ℕ → ℕ → Whom
 owed_by_message conn before after = if before == after then Committing else CommittingAndSides conn
 

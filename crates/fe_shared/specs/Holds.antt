@@ -1,6 +1,8 @@
--- What a hold of a hall's lock did to the front, and why it did nothing. A hall is a front that many threads share; a
--- hold is one time that a thread has its lock, and makes at most one event (`docs/model.md`, "The hall").
-use Rattle.std.specs.Prelude.{◌≡◌, ◌⊎◌, ℕ, ◌≤◌, Bool, true, false, List, [], length, nat_lt, Option, Some, None}
+-- What a hold of a hall's lock did to the front, and why it did nothing. A hall is a front that many threads
+-- share; a hold is one time that a thread has its lock, and makes at most one event (`docs/model.md`, "The
+-- hall").
+use Rattle.std.specs.Prelude.{◌≡◌, ◌⊎◌, ℕ, ◌≤◌, Bool, true, false, List, [], length, nat_lt, Option, Some}
+use Rattle.std.specs.Prelude.{None}
 use Rattle.fe_mail.specs.Connections.{mails_on}
 use Rattle.fe_front.specs.Event as event
 use Rattle.fe_front.specs.Front.{FrontState, is_connected}
@@ -45,7 +47,8 @@ has_mail f conn = nat_lt 0 (length (mails_on f.connections conn))
 abbrev pub IsUnconnected : FrontState → ℕ → ℕ → Unconnected → Type 0
 IsUnconnected f connections_made conn (unconnected.InUse in_use) = is_connected f conn ≡ true
 IsUnconnected f connections_made conn (unconnected.NoMemory short) = is_connected f conn ≡ false
-IsUnconnected f connections_made conn (unconnected.Spent all) = (is_connected f conn ≡ false) × (connections_made ≡ most_connections)
+IsUnconnected f connections_made conn (unconnected.Spent all) =
+    (is_connected f conn ≡ false) × (connections_made ≡ most_connections)
 
 -- the connection is removed, with its box and what waits of its session
 abbrev pub Leaves : SharedState → ℕ → SharedState → Type 0
@@ -59,12 +62,17 @@ Ends f stopped conn (Some taking.Stopped) = (is_connected f conn ≡ true) × (s
 Ends f stopped conn (Some taking.Spent) = most_counted ≤ f.books.taken
 Ends f stopped conn None = (is_connected f conn ≡ true) × (stopped ≡ false)
 
--- A look into a connection's box took its first mail; or the box was empty, and this is why the write side ends, if it does.
+-- A look into a connection's box took its first mail; or the box was empty, and this is why the write side
+-- ends, if it does.
 abbrev pub LooksInto : FrontState → Bool → ℕ → Option Taking → FrontState → Type 0
-LooksInto f stopped conn (Some (taking.Mail mail more)) g = FrontStep f (event.TakeMail conn (Some mail)) [] g × (more ≡ has_mail g conn)
-LooksInto f stopped conn (Some taking.Gone) g = FrontStep f (event.TakeMail conn None) [] g × Ends g stopped conn (Some taking.Gone)
-LooksInto f stopped conn (Some taking.Stopped) g = FrontStep f (event.TakeMail conn None) [] g × Ends g stopped conn (Some taking.Stopped)
-LooksInto f stopped conn (Some taking.Spent) g = FrontStep f (event.TakeMail conn None) [] g × Ends g stopped conn (Some taking.Spent)
+LooksInto f stopped conn (Some (taking.Mail mail more)) g =
+    FrontStep f (event.TakeMail conn (Some mail)) [] g × (more ≡ has_mail g conn)
+LooksInto f stopped conn (Some taking.Gone) g =
+    FrontStep f (event.TakeMail conn None) [] g × Ends g stopped conn (Some taking.Gone)
+LooksInto f stopped conn (Some taking.Stopped) g =
+    FrontStep f (event.TakeMail conn None) [] g × Ends g stopped conn (Some taking.Stopped)
+LooksInto f stopped conn (Some taking.Spent) g =
+    FrontStep f (event.TakeMail conn None) [] g × Ends g stopped conn (Some taking.Spent)
 LooksInto f stopped conn None g = FrontStep f (event.TakeMail conn None) [] g × Ends g stopped conn None
 
 -- the event of this hold was such a look
@@ -75,7 +83,8 @@ TakesMail s conn taken t = LooksInto s.front s.stopped conn taken t.front × Mak
 abbrev pub IsOver : FrontState → Bool → ℕ → Type 0
 IsOver f stopped conn = (stopped ≡ true) ⊎ (is_connected f conn ≡ false)
 
--- A read side need not wait for the entries before this place: its connection is over, or they are durable and its box is empty.
+-- A read side need not wait for the entries before this place: its connection is over, or they are durable
+-- and its box is empty.
 abbrev pub IsDrained : FrontState → Bool → ℕ → ℕ → Type 0
 IsDrained f stopped conn place = IsOver f stopped conn ⊎ ((place ≤ f.durable) × (has_mail f conn ≡ false))
 
@@ -84,11 +93,13 @@ abbrev pub IsUnposted : FrontState → Batch → Unposted → Type 0
 IsUnposted f batch (unposted.Full full) = posts_more f.books batch ≡ false
 IsUnposted f batch (unposted.Strange strange) = (posts_more f.books batch ≡ true) × (¬ IsOut f.out batch)
 
--- A batch was cut; or none was, and the hall is stopped and all that was made is durable, so that nothing is left to store; or another
--- side cut batches, and nothing happens. `None`: no batch was cut, but one may be later.
+-- A batch was cut; or none was, and the hall is stopped and all that was made is durable, so that nothing is
+-- left to store; or another side cut batches, and nothing happens. `None`: no batch was cut, but one may be
+-- later.
 abbrev pub HandsOut : FrontState → Bool → Option CutOutcome → FrontState → Type 0
 HandsOut f stopped (Some (cutting.Batch cut)) g = FrontStep f (event.Cut (Some cut.batch)) [] g
-HandsOut f stopped (Some (cutting.Stopped all)) g = FrontStep f (event.Cut None) [] g × (stopped ≡ true) × (g.durable ≡ g.service.state.place)
+HandsOut f stopped (Some (cutting.Stopped all)) g =
+    FrontStep f (event.Cut None) [] g × (stopped ≡ true) × (g.durable ≡ g.service.state.place)
 HandsOut f stopped (Some (cutting.Strange uncut)) g = g ≡ f
 HandsOut f stopped None g = FrontStep f (event.Cut None) [] g
 

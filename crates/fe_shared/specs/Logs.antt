@@ -1,4 +1,5 @@
--- The logs of a connection's sides, as lists of the messages or mails that they took (`docs/model.md`, "The hall").
+-- The logs of a connection's sides, as lists of the messages or mails that they took (`docs/model.md`, "The
+-- hall").
 use Rattle.std.specs.Prelude.{List, [], ◌∷◌, ◌++◌}
 use Rattle.fe_wire.specs.declared.client_message.ClientMessage.{ClientMessage}
 use Rattle.fe_mail.specs.declared.mail.Mail.{Mail}

@@ -1,5 +1,5 @@
--- How the part under a hall's lock follows the history: the front's entries are those of the batches cut, and those pending.
--- See `docs/model.md`, "The hall".
+-- How the part under a hall's lock follows the history: the front's entries are those of the batches cut, and
+-- those pending. See `docs/model.md`, "The hall".
 use Rattle.std.specs.Prelude.{ℕ, Bool, List, ◌==◌, ◌≡◌, [], ◌∷◌, ◌++◌, length, Option, None, Some, IfSome}
 use Rattle.std.specs.List.{list_any, AllByRecursion}
 use Rattle.fe_shared.specs.declared.watchers.Watcher.{Watcher}
@@ -18,7 +18,9 @@ use Rattle.fe_history.specs.declared.act.Act.{Act}
 use Rattle.fe_history.specs.declared.act.Act.TheVariants.{Asked, Began, Issued}
 use Rattle.fe_shared.specs.declared.taking.Taking.{Taking}
 use Rattle.fe_shared.specs.declared.taking.Taking.TheVariants as taking
-use Rattle.fe_history.specs.Acts.{AreOfCalls, IsAnswerOfCall, IsLegal, MayBeAppended, StandsIn, WasCalledSince, WasIssued, batches_of, cuts_in, entries_in, place_after, stores_in}
+use Rattle.fe_history.specs.Acts.{AreOfCalls, IsAnswerOfCall, IsLegal, MayBeAppended, StandsIn}
+use Rattle.fe_history.specs.Acts.{WasCalledSince, WasIssued, batches_of, cuts_in, entries_in, place_after}
+use Rattle.fe_history.specs.Acts.{stores_in}
 use Rattle.fe_history.specs.Receipts.{receipt_of}
 
 -- the read side of a connection waits
@@ -50,19 +52,24 @@ WasAskedFor acts conn mail = IfSome (receipt_of conn mail) (λ r. AskedIn acts c
 abbrev pub BoxesAsked : List Act → FrontState → Type 0
 BoxesAsked acts f = (conn : ℕ) → AllByRecursion (WasAskedFor acts conn) (mails_on f.connections conn)
 
--- each request that waits was called in these acts, under its number of its session, which none of these entries closes since
+-- each request that waits was called in these acts, under its number of its session, which none of these
+-- entries closes since
 abbrev pub WaitsAreCalled : ServerState → List Act → List Entry → FrontState → Type 0
 WaitsAreCalled begun acts entries f = WaitsOnly (WasCalledSince begun acts entries) f
 
--- if the mail is an answer, it is that of a posted entry, or was kept when the hall began and its request was called in these acts
+-- if the mail is an answer, it is that of a posted entry, or was kept when the hall began and its request was
+-- called in these acts
 abbrev pub TellsOfCall : ServerState → List Act → List Batch → Mail → Type 0
-TellsOfCall begun acts posted mail = IfSome (receipt_of 0 mail) (λ r. IsAnswerOfCall begun acts (entries_in posted) r)
+TellsOfCall begun acts posted mail =
+    IfSome (receipt_of 0 mail) (λ r. IsAnswerOfCall begun acts (entries_in posted) r)
 
 -- each answer in a box is such an answer
 abbrev pub BoxesTellOfCalls : ServerState → List Act → List Batch → FrontState → Type 0
-BoxesTellOfCalls begun acts posted f = (conn : ℕ) → AllByRecursion (TellsOfCall begun acts posted) (mails_on f.connections conn)
+BoxesTellOfCalls begun acts posted f =
+    (conn : ℕ) → AllByRecursion (TellsOfCall begun acts posted) (mails_on f.connections conn)
 
--- all entries that were made: those of the batches that were posted, of the one that is out, and those that are pending
+-- all entries that were made: those of the batches that were posted, of the one that is out, and those that
+-- are pending
 abbrev pub made_entries : List Batch → Option Batch → FrontState → List Entry
 made_entries posted out f = entries_in posted ++ (entries_in (out_batches out) ++ f.service.pending)
 
@@ -70,10 +77,11 @@ made_entries posted out f = entries_in posted ++ (entries_in (out_batches out) +
 abbrev pub cut_entries : List Batch → Option Batch → List Entry
 cut_entries posted out = entries_in posted ++ entries_in (out_batches out)
 
--- A front whose posted batches, this many, were stored in the history, and whose batch that is out was cut next. Its state is the
--- one after all entries made, each *finished* one with the reply to its request, and each answer in its boxes is of a posted entry. A
--- connection has only sessions that it asked for in that history, and each answer in its box is of one of them. Each request that waits,
--- and each that a pending entry finishes, was called in that history, and its session was not closed since.
+-- A front whose posted batches, this many, were stored in the history, and whose batch that is out was cut
+-- next. Its state is the one after all entries made, each *finished* one with the reply to its request, and
+-- each answer in its boxes is of a posted entry. A connection has only sessions that it asked for in that
+-- history, and each answer in its box is of one of them. Each request that waits, and each that a pending
+-- entry finishes, was called in that history, and its session was not closed since.
 pub record IsMarked (f : FrontState) (count : ℕ) (acts : List Act) : Type 0 where
   pub begun : ServerState
   pub past : List Act
@@ -107,7 +115,8 @@ pub record SharedState : Type 0 where
 
 -- what was found in the box of a connection may be issued to it after these acts, if it is an answer
 abbrev pub MayBeIssued : ℕ → Taking → List Act → Type 0
-MayBeIssued conn (taking.Mail mail more) acts = IfSome (receipt_of conn mail) (λ r. MayBeAppended acts (Issued r))
+MayBeIssued conn (taking.Mail mail more) acts =
+    IfSome (receipt_of conn mail) (λ r. MayBeAppended acts (Issued r))
 MayBeIssued conn taking.Gone acts = Unit {0}
 MayBeIssued conn taking.Stopped acts = Unit {0}
 MayBeIssued conn taking.Spent acts = Unit {0}

@@ -1,10 +1,12 @@
--- Seats: what the two sides of a connection, its reading and its writing thread, did; and what the books of a hall may count.
--- See `docs/model.md`, "The hall".
-use Rattle.std.specs.Prelude.{◌≡◌, ◌⊎◌, ℕ, ◌+◌, ◌-◌, ◌^◌, ◌≤◌, Bool, true, false, ◌&&◌, nat_lt, nat_le, List, [], ◌∷◌, ◌++◌, length}
+-- Seats: what the two sides of a connection, its reading and its writing thread, did; and what the books of a
+-- hall may count. See `docs/model.md`, "The hall".
+use Rattle.std.specs.Prelude.{◌≡◌, ◌⊎◌, ℕ, ◌+◌, ◌-◌, ◌^◌, ◌≤◌, Bool, true, false, ◌&&◌, nat_lt, nat_le, List}
+use Rattle.std.specs.Prelude.{[], ◌∷◌, ◌++◌, length}
 use Rattle.fe_state.specs.declared.batch.Batch.{Batch}
 use Rattle.fe_mail.specs.Books.{Books}
 use Rattle.fe_wire.specs.declared.client_message.ClientMessage.{ClientMessage}
-use Rattle.fe_wire.specs.declared.client_message.ClientMessage.TheVariants.{Attach, Call, Cancel, Settle, Bye, Report}
+use Rattle.fe_wire.specs.declared.client_message.ClientMessage.TheVariants.{Attach, Call, Cancel, Settle, Bye}
+use Rattle.fe_wire.specs.declared.client_message.ClientMessage.TheVariants.{Report}
 use Rattle.fe_mail.specs.declared.mail.Mail.{Mail}
 use Rattle.fe_shared.specs.declared.last_answer.LastAnswer.{LastAnswer}
 use Rattle.fe_shared.specs.declared.last_answer.LastAnswer.TheVariants.{Served, Gone, Stopped, Spent}
@@ -50,12 +52,22 @@ pub record Seats : Type 0 where
 
 -- the seats of the two sides of a connection just made
 abbrev pub first_call_seat : ℕ → CallSeatState
-first_call_seat conn = record { conn = conn; calls = 0; messages = []; place = 0; last_answer = Served; departed = false; rested = false }
+first_call_seat conn = record {
+  conn = conn;
+  calls = 0;
+  messages = [];
+  place = 0;
+  last_answer = Served;
+  departed = false;
+  rested = false;
+}
 
 abbrev pub first_mail_seat : ℕ → MailSeatState
-first_mail_seat conn = record { conn = conn; mails = 0; taken = []; more = false; last_answer = Served; departed = false }
+first_mail_seat conn =
+    record { conn = conn; mails = 0; taken = []; more = false; last_answer = Served; departed = false }
 
--- the seats of one connection, which counted this many calls or mails; and the seats of two groups of connections
+-- the seats of one connection, which counted this many calls or mails; and the seats of two groups of
+-- connections
 abbrev pub one_seat : ℕ → Seats
 one_seat amount = record { connections = 1; amount = amount }
 
@@ -76,7 +88,8 @@ IsNewPart all parts_in_ledger parts amount = (parts ≡ 1) × (amount ≡ 0) × 
 
 -- a blank makes the ledger of this name, which has all its parts
 abbrev pub IsBlankOf : ℕ → ℕ → ℕ → ℕ → ℕ → Type 0
-IsBlankOf ledger_name parts_in_ledger all name parts = (name ≡ ledger_name) × (parts ≡ parts_in_ledger) × IsWholeLedger all parts_in_ledger
+IsBlankOf ledger_name parts_in_ledger all name parts =
+    (name ≡ ledger_name) × (parts ≡ parts_in_ledger) × IsWholeLedger all parts_in_ledger
 
 -- the most that a book may count before the sides of a hall end: one post more stays below 2^63
 abbrev pub most_counted : ℕ
@@ -99,7 +112,12 @@ calls_in Report = 0
 
 -- a message of a read side was taken; after it, this is the place after all entries
 abbrev pub message_taken : CallSeatState → ClientMessage → ℕ → CallSeatState
-message_taken s m place = record s { calls = s.calls + calls_in m; messages = s.messages ++ m ∷ []; place = place; last_answer = Served }
+message_taken s m place = record s {
+  calls = s.calls + calls_in m;
+  messages = s.messages ++ m ∷ [];
+  place = place;
+  last_answer = Served;
+}
 
 -- the seat of a read side after this answer to its message, at this place
 abbrev pub message_answered : CallSeatState → ClientMessage → ℕ → LastAnswer → CallSeatState
@@ -110,7 +128,8 @@ message_answered s m place Spent = record s { last_answer = Spent }
 
 -- a mail was taken for a write side; `more` says whether more are in its box
 abbrev pub mail_taken : MailSeatState → Mail → Bool → MailSeatState
-mail_taken s mail more = record s { mails = s.mails + 1; taken = s.taken ++ mail ∷ []; more = more; last_answer = Served }
+mail_taken s mail more =
+    record s { mails = s.mails + 1; taken = s.taken ++ mail ∷ []; more = more; last_answer = Served }
 
 -- the seat of a write side after this outcome of a look into its box
 abbrev pub taking_answered : MailSeatState → Taking → MailSeatState

@@ -1,4 +1,5 @@
--- What a call on the part under the lock shows by a value that nothing else makes (`docs/proved.md`, "Server").
+-- What a call on the part under the lock shows by a value that nothing else makes (`docs/proved.md`,
+-- "Server").
 use Rattle.std.specs.Prelude.{ℕ, Bool}
 use Rattle.fe_state.specs.declared.batch.Batch.{Batch}
 

@@ -1,4 +1,5 @@
-//! The bells of a hall, its condition variables, and the rings that a hold owes to those who wait for them (`ARCHITECTURE.md`, "Threads").
+//! The bells of a hall, its condition variables, and the rings that a hold owes to those who wait for them
+//! (`ARCHITECTURE.md`, "Threads").
 
 ghost use Rattle.std.specs.Prelude.{◌≡◌, ◌&&◌, ℕ, false, length, not};
 ghost use Rattle.fe_front.specs.Posting.{may_have};
@@ -24,7 +25,8 @@ pub enum Whom {
 }
 
 impl Whom {
-    /// Whom a message of this connection concerns, if the front's books had counted `before` mails before it and `after` after it.
+    /// Whom a message of this connection concerns, if the front's books had counted `before` mails before it
+    /// and `after` after it.
     pub(crate) fn of_message(conn: u64, before: u64, after: u64) -> Whom
         ensures { result ≡ owed_by_message conn before after }
     {
@@ -54,7 +56,8 @@ impl Whom {
     }
 }
 
-/// The ring that a hold owes. It is not `Drop`: only `Bells::ring` uses it up, so an event whose ring is left out does not compile.
+/// The ring that a hold owes. It is not `Drop`: only `Bells::ring` uses it up, so an event whose ring is left
+/// out does not compile.
 pub struct Owed {
     pub(crate) whom: Whom,
 }
@@ -68,7 +71,8 @@ impl Owed {
     }
 }
 
-/// The rings that a post owes to the sides of these connections. It is not `Drop`: only `Bells::ring_posted` uses it up.
+/// The rings that a post owes to the sides of these connections. It is not `Drop`: only `Bells::ring_posted`
+/// uses it up.
 pub struct OwedByPost {
     pub(crate) changed: ConnectionSet,
 }
@@ -84,14 +88,17 @@ impl OwedByPost {
     }
 }
 
-/// The bells of a hall. Only `Shared::new` makes them, so what one hold owes is not rung at bells that nobody waits for.
+/// The bells of a hall. Only `Shared::new` makes them, so what one hold owes is not rung at bells that nobody
+/// waits for.
 #[derive(Drop)]
 pub struct Bells {
     /// It is rung after each message, since entries may be pending then, and when the hall is stopped.
     work: Condvar,
-    /// It is rung when there is room for an event again, since the pending entries were cut, and when the hall is stopped.
+    /// It is rung when there is room for an event again, since the pending entries were cut, and when the
+    /// hall is stopped.
     room: Condvar,
-    /// These are rung for the sides of a connection, each for the connections whose numbers have one remainder by 256.
+    /// These are rung for the sides of a connection, each for the connections whose numbers have one
+    /// remainder by 256.
     sides: Vec<Condvar>,
     ghost all_sides: { length sides.items ≡ 256 },
 }

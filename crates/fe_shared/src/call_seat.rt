@@ -1,4 +1,5 @@
-//! The seat of a connection's read side (`docs/model.md`, "The hall"). A place is a number of entries, the steps of the server's history.
+//! The seat of a connection's read side (`docs/model.md`, "The hall"). A place is a number of entries, the
+//! steps of the server's history.
 
 ghost use Rattle.std.specs.Prelude.{◌≡◌, ◌+◌, true};
 ghost use Rattle.fe_shared.specs.Seats.{calls_in, first_call_seat, message_taken, IsNewPart, one_seat};
@@ -14,16 +15,18 @@ use std::marker::Model;
 use std::snapshot::Snapshot;
 use std::sync::ledger::{Book, Share};
 
-/// The seat of a connection's read side, the thread that reads. Contracts see the connection's number, and what the side did.
+/// The seat of a connection's read side, the thread that reads. Contracts see the connection's number, and
+/// what the side did.
 ///
-/// Only the hall changes it, and only in a hold of the lock, since each change needs the book, which is under the lock.
+/// Only the hall changes it, and only in a hold of the lock, since each change needs the book, which is under
+/// the lock.
 #[derive(Drop)]
 pub struct CallSeat<C: Tally> {
     share: Share<C>,
     conn: u64,
     messages: MessageLog,
-    /// The place once its last message was taken: how many entries the history had then, those of the message among them. 0 if
-    /// none was taken.
+    /// The place once its last message was taken: how many entries the history had then, those of the message
+    /// among them. 0 if none was taken.
     place: u64,
     last_answer: LastAnswer,
     /// Whether the side removed its connection.
@@ -90,8 +93,8 @@ impl<C: Tally> CallSeat<C> {
         self.place
     }
 
-    /// Notes that a message was taken, and the place after all entries then. If the message is a call, it is counted here and in the
-    /// book.
+    /// Notes that a message was taken, and the place after all entries then. If the message is a call, it is
+    /// counted here and in the book.
     pub(crate) fn take(&mut self, book: &mut Book<C>, message: &ClientMessage, place: u64)
         ensures seat { self.new ≡ message_taken self.old message.now place }
         ensures book { book.new.total ≡ book.old.total + calls_in message.now }
@@ -117,7 +120,8 @@ impl<C: Tally> CallSeat<C> {
         self.departed = true;
     }
 
-    /// Notes that the side removes its connection when it need not wait for what comes of its messages, as `Rest` shows.
+    /// Notes that the side removes its connection when it need not wait for what comes of its messages, as
+    /// `Rest` shows.
     pub(crate) fn rest(&mut self, _book: &Book<C>, _rest: Rest)
         requires own { _rest.conn ≡ self.old.conn }
         ensures { self.new ≡ record self.old { departed = true; rested = true } }

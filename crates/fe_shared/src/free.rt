@@ -2,9 +2,10 @@
 
 use fe_history::{StoreSeat, Tally};
 
-/// A thread of a side that does not hold the lock. A hold borrows it for as long as it lives, and each call that may wait, read or write
-/// asks for it: so none of them compiles in a hold. A connection's side gets one as it begins, for its seat. Nothing keeps the committing
-/// side from making another while it has the store's seat.
+/// A thread of a side that does not hold the lock. A hold borrows it for as long as it lives, and each call
+/// that may wait, read or write asks for it: so none of them compiles in a hold. A connection's side gets one
+/// as it begins, for its seat. Nothing keeps the committing side from making another while it has the store's
+/// seat.
 #[derive(Drop)]
 pub struct Free(());
 

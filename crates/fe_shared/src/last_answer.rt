@@ -1,5 +1,5 @@
-/// What the hall, the front that the server's threads share under one lock, last answered a side of a connection: its reading or its
-/// writing thread (`docs/model.md`, "The hall").
+/// What the hall, the front that the server's threads share under one lock, last answered a side of a
+/// connection: its reading or its writing thread (`docs/model.md`, "The hall").
 #[derive(Clone, Copy, PartialEq, Eq)]
 pub enum LastAnswer {
     /// The side was served, or has asked nothing yet.
@@ -8,6 +8,7 @@ pub enum LastAnswer {
     Gone,
     /// The hall is stopped. A writing thread learns of it only when its box is empty.
     Stopped,
-    /// A book, a count of the hall, is at its limit, 2^63 - 8192. A writing thread learns of it only when its box is empty.
+    /// A book, a count of the hall, is at its limit, 2^63 - 8192. A writing thread learns of it only when its
+    /// box is empty.
     Spent,
 }

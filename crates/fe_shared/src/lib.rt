@@ -1,8 +1,9 @@
-//! What the threads of a hall share, under its lock: one front, a ledger of its calls and one of the mails that were taken
-//! (`docs/model.md`, "The hall").
+//! What the threads of a hall share, under its lock: one front, a ledger of its calls and one of the mails
+//! that were taken (`docs/model.md`, "The hall").
 //!
-//! Each call of `Shared` is at most one event of the front. Each side of a connection has a seat that says what it did, so that the books
-//! can be compared with the seats. What a call shows is a value of a type of its own, which nothing else can make.
+//! Each call of `Shared` is at most one event of the front. Each side of a connection has a seat that says
+//! what it did, so that the books can be compared with the seats. What a call shows is a value of a type of
+//! its own, which nothing else can make.
 #![tactic(auto)]
 
 mod bells;

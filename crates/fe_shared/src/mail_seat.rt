@@ -1,4 +1,5 @@
-//! The seat of a connection's write side (`docs/model.md`, "The hall"). A box has the mails of a connection that wait to go out.
+//! The seat of a connection's write side (`docs/model.md`, "The hall"). A box has the mails of a connection
+//! that wait to go out.
 
 ghost use Rattle.std.specs.Prelude.{◌≡◌, ◌+◌, true};
 ghost use Rattle.fe_shared.specs.Seats.{first_mail_seat, mail_taken, IsNewPart, one_seat};
@@ -13,9 +14,11 @@ use std::marker::Model;
 use std::snapshot::Snapshot;
 use std::sync::ledger::{Book, Share};
 
-/// The seat of a connection's write side, the thread that writes. Contracts see the connection's number, and what the side did.
+/// The seat of a connection's write side, the thread that writes. Contracts see the connection's number, and
+/// what the side did.
 ///
-/// Only the hall changes it, and only in a hold of the lock, since each change needs the book, which is under the lock.
+/// Only the hall changes it, and only in a hold of the lock, since each change needs the book, which is under
+/// the lock.
 #[derive(Drop)]
 pub struct MailSeat<M: Tally> {
     share: Share<M>,
@@ -84,8 +87,8 @@ impl<M: Tally> MailSeat<M> {
         self.more
     }
 
-    /// Notes that a mail was taken. It is counted here and in the book, and the side's last answer is `Served`. `more` says
-    /// whether others are in the box.
+    /// Notes that a mail was taken. It is counted here and in the book, and the side's last answer is
+    /// `Served`. `more` says whether others are in the box.
     pub(crate) fn take(&mut self, book: &mut Book<M>, mail: &Mail, more: bool)
         ensures seat { self.new ≡ mail_taken self.old mail.now more }
         ensures book { book.new.total ≡ book.old.total + 1 }

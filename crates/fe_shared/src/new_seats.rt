@@ -1,4 +1,5 @@
-//! A seat records what one side of a connection, its reading or its writing thread, did in the hall (`docs/model.md`, "The hall").
+//! A seat records what one side of a connection, its reading or its writing thread, did in the hall
+//! (`docs/model.md`, "The hall").
 
 ghost use Rattle.std.specs.Prelude.{◌≡◌};
 ghost use Rattle.fe_shared.specs.Seats.{first_call_seat, first_mail_seat, IsNewPart};

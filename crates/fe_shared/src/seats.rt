@@ -5,8 +5,9 @@ use fe_history::Tally;
 use std::marker::Model;
 use std::sync::ledger::{Book, Share};
 
-/// The seats of one side, the reading or the writing threads, of any connections, added up (`docs/model.md`, "The hall"). Contracts
-/// see the number of connections, and how many calls (of reading threads) or mails (of writing threads) their seats counted in all.
+/// The seats of one side, the reading or the writing threads, of any connections, added up (`docs/model.md`,
+/// "The hall"). Contracts see the number of connections, and how many calls (of reading threads) or mails (of
+/// writing threads) their seats counted in all.
 #[derive(Drop)]
 pub struct Seats<L: Tally> {
     share: Share<L>,
@@ -21,7 +22,8 @@ impl<L: Tally> Model for Seats<L> {
 
     ghost view = { λ s. record { connections = s.connections; amount = s.share.amount } };
 
-    ghost invariant = { λ s. (s.share.parts ≡ s.connections) × ((0 < s.connections) × IsWholeLedger L.all L.parts) };
+    ghost invariant = { λ s. (s.share.parts ≡ s.connections)
+        × ((0 < s.connections) × IsWholeLedger L.all L.parts) };
 }
 
 impl<L: Tally> Seats<L> {
@@ -53,8 +55,9 @@ impl<L: Tally> Seats<L> {
         self.connections
     }
 
-    /// Shows that these seats, which must be those of all connections that were made, counted in all what the book has. `spare` has
-    /// the other parts of the ledger: the hall's own, and one for each connection that was never made.
+    /// Shows that these seats, which must be those of all connections that were made, counted in all what the
+    /// book has. `spare` has the other parts of the ledger: the hall's own, and one for each connection that
+    /// was never made.
     pub(crate) fn audit(self, book: &mut Book<L>, spare: Share<L>)
         requires whole { spare.parts + self.connections ≡ L.all }
         requires nothing { spare.amount ≡ 0 }

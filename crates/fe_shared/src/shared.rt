@@ -1,8 +1,10 @@
-//! What is under the lock of a hall: the front, with a ledger of its calls and one of the mails that were taken. A ledger has
-//! parts whose counts add up to its own, and exists in proofs alone; a hold is one time that a thread has the lock
-//! (`docs/model.md`, "The hall").
+//! What is under the lock of a hall: the front, with a ledger of its calls and one of the mails that were
+//! taken. A ledger has parts whose counts add up to its own, and exists in proofs alone; a hold is one time
+//! that a thread has the lock (`docs/model.md`, "The hall").
 
-ghost use Rattle.std.specs.Prelude.{IsNone, ◌≡◌, ◌≢◌, ◌+◌, ◌≤◌, ◌↔◌, ℕ, List, [], true, false, Ok, Err, Some, None, IsTrue, IsErr, IfErr, IfOk, length, OnOk, OnErr, IfSome, MatchOption};
+ghost use Rattle.std.specs.Prelude.{IsNone, ◌≡◌, ◌≢◌, ◌+◌, ◌≤◌, ◌↔◌, ℕ, List, [], true, false, Ok, Err, Some};
+ghost use Rattle.std.specs.Prelude.{None, IsTrue, IsErr, IfErr, IfOk, length, OnOk, OnErr, IfSome};
+ghost use Rattle.std.specs.Prelude.{MatchOption};
 ghost use Rattle.fe_state.specs.declared.entry.Entry.{Entry};
 ghost use Rattle.fe_front.specs.Front.{has_room, is_connected};
 ghost use Rattle.fe_mail.specs.Books.{AddUp};
@@ -13,8 +15,10 @@ ghost use Rattle.fe_history.specs.Acts.{GoesOnFrom, IsLegal};
 ghost use Rattle.fe_history.specs.Rules.{Hears};
 ghost use Rattle.fe_shared.specs.Bells.{owed_by_look, owed_by_message, sides_if};
 ghost use Rattle.fe_shared.specs.Marks.{IsBegun, MayBeIssued, waits};
-ghost use Rattle.fe_shared.specs.Holds.{IsDrained, IsOver, IsUnconnected, Leaves, MakesStep, MakesEvent, MakesNoEvent, MakesNothing, TakesMail};
-ghost use Rattle.fe_shared.specs.Seats.{HasRested, IsOpen, TookNoMessage, message_answered, taking_answered, takes_more, most_connections, IsBlankOf};
+ghost use Rattle.fe_shared.specs.Holds.{IsDrained, IsOver, IsUnconnected, Leaves, MakesStep, MakesEvent};
+ghost use Rattle.fe_shared.specs.Holds.{MakesNoEvent, MakesNothing, TakesMail};
+ghost use Rattle.fe_shared.specs.Seats.{HasRested, IsOpen, TookNoMessage, message_answered, taking_answered};
+ghost use Rattle.fe_shared.specs.Seats.{takes_more, most_connections, IsBlankOf};
 
 mod batches;
 
@@ -55,7 +59,8 @@ pub struct Shared<C: Tally, M: Tally> {
     mails: Book<M>,
     spare_calls: Share<C>,
     spare_mails: Share<M>,
-    /// What was cut, what connections asked for and called, and what was stored, at least as far as it is posted.
+    /// What was cut, what connections asked for and called, and what was stored, at least as far as it is
+    /// posted.
     history: History<M>,
     /// How many batches were posted.
     posted: u64,
@@ -159,7 +164,8 @@ impl Model for PlaceThen {
     ghost view = { λ m. m.place };
 }
 
-/// Shows that the read side of a connection need not wait for what comes of its messages. Only `Shared::rest` makes one.
+/// Shows that the read side of a connection need not wait for what comes of its messages. Only `Shared::rest`
+/// makes one.
 #[derive(Drop)]
 pub struct Rest {
     conn: u64,
@@ -176,13 +182,14 @@ impl Model for Rest {
     ghost view = { λ r. record { conn = r.conn; short = is_some r.short } };
 }
 
-/// Shows that the seats that were handed in were not those of all connections that were made, or that another side
-/// stored groups. Only `Shared::audit` and `SeatMissing::in_account` make one.
+/// Shows that the seats that were handed in were not those of all connections that were made, or that another
+/// side stored groups. Only `Shared::audit` and `SeatMissing::in_account` make one.
 #[derive(Clone, Copy, PartialEq, Eq)]
 pub struct SeatMissing(());
 
 impl SeatMissing {
-    /// Shows that this account's history has groups that the committing side did not note; `None` if it has no such groups.
+    /// Shows that this account's history has groups that the committing side did not note; `None` if it has
+    /// no such groups.
     pub fn in_account(account: &Account) -> Option<SeatMissing>
         ensures { IsNone result ↔ (account.now.own ≡ true) }
     {
@@ -195,8 +202,8 @@ impl SeatMissing {
 }
 
 impl<C: Tally, M: Tally> Shared<C, M> {
-    /// A front that has only begun, with no connection made, the rights to make some and to begin holds, and the bells. Before the
-    /// first hold there is no event.
+    /// A front that has only begun, with no connection made, the rights to make some and to begin holds, and
+    /// the bells. Before the first hold there is no event.
     pub fn new(
         alloc: Global,
         front: Front,
@@ -271,8 +278,9 @@ impl<C: Tally, M: Tally> Shared<C, M> {
         Ok(NewSeats::new(calls, mails, conn))
     }
 
-    /// Handles a message, or records in the read side's seat why it does not. If there is no room for the message, does nothing and returns
-    /// `None`. If the message asks for a session or calls a request, the history learns which.
+    /// Handles a message, or records in the read side's seat why it does not. If there is no room for the
+    /// message, does nothing and returns `None`. If the message asks for a session or calls a request, the
+    /// history learns which.
     pub fn handle(
         &mut self,
         alloc: Global,
@@ -358,7 +366,8 @@ impl<C: Tally, M: Tally> Shared<C, M> {
         self.watchers.has(conn)
     }
 
-    /// Notes that bytes of a connection's replies went out. Returns whether its read side is noted as waiting for its box.
+    /// Notes that bytes of a connection's replies went out. Returns whether its read side is noted as waiting
+    /// for its box.
     pub fn note_written(&mut self, conn: u64) -> bool
         ensures watched { result ≡ waits self.new.watched conn }
         ensures still { MakesNoEvent self.old self.new }
@@ -397,8 +406,8 @@ impl<C: Tally, M: Tally> Shared<C, M> {
         }
     }
 
-    /// Whether a read side need not wait for the entries before this place: they are durable and its box is empty; or its connection is
-    /// gone, or the hall stopped.
+    /// Whether a read side need not wait for the entries before this place: they are durable and its box is
+    /// empty; or its connection is gone, or the hall stopped.
     fn is_drained(&self, conn: u64, place: u64) -> bool
         ensures { IsTrue result ↔ IsDrained self.now.front self.now.stopped conn place }
     {
@@ -406,7 +415,8 @@ impl<C: Tally, M: Tally> Shared<C, M> {
             || self.front.durable() >= place && !self.front.connections().has_mail(conn)
     }
 
-    /// Whether the read side of a connection need not wait for what comes of its messages. If `None`, it is noted that it waits.
+    /// Whether the read side of a connection need not wait for what comes of its messages. If `None`, it is
+    /// noted that it waits.
     pub fn rest(&mut self, seat: &CallSeat<C>) -> Option<Rest>
         ensures watched { IsNone result → IsTrue (waits self.new.watched seat.now.conn) }
         ensures own { IfSome result (λ rest. rest.conn ≡ seat.now.conn) }
@@ -426,9 +436,10 @@ impl<C: Tally, M: Tally> Shared<C, M> {
         Some(Rest { conn, short })
     }
 
-    /// Whether the read side of a connection may hand on more messages: its write side is close behind; or the entries before `place_then` are
-    /// durable and its box is empty; or the connection is gone, or the hall stopped; or there is no memory to note that the side waits. If
-    /// it may not, it is noted as waiting.
+    /// Whether the read side of a connection may hand on more messages: its write side is close behind; or
+    /// the entries before `place_then` are durable and its box is empty; or the connection is gone, or the
+    /// hall stopped; or there is no memory to note that the side waits. If it may not, it is noted as
+    /// waiting.
     pub fn may_go_on(&mut self, conn: u64, place_then: &PlaceThen) -> bool
         ensures waits { result ≡ false → ¬ IsDrained self.old.front self.old.stopped conn place_then.now }
         ensures watched { result ≡ false → IsTrue (waits self.new.watched conn) }
@@ -448,22 +459,26 @@ impl<C: Tally, M: Tally> Shared<C, M> {
         self.front.durable() >= place_then.place
     }
 
-    /// Whether a timed wait of a connection's read side goes on: it has to wait for the entries before `place_then` (`is_drained`), and
-    /// its write side has taken and written nothing since it was noted that the side waits.
+    /// Whether a timed wait of a connection's read side goes on: it has to wait for the entries before
+    /// `place_then` (`is_drained`), and its write side has taken and written nothing since it was noted that
+    /// the side waits.
     pub fn is_stuck(&self, conn: u64, place_then: &PlaceThen) -> bool
         ensures { IsTrue result → ¬ IsDrained self.now.front self.now.stopped conn place_then.now }
     {
         !self.is_drained(conn, place_then.place) && self.watchers.is_still(conn)
     }
 
-    /// Takes the first mail out of a connection's box, or records in the write side's seat why none comes. `None` says that one may come.
+    /// Takes the first mail out of a connection's box, or records in the write side's seat why none comes.
+    /// `None` says that one may come.
     pub fn take_mail(&mut self, seat: &mut MailSeat<M>, owed: &mut Owed) -> Option<Taking>
         requires fresh { self.old.used ≡ false }
         requires unowed { owed.old.whom ≡ Whom.Nobody }
         ensures takes { TakesMail self.old seat.old.conn result self.new }
-        ensures seat { MatchOption result (seat.new ≡ seat.old) (λ taking. seat.new ≡ taking_answered seat.old taking) }
+        ensures seat { MatchOption result (seat.new ≡ seat.old)
+            (λ taking. seat.new ≡ taking_answered seat.old taking) }
         ensures stored { IfSome result (λ taking. MayBeIssued seat.old.conn taking self.new.history) }
-        ensures owes { owed.new.whom ≡ owed_by_look seat.old.conn (waits self.new.watched seat.old.conn) result }
+        ensures owes { owed.new.whom ≡ owed_by_look seat.old.conn (waits self.new.watched seat.old.conn)
+            result }
     {
         self.used = true;
         let _ = self.front.state();
@@ -491,7 +506,8 @@ impl<C: Tally, M: Tally> Shared<C, M> {
         None
     }
 
-    /// Adds to a thread's history what was cut, what connections asked for and called, and what was stored, at least as far as it is posted.
+    /// Adds to a thread's history what was cut, what connections asked for and called, and what was stored,
+    /// at least as far as it is posted.
     pub fn teach(&self, history: &mut History<M>)
         ensures { GoesOnFrom history.old self.now.history history.new }
     {
@@ -534,8 +550,8 @@ impl<C: Tally, M: Tally> Shared<C, M> {
         seat.depart(&self.mails);
     }
 
-    /// Removes the connection of a read side that need not wait. If the hall is stopped, records that instead, and the
-    /// write side goes on.
+    /// Removes the connection of a read side that need not wait. If the hall is stopped, records that
+    /// instead, and the write side goes on.
     pub fn depart(&mut self, seat: &mut CallSeat<C>, rest: Rest, owed: &mut Owed)
         requires fresh { self.old.used ≡ false }
         requires unowed { owed.old.whom ≡ Whom.Nobody }
@@ -557,7 +573,8 @@ impl<C: Tally, M: Tally> Shared<C, M> {
 
     // Whether the seats are those of all connections that were made.
     fn made_all(&self, calls: &Seats<C>, mails: &Seats<M>) -> bool
-        ensures { IsTrue result ↔ ((calls.now.connections ≡ self.now.connections_made) × (mails.now.connections
+        ensures { IsTrue result ↔ ((calls.now.connections ≡ self.now.connections_made)
+            × (mails.now.connections
             ≡ self.now.connections_made)) }
     {
         calls.connections() == self.connections_made && mails.connections() == self.connections_made
@@ -566,7 +583,8 @@ impl<C: Tally, M: Tally> Shared<C, M> {
     /// The books, once all seats of the hall are here.
     pub fn audit(self, calls: Seats<C>, mails: Seats<M>) -> Result<Books, SeatMissing>
         ensures all { IfOk result
-            (λ books. (books.calls ≡ calls.amount) × (books.taken ≡ mails.amount) × (books ≡ self.front.books)) }
+            (λ books. (books.calls ≡ calls.amount) × (books.taken ≡ mails.amount)
+            × (books ≡ self.front.books)) }
         ensures add_up { IfOk result (λ books. AddUp books) }
         ensures unspent { IfOk result (λ books. books.spent ≡ false) }
         // It fails only if the seats are not those of all connections that were made.

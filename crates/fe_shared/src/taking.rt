@@ -1,4 +1,5 @@
-//! Part of the hall's answers to a connection's write side, the thread that writes (`docs/model.md`, "The hall").
+//! Part of the hall's answers to a connection's write side, the thread that writes (`docs/model.md`, "The
+//! hall").
 
 use fe_front::Mail;
 

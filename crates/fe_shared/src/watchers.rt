@@ -1,4 +1,5 @@
-//! Which read sides (reading threads) wait for their boxes, that is until the mails there are taken (`docs/DECISIONS.md`, "Hall").
+//! Which read sides (reading threads) wait for their boxes, that is until the mails there are taken
+//! (`docs/DECISIONS.md`, "Hall").
 
 ghost use Rattle.std.specs.Prelude.{◌≡◌, ℕ, IsTrue, OnOk};
 ghost use Rattle.fe_front.specs.Posting.{may_have};
@@ -12,7 +13,8 @@ use std::alloc::Global;
 #[derive(Clone, Copy)]
 struct Watcher {
     conn: u64,
-    /// Whether a mail was taken out of the box, or a part of its replies written, since it was noted that the side waits.
+    /// Whether a mail was taken out of the box, or a part of its replies written, since it was noted that the
+    /// side waits.
     moved: bool,
 }
 
@@ -56,7 +58,8 @@ impl Watchers {
         was
     }
 
-    /// Notes that a mail was taken out of the box of a connection, or a part of its replies written. Returns whether its read side waits.
+    /// Notes that a mail was taken out of the box of a connection, or a part of its replies written. Returns
+    /// whether its read side waits.
     pub(crate) fn note_move(&mut self, conn: u64) -> bool
         ensures { result ≡ waits self.new.items.items conn }
     {
@@ -66,7 +69,8 @@ impl Watchers {
         self.has(conn)
     }
 
-    /// Whether the read side of a connection waits, and nothing was taken out of its box or written since that was noted.
+    /// Whether the read side of a connection waits, and nothing was taken out of its box or written since
+    /// that was noted.
     pub(crate) fn is_still(&self, conn: u64) -> bool {
         self.items
             .iter()
@@ -75,7 +79,8 @@ impl Watchers {
 
     /// Adds the connections to a set.
     pub(crate) fn add_to(&self, set: &mut ConnectionSet)
-        ensures added { (conn : ℕ) → IsTrue (waits self.now.items.items conn) → IsTrue (may_have set.new conn) }
+        ensures added { (conn : ℕ) → IsTrue (waits self.now.items.items conn)
+            → IsTrue (may_have set.new conn) }
         ensures still { (other : ℕ) → IsTrue (may_have set.old other) → IsTrue (may_have set.new other) }
     {
         for watcher in &self.items {

@@ -1,6 +1,8 @@
 -- The directory: the arrays by id, and the id that the next one gets. The answer to a request in it.
 -- See `docs/model.md`, "The state of the server".
-use Rattle.std.specs.Prelude.{ℕ, sum_by, ◌≡◌, Bool, ◌+◌, ◌≤◌, ◌<◌, refl, not, ◌&&◌, nat_le, nat_lt, if◌then◌else◌, List, length, find, slice_get, Option, Some, None, is_some, IsTrue}
+use Rattle.std.specs.Prelude.{ℕ, sum_by, ◌≡◌, Bool, ◌+◌, ◌≤◌, ◌<◌, refl, not, ◌&&◌, nat_le, nat_lt}
+use Rattle.std.specs.Prelude.{if◌then◌else◌, List, length, find, slice_get, Option, Some, None, is_some}
+use Rattle.std.specs.Prelude.{IsTrue}
 use Rattle.std.specs.Ordering.{nat_cmp}
 use Rattle.std.specs.FinMap.{FinMap, entries, code, empty, get, len, contains_key}
 use Rattle.std.specs.Option.{option_map}
@@ -32,7 +34,8 @@ pub record Directory : Type 0 where
 -- for proofs, a directory is coded as the pair of its fields
 abbrev pub directory_code : Coded Directory
 directory_code =
-    code_by (FinMap nat_cmp Array × ℕ) (coded× (code coded_ℕ the_row.coded) coded_ℕ) (λ d. (d.arrays, d.next_id)) (λ p. record { arrays = p.0; next_id = p.1 }) (λ _. refl)
+    code_by (FinMap nat_cmp Array × ℕ) (coded× (code coded_ℕ the_row.coded) coded_ℕ)
+    (λ d. (d.arrays, d.next_id)) (λ p. record { arrays = p.0; next_id = p.1 }) (λ _. refl)
 
 -- no array yet; the first one gets id 1
 abbrev pub first_directory : Directory
@@ -75,7 +78,8 @@ abbrev pub answer_of : Reply → Answer
 answer_of (reply.Value v) = answer.Value v
 answer_of reply.Done = answer.Done
 
--- the answer to an operation on a word: that of the operation table, None if it has none; `BadIndex` if the word does not exist
+-- the answer to an operation on a word: that of the operation table, None if it has none; `BadIndex` if the
+-- word does not exist
 abbrev pub accessed : Option Word → Op → Option Answer
 accessed None op = Some answer.BadIndex
 accessed (Some w) op = option_map (λ after. answer_of after.1) (table op w)
@@ -85,7 +89,8 @@ abbrev pub access : Option Array → ℕ → Op → Option Answer
 access None index op = Some answer.NoArray
 access (Some a) index op = accessed (slice_get a.words index) op
 
--- the answer to an access, given that of its operation: without one it is `NotNow` if the access must not wait, else the access waits
+-- the answer to an access, given that of its operation: without one it is `NotNow` if the access must not
+-- wait, else the access waits
 abbrev pub at_once : Bool → Option Answer → Option Answer
 at_once no_wait None = if no_wait then Some answer.NotNow else None
 at_once no_wait (Some a) = Some a
@@ -110,5 +115,6 @@ pub record IsDirectory (d : Directory) : Type 0 where
   pub next_id : 1 ≤ d.next_id
   pub few_arrays : len d.arrays ≤ most_arrays
   pub each : (id : ℕ) (a : Array) → get d.arrays id ≡ Some a → IsArray d id a
-  pub names : (i j : ℕ) (a b : Array) → get d.arrays i ≡ Some a → get d.arrays j ≡ Some b → a.name ≡ b.name → i ≡ j
+  pub names : (i j : ℕ) (a b : Array) → get d.arrays i ≡ Some a → get d.arrays j ≡ Some b → a.name ≡ b.name
+      → i ≡ j
   pub words : word_count d.arrays ≤ most_words

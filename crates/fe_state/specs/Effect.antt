@@ -1,6 +1,7 @@
 -- What a request changes in the directory once it is answered, and the directory after it.
 -- See `docs/model.md`, "The state of the server".
-use Rattle.std.specs.Prelude.{ℕ, ◌+◌, List, slice_set, replicate, Option, Some, None, option_and_then, ◌≡◌, ◌-◌, ◌≤◌, ◌<◌, length, IsSome}
+use Rattle.std.specs.Prelude.{ℕ, ◌+◌, List, slice_set, replicate, Option, Some, None, option_and_then, ◌≡◌}
+use Rattle.std.specs.Prelude.{◌-◌, ◌≤◌, ◌<◌, length, IsSome}
 use Rattle.std.specs.Ordering.{nat_cmp}
 use Rattle.std.specs.FinMap.{FinMap, get, insert, remove, len}
 use Rattle.fe_words.specs.Table.{word, table}
@@ -39,7 +40,8 @@ abbrev pub put_word : FinMap nat_cmp Array → ℕ → ℕ → Word → Option A
 put_word arrays id index w None = arrays
 put_word arrays id index w (Some a) = insert arrays id (with_word a index w)
 
--- the arrays after an operation, given the word and answer that the operation table has for it; with none, they stay as they are
+-- the arrays after an operation, given the word and answer that the operation table has for it; with none,
+-- they stay as they are
 abbrev pub operated : FinMap nat_cmp Array → ℕ → ℕ → Option (Word × Reply) → FinMap nat_cmp Array
 operated arrays id index None = arrays
 operated arrays id index (Some after) = put_word arrays id index after.0 (get arrays id)
@@ -47,7 +49,11 @@ operated arrays id index (Some after) = put_word arrays id index after.0 (get ar
 -- the directory after an access, whether the access may wait or not
 abbrev pub operated_on : Directory → ℕ → ℕ → Op → Directory
 operated_on d id index op =
-    record { arrays = operated d.arrays id index (option_and_then (table op) (word_in (get d.arrays id) index)); next_id = d.next_id }
+    record {
+      arrays = operated d.arrays id index
+          (option_and_then (table op) (word_in (get d.arrays id) index));
+      next_id = d.next_id;
+    }
 
 -- the directory after a request
 abbrev pub performed : Directory → Request → Directory
@@ -76,7 +82,8 @@ abbrev pub removing : ℕ → Option Array → Effect
 removing id None = effect.Nothing
 removing id (Some a) = effect.Remove id
 
--- the effect of an operation, given the word and answer that the operation table has for it; with none, it has no effect
+-- the effect of an operation, given the word and answer that the operation table has for it; with none, it
+-- has no effect
 abbrev pub writing : ℕ → ℕ → Option (Word × Reply) → Effect
 writing id index None = effect.Nothing
 writing id index (Some after) = effect.Write id index after.0
@@ -86,7 +93,8 @@ abbrev pub effect_of : Directory → Request → Effect
 effect_of d (Create name size tag) = creating (creation d name size)
 effect_of d (Find name) = effect.Nothing
 effect_of d (Remove id) = removing id (get d.arrays id)
-effect_of d (Access id index op no_wait) = writing id index (option_and_then (table op) (word_in (get d.arrays id) index))
+effect_of d (Access id index op no_wait) =
+    writing id index (option_and_then (table op) (word_in (get d.arrays id) index))
 
 -- a word that a request is about: the one that it names, or each one of the array that it makes or removes
 abbrev pub IsOwnWord : Directory → Request → ℕ → ℕ → Type 0
@@ -109,10 +117,11 @@ abbrev pub restored : Change → Directory → Directory
 restored Nothing d = d
 restored Created d = record { arrays = remove d.arrays (d.next_id - 1); next_id = d.next_id - 1 }
 restored (Removed id a) d = record { arrays = insert d.arrays id a; next_id = d.next_id }
-restored (Wrote id index w) d = record { arrays = put_word d.arrays id index w (get d.arrays id); next_id = d.next_id }
+restored (Wrote id index w) d =
+    record { arrays = put_word d.arrays id index w (get d.arrays id); next_id = d.next_id }
 
--- an array that may be added to a directory under an id: it may be there (`IsArray`), the id and the name are free, and there is room for
--- one array more and for its words
+-- an array that may be added to a directory under an id: it may be there (`IsArray`), the id and the name are
+-- free, and there is room for one array more and for its words
 pub record MayBeAdded (d : Directory) (id : ℕ) (a : Array) : Type 0 where
   pub array : IsArray d id a
   pub id_free : get d.arrays id ≡ None
@@ -120,7 +129,8 @@ pub record MayBeAdded (d : Directory) (id : ℕ) (a : Array) : Type 0 where
   pub few_arrays : len d.arrays < most_arrays
   pub few_words : word_count d.arrays + length a.words ≤ most_words
 
--- a directory in which a change can be undone: the array made is there, the one removed may be added, the word written exists
+-- a directory in which a change can be undone: the array made is there, the one removed may be added, the
+-- word written exists
 abbrev pub CanRestore : Change → Directory → Type 0
 CanRestore Nothing d = Unit {0}
 CanRestore Created d = IsSome (get d.arrays (d.next_id - 1))

@@ -45,13 +45,28 @@ pub record ExampleAnswers : Type 0 where
   pub bad_length : answer_in one_array (Create (codes "w") 65537 Full) ≡ Some answer.BadLength
   pub name_taken : answer_in one_array (Create (codes "cells") 1 Full) ≡ Some answer.NameTaken
   pub word_limit : answer_in one_array (Create (codes "w") 65535 Full) ≡ Some answer.WordLimit
-  pub array_limit : (d : Directory) → len d.arrays ≡ most_arrays → named d.arrays (codes "w") ≡ None → answer_in d (Create (codes "w") 1 Full) ≡ Some answer.ArrayLimit
+  pub array_limit : (d : Directory) → len d.arrays ≡ most_arrays → named d.arrays (codes "w") ≡ None
+      → answer_in d (Create (codes "w") 1 Full) ≡ Some answer.ArrayLimit
 
 -- the directory after some requests
 pub record ExampleEffects : Type 0 where
-  pub made : performed one_array (Create (codes "w") 1 Full) ≡ record { arrays = insert one_array.arrays 2 (record { name = codes "w"; words = word 0 Full ∷ [] }); next_id = 3 }
-  pub written : performed one_array (Access 1 0 (WriteEf 42) false) ≡ record { arrays = insert one_array.arrays 1 (record { name = codes "cells"; words = word 42 Full ∷ word 5 Full ∷ [] }); next_id = 2 }
-  pub taken : performed one_array (Access 1 1 ReadFe false) ≡ record { arrays = insert one_array.arrays 1 (record { name = codes "cells"; words = word 0 Empty ∷ word 5 Empty ∷ [] }); next_id = 2 }
+  pub made : performed one_array (Create (codes "w") 1 Full)
+      ≡ record {
+        arrays = insert one_array.arrays 2 (record { name = codes "w"; words = word 0 Full ∷ [] });
+        next_id = 3;
+      }
+  pub written : performed one_array (Access 1 0 (WriteEf 42) false)
+      ≡ record {
+        arrays = insert one_array.arrays 1
+            (record { name = codes "cells"; words = word 42 Full ∷ word 5 Full ∷ [] });
+        next_id = 2;
+      }
+  pub taken : performed one_array (Access 1 1 ReadFe false)
+      ≡ record {
+        arrays = insert one_array.arrays 1
+            (record { name = codes "cells"; words = word 0 Empty ∷ word 5 Empty ∷ [] });
+        next_id = 2;
+      }
   pub waiting : performed one_array (Access 1 0 ReadFe false) ≡ one_array
   pub not_now : performed one_array (Access 1 0 ReadFe true) ≡ one_array
 
@@ -66,8 +81,10 @@ no_array_a = record { request = Find (codes "a"); answer = answer.NoArray; place
 -- each kind of entry
 pub record ExampleEntries : Type 0 where
   pub first : after first_state (Attached 7 1) ≡ attached
-  pub again : after attached (Attached 7 1) ≡ record { arrays = empty; sessions = attached.sessions; next_id = 1; place = 2 }
-  pub finished : get (after attached (Finished 7 3 (Find (codes "a")) answer.NoArray)).sessions 7 ≡ Some (keeping first_session 3 no_array_a)
+  pub again : after attached (Attached 7 1)
+      ≡ record { arrays = empty; sessions = attached.sessions; next_id = 1; place = 2 }
+  pub finished : get (after attached (Finished 7 3 (Find (codes "a")) answer.NoArray)).sessions 7
+      ≡ Some (keeping first_session 3 no_array_a)
   pub kept : get (keeping first_session 3 no_array_a).kept 3 ≡ Some no_array_a
   pub settled : get (after attached (Settled 7 5)).sessions 7 ≡ Some (raised first_session 5)
   pub dropped : get (raised (keeping first_session 3 no_array_a) 4).kept 3 ≡ None

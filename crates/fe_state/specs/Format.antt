@@ -1,5 +1,5 @@
--- What the older of the two store formats, format 1, has room for: names of at most 16 bytes, no request that must not wait, and no answer
--- `NotNow`. See `docs/model.md`, "The state of the server".
+-- What the older of the two store formats, format 1, has room for: names of at most 16 bytes, no request that
+-- must not wait, and no answer `NotNow`. See `docs/model.md`, "The state of the server".
 use Rattle.std.specs.Prelude.{ℕ, Bool, true, false, not, ◌&&◌, nat_le, List, length}
 use Rattle.fe_state.specs.declared.answer.Answer.{Answer}
 use Rattle.fe_state.specs.declared.answer.Answer.TheVariants.{NotNow}
@@ -29,4 +29,5 @@ abbrev pub entry_fits_format_1 : Entry → Bool
 entry_fits_format_1 (Attached session floor) = true
 entry_fits_format_1 (Closed session) = true
 entry_fits_format_1 (Settled session floor) = true
-entry_fits_format_1 (Finished session number request answer) = request_fits_format_1 request && answer_fits_format_1 answer
+entry_fits_format_1 (Finished session number request answer) =
+    request_fits_format_1 request && answer_fits_format_1 answer

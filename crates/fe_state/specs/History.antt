@@ -1,6 +1,7 @@
 -- Histories: groups of entries (steps of the server's state), each entry legal after those before it.
 -- See `docs/model.md`, "The state of the server".
-use Rattle.std.specs.Prelude.{◌≡◌, ◌<◌, ℕ, List, [], ◌∷◌, ◌++◌, length, flat_map, Contains, ◌≤◌, All, Option, Some, None, filter_map}
+use Rattle.std.specs.Prelude.{◌≡◌, ◌<◌, ℕ, List, [], ◌∷◌, ◌++◌, length, flat_map, Contains, ◌≤◌, All, Option}
+use Rattle.std.specs.Prelude.{Some, None, filter_map}
 use Rattle.fe_state.specs.State.{ServerState, IsLegal, IsWithinLimits, after, after_all}
 use Rattle.fe_state.specs.declared.answer.Answer.{Answer}
 use Rattle.fe_state.specs.declared.request.Request.{Request}
@@ -33,7 +34,8 @@ KeepsLimits = (s : ServerState) (e : Entry) → IsWithinLimits s → IsLegal s e
 abbrev pub FinishesOnce : Type 0
 FinishesOnce = (s : ServerState) (groups : List (List Entry)) → IsHistory s groups
     → (before between behind : List Entry) (session number : ℕ) (first second : Request) (one other : Answer)
-    → flat_map (λ group. group) groups ≡ before ++ Finished session number first one ∷ between ++ Finished session number second other ∷ behind
+    → flat_map (λ group. group) groups ≡ before ++ Finished session number first one ∷ between
+    ++ Finished session number second other ∷ behind
     → Contains between (Closed session)
 
 -- two histories one after the other are one, and a history that is cut between groups is two
@@ -53,8 +55,8 @@ id_made _ = None
 abbrev pub ids_made : List Entry → List ℕ
 ids_made es = filter_map id_made es
 
--- the ids are new between an old state and a new one: each is above those before it, the first is no less than the next id of the
--- old state, and the last is below the next id of the new one
+-- the ids are new between an old state and a new one: each is above those before it, the first is no less
+-- than the next id of the old state, and the last is below the next id of the new one
 pub record AreNew (old : ServerState) (ids : List ℕ) (new : ServerState) : Type 0 where
   pub rise : IsStrictlyIncreasing ids
   pub not_before : All (λ id. old.next_id ≤ id) ids

@@ -1,5 +1,5 @@
--- The limits of the server. `docs/model.md` has them in words ("The state of the server", "Waiting requests", "The front"), apart from
--- that of a batch.
+-- The limits of the server. `docs/model.md` has them in words ("The state of the server", "Waiting requests",
+-- "The front"), apart from that of a batch.
 use Rattle.std.specs.Prelude.{ℕ}
 
 -- the most sessions

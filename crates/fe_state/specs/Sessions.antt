@@ -1,6 +1,8 @@
--- Sessions. A client numbers its requests in a session, so that one it repeats takes effect once. A session has a window, the 32 numbers
--- from its floor on, and keeps the answer to each request that finished under one of them (`docs/model.md`, "The state of the server").
-use Rattle.std.specs.Prelude.{ℕ, ◌+◌, ◌≤◌, ◌<◌, nat_le, refl, Option, Some, None, if◌then◌else◌, ◌≡◌, IsSome, IsSomeAnd, MatchOption}
+-- Sessions. A client numbers its requests in a session, so that one it repeats takes effect once. A session
+-- has a window, the 32 numbers from its floor on, and keeps the answer to each request that finished under
+-- one of them (`docs/model.md`, "The state of the server").
+use Rattle.std.specs.Prelude.{ℕ, ◌+◌, ◌≤◌, ◌<◌, nat_le, refl, Option, Some, None, if◌then◌else◌, ◌≡◌, IsSome}
+use Rattle.std.specs.Prelude.{IsSomeAnd, MatchOption}
 use Rattle.std.specs.Ordering.{nat_cmp}
 use Rattle.std.specs.Coded.{Coded, code_by, coded×, coded_ℕ}
 use Rattle.std.specs.FinMap.{FinMap, code, empty, get, insert, remove, retain_keys, contains_key, len}
@@ -19,13 +21,15 @@ pub record Session : Type 0 where
 -- for proofs, a session is coded as the pair of its fields
 abbrev pub session_code : Coded Session
 session_code =
-    code_by (ℕ × FinMap nat_cmp Kept) (coded× coded_ℕ (code coded_ℕ the_row.coded)) (λ s. (s.floor, s.kept)) (λ p. record { floor = p.0; kept = p.1 }) (λ _. refl)
+    code_by (ℕ × FinMap nat_cmp Kept) (coded× coded_ℕ (code coded_ℕ the_row.coded)) (λ s. (s.floor, s.kept))
+    (λ p. record { floor = p.0; kept = p.1 }) (λ _. refl)
 
 -- a session that begins: its floor is 1, and nothing is kept
 abbrev pub first_session : Session
 first_session = record { floor = 1; kept = empty }
 
--- the number is in the window of a session with this floor: the 32 numbers from the floor on, which it may use once each
+-- the number is in the window of a session with this floor: the 32 numbers from the floor on, which it may
+-- use once each
 pub record IsInWindow (floor number : ℕ) : Type 0 where
   pub not_below : floor ≤ number
   pub not_beyond : number < floor + window_length
@@ -69,9 +73,11 @@ answers_from s number = retain_keys s.kept (nat_le number)
 
 -- ---- what an entry requires of the sessions, and the sessions after it
 
--- a session that exists may be attached again with the floor that it has; a new one begins with floor 1, while fewer than the most exist
+-- a session that exists may be attached again with the floor that it has; a new one begins with floor 1,
+-- while fewer than the most exist
 abbrev pub MayAttach : FinMap nat_cmp Session → ℕ → Option Session → Type 0
-MayAttach sessions floor here = MatchOption here ((floor ≡ 1) × (len sessions < most_sessions)) (λ s. floor ≡ s.floor)
+MayAttach sessions floor here =
+    MatchOption here ((floor ≡ 1) × (len sessions < most_sessions)) (λ s. floor ≡ s.floor)
 
 -- a number is usable if it is in the window and no answer is kept for it
 pub record IsUsable (s : Session) (number : ℕ) : Type 0 where
@@ -83,14 +89,18 @@ abbrev pub SessionsAllow : FinMap nat_cmp Session → Entry → Type 0
 SessionsAllow sessions (Attached session floor) = MayAttach sessions floor (get sessions session)
 SessionsAllow sessions (Closed session) = IsSome (get sessions session)
 SessionsAllow sessions (Settled session floor) = IsSomeAnd (get sessions session) (λ x. MayRise x.floor floor)
-SessionsAllow sessions (Finished session number request answer) = IsSomeAnd (get sessions session) (λ x. IsUsable x number)
+SessionsAllow sessions (Finished session number request answer) =
+    IsSomeAnd (get sessions session) (λ x. IsUsable x number)
 
--- The sessions after an entry; its place is the number of entries before it. An attached session that is new begins with floor 1, and one
--- that exists stays as it is. A raised floor drops the answers below it. Other entries of a session that does not exist change nothing.
+-- The sessions after an entry; its place is the number of entries before it. An attached session that is new
+-- begins with floor 1, and one that exists stays as it is. A raised floor drops the answers below it. Other
+-- entries of a session that does not exist change nothing.
 abbrev pub sessions_after : FinMap nat_cmp Session → ℕ → Entry → FinMap nat_cmp Session
 sessions_after sessions place (Attached session floor) = opened sessions session
 sessions_after sessions place (Closed session) = remove sessions session
 sessions_after sessions place (Settled session floor) =
     put_session sessions session (option_map (λ s. raised s floor) (get sessions session))
 sessions_after sessions place (Finished session number request answer) =
-    put_session sessions session (option_map (λ s. keeping s number (record { request = request; answer = answer; place = place })) (get sessions session))
+    put_session sessions session (option_map
+    (λ s. keeping s number (record { request = request; answer = answer; place = place }))
+    (get sessions session))

@@ -1,5 +1,5 @@
--- The state of the server, the answer to a request in it, which entries (steps of the history) are legal in it, and the
--- state after them. `docs/model.md` has the same in words.
+-- The state of the server, the answer to a request in it, which entries (steps of the history) are legal in
+-- it, and the state after them. `docs/model.md` has the same in words.
 use Rattle.std.specs.Prelude.{◌≡◌, ℕ, ◌+◌, ◌^◌, ◌≤◌, ◌<◌, refl, List, [], ◌∷◌, Option, Some}
 use Rattle.std.specs.Ordering.{nat_cmp}
 use Rattle.std.specs.Coded.{Coded, code_by, coded×, coded_ℕ}
@@ -32,7 +32,10 @@ pub record ServerState : Type 0 where
 -- for proofs, a state is coded as the tuple of its fields
 abbrev pub state_code : Coded ServerState
 state_code =
-    code_by (FinMap nat_cmp Array × (FinMap nat_cmp Session × (ℕ × ℕ))) (coded× (code coded_ℕ the_row.coded) (coded× (code coded_ℕ session_code) (coded× coded_ℕ coded_ℕ))) (λ s. (s.arrays, (s.sessions, (s.next_id, s.place)))) (λ p. record { arrays = p.0; sessions = p.1.0; next_id = p.1.1.0; place = p.1.1.1 }) (λ _. refl)
+    code_by (FinMap nat_cmp Array × (FinMap nat_cmp Session × (ℕ × ℕ)))
+    (coded× (code coded_ℕ the_row.coded) (coded× (code coded_ℕ session_code) (coded× coded_ℕ coded_ℕ)))
+    (λ s. (s.arrays, (s.sessions, (s.next_id, s.place))))
+    (λ p. record { arrays = p.0; sessions = p.1.0; next_id = p.1.1.0; place = p.1.1.1 }) (λ _. refl)
 
 -- the state before the first entry
 abbrev pub first_state : ServerState
@@ -48,7 +51,8 @@ with_arrays s arrays = record { arrays = arrays; sessions = s.sessions; next_id 
 
 -- a state with other sessions
 abbrev pub with_sessions : ServerState → FinMap nat_cmp Session → ServerState
-with_sessions s sessions = record { arrays = s.arrays; sessions = sessions; next_id = s.next_id; place = s.place }
+with_sessions s sessions =
+    record { arrays = s.arrays; sessions = sessions; next_id = s.next_id; place = s.place }
 
 -- the answer to a request, or None if it has to wait
 abbrev pub reply : ServerState → Request → Option Answer
@@ -85,7 +89,12 @@ directory_after d (Finished session number request answer) = performed d request
 abbrev pub after : ServerState → Entry → ServerState
 after s e =
     let d = directory_after (directory_of s) e in
-    record { arrays = d.arrays; sessions = sessions_after s.sessions s.place e; next_id = d.next_id; place = s.place + 1 }
+    record {
+      arrays = d.arrays;
+      sessions = sessions_after s.sessions s.place e;
+      next_id = d.next_id;
+      place = s.place + 1;
+    }
 
 -- the state after entries, the first of them first
 abbrev pub after_all : ServerState → List Entry → ServerState
@@ -96,7 +105,8 @@ after_all s (e ∷ es) = after_all (after s e) es
 pub record IsSession (place : ℕ) (s : Session) : Type 0 where
   pub floor : 1 ≤ s.floor
   pub most : s.floor ≤ greatest_floor
-  pub kept : (number : ℕ) (k : Kept) → get s.kept number ≡ Some k → IsInWindow s.floor number × (k.place < place)
+  pub kept : (number : ℕ) (k : Kept) → get s.kept number ≡ Some k
+      → IsInWindow s.floor number × (k.place < place)
 
 -- a state within the limits, which all states of the server are: in format 2 it has exactly one image
 pub record IsWithinLimits (s : ServerState) : Type 0 where

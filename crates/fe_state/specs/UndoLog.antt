@@ -1,6 +1,7 @@
--- Undo logs: what each entry (a step of the history) that was applied changed, and the states before these entries.
--- See `docs/model.md`, "The state of the server".
-use Rattle.std.specs.Prelude.{◌≡◌, ℕ, ◌-◌, ◌*◌, ◌≤◌, refl, List, [], ◌∷◌, ◌++◌, length, min, sum_by, drop, reverse, IsSome, IsSomeAnd}
+-- Undo logs: what each entry (a step of the history) that was applied changed, and the states before these
+-- entries. See `docs/model.md`, "The state of the server".
+use Rattle.std.specs.Prelude.{◌≡◌, ℕ, ◌-◌, ◌*◌, ◌≤◌, refl, List, [], ◌∷◌, ◌++◌, length, min, sum_by, drop}
+use Rattle.std.specs.Prelude.{reverse, IsSome, IsSomeAnd}
 use Rattle.std.specs.Option.{option_map}
 use Rattle.std.specs.Ordering.{nat_cmp}
 use Rattle.std.specs.Coded.{Coded, code_by, coded×, coded_ℕ, coded_list}
@@ -28,7 +29,10 @@ pub record UndoLog : Type 0 where
 -- for proofs, a log is coded as the tuple of its fields
 abbrev pub log_code : Coded UndoLog
 log_code =
-    code_by (ℕ × (List Undo × List Dropped)) (coded× coded_ℕ (coded× (coded_list the_row.coded) (coded_list dropped_row.coded))) (λ l. (l.room, (l.undos, l.dropped))) (λ p. record { room = p.0; undos = p.1.0; dropped = p.1.1 }) (λ _. refl)
+    code_by (ℕ × (List Undo × List Dropped))
+    (coded× coded_ℕ (coded× (coded_list the_row.coded) (coded_list dropped_row.coded)))
+    (λ l. (l.room, (l.undos, l.dropped))) (λ p. record { room = p.0; undos = p.1.0; dropped = p.1.1 })
+    (λ _. refl)
 
 -- a log of no entries
 abbrev pub empty_log : ℕ → UndoLog
@@ -44,7 +48,8 @@ answers_of (Closed floor answers) = answers
 answers_of (Settled floor answers) = answers
 answers_of _ = 0
 
--- how many dropped answers a log has room for on behalf of an entry: as many as it dropped, at most a window's
+-- how many dropped answers a log has room for on behalf of an entry: as many as it dropped, at most a
+-- window's
 abbrev pub with_room : Undo → ℕ
 with_room u = min window_length (answers_of u.session_change)
 
@@ -66,7 +71,8 @@ left change dropped = drop (answers_of change) dropped
 abbrev pub put_back : SessionChange → List Dropped → FinMap nat_cmp Session → ℕ → FinMap nat_cmp Session
 put_back Same dropped sessions session = sessions
 put_back Opened dropped sessions session = remove sessions session
-put_back (Closed floor answers) dropped sessions session = insert sessions session (kept_again first_session floor answers dropped)
+put_back (Closed floor answers) dropped sessions session =
+    insert sessions session (kept_again first_session floor answers dropped)
 put_back (Settled floor answers) dropped sessions session =
     put_session sessions session (option_map (λ s. kept_again s floor answers dropped) (get sessions session))
 put_back (Kept number) dropped sessions session =
@@ -85,7 +91,12 @@ CanPutBack (Kept number) dropped sessions session = IsSome (get sessions session
 abbrev pub before : Undo → List Dropped → ServerState → ServerState
 before u dropped s =
     let d = restored u.change (directory_of s) in
-    record { arrays = d.arrays; sessions = put_back u.session_change dropped s.sessions u.session; next_id = d.next_id; place = s.place - 1 }
+    record {
+      arrays = d.arrays;
+      sessions = put_back u.session_change dropped s.sessions u.session;
+      next_id = d.next_id;
+      place = s.place - 1;
+    }
 
 -- the entry can be undone in this state, and that leads to a state within the limits
 pub record CanUndo (u : Undo) (dropped : List Dropped) (s : ServerState) : Type 0 where
@@ -121,30 +132,40 @@ before_all (u ∷ us) dropped s = before_all us (left u.session_change dropped) 
 abbrev pub rewound : UndoLog → ServerState → ServerState
 rewound l s = before_all l.undos l.dropped s
 
--- a state that entries may have led to; the list has the latest first, and each can be undone once those before it in the list are
+-- a state that entries may have led to; the list has the latest first, and each can be undone once those
+-- before it in the list are
 abbrev pub MayFollowAll : List Undo → List Dropped → ServerState → Type 0
 MayFollowAll [] dropped s = Unit {0}
-MayFollowAll (u ∷ us) dropped s = CanUndo u dropped s × MayFollowAll us (left u.session_change dropped) (before u dropped s)
+MayFollowAll (u ∷ us) dropped s =
+    CanUndo u dropped s × MayFollowAll us (left u.session_change dropped) (before u dropped s)
 
 -- a log that a state may have: the entries of the log may have led to it. Every state may have an empty log
 abbrev pub IsLogOf : UndoLog → ServerState → Type 0
 IsLogOf l s = MayFollowAll l.undos l.dropped s
 
--- An entry was added to a log: what it changed of one session, and `change`, what it changed of the arrays. From the sessions after
--- it, those before it can be put back.
-pub record Remembers (change : Change) (old new : UndoLog) (sessions after : FinMap nat_cmp Session) : Type 0 where
+-- An entry was added to a log: what it changed of one session, and `change`, what it changed of the arrays.
+-- From the sessions after it, those before it can be put back.
+pub record Remembers (change : Change) (old new : UndoLog) (sessions after : FinMap nat_cmp Session) : Type
+    0 where
   pub session : ℕ
   pub session_change : SessionChange
-  pub undos : new.undos ≡ record { session = session; session_change = session_change; change = change } ∷ old.undos
+  pub undos : new.undos ≡ record { session = session; session_change = session_change; change = change }
+      ∷ old.undos
   pub dropped : left session_change new.dropped ≡ old.dropped
   pub room : new.room ≡ old.room
   pub undoable : CanPutBack session_change new.dropped after session
   pub undone : put_back session_change new.dropped after session ≡ sessions
 
--- what an entry that drops answers of a session adds to a log; `made` gives its change of the session, from how many answers it dropped
-pub record HasDropped (session : ℕ) (made : ℕ → SessionChange) (change : Change) (old new : UndoLog) (before after : Session) : Type 0 where
+-- what an entry that drops answers of a session adds to a log; `made` gives its change of the session, from
+-- how many answers it dropped
+pub record HasDropped (session : ℕ) (made : ℕ → SessionChange) (change : Change) (old new : UndoLog)
+    (before after : Session) : Type 0 where
   pub answers : List Dropped
-  pub undos : new.undos ≡ record { session = session; session_change = made (length answers); change = change } ∷ old.undos
+  pub undos : new.undos ≡ record {
+    session = session;
+    session_change = made (length answers);
+    change = change;
+  } ∷ old.undos
   pub dropped : new.dropped ≡ answers ++ old.dropped
   pub room : new.room ≡ old.room
   pub again : keeping_all after.kept answers ≡ before.kept

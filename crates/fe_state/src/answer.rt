@@ -1,4 +1,5 @@
-//! The answers of the server; a request gets the first one that applies (`docs/model.md`, "The state of the server").
+//! The answers of the server; a request gets the first one that applies (`docs/model.md`, "The state of the
+//! server").
 
 /// The answer that a request gets once it completes.
 #[derive(Clone, Copy, PartialEq, Eq)]
@@ -22,6 +23,7 @@ pub enum Answer {
     BadName,
     /// The length is not 1 to 65,536 words.
     BadLength,
-    /// The word does not have the tag, full or empty, that the operation needs, and the request must not wait.
+    /// The word does not have the tag, full or empty, that the operation needs, and the request must not
+    /// wait.
     NotNow,
 }

@@ -1,4 +1,5 @@
-//! The arrays of the server state, whose words the requests read and change (`docs/model.md`, "The state of the server").
+//! The arrays of the server state, whose words the requests read and change (`docs/model.md`, "The state of
+//! the server").
 
 use crate::name::Name;
 use crate::words::Words;

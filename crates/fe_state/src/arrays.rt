@@ -1,6 +1,8 @@
-//! The arrays of the server state, with an index by which each is found fast (`docs/model.md`, "The state of the server").
+//! The arrays of the server state, with an index by which each is found fast (`docs/model.md`, "The state of
+//! the server").
 
-ghost use Rattle.std.specs.Prelude.{◌≡◌, ◌+◌, ◌<◌, ◌≤◌, IfOk, IfSome, IfNone, None, Some, IsSome, option_copied};
+ghost use Rattle.std.specs.Prelude.{◌≡◌, ◌+◌, ◌<◌, ◌≤◌, IfOk, IfSome, IfNone, None, Some, IsSome};
+ghost use Rattle.std.specs.Prelude.{option_copied};
 ghost use Rattle.std.specs.FinMap as map;
 ghost use Rattle.std.specs.Borrow.{sem};
 ghost use Rattle.indexmap.specs.IndexSet.{index_set_len, spare};
@@ -19,10 +21,10 @@ use std::marker::Model;
 
 /// The arrays by id, in order of creation.
 ///
-/// Ids rise, so the table's ascending order is that of creation. A look-up compares the id at the position `hint` first, if there is one.
-/// If that is another id, it asks the set `ids`, which has the ids in the same order. When an array comes or goes, the set is cleared and
-/// all ids are put in again: clearing it is certain to keep its room, and taking one id out is not. Only `new` and `copied` allocate
-/// memory.
+/// Ids rise, so the table's ascending order is that of creation. A look-up compares the id at the position
+/// `hint` first, if there is one. If that is another id, it asks the set `ids`, which has the ids in the same
+/// order. When an array comes or goes, the set is cleared and all ids are put in again: clearing it is
+/// certain to keep its room, and taking one id out is not. Only `new` and `copied` allocate memory.
 #[derive(Drop)]
 pub struct Arrays {
     ids: IndexSet<u64>,
@@ -88,8 +90,8 @@ impl Arrays {
         self.table.at_mut(position)
     }
 
-    /// Looks for an array. If it is found, each look-up of it takes one comparison until the next `aim`, as long as its position stays the
-    /// same.
+    /// Looks for an array. If it is found, each look-up of it takes one comparison until the next `aim`, as
+    /// long as its position stays the same.
     pub fn aim(&mut self, id: u64)
         ensures { self.new ≡ self.old }
     {
@@ -119,7 +121,8 @@ impl Arrays {
         Some(array)
     }
 
-    /// Adds an array under a new id, at the id's position in the ascending order. There must be fewer than 64 arrays.
+    /// Adds an array under a new id, at the id's position in the ascending order. There must be fewer than 64
+    /// arrays.
     pub fn insert(&mut self, id: u64, array: Array)
         requires absent { map.get self.old id ≡ None }
         requires room { map.len self.old < most_arrays }

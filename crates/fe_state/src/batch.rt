@@ -1,5 +1,5 @@
-//! Batches of entries, the steps of the history. The store takes a batch whole or not at all, as one group (`docs/store.md`,
-//! "The life of a store").
+//! Batches of entries, the steps of the history. The store takes a batch whole or not at all, as one group
+//! (`docs/store.md`, "The life of a store").
 
 ghost use Rattle.std.specs.Prelude.{◌≡◌, ◌+◌, ◌<◌, ◌≤◌, [], ◌∷◌, ◌++◌, length, IfOk};
 ghost use Rattle.std.specs.List.{list_all};
@@ -35,7 +35,8 @@ impl Model for Entries {
 
     ghost view = { λ a. a.items.items };
 
-    ghost invariant = { λ a. (vec_len a.items ≤ most_batch_entries) × (most_batch_entries ≤ vec_capacity a.items) };
+    ghost invariant = { λ a. (vec_len a.items ≤ most_batch_entries)
+        × (most_batch_entries ≤ vec_capacity a.items) };
 }
 
 impl Entries {

@@ -1,11 +1,13 @@
-//! The directory, the arrays with the next array id: how it answers requests, and how they change it (`docs/model.md`,
-//! "The state of the server").
+//! The directory, the arrays with the next array id: how it answers requests, and how they change it
+//! (`docs/model.md`, "The state of the server").
 
-ghost use Rattle.std.specs.Prelude.{◌≡◌, ◌≤◌, ◌<◌, ◌+◌, ◌^◌, length, IsSome, IfOk, IfSome, OnErr, OnOk, Some, None};
+ghost use Rattle.std.specs.Prelude.{◌≡◌, ◌≤◌, ◌<◌, ◌+◌, ◌^◌, length, IsSome, IfOk, IfSome, OnErr, OnOk, Some};
+ghost use Rattle.std.specs.Prelude.{None};
 ghost use Rattle.std.specs.Option.{option_map};
 ghost use Rattle.std.specs.FinMap.{get, insert};
 ghost use Rattle.fe_state.specs.Directory.{first_directory, named, creation, answer_of, answer_in, word_in};
-ghost use Rattle.fe_state.specs.Effect.{put_word, effect_of, performed, restored, CanRestore, LeadsBack, MayBeAdded};
+ghost use Rattle.fe_state.specs.Effect.{put_word, effect_of, performed, restored, CanRestore, LeadsBack};
+ghost use Rattle.fe_state.specs.Effect.{MayBeAdded};
 
 use crate::answer::Answer;
 use crate::array::Array;
@@ -47,11 +49,12 @@ impl Model for Directory {
 }
 
 impl Directory {
-    /// A directory with no arrays, in which the next one gets this id, at least 1. Allocates the memory for the ids and names of 64 arrays;
-    /// fails only if memory runs out.
+    /// A directory with no arrays, in which the next one gets this id, at least 1. Allocates the memory for
+    /// the ids and names of 64 arrays; fails only if memory runs out.
     pub fn starting(alloc: Global, next_id: u64) -> Result<Directory, OutOfMemory>
         requires { 1 ≤ next_id }
-        ensures { IfOk result (λ directory. directory ≡ record { arrays = first_directory.arrays; next_id = next_id }) }
+        ensures { IfOk result (λ directory. directory
+            ≡ record { arrays = first_directory.arrays; next_id = next_id }) }
     {
         let arrays = Arrays::new(alloc)?;
         Ok(Directory {
@@ -118,7 +121,8 @@ impl Directory {
     ) -> Option<(Answer, Effect)>
         ensures answer { option_map (λ x. x.0) result
             ≡ answer_in self.now (Request.Access array index op no_wait) }
-        ensures effect { IfSome result (λ x. x.1 ≡ effect_of self.now (Request.Access array index op no_wait)) }
+        ensures effect { IfSome result (λ x. x.1
+            ≡ effect_of self.now (Request.Access array index op no_wait)) }
     {
         let Some(here) = self.arrays.get(array) else {
             return Some((Answer::NoArray, Effect::Nothing));

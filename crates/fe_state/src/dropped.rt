@@ -1,4 +1,5 @@
-//! An undo log has the answers that its entries dropped, so that an undo can restore them (`docs/model.md`, "The state of the server").
+//! An undo log has the answers that its entries dropped, so that an undo can restore them (`docs/model.md`,
+//! "The state of the server").
 
 use crate::kept::Kept;
 

@@ -1,5 +1,5 @@
-//! The part of an entry's effect that concerns the arrays; an entry is a step of the history (`docs/model.md`,
-//! "The state of the server").
+//! The part of an entry's effect that concerns the arrays; an entry is a step of the history
+//! (`docs/model.md`, "The state of the server").
 
 use fe_words::Word;
 

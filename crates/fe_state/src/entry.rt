@@ -1,4 +1,5 @@
-//! The entries of the server's history, and which of them store format 1 has room for (`docs/model.md`, "The state of the server").
+//! The entries of the server's history, and which of them store format 1 has room for (`docs/model.md`, "The
+//! state of the server").
 
 ghost use Rattle.std.specs.Prelude.{◌≡◌};
 ghost use Rattle.fe_state.specs.Format.{request_fits_format_1, entry_fits_format_1};
@@ -18,7 +19,8 @@ pub enum Entry {
     Closed {
         session: u64,
     },
-    /// The floor of the session, the least number of its window, is this one from then on. It is not lower than before.
+    /// The floor of the session, the least number of its window, is this one from then on. It is not lower
+    /// than before.
     Settled {
         session: u64,
         floor: u64,

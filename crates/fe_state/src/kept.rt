@@ -1,4 +1,5 @@
-//! A session keeps its answers, so that a request sent again gets the answer that it had (`docs/model.md`, "The state of the server").
+//! A session keeps its answers, so that a request sent again gets the answer that it had (`docs/model.md`,
+//! "The state of the server").
 
 use crate::answer::Answer;
 use crate::request::Request;

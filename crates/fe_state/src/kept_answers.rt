@@ -1,4 +1,5 @@
-//! Walks over the answers that a session keeps for request numbers (`docs/model.md`, "The state of the server").
+//! Walks over the answers that a session keeps for request numbers (`docs/model.md`, "The state of the
+//! server").
 
 ghost use Rattle.std.specs.Prelude.{◌≡◌, ◌≤◌};
 ghost use Rattle.std.specs.FinMap.{entries, len};
@@ -11,7 +12,8 @@ use crate::kept::Kept;
 use crate::session::Session;
 use std::marker::Model;
 
-/// An iterator over what a session keeps, with the numbers, in ascending order. Contracts see the map of what is left.
+/// An iterator over what a session keeps, with the numbers, in ascending order. Contracts see the map of what
+/// is left.
 #[derive(Drop)]
 pub struct KeptAnswers<'a> {
     session: &'a Session,

@@ -1,12 +1,16 @@
-//! Laws of the state, of its history and of waiting requests (`docs/model.md`, "The state of the server"). Each function states one, and
-//! does nothing.
+//! Laws of the state, of its history and of waiting requests (`docs/model.md`, "The state of the server").
+//! Each function states one, and does nothing.
 
 ghost use Rattle.std.specs.Prelude.{◌≡◌, ◌+◌, ◌-◌, ◌*◌, ◌^◌};
 ghost use Rattle.fe_state.specs.History.{KeepsLimits, FinishesOnce, JoinsAndCuts, IdsNeverReturn};
 ghost use Rattle.fe_state.specs.Effect.{KeepsOtherWords};
 ghost use Rattle.fe_state.specs.Examples.{ExampleAnswers, ExampleEffects, ExampleEntries};
-ghost use Rattle.fe_state.specs.Limits.{most_sessions, window_length, greatest_floor, most_arrays, most_words, longest_name, greatest_place, most_waiting, most_event_entries, most_batch_entries};
-ghost use Rattle.fe_state.specs.declared.bounds.TheConstants.{SESSIONS, WINDOW, GREATEST_FLOOR, ARRAYS, WORDS, NAME_BYTES, GREATEST_PLACE, WAITING, EVENT_ENTRIES, BATCH_ENTRIES};
+ghost use Rattle.fe_state.specs.Limits.{most_sessions, window_length, greatest_floor, most_arrays};
+ghost use Rattle.fe_state.specs.Limits.{most_words, longest_name, greatest_place, most_waiting};
+ghost use Rattle.fe_state.specs.Limits.{most_event_entries, most_batch_entries};
+ghost use Rattle.fe_state.specs.declared.bounds.TheConstants.{SESSIONS, WINDOW, GREATEST_FLOOR, ARRAYS};
+ghost use Rattle.fe_state.specs.declared.bounds.TheConstants.{WORDS, NAME_BYTES, GREATEST_PLACE, WAITING};
+ghost use Rattle.fe_state.specs.declared.bounds.TheConstants.{EVENT_ENTRIES, BATCH_ENTRIES};
 
 /// A legal entry keeps the state within the limits.
 pub fn limits_are_kept()
@@ -35,13 +39,14 @@ pub fn other_words_stay()
     ensures { KeepsOtherWords }
 {}
 
-/// No array gets an id that another array had, whether that one is still there or not. Legal is what `State::check`
-/// tests, and the state after an entry is what `apply` and `advance` leave.
+/// No array gets an id that another array had, whether that one is still there or not. Legal is what
+/// `State::check` tests, and the state after an entry is what `apply` and `advance` leave.
 pub fn ids_never_return()
     ensures { IdsNeverReturn }
 {}
 
-/// The constants of `bounds.rt` are the definitions' limits of a state. Contracts are stated with the definitions.
+/// The constants of `bounds.rt` are the definitions' limits of a state. Contracts are stated with the
+/// definitions.
 pub fn limits_are()
     ensures sessions { SESSIONS ≡ most_sessions }
     ensures window { WINDOW ≡ window_length }

@@ -1,5 +1,6 @@
-//! The state of the server, arrays of words and sessions with the answers kept (`docs/model.md`, "The state of the server"). An entry is
-//! one step of its history; its place is the number of entries before it. An undo log takes entries back.
+//! The state of the server, arrays of words and sessions with the answers kept (`docs/model.md`, "The state
+//! of the server"). An entry is one step of its history; its place is the number of entries before it. An
+//! undo log takes entries back.
 #![tactic(auto)]
 
 mod answer;

@@ -1,4 +1,5 @@
-//! The names in requests; only plain ones can be names of arrays (`docs/model.md`, "The state of the server").
+//! The names in requests; only plain ones can be names of arrays (`docs/model.md`, "The state of the
+//! server").
 
 ghost use Rattle.std.specs.Prelude.{◌≡◌, ◌≤◌, ◌↔◌, length, IsSome, IfSome};
 ghost use Rattle.std.specs.List.{list_all};

@@ -1,9 +1,12 @@
-//! One of the server's sessions, in which a client numbers its requests (`docs/model.md`, "The state of the server").
+//! One of the server's sessions, in which a client numbers its requests (`docs/model.md`, "The state of the
+//! server").
 
-ghost use Rattle.std.specs.Prelude.{◌≡◌, ◌↔◌, ℕ, ◌+◌, ◌-◌, ◌%◌, ◌^◌, ◌≤◌, ◌<◌, [], ◌∷◌, Some, IsTrue, IfSome, IfNone, nat_le, option_copied, vec_len, vec_capacity};
+ghost use Rattle.std.specs.Prelude.{◌≡◌, ◌↔◌, ℕ, ◌+◌, ◌-◌, ◌%◌, ◌^◌, ◌≤◌, ◌<◌, [], ◌∷◌, Some, IsTrue, IfSome};
+ghost use Rattle.std.specs.Prelude.{IfNone, nat_le, option_copied, vec_len, vec_capacity};
 ghost use Rattle.std.specs.FinMap as map;
 ghost use Rattle.fe_state.specs.declared.kept.Kept.{Kept};
-ghost use Rattle.fe_state.specs.Sessions.{first_session, IsInWindow, MayRise, raised, keeping, forgetting, IsUsable, answers_from};
+ghost use Rattle.fe_state.specs.Sessions.{first_session, IsInWindow, MayRise, raised, keeping, forgetting};
+ghost use Rattle.fe_state.specs.Sessions.{IsUsable, answers_from};
 ghost use Rattle.fe_state.specs.DroppedAnswers.{WereDropped};
 ghost use Rattle.fe_table.specs.Table.{shown_entry};
 ghost use Rattle.fe_state.specs.Limits.{greatest_floor, window_length};
@@ -19,8 +22,9 @@ use fe_table::Copied;
 use std::alloc::Global;
 use std::marker::Model;
 
-/// A session: its floor, and what is kept for the numbers of its window, which are the `WINDOW` numbers from the floor
-/// on. A number of the window is usable while nothing is kept for it. A session owns no allocated memory.
+/// A session: its floor, and what is kept for the numbers of its window, which are the `WINDOW` numbers from
+/// the floor on. A number of the window is usable while nothing is kept for it. A session owns no allocated
+/// memory.
 #[derive(Drop)]
 pub struct Session {
     pub(crate) floor: u64,
@@ -81,7 +85,8 @@ impl Session {
     /// What is kept for the number, if anything is. Nothing is kept outside the window.
     pub fn kept(&self, number: u64) -> Option<&Kept>
         ensures kept { option_copied result ≡ map.get self.now.kept number }
-        ensures in_window { (n : ℕ) (k : Kept) → map.get self.now.kept n ≡ Some k → IsInWindow self.now.floor n }
+        ensures in_window { (n : ℕ) (k : Kept) → map.get self.now.kept n ≡ Some k
+            → IsInWindow self.now.floor n }
         ensures few { map.len self.now.kept ≤ window_length }
     {
         if self.is_in_window(number) {
@@ -140,7 +145,8 @@ impl Session {
         }
     }
 
-    /// Raises the floor to this number, at most `WINDOW` higher and at most `GREATEST_FLOOR`, and drops what was kept below it.
+    /// Raises the floor to this number, at most `WINDOW` higher and at most `GREATEST_FLOOR`, and drops what
+    /// was kept below it.
     pub fn raise(&mut self, floor: u64)
         requires { MayRise self.old.floor floor }
         ensures { self.new ≡ raised self.old floor }
@@ -151,15 +157,16 @@ impl Session {
         self.floor = floor;
     }
 
-    /// Drops what is kept for numbers below `end`, at most `WINDOW` above the floor, and appends it to `dropped`, which has room for
-    /// `WINDOW` more. The floor stays.
+    /// Drops what is kept for numbers below `end`, at most `WINDOW` above the floor, and appends it to
+    /// `dropped`, which has room for `WINDOW` more. The floor stays.
     pub(crate) fn drop_below(&mut self, end: u64, dropped: &mut Vec<Dropped>)
         requires least { self.old.floor ≤ end }
         requires most { end ≤ self.old.floor + window_length }
         requires room { vec_len dropped.old + window_length ≤ vec_capacity dropped.old }
         ensures floor { self.new.floor ≡ self.old.floor }
         ensures kept { self.new.kept ≡ map.retain_keys self.old.kept (nat_le end) }
-        ensures in_window { (n : ℕ) (k : Kept) → map.get self.old.kept n ≡ Some k → IsInWindow self.old.floor n }
+        ensures in_window { (n : ℕ) (k : Kept) → map.get self.old.kept n ≡ Some k
+            → IsInWindow self.old.floor n }
         ensures dropped { WereDropped self.old.floor end self.old.kept self.new.kept
             dropped.old.items dropped.new.items }
         ensures len { vec_len dropped.old ≤ vec_len dropped.new }

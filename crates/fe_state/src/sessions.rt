@@ -1,10 +1,11 @@
-//! What an entry, a step of the history, needs of the sessions and changes of them, and how that is undone (`docs/model.md`,
-//! "The state of the server").
+//! What an entry, a step of the history, needs of the sessions and changes of them, and how that is undone
+//! (`docs/model.md`, "The state of the server").
 
 ghost use Rattle.std.specs.Prelude.{◌≡◌, ◌↔◌, ◌≤◌, ◌<◌, length, take, IsTrue, IsSomeAnd, None};
 ghost use Rattle.std.specs.Bool.{OnTrue, OnFalse};
 ghost use Rattle.std.specs.FinMap.{get, insert, remove, len};
-ghost use Rattle.fe_state.specs.Sessions.{MayRise, first_session, opened, MayAttach, IsUsable, SessionsAllow, sessions_after};
+ghost use Rattle.fe_state.specs.Sessions.{MayRise, first_session, opened, MayAttach, IsUsable, SessionsAllow};
+ghost use Rattle.fe_state.specs.Sessions.{sessions_after};
 ghost use Rattle.fe_state.specs.DroppedAnswers.{keeping_all, kept_again, AreDropped, MayReopen};
 ghost use Rattle.fe_state.specs.UndoLog.{put_back, CanPutBack, Remembers};
 ghost use Rattle.fe_state.specs.Limits.{most_sessions};
@@ -18,7 +19,8 @@ use crate::undo::{SessionChange, Undo};
 use crate::undo_log::UndoLog;
 use fe_table::Table;
 
-// A function that moves a whole session, some 3 KB, is not inlined, so that finishing a request needs no room on the stack for one.
+// A function that moves a whole session, some 3 KB, is not inlined, so that finishing a request needs no room
+// on the stack for one.
 
 /// The sessions by number.
 pub type Sessions = Table<Session, SESSIONS>;
@@ -88,7 +90,8 @@ fn open(sessions: &mut Sessions, session: u64) -> bool
     is_new
 }
 
-/// Carries out what an entry changes of the sessions, and adds the entry to the log; `change` is what it changed of the arrays.
+/// Carries out what an entry changes of the sessions, and adds the entry to the log; `change` is what it
+/// changed of the arrays.
 pub fn record_entry(
     sessions: &mut Sessions,
     place: u64,
@@ -193,7 +196,8 @@ fn keep_again(here: &mut Session, log: &UndoLog, answers: usize)
 #[inline(never)]
 fn reopen(sessions: &mut Sessions, session: u64, floor: u64, log: &UndoLog, answers: usize)
     requires { MayReopen floor answers log.now.dropped sessions.old session }
-    ensures { sessions.new ≡ insert sessions.old session (kept_again first_session floor answers log.now.dropped) }
+    ensures { sessions.new ≡ insert sessions.old session
+        (kept_again first_session floor answers log.now.dropped) }
 {
     let mut before = Session::starting(floor);
     keep_again(&mut before, log, answers);

@@ -1,13 +1,17 @@
-//! The server state: how a request is answered, and what an entry, a step of the history, changes (`docs/model.md`,
-//! "The state of the server").
+//! The server state: how a request is answered, and what an entry, a step of the history, changes
+//! (`docs/model.md`, "The state of the server").
 
-ghost use Rattle.std.specs.Prelude.{◌≡◌, ◌+◌, ◌-◌, ◌^◌, ◌<◌, ◌≤◌, ◌↔◌, length, slice_get, None, IfOk, IfSome, OnOk, OnErr, IsOk, IsSome, IsSomeAnd, option_copied};
+ghost use Rattle.std.specs.Prelude.{◌≡◌, ◌+◌, ◌-◌, ◌^◌, ◌<◌, ◌≤◌, ◌↔◌, length, slice_get, None, IfOk, IfSome};
+ghost use Rattle.std.specs.Prelude.{OnOk, OnErr, IsOk, IsSome, IsSomeAnd, option_copied};
 ghost use Rattle.std.specs.Option.{option_map};
 ghost use Rattle.std.specs.FinMap.{get, keys, entries, len, empty, insert};
-ghost use Rattle.fe_state.specs.Effect.{LeadsBack, MayBeAdded, CreatesArray, creating, effect_of, new_array, put_word};
+ghost use Rattle.fe_state.specs.Effect.{LeadsBack, MayBeAdded, CreatesArray, creating, effect_of, new_array};
+ghost use Rattle.fe_state.specs.Effect.{put_word};
 ghost use Rattle.fe_state.specs.Directory.{word_in, words_in};
 ghost use Rattle.fe_state.specs.Sessions.{kept_in, IsInWindow, keeping, put_session};
-ghost use Rattle.fe_state.specs.State.{shown_array, shown_session, first_state, reply, IsLegal, after, directory_of, directory_after, effect_in, with_arrays, with_sessions, IsWithinLimits, MakesArray, OnFinished};
+ghost use Rattle.fe_state.specs.State.{shown_array, shown_session, first_state, reply, IsLegal, after};
+ghost use Rattle.fe_state.specs.State.{directory_of, directory_after, effect_in, with_arrays, with_sessions};
+ghost use Rattle.fe_state.specs.State.{IsWithinLimits, MakesArray, OnFinished};
 ghost use Rattle.fe_words.specs.declared.word.Tag.TheVariants.{Empty};
 ghost use Rattle.fe_state.specs.UndoLog.{empty_log, shortened, undone, rewound, IsLogOf};
 ghost use Rattle.fe_state.specs.Limits.{most_sessions, greatest_floor};
@@ -40,8 +44,8 @@ pub struct Illegal;
 
 /// The arrays and sessions after the entries so far.
 ///
-/// It allocates the memory for all sessions and for the ids and names of all arrays when it is made. After that only
-/// `copy` and the words of a new array take memory.
+/// It allocates the memory for all sessions and for the ids and names of all arrays when it is made. After
+/// that only `copy` and the words of a new array take memory.
 pub struct State {
     directory: Directory,
     sessions: Sessions,
@@ -93,8 +97,8 @@ impl State {
         State::starting(alloc, 0, 1)
     }
 
-    /// A state with no arrays and no sessions, at a place from 0 to 2^63 - 1, with a next array id from 1 to the place + 1. Fails only if
-    /// memory runs out.
+    /// A state with no arrays and no sessions, at a place from 0 to 2^63 - 1, with a next array id from 1 to
+    /// the place + 1. Fails only if memory runs out.
     pub fn starting(alloc: Global, place: u64, next_id: u64) -> Result<State, OutOfMemory>
         requires place { place < 2 ^ 63 }
         requires least { 1 ≤ next_id }
@@ -154,7 +158,8 @@ impl State {
         self.look(request).map(|x| x.0)
     }
 
-    /// What an entry that may come next changes in the arrays. It is `Illegal` exactly if the entry is not legal here.
+    /// What an entry that may come next changes in the arrays. It is `Illegal` exactly if the entry is not
+    /// legal here.
     pub fn examine(&self, entry: &Entry) -> Result<Effect, Illegal>
         ensures legal { IsOk result ↔ IsLegal self.now entry.now }
         ensures effect { IfOk result (λ effect. effect ≡ effect_in (directory_of self.now) entry.now) }
@@ -183,8 +188,8 @@ impl State {
         self.examine(entry).map(|_| ())
     }
 
-    /// Carries out a legal entry with its effect, and adds it to a log that has room, so that it can be undone. Fails
-    /// only if memory runs out for the words of a new array.
+    /// Carries out a legal entry with its effect, and adds it to a log that has room, so that it can be
+    /// undone. Fails only if memory runs out for the words of a new array.
     pub fn apply(
         &mut self,
         entry: Entry,
@@ -214,8 +219,8 @@ impl State {
         Ok(())
     }
 
-    /// Carries out a legal entry with its effect, so that it cannot be undone. Fails only if memory runs out for the
-    /// words of a new array.
+    /// Carries out a legal entry with its effect, so that it cannot be undone. Fails only if memory runs out
+    /// for the words of a new array.
     pub fn advance(&mut self, entry: Entry, effect: Effect) -> Result<(), OutOfMemory>
         requires legal { IsLegal self.old entry }
         requires effect { effect ≡ effect_in (directory_of self.old) entry }
@@ -229,8 +234,8 @@ impl State {
         Ok(())
     }
 
-    /// Restores the state before the log's latest entry, and takes that entry out of the log. With an empty log nothing
-    /// happens. Allocates nothing.
+    /// Restores the state before the log's latest entry, and takes that entry out of the log. With an empty
+    /// log nothing happens. Allocates nothing.
     pub fn undo(&mut self, log: &mut UndoLog)
         requires { IsLogOf log.old self.old }
         ensures undone { self.new ≡ undone log.old self.old }
@@ -287,8 +292,9 @@ impl State {
         Some(self.sessions.get(session)?.floor())
     }
 
-    /// Looks for a session, at a guessed position first, and for the array of an access, so that look-ups of them,
-    /// if they were found, take one comparison each until the next `aim`, as long as their positions stay the same. Any guess is good.
+    /// Looks for a session, at a guessed position first, and for the array of an access, so that look-ups of
+    /// them, if they were found, take one comparison each until the next `aim`, as long as their positions
+    /// stay the same. Any guess is good.
     pub fn aim(&mut self, session: u64, guess: usize, request: &Request)
         ensures { self.new ≡ self.old }
     {
@@ -344,7 +350,8 @@ impl State {
         Some((id, &array.name, array.words.as_slice()))
     }
 
-    /// The session at a position in ascending order, counted from zero: its number, its floor and what it keeps.
+    /// The session at a position in ascending order, counted from zero: its number, its floor and what it
+    /// keeps.
     pub fn session_entry(&self, k: usize) -> Option<(u64, u64, KeptAnswers<'_>)>
         ensures { option_map shown_session result ≡ slice_get (entries self.now.sessions) k }
     {
@@ -352,7 +359,8 @@ impl State {
         Some((session, here.floor(), here.answers()))
     }
 
-    /// Adds an array that an image, a state's bytes, has; its words are empty and of value 0. Fails only if memory runs out.
+    /// Adds an array that an image, a state's bytes, has; its words are empty and of value 0. Fails only if
+    /// memory runs out.
     pub fn load_array(&mut self, id: u64, name: Name, length: u32) -> Result<(), OutOfMemory>
         requires { MayBeAdded (directory_of self.old) id (new_array name length Empty) }
         ensures ok { OnOk result (self.new

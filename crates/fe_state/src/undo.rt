@@ -1,11 +1,13 @@
-//! What an undo log has of each entry, a step of the history, to undo it (`docs/model.md`, "The state of the server").
+//! What an undo log has of each entry, a step of the history, to undo it (`docs/model.md`, "The state of the
+//! server").
 
 ghost use Rattle.std.specs.Prelude.{◌≡◌};
 ghost use Rattle.fe_state.specs.UndoLog.{answers_of};
 
 use crate::change::Change;
 
-/// What an entry changed of the state, in the session that it names and in the arrays. The answers that it dropped are in the log.
+/// What an entry changed of the state, in the session that it names and in the arrays. The answers that it
+/// dropped are in the log.
 #[derive(Drop)]
 pub struct Undo {
     pub session: u64,

@@ -1,6 +1,8 @@
-//! The log by which entries, the steps of the history, are undone (`docs/model.md`, "The state of the server").
+//! The log by which entries, the steps of the history, are undone (`docs/model.md`, "The state of the
+//! server").
 
-ghost use Rattle.std.specs.Prelude.{◌≡◌, ◌-◌, ◌<◌, ◌≤◌, ◌↔◌, ◌∷◌, length, slice_get, IfOk, IsTrue, Some, option_copied};
+ghost use Rattle.std.specs.Prelude.{◌≡◌, ◌-◌, ◌<◌, ◌≤◌, ◌↔◌, ◌∷◌, length, slice_get, IfOk, IsTrue, Some};
+ghost use Rattle.std.specs.Prelude.{option_copied};
 ghost use Rattle.std.specs.Option.{option_map};
 ghost use Rattle.std.specs.FinMap.{empty};
 ghost use Rattle.fe_state.specs.DroppedAnswers.{MayLower};
@@ -21,8 +23,8 @@ use std::marker::Model;
 
 /// What entries changed, so that they can be undone from the latest to the first.
 ///
-/// It allocates its memory when it is made. The answers that a session dropped when it was settled or closed are in `dropped`,
-/// which entries of other kinds never touch.
+/// It allocates its memory when it is made. The answers that a session dropped when it was settled or closed
+/// are in `dropped`, which entries of other kinds never touch.
 #[derive(Drop)]
 pub struct UndoLog {
     room: usize,
@@ -101,7 +103,8 @@ impl UndoLog {
         self.undos.push_reserved(undo);
     }
 
-    /// Settles a session, and adds the entry that does so; `change` is what that entry changed of the arrays. Allocates nothing.
+    /// Settles a session, and adds the entry that does so; `change` is what that entry changed of the arrays.
+    /// Allocates nothing.
     #[inline(never)]
     pub(crate) fn settle(&mut self, session: u64, here: &mut Session, floor: u64, change: Change)
         requires room { length self.old.undos < self.old.room }
@@ -126,8 +129,8 @@ impl UndoLog {
         });
     }
 
-    /// Drops all answers of a session that is closed, and adds the entry that closes it; `change` is what that entry changed of the
-    /// arrays. Allocates nothing.
+    /// Drops all answers of a session that is closed, and adds the entry that closes it; `change` is what
+    /// that entry changed of the arrays. Allocates nothing.
     #[inline(never)]
     pub(crate) fn close(&mut self, session: u64, here: &mut Session, change: Change)
         requires room { length self.old.undos < self.old.room }

@@ -1,11 +1,13 @@
 -- Which bytes of a store may be overwritten without loss (`docs/store.md`, "The file").
-use Rattle.std.specs.Prelude.{◌≡◌, ◌⊎◌, ◌-◌, ◌<◌, ℕ, List, length, slice_index, slice_get, Some, nat_lt, ◌==◌, if◌then◌else◌}
+use Rattle.std.specs.Prelude.{◌≡◌, ◌⊎◌, ◌-◌, ◌<◌, ℕ, List, length, slice_index, slice_get, Some, nat_lt, ◌==◌}
+use Rattle.std.specs.Prelude.{if◌then◌else◌}
 use Rattle.fe_format.specs.declared.format.Format.TheVariants.{Two}
 use Rattle.fe_journal.specs.Layout.{gate_of, image_of}
 use Rattle.fe_journal.specs.Contents.{empty_image}
 use Rattle.fe_journal.specs.Journal.{header_fields}
 
--- the byte that a new store of format 2 has at this offset: slot 0 has generation 1, an open gate and the image of the first state
+-- the byte that a new store of format 2 has at this offset: slot 0 has generation 1, an open gate and the
+-- image of the first state
 abbrev pub fresh_byte : ℕ → ℕ
 fresh_byte at =
     if nat_lt at (image_of 0)

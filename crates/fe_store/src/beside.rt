@@ -1,8 +1,9 @@
-//! The files next to a store (`docs/store.md`, "The file"): `PATH.new`, which is being made, and `PATH.before-format`, the bytes that a
-//! formatting replaced.
+//! The files next to a store (`docs/store.md`, "The file"): `PATH.new`, which is being made, and
+//! `PATH.before-format`, the bytes that a formatting replaced.
 //!
-//! A server names `PATH.new`, or removes one that is no second name of another file, only while it has the lock of that file and has seen
-//! that the name leads to it. So two servers that start at once never remove or name each other's file.
+//! A server names `PATH.new`, or removes one that is no second name of another file, only while it has the
+//! lock of that file and has seen that the name leads to it. So two servers that start at once never remove
+//! or name each other's file.
 
 ghost use Rattle.std.specs.Prelude.{◌≡◌, ◌↔◌, length};
 ghost use Rattle.fe_disk.specs.FileDisk.{file_of};
@@ -25,8 +26,8 @@ const NEW: &str = ".new";
 
 const KEPT: &str = ".before-format";
 
-/// Makes a new store. It is formatted under a temporary name in the same folder and then gets the path, so it appears there whole or not at
-/// all. If a file has the path by then, that file stays as it is.
+/// Makes a new store. It is formatted under a temporary name in the same folder and then gets the path, so it
+/// appears there whole or not at all. If a file has the path by then, that file stays as it is.
 pub(crate) fn make<F: StoreFile + Drop, R: Files<File = File>>(
     rt: &R,
     alloc: Global,
@@ -47,8 +48,9 @@ pub(crate) fn make<F: StoreFile + Drop, R: Files<File = File>>(
     }
 }
 
-/// Keeps the bytes of an unformatted store in a file next to it, so that formatting loses nothing. Bytes that are zero, that
-/// formatting writes, or that are kept there already need no file. If a file with other bytes is there, it stays and the call fails.
+/// Keeps the bytes of an unformatted store in a file next to it, so that formatting loses nothing. Bytes that
+/// are zero, that formatting writes, or that are kept there already need no file. If a file with other bytes
+/// is there, it stays and the call fails.
 pub(crate) fn keep<F: StoreFile + Drop, R: Files<File = File>>(
     rt: &R,
     alloc: Global,
@@ -75,15 +77,17 @@ pub(crate) fn keep<F: StoreFile + Drop, R: Files<File = File>>(
     }
 }
 
-/// Removes the `PATH.new` that a start left when it was cut off: a second name of the store or of the kept bytes, or a file of its
-/// own that is not locked and holds only bytes that may be overwritten. Any other file stays.
+/// Removes the `PATH.new` that a start left when it was cut off: a second name of the store or of the kept
+/// bytes, or a file of its own that is not locked and holds only bytes that may be overwritten. Any other
+/// file stays.
 pub(crate) fn tidy<F: StoreFile + Drop, R: Files<File = File>>(rt: &R, alloc: Global, path: &str) {
     if let Ok(new) = beside(alloc, path, NEW) {
         let _ = clear::<F, R>(rt, alloc, path, new.as_str(), &[]);
     }
 }
 
-/// Removes `PATH.new` as `tidy` does, but fails if a file stays. A byte that `others` has at the same place may be overwritten too.
+/// Removes `PATH.new` as `tidy` does, but fails if a file stays. A byte that `others` has at the same place
+/// may be overwritten too.
 fn clear<F: StoreFile + Drop, R: Files<File = File>>(
     rt: &R,
     alloc: Global,
@@ -162,7 +166,8 @@ fn compare<F: StoreFile + Drop, R: Files<File = File>>(
     }
 }
 
-/// Gives the file its last name, and removes its `PATH.new`. `false` if a file has the name already; this one then has no name.
+/// Gives the file its last name, and removes its `PATH.new`. `false` if a file has the name already; this one
+/// then has no name.
 fn renamed<R: Files<File = File>>(rt: &R, new: &str, name: &str) -> io::Result<bool> {
     let given = add_name(rt, new, name);
     remove_name(rt, new)?;

@@ -1,4 +1,5 @@
-//! Why a store is not opened, and why a file next to it is not made, kept or removed (`docs/store.md`, "The file").
+//! Why a store is not opened, and why a file next to it is not made, kept or removed (`docs/store.md`, "The
+//! file").
 
 ghost use Rattle.std.specs.Prelude.{◌≡◌};
 ghost use Rattle.fe_memory.specs.Memory.{out_of_memory};
@@ -16,7 +17,8 @@ use std::io;
 /// Why a store is not opened.
 #[derive(Clone, Copy, PartialEq, Eq)]
 pub enum OpenFault {
-    /// The store's file is missing, no plain file or locked by another server; its device failed; or a file next to it is in the way.
+    /// The store's file is missing, no plain file or locked by another server; its device failed; or a file
+    /// next to it is in the way.
     Device,
     /// Memory ran out.
     Memory(OutOfMemory),
@@ -24,7 +26,8 @@ pub enum OpenFault {
     Size(u64),
     /// The device doesn't have the size of a store, or neither slot is valid.
     Unformatted,
-    /// The slot that counts is wrong at this offset of the device, in bytes (`docs/formats.md`, "Journal area").
+    /// The slot that counts is wrong at this offset of the device, in bytes (`docs/formats.md`, "Journal
+    /// area").
     Damaged(usize),
 }
 
@@ -129,7 +132,8 @@ pub(crate) fn open_fault_of(fault: Fault) -> OpenFault
 /// Why a store is not opened, when its keeper is not.
 pub(crate) fn unopened_of<D: Disk>(unopened: Unopened<Fault, D>) -> Unopened<OpenFault, D>
     requires { IsOpenFault (refusal store.Unformatted unopened).0 }
-    ensures fault { IsOpenFaultOf (refusal store.Unformatted unopened).0 (refusal fault.Unformatted result).0 }
+    ensures fault { IsOpenFaultOf (refusal store.Unformatted unopened).0
+        (refusal fault.Unformatted result).0 }
     ensures disk { (refusal fault.Unformatted result).1 ≡ (refusal store.Unformatted unopened).1 }
     ensures blank { BlankIsTold store.Unformatted unopened → BlankIsTold fault.Unformatted result }
 {

@@ -1,4 +1,5 @@
-//! Opening the store in a file, which is made or formatted if that is asked for (`docs/store.md`, "The file").
+//! Opening the store in a file, which is made or formatted if that is asked for (`docs/store.md`, "The
+//! file").
 
 ghost use Rattle.std.specs.Prelude.{◌≡◌, ◌≢◌, ℕ, false, IfOk, IfErr, IsErrOf, None};
 ghost use Rattle.fe_disk.specs.FileDisk.{inner, file_of};
@@ -16,17 +17,19 @@ use std::alloc::Global;
 use std::fs::File;
 use std::rt::Files;
 
-/// Opens the store in a file. With `format`, a missing file is made, and an unformatted store is formatted once the bytes that this would
-/// lose are kept in `PATH.before-format`. Errors: `Device` if there is no such file, another server has it locked, or a call of it or of a
-/// file next to it fails; `Size` if it has another size; `Unformatted` or `Damaged` if it holds no state; `Memory` if memory runs out.
+/// Opens the store in a file. With `format`, a missing file is made, and an unformatted store is formatted
+/// once the bytes that this would lose are kept in `PATH.before-format`. Errors: `Device` if there is no such
+/// file, another server has it locked, or a call of it or of a file next to it fails; `Size` if it has
+/// another size; `Unformatted` or `Damaged` if it holds no state; `Memory` if memory runs out.
 pub fn open_store<F: StoreFile + Drop, R: Files<File = File>>(
     rt: &R,
     alloc: Global,
     path: &str,
     format: bool,
 ) -> Result<Keeper<FileDisk<F>>, OpenFault>
-    // The keeper has the state that the file at the path stood for when it was found, or that of a new store if it was unformatted then and
-    // `format` is set. A fault that speaks of the file's bytes is true of those that it had when it was found.
+    // The keeper has the state that the file at the path stood for when it was found, or that of a new store
+    // if it was unformatted then and `format` is set. A fault that speaks of the file's bytes is true of
+    // those that it had when it was found.
     ensures opened { IfOk result (OpensFile ⟦<FileDisk<F> as Disk>⟧ (F.is_at path.now) format) }
     ensures tells { IfErr result (TellsFile ⟦<FileDisk<F> as Disk>⟧ (F.is_at path.now)) }
     ensures works { IfOk result (λ keeper. keeper.store.has_failed ≡ false) }
@@ -88,8 +91,9 @@ fn disk_at<F: StoreFile + Drop, R: Files<File = File>>(
     }
 }
 
-/// The disk over the file of a store, for reading only. The file need not be writable, every write fails, and others may write the
-/// file meanwhile. `Device` if there is no such file or it can't be read, and `Size` if it has another size.
+/// The disk over the file of a store, for reading only. The file need not be writable, every write fails, and
+/// others may write the file meanwhile. `Device` if there is no such file or it can't be read, and `Size` if
+/// it has another size.
 pub fn disk_to_read<F: StoreFile, R: Files<File = File>>(
     rt: &R,
     path: &str,

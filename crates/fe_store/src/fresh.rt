@@ -1,16 +1,19 @@
-//! Bytes of a store that may be overwritten without loss, when it is formatted or a `PATH.new` removed (`docs/store.md`, "The file").
+//! Bytes of a store that may be overwritten without loss, when it is formatted or a `PATH.new` removed
+//! (`docs/store.md`, "The file").
 
 ghost use Rattle.std.specs.Prelude.{◌≡◌, ◌↔◌, IsTrue, Some, slice_get};
 ghost use Rattle.fe_store.specs.Spare.{fresh_byte, IsSpareAt, AreSpare};
 
 use fe_journal::image_of;
 
-/// The header of slot 0 in a new store: its magic, generation 1, and the length of its image, 24 (`docs/formats.md`, "Device").
+/// The header of slot 0 in a new store: its magic, generation 1, and the length of its image, 24
+/// (`docs/formats.md`, "Device").
 const HEADER: [u8; 20] = [
     70, 69, 77, 69, 77, 83, 84, 50, 0, 0, 0, 0, 0, 0, 0, 1, 0, 0, 0, 24,
 ];
 
-/// The image in a new store: place 0, next array id 1, no arrays and no sessions (`docs/formats.md`, "Image").
+/// The image in a new store: place 0, next array id 1, no arrays and no sessions (`docs/formats.md`,
+/// "Image").
 const IMAGE: [u8; 24] = [
     0, 0, 0, 0, 0, 0, 0, 0, 0, 0, 0, 0, 0, 0, 0, 1, 0, 0, 0, 0, 0, 0, 0, 0,
 ];
@@ -46,8 +49,8 @@ fn is_kept(at: usize, byte: u8, others: &[u8]) -> bool
     }
 }
 
-/// Whether these bytes of a store may be overwritten: each is zero, is what formatting writes there, or is kept in `others` at the
-/// same place.
+/// Whether these bytes of a store may be overwritten: each is zero, is what formatting writes there, or is
+/// kept in `others` at the same place.
 pub(crate) fn is_spare(bytes: &[u8], others: &[u8]) -> bool
     ensures { IsTrue result ↔ AreSpare bytes.now others.now }
 {

@@ -1,4 +1,5 @@
-//! Opening a store on a disk or in a file, or making a new one (`docs/store.md`, "Opening a store" and "The file").
+//! Opening a store on a disk or in a file, or making a new one (`docs/store.md`, "Opening a store" and "The
+//! file").
 #![tactic(auto)]
 
 mod beside;

@@ -8,7 +8,8 @@ use crate::{StreamFailed, TRIES};
 use std::io::{ErrorKind, Read};
 use std::snapshot::Snapshot;
 
-/// A reader. Clauses, not the program, also see which bytes were read from it, if `R.remaining` gives its bytes.
+/// A reader. Clauses, not the program, also see which bytes were read from it, if `R.remaining` gives its
+/// bytes.
 #[derive(Drop)]
 pub struct Incoming<R: Read> {
     reader: R,
@@ -27,15 +28,17 @@ impl<R: Read> Incoming<R> {
         Incoming { reader, began }
     }
 
-    /// Reads bytes into the front of the buffer and returns how many: at least one, except at the end of the stream or if the
-    /// buffer is empty.
+    /// Reads bytes into the front of the buffer and returns how many: at least one, except at the end of the
+    /// stream or if the buffer is empty.
     pub fn read_some(&mut self, buffer: &mut [u8]) -> Result<usize, StreamFailed>
         ensures fits { IfOk result (λ count. count ≤ length buffer.old) }
         // What is read is added to the bytes that were read before; a failed read adds nothing.
-        ensures read { WriteAppends (bytes_read (R.remaining self.old.began.value) (R.remaining self.old.reader))
+        ensures read { WriteAppends (bytes_read (R.remaining self.old.began.value)
+            (R.remaining self.old.reader))
             (bytes_read (R.remaining self.new.began.value) (R.remaining self.new.reader)) result buffer.new }
         ensures began { self.new.began ≡ self.old.began }
-        ensures end { IfOk result (λ count. count ≡ 0 → 0 < length buffer.old → IsAtEnd (R.remaining self.new.reader)) }
+        ensures end { IfOk result (λ count. count ≡ 0 → 0 < length buffer.old
+            → IsAtEnd (R.remaining self.new.reader)) }
     {
         for _ in 0..TRIES {
             match self.reader.read(buffer) {

@@ -12,8 +12,8 @@ use std::io::{ErrorKind, Write};
 /// How often a call that a signal interrupts is tried at most.
 const TRIES: u64 = 1 << 40;
 
-/// A read or a write failed, for a reason other than a signal, or a signal interrupted 2^40 tries; or a writer took no byte. Only the
-/// calls of this crate make it.
+/// A read or a write failed, for a reason other than a signal, or a signal interrupted 2^40 tries; or a
+/// writer took no byte. Only the calls of this crate make it.
 #[derive(Clone, Copy, PartialEq, Eq)]
 pub struct StreamFailed(());
 

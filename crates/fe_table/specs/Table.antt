@@ -10,12 +10,14 @@ use Rattle.std.specs.Borrow.{Bor}
 abbrev pub shown_entry : {X : Type 0} → ℕ × Bor X → ℕ × X
 shown_entry e = (e.0, e.1.now)
 
--- the map with another value for the key at a position of the ascending order, or the same map if it has no such position
+-- the map with another value for the key at a position of the ascending order, or the same map if it has no
+-- such position
 abbrev pub put_at : {X : Type 0} → FinMap nat_cmp X → ℕ → X → FinMap nat_cmp X
 put_at m position x = option_map_or (λ e. insert m e.0 x) (slice_get (entries m) position) m
 
 -- the invariant of a table with this room, whose vectors have these capacities
-pub record IsTable {X : Type 0} (room : ℕ) (keys : List ℕ) (values : List X) (key_capacity value_capacity : ℕ) : Type 0 where
+pub record IsTable {X : Type 0} (room : ℕ) (keys : List ℕ) (values : List X)
+    (key_capacity value_capacity : ℕ) : Type 0 where
   -- the keys ascend, so no two are equal
   pub ascending : T (is_sorted nat_cmp (zip keys values))
   -- each key has a value
@@ -35,4 +37,5 @@ pub record IsAt {X : Type 0} (entries : List (ℕ × X)) (key position : ℕ) : 
 pub record IsGapFor {X : Type 0} (entries : List (ℕ × X)) (key position : ℕ) : Type 0 where
   pub in_range : position ≤ length entries
   pub smaller_before : (i : ℕ) (e : ℕ × X) → i < position → (slice_index_or entries i e).0 < key
-  pub greater_after : (i : ℕ) (e : ℕ × X) → position ≤ i → i < length entries → key < (slice_index_or entries i e).0
+  pub greater_after : (i : ℕ) (e : ℕ × X) → position ≤ i → i < length entries
+      → key < (slice_index_or entries i e).0

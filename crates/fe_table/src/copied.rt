@@ -1,5 +1,5 @@
-//! How the values of a table are copied. Tables are maps such as those of the arrays and sessions in the server state (`docs/model.md`,
-//! "The state of the server").
+//! How the values of a table are copied. Tables are maps such as those of the arrays and sessions in the
+//! server state (`docs/model.md`, "The state of the server").
 
 ghost use Rattle.std.specs.Prelude.{◌≡◌, IfOk};
 

@@ -1,4 +1,5 @@
-//! Tables, finite maps such as those of the arrays and sessions in the server state (`docs/model.md`, "The state of the server").
+//! Tables, finite maps such as those of the arrays and sessions in the server state (`docs/model.md`, "The
+//! state of the server").
 
 ghost use Rattle.std.specs.Prelude.{◌≡◌, ◌<◌, ◌≤◌, IfOk, IfErr, None, Some, IsSome, option_copied, slice_get};
 ghost use Rattle.std.specs.Option.{option_map};
@@ -48,7 +49,8 @@ impl<V, const ROOM: usize> Model for Table<V, ROOM> {
 
     ghost view = { λ a. map.from_sorted (zip a.keys.items a.values.items) };
 
-    ghost invariant = { λ a. IsTable ROOM a.keys.items a.values.items (vec_capacity a.keys) (vec_capacity a.values) };
+    ghost invariant = { λ a. IsTable ROOM a.keys.items a.values.items
+        (vec_capacity a.keys) (vec_capacity a.values) };
 }
 
 impl<V, const ROOM: usize> Table<V, ROOM> {
@@ -124,8 +126,9 @@ impl<V, const ROOM: usize> Table<V, ROOM> {
         }
     }
 
-    /// Looks for a key, first at a guessed position, and returns its position, or the guess if the key is absent. Any guess is allowed.
-    /// Until the next `aim`, look-ups of a key that was found take one comparison each while it stays at that position.
+    /// Looks for a key, first at a guessed position, and returns its position, or the guess if the key is
+    /// absent. Any guess is allowed. Until the next `aim`, look-ups of a key that was found take one
+    /// comparison each while it stays at that position.
     pub fn aim(&mut self, key: u64, guess: usize) -> usize
         ensures { self.new ≡ self.old }
     {

@@ -1,5 +1,8 @@
--- The lines of schedules (`docs/schedules.md`, "Lines"). A definition `.._in` reads a part of a line, given as bytes.
-use Rattle.std.specs.Prelude.{ℕ, ◌+◌, ◌-◌, ◌^◌, List, length, take, drop, position, codes, Option, Some, None, nat_lt, nat_le, ◌==◌, ◌&&◌, if◌then◌else◌, ◌≡◌, ◌<◌, ◌≤◌, [], ◌∷◌, false, Bool, true}
+-- The lines of schedules (`docs/schedules.md`, "Lines"). A definition `.._in` reads a part of a line, given
+-- as bytes.
+use Rattle.std.specs.Prelude.{ℕ, ◌+◌, ◌-◌, ◌^◌, List, length, take, drop, position, codes, Option, Some, None}
+use Rattle.std.specs.Prelude.{nat_lt, nat_le, ◌==◌, ◌&&◌, if◌then◌else◌, ◌≡◌, ◌<◌, ◌≤◌, [], ◌∷◌, false, Bool}
+use Rattle.std.specs.Prelude.{true}
 use Rattle.std.specs.Option.{option_map, option_map_or}
 use Rattle.std.specs.Fmt.{decimal}
 use Rattle.std.specs.Str.{bytes_eq}
@@ -9,7 +12,8 @@ use Rattle.fe_words.specs.declared.word.Tag.TheVariants.{Full, Empty}
 use Rattle.fe_codes.specs.Reading.{◌>>=◌}
 use Rattle.std.specs.Io.KnownBytes.{Keeps, Consumes, IsAtEnd}
 use Rattle.fe_words.specs.declared.op.Op.{Op}
-use Rattle.fe_words.specs.declared.op.Op.TheVariants.{ReadFe, ReadFf, ReadXx, WriteEf, WriteFf, WriteXf, Purge, IntFetchAdd}
+use Rattle.fe_words.specs.declared.op.Op.TheVariants.{ReadFe, ReadFf, ReadXx, WriteEf, WriteFf, WriteXf}
+use Rattle.fe_words.specs.declared.op.Op.TheVariants.{Purge, IntFetchAdd}
 use Rattle.fe_state.specs.declared.request.Request.{Request}
 use Rattle.fe_state.specs.declared.request.Request.TheVariants.{Create, Find, Remove, Access}
 use Rattle.fe_wire.specs.declared.client_message.ClientMessage.{ClientMessage}
@@ -24,7 +28,8 @@ words_at line = option_map (λ at. (take at line, drop (at + 1) line)) (position
 -- The number below 2 ^ 64 whose decimal digits the word is.
 unfoldable pub number_of : List ℕ → Option ℕ
 number_of word =
-    if nat_lt (digits_value 10 word) (2 ^ 64) && bytes_eq word (decimal (digits_value 10 word)) then Some (digits_value 10 word) else None
+    if nat_lt (digits_value 10 word) (2 ^ 64)
+    && bytes_eq word (decimal (digits_value 10 word)) then Some (digits_value 10 word) else None
 
 -- the number below 2 ^ 32 whose decimal digits the word is
 unfoldable pub small_number_of : List ℕ → Option ℕ
@@ -37,7 +42,8 @@ unfoldable pub name_in : List ℕ → Option (List ℕ)
 name_in word = if nat_lt 0 (length word) && nat_le (length word) 32 then Some word else None
 
 unfoldable pub tag_named : List ℕ → Option Tag
-tag_named word = if bytes_eq word (codes "full") then Some Full else if bytes_eq word (codes "empty") then Some Empty else None
+tag_named word = if bytes_eq word (codes "full") then Some Full else if bytes_eq word (codes "empty") then
+    Some Empty else None
 
 -- the most bytes of a line, without its line feed
 abbrev pub longest_line : ℕ
@@ -60,11 +66,12 @@ abbrev pub HasNoFeed : List ℕ → Type 0
 HasNoFeed [] = Unit {0}
 HasNoFeed (byte ∷ bytes) = ((byte == 10) ≡ false) × HasNoFeed bytes
 
--- What a read did to the bytes that are left: it took as many as the count says, or was interrupted and took none (None). A count of 0
--- means the end, if the piece has bytes.
+-- What a read did to the bytes that are left: it took as many as the count says, or was interrupted and took
+-- none (None). A count of 0 means the end, if the piece has bytes.
 abbrev pub ReadsSome : Option (List ℕ) → Option (List ℕ) → List ℕ → Option ℕ → Type 0
 ReadsSome old new piece None = Keeps old new
-ReadsSome old new piece (Some count) = (count ≤ length piece) × Consumes old new (take count piece) × (count ≡ 0 → 0 < length piece → IsAtEnd new)
+ReadsSome old new piece (Some count) = (count ≤ length piece) × Consumes old new (take count piece)
+    × (count ≡ 0 → 0 < length piece → IsAtEnd new)
 
 -- ---- requests
 
@@ -141,7 +148,8 @@ writing_access_in name words = do
   op ← writing_op_named name operand
   Some (Access array index op last.1)
 
--- an access by the operation, if one was found that has no operand, and otherwise by the operation with this name and an operand
+-- an access by the operation, if one was found that has no operand, and otherwise by the operation with this
+-- name and an operand
 unfoldable pub access_named : Option Op → List ℕ → List ℕ → Option Request
 access_named (Some op) name words = access_in op words
 access_named None name words = writing_access_in name words

@@ -4,7 +4,9 @@ use Rattle.std.specs.Fmt.{decimal}
 use Rattle.std.specs.List.{flat_map}
 use Rattle.std.specs.Str.Lines.{lines}
 use Rattle.fe_state.specs.declared.answer.Answer.{Answer}
-use Rattle.fe_state.specs.declared.answer.Answer.TheVariants.{Value, Done, Array, NoArray, BadIndex, NameTaken, ArrayLimit, WordLimit, BadName, BadLength, NotNow}
+use Rattle.fe_state.specs.declared.answer.Answer.TheVariants.{Value, Done, Array, NoArray, BadIndex}
+use Rattle.fe_state.specs.declared.answer.Answer.TheVariants.{NameTaken, ArrayLimit, WordLimit, BadName}
+use Rattle.fe_state.specs.declared.answer.Answer.TheVariants.{BadLength, NotNow}
 use Rattle.fe_wire.specs.declared.server_message.ServerMessage.{ServerMessage}
 use Rattle.fe_wire.specs.declared.server_message.ServerMessage.TheVariants as server
 use Rattle.fe_mail.specs.Refusal.{code_of, name_of}
@@ -53,7 +55,8 @@ printed conn (server.Welcome session floor) =
 printed conn (server.Answer number answer) =
     name_text conn ++ (decimal number ++ (codes " " ++ (answer_text answer ++ codes "\n")))
 printed conn (server.Refused number code) =
-    name_text conn ++ (codes "refused " ++ (decimal number ++ (codes " " ++ (refusal_text code ++ codes "\n"))))
+    name_text conn ++ (codes "refused " ++ (decimal number
+    ++ (codes " " ++ (refusal_text code ++ codes "\n"))))
 printed conn (server.Withdrawn number) =
     name_text conn ++ (decimal number ++ codes " withdrawn\n")
 printed conn (server.Settled floor) =

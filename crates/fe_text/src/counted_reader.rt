@@ -8,8 +8,8 @@ use crate::stream_calls::StreamCalls;
 use crate::streams::Source;
 use std::io::Read;
 
-/// A reader (`std::io::Read`) as a source. It counts its reads, interrupted ones too, and notes with which faults they failed, so that
-/// clauses can name them.
+/// A reader (`std::io::Read`) as a source. It counts its reads, interrupted ones too, and notes with which
+/// faults they failed, so that clauses can name them.
 #[derive(Drop)]
 pub struct CountedReader<R> {
     stream: R,
@@ -48,7 +48,8 @@ impl<R: Read> Source for CountedReader<R> {
 
     ghost has_failed = { λ reader fault. HasFailed reader.calls fault };
 
-    ghost begins = { λ s. le_of_sub-eq-zero (ap (λ n. n - s.reads) (zero-min (2 ^ 64 - 1)) ∙ zero-sub s.reads) };
+    ghost begins = { λ s. le_of_sub-eq-zero
+        (ap (λ n. n - s.reads) (zero-min (2 ^ 64 - 1)) ∙ zero-sub s.reads) };
 
     fn read_piece(&mut self, piece: &mut [u8]) -> Result<Option<usize>, StreamFault> {
         self.reads = self.reads.saturating_add(1);

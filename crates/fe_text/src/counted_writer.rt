@@ -11,8 +11,8 @@ use crate::stream_calls::StreamCalls;
 use crate::streams::Sink;
 use std::io::Write;
 
-/// A writer of `std` as a sink. For clauses it counts its writes, and notes the faults with which its calls failed, and whether all that
-/// was written is flushed.
+/// A writer of `std` as a sink. For clauses it counts its writes, and notes the faults with which its calls
+/// failed, and whether all that was written is flushed.
 #[derive(Drop)]
 pub struct CountedWriter<W> {
     stream: W,
@@ -37,14 +37,17 @@ impl<W> CountedWriter<W> {
 }
 
 impl<W: Write> CountedWriter<W> {
-    /// Writes once, and returns how many bytes were written: 0 only if there are none, or if a signal interrupted the write.
+    /// Writes once, and returns how many bytes were written: 0 only if there are none, or if a signal
+    /// interrupted the write.
     fn write_some(&mut self, bytes: &[u8]) -> Result<usize, StreamFault>
         ensures fits { IfOk result (λ count. count ≤ length bytes.now) }
         ensures ok { IfOk result
-            (λ count. Appends (W.contents self.old.stream) (W.contents self.new.stream) (take count bytes.now)) }
+            (λ count. Appends (W.contents self.old.stream) (W.contents self.new.stream)
+            (take count bytes.now)) }
         ensures keeps { IfErr result (λ _. Keeps (W.contents self.old.stream) (W.contents self.new.stream)) }
         ensures counts { self.new.writes ≡ min (self.old.writes + 1) (2 ^ 64 - 1) }
-        ensures idle { IfOk result (λ count. count ≡ 0 → self.new.calls.is_flushed ≡ self.old.calls.is_flushed) }
+        ensures idle { IfOk result (λ count. count ≡ 0
+            → self.new.calls.is_flushed ≡ self.old.calls.is_flushed) }
         ensures flushed { IfErr result (λ _. self.new.calls.is_flushed ≡ self.old.calls.is_flushed) }
         ensures fails { IfErr result (HasBroken self.new) }
         ensures stays { (fault : Fault) → HasBroken self.old fault → HasBroken self.new fault }
@@ -53,10 +56,11 @@ impl<W: Write> CountedWriter<W> {
         self.calls.write(&mut self.stream, bytes)
     }
 
-    /// Writes the whole text. If the writer fails, a prefix of the text is written. A write that takes no bytes, or 2^40 writes for the
-    /// text, are faults of the writer.
+    /// Writes the whole text. If the writer fails, a prefix of the text is written. A write that takes no
+    /// bytes, or 2^40 writes for the text, are faults of the writer.
     fn write_all(&mut self, text: &[u8]) -> Result<(), StreamFault>
-        ensures ok { OnOk result (Appends (W.contents self.old.stream) (W.contents self.new.stream) text.now) }
+        ensures ok { OnOk result (Appends (W.contents self.old.stream) (W.contents self.new.stream)
+            text.now) }
         ensures front { (count : ℕ)
             × Appends (W.contents self.old.stream) (W.contents self.new.stream) (take count text.now)
             × (count ≡ 0 → self.new.calls.is_flushed ≡ self.old.calls.is_flushed) }

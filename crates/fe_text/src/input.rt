@@ -1,5 +1,5 @@
-//! The lines of an input, of a schedule or of `femem call` (`docs/schedules.md`, "Lines"). Each ends with a line feed; the last one may
-//! end with the input.
+//! The lines of an input, of a schedule or of `femem call` (`docs/schedules.md`, "Lines"). Each ends with a
+//! line feed; the last one may end with the input.
 
 ghost use Rattle.std.specs.Prelude.{◌≡◌, ◌<◌, ◌==◌, ◌++◌, ◌∷◌, length, position, IfNone, IfSome};
 ghost use Rattle.fe_text.specs.Line.{HasNoFeed};

@@ -1,4 +1,5 @@
-//! Laws of text that is printed or read (`docs/schedules.md`): functions that do nothing; their clauses are proved.
+//! Laws of text that is printed or read (`docs/schedules.md`): functions that do nothing; their clauses are
+//! proved.
 
 ghost use Rattle.std.specs.Prelude.{◌≡◌};
 ghost use Rattle.fe_text.specs.Line.{longest_line};

@@ -1,5 +1,5 @@
-//! The text that `femem` reads and prints: the lines of a schedule, which is an input of `femem run`, and replies as text
-//! (`docs/schedules.md`). It also reads streams in pieces, and writes text to them.
+//! The text that `femem` reads and prints: the lines of a schedule, which is an input of `femem run`, and
+//! replies as text (`docs/schedules.md`). It also reads streams in pieces, and writes text to them.
 #![tactic(auto)]
 
 mod counted_reader;

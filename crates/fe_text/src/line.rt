@@ -1,7 +1,8 @@
 //! The lines of a schedule (`docs/schedules.md`).
 
 ghost use Rattle.std.specs.Prelude.{◌≡◌};
-ghost use Rattle.fe_text.specs.Line.{parsed, conn_of, control_in, plain_in, numbered_in, message_in, conn_line_in};
+ghost use Rattle.fe_text.specs.Line.{parsed, conn_of, control_in, plain_in, numbered_in, message_in};
+ghost use Rattle.fe_text.specs.Line.{conn_line_in};
 
 use crate::request::request_in;
 use crate::word::{number_of, says, word_at};
@@ -20,7 +21,8 @@ pub enum Line {
     Message { conn: u64, message: ClientMessage },
     /// A connection ends.
     Gone { conn: u64 },
-    /// From here on, until the hold ends, what is pending is stored and posted only before a message that finds no room.
+    /// From here on, until the hold ends, what is pending is stored and posted only before a message that
+    /// finds no room.
     Hold,
     /// What is pending is stored and posted, and a hold ends.
     Flush,
@@ -99,8 +101,8 @@ fn numbered_in(first: &[u8], words: &[u8]) -> Option<ClientMessage>
     Some(ClientMessage::Call { number, request })
 }
 
-/// The message that the bytes spell: a line of a schedule without the name of its connection, at most 94 bytes.
-/// `None` if they spell none.
+/// The message that the bytes spell: a line of a schedule without the name of its connection, at most 94
+/// bytes. `None` if they spell none.
 #[tactic(auto, unfolding(crate::specs::Line::message_in))]
 pub fn message_in(words: &[u8]) -> Option<ClientMessage>
     ensures message { result ≡ message_in words.now }
@@ -123,8 +125,8 @@ fn conn_line_in(conn: u64, words: &[u8]) -> Option<Line>
     Some(Line::Message { conn, message })
 }
 
-/// The line that the bytes spell, without a line feed, with single spaces between words. `None` if they spell none; no
-/// line has more than `LONGEST_LINE` bytes.
+/// The line that the bytes spell, without a line feed, with single spaces between words. `None` if they spell
+/// none; no line has more than `LONGEST_LINE` bytes.
 #[tactic(auto, unfolding(crate::specs::Line::parsed))]
 pub fn parse(bytes: &[u8]) -> Option<Line>
     ensures line { result ≡ parsed bytes.now }

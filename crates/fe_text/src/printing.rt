@@ -29,8 +29,8 @@ fn print_answer(text: &mut String, answer: &Answer) -> Result<(), OutOfMemory>
     Ok(())
 }
 
-/// Prints a reply as a line, or a report as one line for each of its lines. Each line begins with the name of the
-/// connection, if there is one. Fails only if memory runs out; part of the reply may then be in `text`.
+/// Prints a reply as a line, or a report as one line for each of its lines. Each line begins with the name of
+/// the connection, if there is one. Fails only if memory runs out; part of the reply may then be in `text`.
 #[tactic(auto, unfolding(crate::specs::Printed::printed))]
 pub fn print_reply(
     text: &mut String,

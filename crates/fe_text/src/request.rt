@@ -1,8 +1,10 @@
-//! The requests of a schedule's lines (`docs/schedules.md`, "Lines"). A function `.._in` reads the bytes that its comment shows.
+//! The requests of a schedule's lines (`docs/schedules.md`, "Lines"). A function `.._in` reads the bytes that
+//! its comment shows.
 
 ghost use Rattle.std.specs.Prelude.{◌≡◌};
 ghost use Rattle.std.specs.Option.{option_map};
-ghost use Rattle.fe_text.specs.Line.{op_named, writing_op_named, create_in, find_in, remove_in, last_in, access_in, writing_access_in, request_in};
+ghost use Rattle.fe_text.specs.Line.{op_named, writing_op_named, create_in, find_in, remove_in, last_in};
+ghost use Rattle.fe_text.specs.Line.{access_in, writing_access_in, request_in};
 
 use crate::word::{name_in, number_of, says, small_number_of, tag_named, word_at};
 use fe_state::Request;
@@ -134,8 +136,8 @@ fn writing_access_in(name: &[u8], words: &[u8]) -> Option<Request>
     })
 }
 
-/// `create NAME LENGTH full|empty`, `find NAME`, `remove ARRAY`, `OP ARRAY INDEX` or `OP ARRAY INDEX OPERAND`, the last two with or without
-/// `nowait`.
+/// `create NAME LENGTH full|empty`, `find NAME`, `remove ARRAY`, `OP ARRAY INDEX` or
+/// `OP ARRAY INDEX OPERAND`, the last two with or without `nowait`.
 #[tactic(auto, unfolding(crate::specs::Line::request_in, crate::specs::Line::access_named))]
 pub(crate) fn request_in(words: &[u8]) -> Option<Request>
     ensures { result ≡ request_in words.now }

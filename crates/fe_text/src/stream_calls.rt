@@ -1,5 +1,5 @@
-//! The calls of a stream, and what came of them, so that clauses can name it (`docs/schedules.md`, "Lines"). Only this file notes it: each
-//! function makes one call of the stream, and notes what that returned.
+//! The calls of a stream, and what came of them, so that clauses can name it (`docs/schedules.md`, "Lines").
+//! Only this file notes it: each function makes one call of the stream, and notes what that returned.
 
 ghost use Rattle.std.specs.Prelude.{◌≡◌, ◌≤◌, ◌<◌, true, false, None, length, take, IfOk, IfErr, OnOk, OnErr};
 ghost use Rattle.std.specs.Io.KnownBytes.{Appends, Keeps};
@@ -34,8 +34,9 @@ impl StreamCalls {
         }
     }
 
-    /// Reads once, and returns how many bytes were read: 0 at the end of the stream, or if `piece` has no bytes. `None` means that a
-    /// signal interrupted the read. If the read fails, nothing was taken from the stream.
+    /// Reads once, and returns how many bytes were read: 0 at the end of the stream, or if `piece` has no
+    /// bytes. `None` means that a signal interrupted the read. If the read fails, nothing was taken from the
+    /// stream.
     pub(crate) fn read<R: Read>(
         &mut self,
         reader: &mut R,
@@ -56,7 +57,8 @@ impl StreamCalls {
         }
     }
 
-    /// Writes once, and returns how many bytes were written: 0 only if there are none, or if a signal interrupted the write.
+    /// Writes once, and returns how many bytes were written: 0 only if there are none, or if a signal
+    /// interrupted the write.
     pub(crate) fn write<W: Write>(
         &mut self,
         writer: &mut W,

@@ -1,5 +1,5 @@
-//! The errors with which a stream's calls failed, as clauses name them (`docs/schedules.md`, "Lines"). Only the error that a call returned
-//! sets a mark here.
+//! The errors with which a stream's calls failed, as clauses name them (`docs/schedules.md`, "Lines"). Only
+//! the error that a call returned sets a mark here.
 
 ghost use Rattle.std.specs.Prelude.{◌≡◌, ◌↔◌, None, Some, true, IfSome};
 ghost use Rattle.std.specs.IoError.{error_kind};
@@ -37,7 +37,8 @@ impl StreamErrors {
     /// Keeps the error of a read or a write. The fault for it, or `None` if a signal interrupted the call.
     pub(crate) fn keep(&mut self, error: Error) -> Option<StreamFault>
         ensures signal { (result ≡ None) ↔ (error_kind error ≡ ErrorKind.Interrupted) }
-        ensures memory { (result ≡ Some (Fault.Memory out_of_memory)) ↔ (error_kind error ≡ ErrorKind.OutOfMemory) }
+        ensures memory { (result ≡ Some (Fault.Memory out_of_memory))
+            ↔ (error_kind error ≡ ErrorKind.OutOfMemory) }
         ensures interrupted { result ≡ None → self.new.interrupted ≡ true }
         ensures just { IfSome result (λ _. self.new.interrupted ≡ self.old.interrupted) }
         ensures fails { IfSome result (HasErred self.new) }
@@ -59,7 +60,8 @@ impl StreamErrors {
         }
     }
 
-    /// Keeps the error of a flush, and returns the fault for it. It is `Input` also if a signal interrupted the flush.
+    /// Keeps the error of a flush, and returns the fault for it. It is `Input` also if a signal interrupted
+    /// the flush.
     pub(crate) fn keep_of_flush(&mut self, error: Error) -> StreamFault
         ensures memory { (result ≡ Fault.Memory out_of_memory) ↔ (error_kind error ≡ ErrorKind.OutOfMemory) }
         ensures fails { HasErred self.new result }

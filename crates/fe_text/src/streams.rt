@@ -1,6 +1,7 @@
 //! What text is read from and written to (`docs/schedules.md`, "Lines").
 
-ghost use Rattle.std.specs.Prelude.{ℕ, ◌≡◌, ◌+◌, ◌-◌, ◌^◌, ◌<◌, List, Option, None, [], length, string_bytes, take, IfOk, IfErr, OnOk, OnErr};
+ghost use Rattle.std.specs.Prelude.{ℕ, ◌≡◌, ◌+◌, ◌-◌, ◌^◌, ◌<◌, List, Option, None, [], length, string_bytes};
+ghost use Rattle.std.specs.Prelude.{take, IfOk, IfErr, OnOk, OnErr};
 ghost use Rattle.std.specs.Io.KnownBytes.{Appends, Keeps};
 ghost use Rattle.fe_text.specs.Line.{ReadsSome};
 ghost use Rattle.fe_text.specs.declared.fault.StreamFault.{StreamFault as Fault};
@@ -21,15 +22,16 @@ pub trait Source {
     /// Whether a read failed with this fault.
     ghost has_failed: { Self → Fault → Type 0 };
 
-    /// Reads once, and says how many bytes that gave: 0 at the end, or if `piece` has none. `None` if a signal interrupted the read. If
-    /// the read fails, nothing was taken.
+    /// Reads once, and says how many bytes that gave: 0 at the end, or if `piece` has none. `None` if a
+    /// signal interrupted the read. If the read fails, nothing was taken.
     fn read_piece(&mut self, piece: &mut [u8]) -> Result<Option<usize>, StreamFault>
         ensures reads { IfOk result (ReadsSome (remaining self.old) (remaining self.new) piece.new) }
         ensures len { length piece.new ≡ length piece.old }
         ensures stays { IfErr result (λ _. Keeps (remaining self.old) (remaining self.new)) }
         ensures counts { (count : ℕ) → was_read self.old count → was_read self.new (count + 1) }
         // It counts as one read. A count may stay at 2^64 - 1.
-        ensures once { (count : ℕ) → count < 2 ^ 64 - 1 → was_read self.new (count + 1) → was_read self.old count }
+        ensures once { (count : ℕ) → count < 2 ^ 64 - 1 → was_read self.new (count + 1)
+            → was_read self.old count }
         ensures interrupted { IfOk result (λ given. given ≡ None → was_interrupted self.new) }
         ensures fails { IfErr result (has_failed self.new) };
 
@@ -42,7 +44,8 @@ pub trait Sink {
     /// The bytes that it holds, if they are known.
     ghost contents: { Self → Option (List ℕ) };
 
-    /// Whether a write or a flush failed with this fault; or, for `Input`, whether a write took no byte or 2^40 writes were made.
+    /// Whether a write or a flush failed with this fault; or, for `Input`, whether a write took no byte or
+    /// 2^40 writes were made.
     ghost has_failed: { Self → Fault → Type 0 };
 
     /// Whether all that was written is handed on (flushed).

@@ -1,6 +1,7 @@
--- The waiting lists as contracts see them: the waiting requests, by slot and number. A slot, 0 to 63, stands for a
--- session here; the number is the request's in its session (`docs/model.md`, "Waiting requests").
-use Rattle.std.specs.Prelude.{◌≡◌, ℕ, AllPairs, ◌≢◌, ◌↔◌, ◌==◌, ◌<◌, ◌≤◌, Contains, List, not, Option, Some, None, refl, slice_index_or}
+-- The waiting lists as contracts see them: the waiting requests, by slot and number. A slot, 0 to 63, stands
+-- for a session here; the number is the request's in its session (`docs/model.md`, "Waiting requests").
+use Rattle.std.specs.Prelude.{◌≡◌, ℕ, AllPairs, ◌≢◌, ◌↔◌, ◌==◌, ◌<◌, ◌≤◌, Contains, List, not, Option, Some}
+use Rattle.std.specs.Prelude.{None, refl, slice_index_or}
 use Rattle.std.specs.Ordering.{nat_cmp, ordering_then}
 use Rattle.std.specs.declared.cmp.Ordering.{Ordering}
 use Rattle.std.specs.declared.cmp.Ordering.TheVariants.{Less, Equal, Greater}
@@ -13,7 +14,8 @@ use Rattle.fe_words.specs.contracts.op.Op.{the_row as op_row}
 use Rattle.fe_waits.specs.declared.row.Row.{Row}
 use Rattle.fe_waits.specs.contracts.row.Row.{the_row as row_row}
 
--- ---- the order of pairs of numbers, by the first and then by the second: pairs can so be keys of a finite map
+-- ---- the order of pairs of numbers, by the first and then by the second: pairs can so be
+-- keys of a finite map
 
 abbrev pub pair_cmp : ℕ × ℕ → ℕ × ℕ → Ordering
 pair_cmp a b = ordering_then (nat_cmp a.0 b.0) (nat_cmp a.1 b.1)
@@ -27,7 +29,8 @@ pair_cmp-IsAntisymmetric a b e = by_first (nat_cmp a.0 b.0) (λ t. nat_cmp-IsAnt
   where
     by_first : (o : Ordering) → (o ≡ Equal → a.0 ≡ b.0) → ordering_then o (nat_cmp a.1 b.1) ≡ Equal → a ≡ b
     by_first Less same e = cc
-    by_first Equal same e = let second = nat_cmp-IsAntisymmetric a.1 b.1 e in λ i. (same (λ _. Equal) i, second i)
+    by_first Equal same e =
+        let second = nat_cmp-IsAntisymmetric a.1 b.1 e in λ i. (same (λ _. Equal) i, second i)
     by_first Greater same e = cc
 
 -- ---- what waits
@@ -48,7 +51,8 @@ waiting_access_code =
     (λ t. record { array = t.0; index = t.1.0; op = t.1.1 })
     (λ _. refl)
 
--- the length of each added array; the waiting requests, by slot and number; and for each node the request that it represents, if any
+-- the length of each added array; the waiting requests, by slot and number; and for each node the request
+-- that it represents, if any
 pub record Waiting : Type 0 where
   pub arrays : FinMap nat_cmp ℕ
   pub members : FinMap pair_cmp WaitingAccess
@@ -82,7 +86,13 @@ row_of w node = slice_index_or w.nodes node None
 abbrev pub row_at : FinMap pair_cmp WaitingAccess → ℕ → ℕ → Option Row
 row_at members slot number =
     option_map
-    (λ waiter. record { slot = slot; number = number; array = waiter.array; index = waiter.index; op = waiter.op })
+    (λ waiter. record {
+      slot = slot;
+      number = number;
+      array = waiter.array;
+      index = waiter.index;
+      op = waiter.op;
+    })
     (get members (slot, number))
 
 -- what `waiting_requests` lists of a waiter: the array and the index of its word, and its operation
@@ -92,14 +102,16 @@ access_fields waiter = (waiter.array, waiter.index, waiter.op)
 -- the list has all waiting requests of a slot, by number, and no others
 abbrev pub AreWaitingRequestsOf : FinMap pair_cmp WaitingAccess → ℕ → List (ℕ × (ℕ × ℕ × Op)) → Type 0
 AreWaitingRequestsOf members slot waiting_requests =
-    (number : ℕ) (what : ℕ × ℕ × Op) → Contains waiting_requests (number, what) ↔ (option_map access_fields (get members (slot, number)) ≡ Some what)
+    (number : ℕ) (what : ℕ × ℕ × Op) → Contains waiting_requests (number, what)
+    ↔ (option_map access_fields (get members (slot, number)) ≡ Some what)
 
 -- no number is listed twice
 abbrev pub AreListedOnce : List (ℕ × (ℕ × ℕ × Op)) → Type 0
 AreListedOnce waiting_requests = AllPairs (λ a b. a.0 ≢ b.0) waiting_requests
 
 -- the list has all waiting requests of a slot, each once
-pub record ListsWaitingRequestsOf (members : FinMap pair_cmp WaitingAccess) (slot : ℕ) (waiting_requests : List (ℕ × (ℕ × ℕ × Op))) : Type 0 where
+pub record ListsWaitingRequestsOf (members : FinMap pair_cmp WaitingAccess) (slot : ℕ)
+    (waiting_requests : List (ℕ × (ℕ × ℕ × Op))) : Type 0 where
   pub all : AreWaitingRequestsOf members slot waiting_requests
   pub once : AreListedOnce waiting_requests
 
@@ -113,15 +125,18 @@ IsOn waiter array index = (waiter.array ≡ array) × (waiter.index ≡ index)
 
 -- the node represents a request that waits on the word
 abbrev pub IsNodeOn : Waiting → ℕ → ℕ → ℕ → Type 0
-IsNodeOn w array index node = (row : Row) × (row_of w node ≡ Some row) × IsOn (waiting_access_of row) array index
+IsNodeOn w array index node =
+    (row : Row) × (row_of w node ≡ Some row) × IsOn (waiting_access_of row) array index
 
 -- no request waits on the word
 abbrev pub NoneOnWord : FinMap pair_cmp WaitingAccess → ℕ → ℕ → Type 0
-NoneOnWord members array index = (key : ℕ × ℕ) (waiter : WaitingAccess) → get members key ≡ Some waiter → ¬ (IsOn waiter array index)
+NoneOnWord members array index =
+    (key : ℕ × ℕ) (waiter : WaitingAccess) → get members key ≡ Some waiter → ¬ (IsOn waiter array index)
 
 -- no request waits on a word of the array
 abbrev pub NoneOnArray : FinMap pair_cmp WaitingAccess → ℕ → Type 0
-NoneOnArray members array = (key : ℕ × ℕ) (waiter : WaitingAccess) → get members key ≡ Some waiter → waiter.array ≢ array
+NoneOnArray members array =
+    (key : ℕ × ℕ) (waiter : WaitingAccess) → get members key ≡ Some waiter → waiter.array ≢ array
 
 -- the requests of a slot
 abbrev pub of_slot : FinMap pair_cmp WaitingAccess → ℕ → FinMap pair_cmp WaitingAccess
@@ -145,12 +160,15 @@ pub record ArraysBecome (old new : Waiting) (these : FinMap nat_cmp ℕ) : Type 
   pub arrays : new.arrays ≡ these
   pub members : new.members ≡ old.members
 
--- the invariant: slots are below 64, each request is on a word of an added array, a slot has at most 32 requests,
--- there are at most 2,048 requests and at most 64 arrays, and a request that a node represents waits
+-- the invariant: slots are below 64, each request is on a word of an added array, a slot has at most 32
+-- requests, there are at most 2,048 requests and at most 64 arrays, and a request that a node represents
+-- waits
 pub record IsWithinLimits (w : Waiting) : Type 0 where
   pub slots : (key : ℕ × ℕ) (waiter : WaitingAccess) → get w.members key ≡ Some waiter → key.0 < 64
-  pub words : (key : ℕ × ℕ) (waiter : WaitingAccess) → get w.members key ≡ Some waiter → IsWord w.arrays waiter.array waiter.index
+  pub words : (key : ℕ × ℕ) (waiter : WaitingAccess) → get w.members key ≡ Some waiter
+      → IsWord w.arrays waiter.array waiter.index
   pub few : (slot : ℕ) → count_of w.members slot ≤ 32
   pub all : len w.members ≤ 2048
   pub arrays : len w.arrays ≤ 64
-  pub nodes : (node : ℕ) (row : Row) → row_of w node ≡ Some row → get w.members (key_of row) ≡ Some (waiting_access_of row)
+  pub nodes : (node : ℕ) (row : Row) → row_of w node ≡ Some row
+      → get w.members (key_of row) ≡ Some (waiting_access_of row)

@@ -1,4 +1,5 @@
-//! The lists of waiting requests: one for each word of an array, or for each session (`docs/model.md`, "Waiting requests").
+//! The lists of waiting requests: one for each word of an array, or for each session (`docs/model.md`,
+//! "Waiting requests").
 
 ghost use Rattle.std.specs.Prelude.{◌≡◌, ◌<◌, replicate, length, Some, slice_get, slice_set, IfOk};
 ghost use Rattle.fe_waits.specs.within.Inner.{empty_chain};

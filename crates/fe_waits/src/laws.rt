@@ -1,4 +1,5 @@
-//! A law about the limits on waiting requests (`docs/model.md`, "Waiting requests"). Its function does nothing.
+//! A law about the limits on waiting requests (`docs/model.md`, "Waiting requests"). Its function does
+//! nothing.
 
 ghost use Rattle.std.specs.Prelude.{◌≡◌};
 ghost use Rattle.fe_waits.specs.declared.waits.TheConstants.{SLOTS, NODES};

@@ -1,4 +1,5 @@
-//! The waiting requests, each on the list of its word and on the list of its session (`docs/model.md`, "Waiting requests").
+//! The waiting requests, each on the list of its word and on the list of its session (`docs/model.md`,
+//! "Waiting requests").
 #![tactic(auto)]
 
 mod chains;

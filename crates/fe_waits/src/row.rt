@@ -1,4 +1,5 @@
-//! What a node of the lists has of its waiting request (`docs/model.md`, "Waiting requests"). A slot stands for a session.
+//! What a node of the lists has of its waiting request (`docs/model.md`, "Waiting requests"). A slot stands
+//! for a session.
 
 use fe_words::Op;
 

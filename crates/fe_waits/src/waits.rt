@@ -1,9 +1,11 @@
-//! The waiting requests, each on a list of its word and on one of its session (`docs/model.md`, "Waiting requests"). A slot, 0 to 63,
-//! stands for a session.
+//! The waiting requests, each on a list of its word and on one of its session (`docs/model.md`, "Waiting
+//! requests"). A slot, 0 to 63, stands for a session.
 
 ghost use Rattle.std.specs.Prelude.{◌≡◌, ◌↔◌, ◌<◌, Some, None, IfOk, OnErr, IfSome, IsSome, IsNone, IfNone};
 ghost use Rattle.std.specs.FinMap as map;
-ghost use Rattle.fe_waits.specs.Waiting.{key_of, waiting_access_of, row_of, row_at, of_slot, count_of, without_slot, IsWord, IsNodeOn, NoneOnWord, NoneOnArray, ListsWaitingRequestsOf, MembersBecome, ArraysBecome, IsWithinLimits};
+ghost use Rattle.fe_waits.specs.Waiting.{key_of, waiting_access_of, row_of, row_at, of_slot, count_of};
+ghost use Rattle.fe_waits.specs.Waiting.{without_slot, IsWord, IsNodeOn, NoneOnWord, NoneOnArray};
+ghost use Rattle.fe_waits.specs.Waiting.{ListsWaitingRequestsOf, MembersBecome, ArraysBecome, IsWithinLimits};
 ghost use Rattle.fe_waits.specs.within.Inner.{IsNodeOfSlot};
 
 use crate::chains::Chains;
@@ -24,8 +26,8 @@ const NODES: u32 = 2048;
 
 /// The waiting requests of at most 64 sessions, on the words of at most 64 arrays.
 ///
-/// Only `new`, `add_array` and `waiting_requests` allocate memory. A node that a call returns stands for one waiting request until the
-/// next change.
+/// Only `new`, `add_array` and `waiting_requests` allocate memory. A node that a call returns stands for one
+/// waiting request until the next change.
 pub struct Waits {
     pool: Pool<Row>,
     sessions: Chains,
@@ -64,7 +66,8 @@ impl Model for Waits {
 }
 
 impl Waits {
-    /// No arrays and no waiting requests. Allocates the memory for 2,048 requests; fails only if memory runs out.
+    /// No arrays and no waiting requests. Allocates the memory for 2,048 requests; fails only if memory runs
+    /// out.
     pub fn new(alloc: Global) -> Result<Waits, OutOfMemory>
         ensures arrays { IfOk result (λ waits. waits.arrays ≡ map.empty) }
         ensures members { IfOk result (λ waits. waits.members ≡ map.empty) }
@@ -101,7 +104,8 @@ impl Waits {
     pub fn add_array(&mut self, array: u64, length: u32) -> Result<(), OutOfMemory>
         requires new { map.get self.old.arrays array ≡ None }
         requires room { map.len self.old.arrays < 64 }
-        ensures ok { IfOk result (λ _. ArraysBecome self.old self.new (map.insert self.old.arrays array length)) }
+        ensures ok { IfOk result (λ _. ArraysBecome self.old self.new
+            (map.insert self.old.arrays array length)) }
         ensures err { OnErr result (self.new ≡ self.old) }
     {
         let chains = Chains::new(self.alloc, length as usize)?;
@@ -117,8 +121,9 @@ impl Waits {
         let _ = self.words.remove(array);
     }
 
-    /// Adds a waiting request under a slot and number that no other has. The slot must have fewer than 32. The request goes to the end of
-    /// its word's list, but no clause promises the order in which `first_on` finds the requests of a word.
+    /// Adds a waiting request under a slot and number that no other has. The slot must have fewer than 32.
+    /// The request goes to the end of its word's list, but no clause promises the order in which `first_on`
+    /// finds the requests of a word.
     pub fn add(&mut self, slot: u8, number: u64, array: u64, index: u32, op: Op)
         requires slot { slot < 64 }
         requires new { map.get self.old.members (slot, number) ≡ None }
@@ -189,8 +194,9 @@ impl Waits {
         Some(self.row(node))
     }
 
-    /// The waiting requests of a slot, at most 32, in no particular order: the number of each, the array and the
-    /// index of its word, and its operation. Walks along the list of the slot once. Fails only if memory runs out.
+    /// The waiting requests of a slot, at most 32, in no particular order: the number of each, the array and
+    /// the index of its word, and its operation. Walks along the list of the slot once. Fails only if memory
+    /// runs out.
     pub fn waiting_requests(
         &self,
         alloc: Global,
@@ -248,7 +254,8 @@ impl Waits {
     fn node_of(&self, slot: u8, number: u64) -> Option<Node>
         requires slot { slot < 64 }
         ensures found { IfSome result
-            (λ node. (row_of self.now node ≡ row_at self.now.members slot number) × IsSome (row_of self.now node)) }
+            (λ node. (row_of self.now node ≡ row_at self.now.members slot number)
+            × IsSome (row_of self.now node)) }
         ensures absent { IfNone result (map.get self.now.members (slot, number) ≡ None) }
     {
         let chain = self.sessions.at(slot as usize);

@@ -1,4 +1,5 @@
-//! For each word of each array, the list of the requests that wait on it (`docs/model.md`, "Waiting requests").
+//! For each word of each array, the list of the requests that wait on it (`docs/model.md`, "Waiting
+//! requests").
 
 ghost use Rattle.std.specs.Prelude.{◌≡◌, Some, IsSome};
 ghost use Rattle.fe_waits.specs.within.Inner.{chain_at, with_chain};

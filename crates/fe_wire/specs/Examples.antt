@@ -1,10 +1,12 @@
--- Worked frames, byte by byte: those of `docs/formats.md`, "Frames", and one of each other kind. Computed by the checker.
+-- Worked frames, byte by byte: those of `docs/formats.md`, "Frames", and one of each other kind. Computed by
+-- the checker.
 use Rattle.std.specs.Prelude.{◌≡◌, [], ◌∷◌, ◌++◌, true, false, codes}
 use Rattle.fe_words.specs.declared.word.Tag.TheVariants.{Full, Empty}
 use Rattle.fe_words.specs.declared.op.Op.TheVariants.{ReadFe, ReadXx, WriteEf}
 use Rattle.fe_state.specs.declared.answer.Answer.TheVariants as answer
 use Rattle.fe_state.specs.declared.request.Request.TheVariants.{Create, Find, Remove, Access}
-use Rattle.fe_wire.specs.declared.client_message.ClientMessage.TheVariants.{Attach, Call, Cancel, Settle, Bye, Report}
+use Rattle.fe_wire.specs.declared.client_message.ClientMessage.TheVariants.{Attach, Call, Cancel, Settle, Bye}
+use Rattle.fe_wire.specs.declared.client_message.ClientMessage.TheVariants.{Report}
 use Rattle.fe_wire.specs.declared.server_message.ServerMessage.TheVariants as server
 use Rattle.fe_wire.specs.Spelling.{spelling, reply_spelling}
 

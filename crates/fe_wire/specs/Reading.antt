@@ -1,12 +1,14 @@
--- What the readers of fields and of messages' bodies return: the value, or None if the bytes spell none. A frame is a
--- length, a kind and a body; its kind says which message it is (`docs/model.md`, "Frames").
-use Rattle.std.specs.Prelude.{ℕ, List, [], ◌∷◌, length, take, drop, Bool, true, false, ◌&&◌, Option, Some, None, nat_le, ◌==◌, if◌then◌else◌}
+-- What the readers of fields and of messages' bodies return: the value, or None if the bytes spell none. A
+-- frame is a length, a kind and a body; its kind says which message it is (`docs/model.md`, "Frames").
+use Rattle.std.specs.Prelude.{ℕ, List, [], ◌∷◌, length, take, drop, Bool, true, false, ◌&&◌, Option, Some}
+use Rattle.std.specs.Prelude.{None, nat_le, ◌==◌, if◌then◌else◌}
 use Rattle.std.specs.List.{list_all}
 use Rattle.std.specs.Int.{w32, w64}
 use Rattle.fe_codes.specs.Reading.{◌>>=◌, tag_of, op_of}
 use Rattle.fe_state.specs.declared.request.Request.TheVariants.{Create, Find, Remove, Access}
 use Rattle.fe_wire.specs.declared.client_message.ClientMessage.{ClientMessage}
-use Rattle.fe_wire.specs.declared.client_message.ClientMessage.TheVariants.{Attach, Call, Cancel, Settle, Bye, Report}
+use Rattle.fe_wire.specs.declared.client_message.ClientMessage.TheVariants.{Attach, Call, Cancel, Settle, Bye}
+use Rattle.fe_wire.specs.declared.client_message.ClientMessage.TheVariants.{Report}
 use Rattle.fe_wire.specs.Spelling.{name_room}
 pub use Rattle.fe_fields.specs.Fields.{ReadsAs, next_number, next_byte, next_bytes}
 
@@ -20,7 +22,8 @@ least_name long = if long then 17 else 0
 
 -- the name of this length in its field, whose other bytes must be zero
 unfoldable pub name_of : Bool → ℕ → List ℕ → Option (List ℕ)
-name_of long n cells = if nat_le (least_name long) n && nat_le n (length cells) && are_zero (drop n cells) then Some (take n cells) else None
+name_of long n cells = if nat_le (least_name long) n && nat_le n (length cells)
+    && are_zero (drop n cells) then Some (take n cells) else None
 
 abbrev pub next_name : Bool → List ℕ → Option (List ℕ × List ℕ)
 next_name long bytes = do

@@ -1,6 +1,7 @@
--- A client's stream in a version: whole frames, and then a rest that is an unfinished frame or begins with a bad one.
--- See `docs/model.md`, "Frames".
-use Rattle.std.specs.Prelude.{◌≡◌, ◌≢◌, ℕ, ◌+◌, ◌-◌, ◌<◌, ◌≤◌, ◌^◌, min, Bool, true, false, ◌⊎◌, List, [], ◌++◌, length, take, slice_index, Option, Some, None, ◌==◌, if◌then◌else◌}
+-- A client's stream in a version: whole frames, and then a rest that is an unfinished frame or begins with a
+-- bad one. See `docs/model.md`, "Frames".
+use Rattle.std.specs.Prelude.{◌≡◌, ◌≢◌, ℕ, ◌+◌, ◌-◌, ◌<◌, ◌≤◌, ◌^◌, min, Bool, true, false, ◌⊎◌, List, []}
+use Rattle.std.specs.Prelude.{◌++◌, length, take, slice_index, Option, Some, None, ◌==◌, if◌then◌else◌}
 use Rattle.std.specs.List.{flat_map, AllByRecursion}
 use Rattle.std.specs.Int.{w32, from_be_bytes}
 use Rattle.fe_wire.specs.declared.client_message.ClientMessage.{ClientMessage}
@@ -32,7 +33,8 @@ first_lengths kind =
 abbrev pub length_of_kind : Version → ℕ → Option ℕ
 length_of_kind One kind = first_lengths kind
 length_of_kind Two kind =
-    if kind == 11 then Some 30 else if kind == 12 then Some 47 else if kind == 13 then Some 42 else first_lengths kind
+    if kind == 11 then Some 30 else if kind == 12 then Some 47 else if kind
+    == 13 then Some 42 else first_lengths kind
 
 -- the greatest value of the length field
 abbrev pub longest : Version → ℕ
@@ -76,7 +78,8 @@ abbrev pub IsUnfinished : Version → List ℕ → Type 0
 IsUnfinished v bytes = (¬ IsWhole bytes) × (¬ IsBad v bytes)
 
 -- The stream consists of the frames of these messages, and then this rest.
-pub record IsStream (version : Version) (stream : List ℕ) (messages : List ClientMessage) (rest : List ℕ) : Type 0 where
+pub record IsStream (version : Version) (stream : List ℕ) (messages : List ClientMessage)
+    (rest : List ℕ) : Type 0 where
   pub parts : stream ≡ flat_map spelling messages ++ rest
   pub each : AllByRecursion (FitsIn version) messages
   pub end : IsUnfinished version rest ⊎ IsBad version rest
@@ -98,7 +101,8 @@ StandsAt v false held rest = IsUnfinished v rest × (held ≡ rest)
 StandsAt v true held rest = IsBad v rest × (held ≡ [])
 
 -- The decoder has read this stream, whose first byte has the offset `start`, and these are its messages.
-pub record HasReadFrom (start : ℕ) (decoder : Decoding) (stream : List ℕ) (messages : List ClientMessage) : Type 0 where
+pub record HasReadFrom (start : ℕ) (decoder : Decoding) (stream : List ℕ)
+    (messages : List ClientMessage) : Type 0 where
   pub rest : List ℕ
   pub is_stream : IsStream decoder.version stream messages rest
   pub offset : decoder.offset ≡ min (start + length (flat_map spelling messages)) (2 ^ 64 - 1)
@@ -111,7 +115,8 @@ HasRead = HasReadFrom 0
 -- Whatever was read before, this piece completes at least one more message.
 abbrev pub CompletesMessage : Decoding → List ℕ → Type 0
 CompletesMessage decoder piece =
-    (start : ℕ) (before : List ℕ) (earlier messages : List ClientMessage) (rest : List ℕ) → HasReadFrom start decoder before earlier
+    (start : ℕ) (before : List ℕ) (earlier messages : List ClientMessage) (rest : List ℕ)
+    → HasReadFrom start decoder before earlier
     → IsStream decoder.version (before ++ piece) messages rest → length earlier < length messages
 
 -- the fault that a decoder reports: the offset of the bad frame
@@ -122,7 +127,8 @@ fault_of decoder = if decoder.is_bad then Some (record { offset = decoder.offset
 abbrev pub IsHead : Version → Head → List ℕ → Type 0
 IsHead v Unfinished bytes = IsUnfinished v bytes
 IsHead v Bad bytes = IsBad v bytes
-IsHead v (Whole count m) bytes = FitsIn v m × (front_frame bytes ≡ spelling m) × IsWhole bytes × (count ≡ 4 + length_field bytes)
+IsHead v (Whole count m) bytes =
+    FitsIn v m × (front_frame bytes ≡ spelling m) × IsWhole bytes × (count ≡ 4 + length_field bytes)
 
 -- ---- decoders
 
@@ -145,27 +151,32 @@ pub record IsDecoderState (p : DecoderState) : Type 0 where
   pub cells : length p.cells ≡ 51
   pub held : IsHeld p.version p.is_bad (held_of p)
 
--- Whatever was read before, these bytes after it lead from the old state to the new one and complete these messages.
+-- Whatever was read before, these bytes after it lead from the old state to the new one and complete these
+-- messages.
 pub record Consumes (old new : DecoderState) (bytes : List ℕ) (messages : List ClientMessage) : Type 0 where
   pub version : new.version ≡ old.version
-  pub reads : (start : ℕ) (before : List ℕ) (earlier : List ClientMessage) → HasReadFrom start (decoding old) before earlier
+  pub reads : (start : ℕ) (before : List ℕ) (earlier : List ClientMessage)
+      → HasReadFrom start (decoding old) before earlier
       → HasReadFrom start (decoding new) (before ++ bytes) (earlier ++ messages)
 
 -- ---- laws, cited by public functions
 
 -- A stream has at most one reading in a version.
 abbrev pub HasOneReading : Type 0
-HasOneReading = (v : Version) (stream : List ℕ) (a b : List ClientMessage) (x y : List ℕ) → IsStream v stream a x → IsStream v stream b y → (a ≡ b) × (x ≡ y)
+HasOneReading = (v : Version) (stream : List ℕ) (a b : List ClientMessage) (x y : List ℕ)
+    → IsStream v stream a x → IsStream v stream b y → (a ≡ b) × (x ≡ y)
 
--- Two decoders of one version that have read the same stream from the same offset, in whatever pieces, have the same
--- messages and are in the same state.
+-- Two decoders of one version that have read the same stream from the same offset, in whatever pieces, have
+-- the same messages and are in the same state.
 abbrev pub HasOneOutcome : Type 0
-HasOneOutcome = (start : ℕ) (stream : List ℕ) (a b : List ClientMessage) (x y : Decoding) → x.version ≡ y.version
+HasOneOutcome =
+    (start : ℕ) (stream : List ℕ) (a b : List ClientMessage) (x y : Decoding) → x.version ≡ y.version
     → HasReadFrom start x stream a → HasReadFrom start y stream b → (a ≡ b) × (x ≡ y)
 
 -- No message's frame is a prefix of another's, and no two messages have the same frame.
 abbrev pub HasOneSpelling : Type 0
-HasOneSpelling = (a b : ClientMessage) (x y : List ℕ) → Fits a → Fits b → spelling a ++ x ≡ spelling b ++ y → (a ≡ b) × (x ≡ y)
+HasOneSpelling = (a b : ClientMessage) (x y : List ℕ) → Fits a → Fits b → spelling a ++ x ≡ spelling b ++ y
+    → (a ≡ b) × (x ≡ y)
 
 -- a reading of the stream
 pub record HasReading (version : Version) (stream : List ℕ) : Type 0 where

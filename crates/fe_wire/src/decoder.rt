@@ -10,8 +10,8 @@ use fe_state::{Request, named};
 use std::alloc::Global;
 use std::marker::Model;
 
-/// Decodes the stream of one connection, which may come in pieces of any size. It stores at most the first 50 bytes
-/// of one unfinished frame (`docs/formats.md`, "Frames").
+/// Decodes the stream of one connection, which may come in pieces of any size. It stores at most the first 50
+/// bytes of one unfinished frame (`docs/formats.md`, "Frames").
 #[derive(Drop)]
 pub struct Decoder {
     state: DecoderState,
@@ -66,10 +66,11 @@ impl Decoder {
         Decoder { state }
     }
 
-    /// Decodes the next piece of the stream. Fails only if memory for the messages in it runs out; then the decoder
-    /// is unchanged, as if the piece had not come.
+    /// Decodes the next piece of the stream. Fails only if memory for the messages in it runs out; then the
+    /// decoder is unchanged, as if the piece had not come.
     pub fn feed(&mut self, alloc: Global, piece: &[u8]) -> Result<Fed, OutOfMemory>
-        // The decoder has now read this piece too, and the returned messages are those that the piece completes.
+        // The decoder has now read this piece too, and the returned messages are those that the piece
+        // completes.
         ensures reads { IfOk result (λ fed. (start : ℕ) (before : List ℕ) (earlier : List Message)
             → HasReadFrom start self.old before earlier
             → HasReadFrom start self.new (before ++ piece.now) (earlier ++ fed.messages.items)) }

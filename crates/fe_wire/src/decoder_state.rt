@@ -1,4 +1,5 @@
-//! The state of a decoder, which reads the frames of one client's stream as its pieces come (`docs/formats.md`, "Frames").
+//! The state of a decoder, which reads the frames of one client's stream as its pieces come
+//! (`docs/formats.md`, "Frames").
 
 ghost use Rattle.std.specs.Prelude.{◌≡◌, ◌+◌, ◌<◌, ◌≤◌, ◌++◌, false, length, take, option_to_list};
 ghost use Rattle.fe_wire.specs.Stream.{length_field, fault_of, IsDecoderState, Consumes, held_of, decoding};
@@ -28,7 +29,8 @@ pub struct DecoderState {
 }
 
 impl DecoderState {
-    /// Copies bytes of the piece, at most to the end of the frame's length field or, if that has come, of the frame. Returns how many.
+    /// Copies bytes of the piece, at most to the end of the frame's length field or, if that has come, of the
+    /// frame. Returns how many.
     fn fill(&mut self, piece: &[u8]) -> usize
         requires state { IsDecoderState self.old }
         requires good { self.old.is_bad ≡ false }
@@ -54,8 +56,9 @@ impl DecoderState {
         count
     }
 
-    /// Reads one byte of the piece or more, and none beyond the current frame unless that is bad. Returns how many it read, and the message
-    /// if the frame is now complete. A frame that is complete in the piece is read there, without a copy.
+    /// Reads one byte of the piece or more, and none beyond the current frame unless that is bad. Returns how
+    /// many it read, and the message if the frame is now complete. A frame that is complete in the piece is
+    /// read there, without a copy.
     pub fn step(&mut self, piece: &[u8]) -> (usize, Option<ClientMessage>)
         requires state { IsDecoderState self.old }
         requires good { self.old.is_bad ≡ false }

@@ -20,8 +20,8 @@ fn least_name(is_long: bool) -> usize
     if is_long { 17 } else { 0 }
 }
 
-/// The name of this length in the bytes of its field, or `None` if the length is wrong for the field or a byte after
-/// the name is not zero.
+/// The name of this length in the bytes of its field, or `None` if the length is wrong for the field or a
+/// byte after the name is not zero.
 #[tactic(auto, unfolding(crate::specs::Reading::name_of))]
 pub fn name_of(is_long: bool, len: u8, cells: &[u8]) -> Option<Name>
     requires { length cells.now ≡ name_room is_long }

@@ -30,7 +30,8 @@ pub fn frame_of(length: u32, kind: u8) -> Frame
     frame
 }
 
-/// Appends the length of the name, its bytes and the zeros after them. There must be room for 33 bytes, as many as a long name takes.
+/// Appends the length of the name, its bytes and the zeros after them. There must be room for 33 bytes, as
+/// many as a long name takes.
 pub fn put_name(frame: &mut Frame, name: &Name)
     requires { length frame.old + 33 ≤ 51 }
     ensures field { frame.new ≡ frame.old ++ name_field name.now }

@@ -1,5 +1,5 @@
-//! The head of a stream: the frame that its first bytes begin, as far as they have come. A frame is a length field, a
-//! kind of one byte, and a body (`docs/formats.md`, "Frames").
+//! The head of a stream: the frame that its first bytes begin, as far as they have come. A frame is a length
+//! field, a kind of one byte, and a body (`docs/formats.md`, "Frames").
 
 ghost use Rattle.std.specs.Prelude.{◌≡◌};
 ghost use Rattle.fe_wire.specs.Stream.{IsHead, length_of_kind};

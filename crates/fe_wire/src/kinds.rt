@@ -1,4 +1,5 @@
-//! The kinds of frames: the byte after a frame's length, which says what message it is (`docs/formats.md`, "Frames").
+//! The kinds of frames: the byte after a frame's length, which says what message it is (`docs/formats.md`,
+//! "Frames").
 
 ghost use Rattle.std.specs.Prelude.{◌≡◌};
 ghost use Rattle.fe_wire.specs.Spelling.{create_kind, find_kind, access_kind};

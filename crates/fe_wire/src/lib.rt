@@ -1,4 +1,5 @@
-//! The frames that clients and the server exchange, each a length, a kind and a body (`docs/formats.md`, "Frames").
+//! The frames that clients and the server exchange, each a length, a kind and a body (`docs/formats.md`,
+//! "Frames").
 #![tactic(auto)]
 
 mod client_message;

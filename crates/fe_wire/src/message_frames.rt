@@ -105,8 +105,8 @@ fn call_frame(number: u64, request: &Request) -> Frame
     }
 }
 
-/// Appends the frame of a message. Fails only if the vector has no spare room for it and memory runs out; then
-/// nothing is appended.
+/// Appends the frame of a message. Fails only if the vector has no spare room for it and memory runs out;
+/// then nothing is appended.
 pub fn put_message(out: &mut Vec<u8>, message: &ClientMessage) -> Result<(), OutOfMemory>
     ensures ok { OnOk result (out.new.items ≡ out.old.items ++ spelling message.now) }
     ensures err { OnErr result (out.new.items ≡ out.old.items) }

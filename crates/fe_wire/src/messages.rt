@@ -86,7 +86,8 @@ fn plain_of(kind: u8, body: &[u8]) -> Option<ClientMessage>
     }
 }
 
-/// The message that a frame with this kind and body spells in version 2, which has every message, or `None` if there is none.
+/// The message that a frame with this kind and body spells in version 2, which has every message, or `None`
+/// if there is none.
 #[tactic(auto, unfolding(crate::specs::Reading::message_of))]
 pub fn message_of(kind: u8, body: &[u8]) -> Option<ClientMessage>
     ensures { result ≡ message_of kind body.now }

@@ -65,13 +65,14 @@ fn refused_frame(number: u64, code: u8) -> Frame
     frame
 }
 
-/// Appends the frame of a reply. The code of a refusal must be 1 to 10. Fails only if the vector has no spare room
-/// for it and memory runs out; then nothing is appended.
+/// Appends the frame of a reply. The code of a refusal must be 1 to 10. Fails only if the vector has no spare
+/// room for it and memory runs out; then nothing is appended.
 pub fn put_reply(out: &mut Vec<u8>, message: &ServerMessage) -> Result<(), OutOfMemory>
     requires { HasRefusalCode message.now }
     ensures ok { OnOk result (out.new.items ≡ out.old.items ++ reply_spelling message.now) }
     ensures err { OnErr result (out.new.items ≡ out.old.items) }
-    ensures full { OnErr result (vec_capacity out.old < vec_len out.old + length (reply_spelling message.now)) }
+    ensures full { OnErr result (vec_capacity out.old
+        < vec_len out.old + length (reply_spelling message.now)) }
     // The reply is in the grammar, so it can be read again.
     ensures fits { ReplyFits message.now }
 {

@@ -39,7 +39,8 @@ fn refused_of(body: &[u8]) -> Option<ServerMessage>
     ended(rest, ServerMessage::Refused { number, code })
 }
 
-/// The reply that a frame with this kind and body spells, or `None` if it spells none or the kind is that of a report.
+/// The reply that a frame with this kind and body spells, or `None` if it spells none or the kind is that of
+/// a report.
 #[tactic(auto, unfolding(crate::specs::within::Replies::reply_of_kind))]
 fn reply_of_kind(kind: u8, body: &[u8]) -> Option<ServerMessage>
     ensures { result ≡ reply_of_kind kind body.now }
@@ -95,13 +96,14 @@ fn parts_of(frame: &[u8]) -> Option<(u8, &[u8])>
     }
 }
 
-/// The reply that exactly one whole frame spells, or `None` if it spells none. Fails only if memory for a report's
-/// text runs out.
+/// The reply that exactly one whole frame spells, or `None` if it spells none. Fails only if memory for a
+/// report's text runs out.
 pub fn read_reply(alloc: Global, frame: &[u8]) -> Result<Option<ServerMessage>, OutOfMemory>
     // What is read has this frame.
     ensures found { IfOk result (λ reply. IfSome reply (λ m. ReplyFits m × (frame.now ≡ reply_spelling m))) }
     // Every frame in the grammar is read, so `None` means that the bytes are outside it.
-    ensures only { (m : Reply) → ReplyFits m → frame.now ≡ reply_spelling m → IfOk result (λ reply. reply ≡ Some m) }
+    ensures only { (m : Reply) → ReplyFits m → frame.now ≡ reply_spelling m
+        → IfOk result (λ reply. reply ≡ Some m) }
     // Memory can run out only for the text of a report.
     ensures memory { OnErr result (IsReport frame.now) }
 {

@@ -14,8 +14,8 @@ pub enum ServerMessage {
     Settled { floor: u64 },
     /// The session has ended.
     Goodbye { session: u64 },
-    /// A message was refused, for the reason with this code, 1 to 10. The number is that of the call or cancel, the
-    /// session of an attach, the floor of a settle, or 0 for a bye or a report.
+    /// A message was refused, for the reason with this code, 1 to 10. The number is that of the call or
+    /// cancel, the session of an attach, the floor of a settle, or 0 for a bye or a report.
     Refused { number: u64, code: u8 },
     /// The text of a report, 1 to 262,144 bytes.
     Report(ReportText),

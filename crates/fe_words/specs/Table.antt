@@ -1,7 +1,9 @@
--- The operation table: what each operation does to a tagged word, and what it answers (`docs/model.md`, "Words").
+-- The operation table: what each operation does to a tagged word, and what it answers (`docs/model.md`,
+-- "Words").
 use Rattle.std.specs.Prelude.{◌≡◌, ◌↔◌, ℕ, ◌+◌, ◌%◌, ◌^◌, List, Option, Some, None, IsNone, codes}
 use Rattle.fe_words.specs.declared.op.Op.{Op}
-use Rattle.fe_words.specs.declared.op.Op.TheVariants.{ReadFe, ReadFf, ReadXx, WriteEf, WriteFf, WriteXf, Purge, IntFetchAdd}
+use Rattle.fe_words.specs.declared.op.Op.TheVariants.{ReadFe, ReadFf, ReadXx, WriteEf, WriteFf, WriteXf}
+use Rattle.fe_words.specs.declared.op.Op.TheVariants.{Purge, IntFetchAdd}
 use Rattle.fe_words.specs.declared.word.Word.{Word}
 use Rattle.fe_words.specs.declared.word.Tag.{Tag}
 use Rattle.fe_words.specs.declared.word.Tag.TheVariants.{Full, Empty}
@@ -14,8 +16,9 @@ use Rattle.fe_words.specs.declared.word.Reply.TheVariants.{Value, Done}
 abbrev pub word : ℕ → Tag → Word
 word value tag = record { value = value; tag = tag }
 
--- The eight rows: the word that an operation leaves of one with this tag and value, and the answer, or None if the word lacks the tag that
--- the operation needs. A word that becomes empty keeps its old value, except under purge.
+-- The eight rows: the word that an operation leaves of one with this tag and value, and the answer, or None
+-- if the word lacks the tag that the operation needs. A word that becomes empty keeps its old value, except
+-- under purge.
 abbrev pub row : Op → Tag → ℕ → Option (Word × Reply)
 row ReadFe Full old = Some (word old Empty, Value old)
 row ReadFe Empty old = None
@@ -31,7 +34,8 @@ row Purge tag old = Some (word 0 Empty, Done)
 row (IntFetchAdd operand) Full old = Some (word ((old + operand) % 2 ^ 64) Full, Value old)
 row (IntFetchAdd operand) Empty old = None
 
--- the operation table: the word after the operation and its answer, or None if the word lacks the tag that the operation needs
+-- the operation table: the word after the operation and its answer, or None if the word lacks the tag that
+-- the operation needs
 abbrev pub table : Op → Word → Option (Word × Reply)
 table op w = row op w.tag w.value
 

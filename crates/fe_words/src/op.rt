@@ -5,8 +5,8 @@ ghost use Rattle.fe_words.specs.Table.{table, need_of, name_of, IsUndefinedWhere
 
 use crate::word::{Need, Reply, Tag, Word};
 
-/// An operation on a tagged word. The operand of a write is the value it stores; the operand of `IntFetchAdd` is the
-/// number it adds, modulo 2^64.
+/// An operation on a tagged word. The operand of a write is the value it stores; the operand of `IntFetchAdd`
+/// is the number it adds, modulo 2^64.
 #[derive(Clone, Copy, PartialEq, Eq)]
 pub enum Op {
     ReadFe,
@@ -36,7 +36,8 @@ impl Op {
         }
     }
 
-    /// The word after the operation and its answer, or `None` if the word lacks the tag that the operation needs.
+    /// The word after the operation and its answer, or `None` if the word lacks the tag that the operation
+    /// needs.
     pub fn rule(self, word: Word) -> Option<(Word, Reply)>
         ensures { result ≡ table self word }
     {
@@ -57,7 +58,8 @@ impl Op {
         }
     }
 
-    /// The name of the operation in schedules and reports (`docs/schedules.md`, "Lines"), without its operand.
+    /// The name of the operation in schedules and reports (`docs/schedules.md`, "Lines"), without its
+    /// operand.
     pub fn name(self) -> &'static str
         ensures { result.now ≡ name_of self }
     {

@@ -22,10 +22,12 @@ pub(crate) enum Fault {
     /// The input can't be read to its end, or the output can't be written.
     #[error("femem: input")]
     Input,
-    /// Memory ran out, or a server could not start its committing thread or get a second handle of its listener.
+    /// Memory ran out, or a server could not start its committing thread or get a second handle of its
+    /// listener.
     #[error("femem: memory")]
     Memory,
-    /// The store's file is missing, no plain file or locked by another server; its device failed; or a file next to it is in the way.
+    /// The store's file is missing, no plain file or locked by another server; its device failed; or a file
+    /// next to it is in the way.
     #[error("femem: store device")]
     Device,
     /// The store's file has this many bytes, which is not the size of a store.
@@ -49,16 +51,19 @@ pub(crate) enum Fault {
     /// The settings file can't be read, or is not UTF-8.
     #[error("femem: settings: unreadable")]
     Unreadable,
-    /// `serve` can't make the socket; or `call` finds no server, or its connection fails, ends before a reply or brings a bad frame.
+    /// `serve` can't make the socket; or `call` finds no server, or its connection fails, ends before a reply
+    /// or brings a bad frame.
     #[error("femem: socket")]
     Socket,
-    /// A lower layer returned what a correct one never returns, or the server's count of calls or of mails is full.
+    /// A lower layer returned what a correct one never returns, or the server's count of calls or of mails is
+    /// full.
     #[error("femem: strange")]
     Strange,
 }
 
 impl Fault {
-    /// The exit status: 2 for a fault of the input, the output or the settings, 4 for one of the socket, otherwise 3.
+    /// The exit status: 2 for a fault of the input, the output or the settings, 4 for one of the socket,
+    /// otherwise 3.
     pub(crate) fn status(self) -> u8
         ensures { result ≡ status_of self }
     {

@@ -1,5 +1,6 @@
-//! The program `femem`: `run` runs a schedule from standard input, `serve` serves a store at a socket, `call` sends lines
-//! from standard input to a server, and `look` shows what is in a store (`docs/commands.md`, "Commands").
+//! The program `femem`: `run` runs a schedule from standard input, `serve` serves a store at a socket, `call`
+//! sends lines from standard input to a server, and `look` shows what is in a store (`docs/commands.md`,
+//! "Commands").
 #![tactic(auto)]
 
 ghost use Rattle.std.specs.Prelude.{◌≡◌, ◌⊎◌, ℕ, take, is_ok, IfOk, IfErr, OnOk};
@@ -10,7 +11,9 @@ ghost use Rattle.fe_disk.specs.Memory.{MemoryState};
 ghost use Rattle.fe_schedules.specs.Schedule.{RunsAll, RunsUntil, ReaderFails};
 ghost use Rattle.fe_schedules.specs.declared.fault.ScheduleFault.{ScheduleFault};
 ghost use Rattle.fe_server.specs.BooksText.{books_text};
-ghost use Rattle.femem.specs.within.Faults.{status_of, of_schedule, AreSettings, RefusesFile, WritesBooks, WritesBooksOf, IsFaultOf, FailsServing, command_status, words_status, shown_status, IsWordsStatus};
+ghost use Rattle.femem.specs.within.Faults.{status_of, of_schedule, AreSettings, RefusesFile, WritesBooks};
+ghost use Rattle.femem.specs.within.Faults.{WritesBooksOf, IsFaultOf, FailsServing, command_status};
+ghost use Rattle.femem.specs.within.Faults.{words_status, shown_status, IsWordsStatus};
 
 mod fault;
 
@@ -46,8 +49,9 @@ const SHORT: u8 = 3;
 /// The descriptor of standard error, the last of the three standard streams.
 const STANDARD_ERROR: i32 = 2;
 
-/// Replaces each closed standard stream by an unconnected socket, so that every read and write of it fails. Otherwise the next file or
-/// socket would get that descriptor, and a server, for one, would receive what `femem call` writes to standard output.
+/// Replaces each closed standard stream by an unconnected socket, so that every read and write of it fails.
+/// Otherwise the next file or socket would get that descriptor, and a server, for one, would receive what
+/// `femem call` writes to standard output.
 fn hold_closed_streams() {
     for _stream in 0..=STANDARD_ERROR {
         let fd = unsafe { c::socket(c::AF_UNIX, c::SOCK_STREAM | c::SOCK_CLOEXEC, 0) };
@@ -100,10 +104,13 @@ fn run_by<R: Source, W: Sink>(alloc: Global, reader: &mut R, writer: &mut W) -> 
     ensures ok { OnOk result ((disk : MemoryState)
         × RunsAll (R.remaining reader.old) (W.contents writer.old) (W.contents writer.new) disk) }
     ensures flushed { OnOk result (W.is_handed_on writer.new) }
-    // The fault and its line are those of the schedule: the first lines of the input ran, and what the fault says ended them.
-    ensures fault { IfErr result (λ fault. (fault ≡ Fault.Memory) ⊎ ((end : ScheduleFault) × (fault ≡ of_schedule end)
+    // The fault and its line are those of the schedule: the first lines of the input ran, and what the fault
+    // says ended them.
+    ensures fault { IfErr result (λ fault. (fault ≡ Fault.Memory)
+        ⊎ ((end : ScheduleFault) × (fault ≡ of_schedule end)
         × RunsUntil (ReaderFails R.has_failed R.was_read reader.old reader.new) (W.has_failed writer.new)
-        (reader.new ≡ reader.old) end (R.remaining reader.old) (W.contents writer.old) (W.contents writer.new))) }
+        (reader.new ≡ reader.old) end (R.remaining reader.old) (W.contents writer.old)
+        (W.contents writer.new))) }
 {
     let Ok(disk) = MemoryDisk::new(alloc, DEVICE_BYTES) else {
         return Err(Fault::Memory);
@@ -116,7 +123,8 @@ fn run_by<R: Source, W: Sink>(alloc: Global, reader: &mut R, writer: &mut W) -> 
     }
 }
 
-/// Serves with the settings in a file, and writes the books, the counts of calls and mails, once the server has ended without a fault.
+/// Serves with the settings in a file, and writes the books, the counts of calls and mails, once the server
+/// has ended without a fault.
 fn serve_by<
     F: StoreFile + Drop + Send,
     R: Files<File = File> + Net + Clock + Threads + Wait + Sync + AllocGlobal,
@@ -124,7 +132,8 @@ fn serve_by<
 >(rt: &R, path: &str, writer: &mut W) -> Result<(), Fault>
     ensures books { OnOk result (WritesBooks ⟦<FileDisk<F> as Disk>⟧ F.is_at
         (W.contents writer.old) (W.contents writer.new)) }
-    // The fault is the one that there was: the settings were refused, or it is that of serving the store that they name.
+    // The fault is the one that there was: the settings were refused, or it is that of serving the store that
+    // they name.
     ensures fault { IfErr result (λ end. RefusesFile end ⊎ FailsServing ⟦<FileDisk<F> as Disk>⟧ F.is_at
         (W.has_failed writer.new) (W.contents writer.old) (W.contents writer.new) end) }
 {
@@ -171,10 +180,12 @@ fn settings_at<R: Files + AllocGlobal>(rt: &R, path: &str) -> Result<Settings, F
 
 /// Writes the books. If the writer fails, a prefix of their text is written.
 fn show_books<W: Sink>(alloc: Global, books: &Books, writer: &mut W) -> Result<(), StreamFault>
-    ensures ok { OnOk result (Appends (W.contents writer.old) (W.contents writer.new) (books_text books.now)) }
+    ensures ok { OnOk result (Appends (W.contents writer.old) (W.contents writer.new)
+        (books_text books.now)) }
     ensures front { (count : ℕ)
         × Appends (W.contents writer.old) (W.contents writer.new) (take count (books_text books.now)) }
-    ensures fails { IfErr result (λ fault. (fault ≡ StreamFault.Memory out_of_memory) ⊎ W.has_failed writer.new fault) }
+    ensures fails { IfErr result (λ fault. (fault ≡ StreamFault.Memory out_of_memory)
+        ⊎ W.has_failed writer.new fault) }
 {
     match books_text(alloc, books) {
         Ok(mut text) => match writer.write_whole(&mut text) {
@@ -203,8 +214,8 @@ fn end(rt: &impl Eprint, fault: Fault) -> u8
     fault.status()
 }
 
-/// Prints the help or the version that was asked for, or what is wrong with the words on standard error, and returns
-/// the exit status.
+/// Prints the help or the version that was asked for, or what is wrong with the words on standard error, and
+/// returns the exit status.
 fn refuse(rt: &(impl Print + Eprint), error: &Error) -> u8
     ensures { IsWordsStatus (kind_of error.now) result }
 {

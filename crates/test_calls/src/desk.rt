@@ -1,5 +1,6 @@
-//! Tests of a desk when memory runs out. Those whose names end in `where_memory_ends` are run again and again with the
-//! first allocation refused, then the second, and so on (`scripts/refuse_test`), and once with memory enough.
+//! Tests of a desk when memory runs out. Those whose names end in `where_memory_ends` are run again and again
+//! with the first allocation refused, then the second, and so on (`scripts/refuse_test`), and once with
+//! memory enough.
 
 use crate::disk::DEVICE_BYTES;
 use crate::messages::{Said, first_frame, put_expected, put_said};
@@ -15,8 +16,8 @@ const NO_MEMORY: u8 = 8;
 /// The frame of the report if nothing waits.
 const NONE_WAITS: &[u8] = b"\0\0\0\x0b\x47waiting 0\n";
 
-/// The bytes of a new store, except those that are zero: slot 0 has generation 1 and the image of the first state
-/// (`docs/formats.md`, "Device").
+/// The bytes of a new store, except those that are zero: slot 0 has generation 1 and the image of the first
+/// state (`docs/formats.md`, "Device").
 const STORE: [(usize, &'static [u8]); 4] = [
     (0, b"FEMEMST2"),
     (8, &[0, 0, 0, 0, 0, 0, 0, 1, 0, 0, 0, 24]),
@@ -109,7 +110,8 @@ fn is_refusal(frame: &[u8]) -> bool {
     frame.len() == 14 && frame[4] == 70 && frame[13] == NO_MEMORY
 }
 
-// How many refusals for lack of memory were written. All else that was written must be these frames, or the first of them.
+// How many refusals for lack of memory were written. All else that was written must be these frames, or the
+// first of them.
 fn refusals_in(rt: &impl Abort, written: &[u8], frames: &[u8]) -> usize {
     let mut found: usize = 0;
     let (mut written, mut frames) = (written, frames);
@@ -140,7 +142,8 @@ fn written_to(desk: &Desk<Liar>, conn: u64) -> &[u8] {
     &[]
 }
 
-// Takes a line. If it is refused because memory is short, it is said again; only a creation or a report may be refused so.
+// Takes a line. If it is refused because memory is short, it is said again; only a creation or a report may
+// be refused so.
 fn take_expected(
     rt: &impl Abort,
     alloc: Global,
@@ -177,8 +180,8 @@ fn frames_for(rt: &impl Abort, alloc: Global, path: &Path, conn: u64) -> Vec<u8>
     frames
 }
 
-// Checks that these frames were written to the connection, and besides them at most one refusal for lack of memory. If no frames are
-// expected, nothing may be written.
+// Checks that these frames were written to the connection, and besides them at most one refusal for lack of
+// memory. If no frames are expected, nothing may be written.
 fn check_written(rt: &impl Abort, desk: &Desk<Liar>, conn: u64, frames: &[u8]) {
     let written = written_to(desk, conn);
     assert!(rt; !frames.is_empty() || written.is_empty());

@@ -16,8 +16,8 @@ fn found(rt: &impl Abort, disk: &mut MemoryDisk) -> [u8; 2] {
     found
 }
 
-// A write is a device fault if memory for the bytes that it replaces runs out, and leaves the disk unchanged. A sync takes no memory.
-// `rt try --test --fail-alloc N`, for N from 1 on, refuses the Nth allocation.
+// A write is a device fault if memory for the bytes that it replaces runs out, and leaves the disk unchanged.
+// A sync takes no memory. `rt try --test --fail-alloc N`, for N from 1 on, refuses the Nth allocation.
 fn check_faults(rt: &impl Abort, disk: &mut MemoryDisk) {
     let mut faults = 0;
     for byte in 1..20 {

@@ -68,7 +68,8 @@ fn is_strange(front: &mut Front, batch: Batch, entries: &[Entry]) -> bool {
     }
 }
 
-/// Without a cut batch an empty one is refused. With one, a longer one is refused, and then the cut one is posted.
+/// Without a cut batch an empty one is refused. With one, a longer one is refused, and then the cut one is
+/// posted.
 fn check_batches(rt: &impl Abort, alloc: Global, front: &mut Front) -> Result<(), Fail> {
     assert!(rt; is_strange(front, Batch::new(alloc, 0)?, &[]));
     come(rt, front);

@@ -1,5 +1,6 @@
-//! Formatting and opening when memory runs out: the disk is returned, and a second try with memory succeeds. A first try may fail only for
-//! lack of memory. `rt try --test --fail-alloc N`, for N from 1 on, refuses the Nth allocation.
+//! Formatting and opening when memory runs out: the disk is returned, and a second try with memory succeeds.
+//! A first try may fail only for lack of memory. `rt try --test --fail-alloc N`, for N from 1 on, refuses the
+//! Nth allocation.
 use crate::disk::DEVICE_BYTES;
 use fe_disk::{Disk, MemoryDisk};
 use fe_journal::{Blank, Found, Journal, StoreFault, Unopened};
@@ -12,7 +13,8 @@ const EMPTY: [u8; 24] = [
     0, 0, 0, 0, 0, 0, 0, 0, 0, 0, 0, 0, 0, 0, 0, 1, 0, 0, 0, 0, 0, 0, 0, 0,
 ];
 
-// Whether memory ran out: in the journal, or in the disk for its record of a call, which is then a fault of the device.
+// Whether memory ran out: in the journal, or in the disk for its record of a call, which is then a fault of
+// the device.
 fn wants_memory(fault: StoreFault, disk: &MemoryDisk) -> bool {
     match fault {
         StoreFault::NoMemory(_) => disk.failures() == 0,

@@ -1,5 +1,5 @@
-//! A keeper when memory runs out, as in `desk`: what is refused leaves the state, returns disk and batch, and is done
-//! when it is asked again.
+//! A keeper when memory runs out, as in `desk`: what is refused leaves the state, returns disk and batch, and
+//! is done when it is asked again.
 
 use crate::desk::{blank_liar, new_liar};
 use fe_disk::Liar;
@@ -85,7 +85,8 @@ fn is_same(batch: &Batch, first: u64, entry: &Entry, count: usize) -> bool {
     batch.first == first && entries.len() == count && entries.iter().all(|one| one == entry)
 }
 
-// Appends the entry this many times, at the latest at the second try. A failed try returns the batch and leaves the state.
+// Appends the entry this many times, at the latest at the second try. A failed try returns the batch and
+// leaves the state.
 fn append_at_last(
     rt: &impl Abort,
     alloc: Global,
@@ -136,7 +137,8 @@ fn check_checkpoint(rt: &impl Abort, alloc: Global, keeper: &mut Keeper<Liar>) {
     assert!(rt; keeper.used() == 165);
 }
 
-// Appends four batches. The fourth does not fit, and has a whole checkpoint made: 4,000 records take 320,005 bytes.
+// Appends four batches. The fourth does not fit, and has a whole checkpoint made: 4,000 records take 320,005
+// bytes.
 fn check_whole(rt: &impl Abort, alloc: Global, keeper: &mut Keeper<Liar>) {
     for _ in 0..4 {
         append_at_last(rt, alloc, keeper, &ATTACHED, 4000);

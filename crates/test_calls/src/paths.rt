@@ -4,8 +4,8 @@ use crate::messages::{ExpectedReply, Said};
 use fe_state::Answer;
 use fe_words::{Op, Tag};
 
-/// What connections send, all that each should be sent for it, and how many groups should be stored: one after each
-/// line that makes an entry.
+/// What connections send, all that each should be sent for it, and how many groups should be stored: one
+/// after each line that makes an entry.
 #[derive(Clone, Copy)]
 pub struct Path {
     pub lines: &'static [(u64, Said)],

@@ -72,7 +72,8 @@ fn cancel_each(rt: &impl Abort, waits: &mut Waits)
     }
 }
 
-/// For each slot, finishes up to 20 requests on one of the words, and drops what is left of the slot if it is odd. Then finishes the rest.
+/// For each slot, finishes up to 20 requests on one of the words, and drops what is left of the slot if it is
+/// odd. Then finishes the rest.
 fn empty(rt: &impl Abort, waits: &mut Waits)
     requires { map.get waits.old.arrays 1 ≡ Some 8 }
     ensures { map.get waits.new.arrays 1 ≡ Some 8 }

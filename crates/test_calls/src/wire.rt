@@ -1,4 +1,5 @@
-//! Frames that are read in pieces, and read and written when memory runs out. They are given as bytes (`docs/formats.md`, "Frames").
+//! Frames that are read in pieces, and read and written when memory runs out. They are given as bytes
+//! (`docs/formats.md`, "Frames").
 
 use fe_memory::OutOfMemory;
 use fe_state::{Name, Request};
@@ -10,7 +11,8 @@ use std::alloc::Global;
 use std::process::Abort;
 use std::test::Fail;
 
-/// A client's frames (`docs/formats.md`, "Frames", has the exchange): attach, create, `writeef`, `readfe`, `readxx`.
+/// A client's frames (`docs/formats.md`, "Frames", has the exchange): attach, create, `writeef`, `readfe`,
+/// `readxx`.
 const FRAMES: [&[u8]; 5] = [
     b"\0\0\0\x09\x01\0\0\0\0\0\0\0\x07",
     b"\0\0\0\x1f\x02\0\0\0\0\0\0\0\x01\x05cells\0\0\0\0\0\0\0\0\0\0\0\0\0\0\x02\0",

@@ -270,8 +270,8 @@ fn frames_in(bytes: &[u8]) -> usize {
     0
 }
 
-/// Appends a window of a connection: an attach, or a settle of the window before; then `readfe` and `writeef` of each
-/// of sixteen words.
+/// Appends a window of a connection: an attach, or a settle of the window before; then `readfe` and `writeef`
+/// of each of sixteen words.
 fn put_window(conn: u64, window: u64, line: &mut Vec<u8>) -> Result<(), OutOfMemory> {
     let first = window.saturating_mul(WINDOW).saturating_add(1);
     if window == 0 {

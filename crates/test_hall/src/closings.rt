@@ -26,8 +26,8 @@ use std::sync::ledger::Blank;
 use std::thread::Threads;
 use std::time::Clock;
 
-/// A hall with some connections, where only the first one hands in its seats; the messages that it claims to have sent; a receipt; and the
-/// expected result of closing the hall.
+/// A hall with some connections, where only the first one hands in its seats; the messages that it claims to
+/// have sent; a receipt; and the expected result of closing the hall.
 struct Case {
     connections: u64,
     sent: &'static [Say],

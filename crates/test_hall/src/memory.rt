@@ -1,8 +1,8 @@
 //! Groups that are stored one by one until a checkpoint is made.
 //!
-//! `scripts/refuse_test` refuses each allocation in turn. What failed for lack of memory succeeds at the second try,
-//! a read side reports that memory ran out for its stream or its list, and the committing side goes on if it can't
-//! begin a checkpoint.
+//! `scripts/refuse_test` refuses each allocation in turn. What failed for lack of memory succeeds at the
+//! second try, a read side reports that memory ran out for its stream or its list, and the committing side
+//! goes on if it can't begin a checkpoint.
 
 ghost use Rattle.std.specs.Prelude.{◌≡◌, ◌+◌, ◌∷◌, []};
 ghost use Rattle.fe_shared.specs.Seats.{IsBlankOf};
@@ -36,14 +36,16 @@ const STORE: [(usize, &'static [u8]); 4] = [
     (4111, &[1]),
 ];
 
-/// How many connections attach, one after the other, and how often each does. That is a group of 2,000 entries, 80 bytes each. After
-/// the fourth group a checkpoint is due; the seventh group fits only after it. (A read side with 64 messages waits for nobody.)
+/// How many connections attach, one after the other, and how often each does. That is a group of 2,000
+/// entries, 80 bytes each. After the fourth group a checkpoint is due; the seventh group fits only after it.
+/// (A read side with 64 messages waits for nobody.)
 const CONNECTIONS: u64 = 40;
 
 const ATTACHES: usize = 50;
 
-/// The bytes used in the journal after the checkpoint: one group with everything since the checkpoint began, and the
-/// seventh. There is one group less in it if the checkpoint began only after the fifth, because memory was refused.
+/// The bytes used in the journal after the checkpoint: one group with everything since the checkpoint began,
+/// and the seventh. There is one group less in it if the checkpoint began only after the fifth, because
+/// memory was refused.
 const USED: u32 = 480_010;
 
 const USED_LATER: u32 = 320_010;
@@ -107,7 +109,8 @@ fn take<C: Tally, M: Tally, R: Abort + Clock + Wait>(
     }
 }
 
-/// Reads the stream of each client, and stores what they asked. `None` if memory ran out; then nothing is stored.
+/// Reads the stream of each client, and stores what they asked. `None` if memory ran out; then nothing is
+/// stored.
 fn store<C: Tally, M: Tally, R: Abort + Clock + Wait>(
     rt: &R,
     alloc: Global,

@@ -50,8 +50,8 @@ impl Step {
 pub enum Script {
     /// They take turns.
     Steps(&'static [Step]),
-    /// All at once, each with its own session: this many windows of 32 calls, each sent once all calls of the window
-    /// before are answered.
+    /// All at once, each with its own session: this many windows of 32 calls, each sent once all calls of the
+    /// window before are answered.
     Windows(usize),
 }
 

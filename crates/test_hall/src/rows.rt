@@ -139,8 +139,8 @@ pub const PURGE: Play = Play {
     ..STAYING
 };
 
-/// A session moves to another connection, and its old connection has none. A call is answered before the call that it
-/// unblocks.
+/// A session moves to another connection, and its old connection has none. A call is answered before the call
+/// that it unblocks.
 pub const TAKEN_OVER: Play = Play {
     script: Script::Steps(&[
         Step::Says(1, Say::Attach(7), &[(1, Hear::Welcome(7))]),
@@ -191,8 +191,8 @@ pub const TWO_LIVES: Play = Play {
     ..STAYING
 };
 
-/// A call is sent again from another connection while the sync of its entry is held back. Its only answer comes
-/// before the welcome, which is stored after it.
+/// A call is sent again from another connection while the sync of its entry is held back. Its only answer
+/// comes before the welcome, which is stored after it.
 pub const RESENT: Play = Play {
     script: Script::Steps(&[
         Step::Says(1, Say::Attach(7), &[(1, Hear::Welcome(7))]),
@@ -239,8 +239,8 @@ pub const LAST_TURN: Play = Play {
     ..STAYING
 };
 
-/// A client that takes nothing after its first refusal: its box gets 128 more, the next one removes the connection,
-/// and the last call finds no connection.
+/// A client that takes nothing after its first refusal: its box gets 128 more, the next one removes the
+/// connection, and the last call finds no connection.
 pub const FULL_BOX: Play = Play {
     script: Script::Steps(&[
         Step::Says(

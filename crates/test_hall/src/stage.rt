@@ -51,8 +51,8 @@ pub struct Played<D: Disk + Drop> {
     pub closed: Option<Closing<D>>,
 }
 
-/// Performs a play over the store of a keeper. The hold holds back its syncs when a step says so. At the end the hall
-/// is closed.
+/// Performs a play over the store of a keeper. The hold holds back its syncs when a step says so. At the end
+/// the hall is closed.
 pub fn perform<D: Disk + Drop + Send, R: Abort + Clock + Threads + Wait + Sync>(
     rt: &R,
     alloc: Global,
@@ -132,7 +132,8 @@ fn finish<C: Tally, M: Tally, D: Disk + Drop>(
     }
 }
 
-/// A hall around a front with a copy of a state, the seat of the hall's committing side, and the right to make connections.
+/// A hall around a front with a copy of a state, the seat of the hall's committing side, and the right to
+/// make connections.
 pub fn hall_over<C: Tally, M: Tally>(
     alloc: Global,
     state: &State,

@@ -23,7 +23,8 @@ use std::time::Clock;
 /// Plays of several calls, to the end of the script.
 const PATHS: [Play; 5] = [FIRST_PATH, BROADCAST, TURNS_OF_WRITERS, ARITHMETIC, PURGE];
 
-/// More device calls than opening a store and appending one group take, and fewer than opening it and appending two take.
+/// More device calls than opening a store and appending one group take, and fewer than opening it and
+/// appending two take.
 const CALLS: u64 = 10;
 
 fn is_written(alloc: Global, play: &Play, conn: u64, client: &Client) -> Result<bool, OutOfMemory> {

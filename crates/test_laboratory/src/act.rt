@@ -114,7 +114,8 @@ pub fn taking(alloc: Global, names: &Names, line: &str) -> Result<Act, Trouble> 
     Ok(act)
 }
 
-// Reads `bytes CONNECTION BYTES`, `line CONNECTION BYTES`, which connects first, or `pieces SIZE CONNECTION BYTES`.
+// Reads `bytes CONNECTION BYTES`, `line CONNECTION BYTES`, which connects first, or
+// `pieces SIZE CONNECTION BYTES`.
 fn put_stream(names: &Names, word: &str, rest: &str, steps: &mut Vec<Step>) -> Result<(), Trouble> {
     let (size, rest) = match word {
         "pieces" => first_number(rest)?,

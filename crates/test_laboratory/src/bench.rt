@@ -53,8 +53,9 @@ impl Bench {
         })
     }
 
-    /// Carries out a line that checks nothing: `let NAME BYTES`, `disk SIZE`, `store FORMAT`, `write PLACE BYTES`,
-    /// `calls LEVEL`, which begins a list of calls, or `- CALL`, which adds a call to it.
+    /// Carries out a line that checks nothing: `let NAME BYTES`, `disk SIZE`, `store FORMAT`,
+    /// `write PLACE BYTES`, `calls LEVEL`, which begins a list of calls, or `- CALL`, which adds a call to
+    /// it.
     pub fn set(&mut self, word: &str, rest: &str) -> Result<(), Trouble> {
         match word {
             "let" => {
@@ -149,8 +150,8 @@ impl Bench {
         }
     }
 
-    /// Makes the calls on a copy of the disk that stops after this many device calls, or that fails only the call
-    /// after this many.
+    /// Makes the calls on a copy of the disk that stops after this many device calls, or that fails only the
+    /// call after this many.
     pub fn ran(&self, fails_once: bool, calls: u64) -> Result<Run, Trouble> {
         let acts = self.acts()?;
         let start = self.start()?;

@@ -52,8 +52,8 @@ fn truth(alloc: Global, is_so: bool) -> Result<Verdict, Trouble> {
     Ok(Verdict::Wrong(String::from_str(alloc, "no")?))
 }
 
-// Compares how many calls were stopped or failed, or the first after which something was wrong, with the expected
-// text.
+// Compares how many calls were stopped or failed, or the first after which something was wrong, with the
+// expected text.
 fn swept(alloc: Global, told: Result<u64, u64>, wanted: &str) -> Result<Verdict, Trouble> {
     let found = match told {
         Ok(calls) => format!(in alloc; "{calls}")?,
@@ -86,7 +86,8 @@ impl Bench {
         }
     }
 
-    // `run`, `try`, `burn CALLS` and `once CALLS`, with how the calls should end. A `try` leaves the disk unchanged.
+    // `run`, `try`, `burn CALLS` and `once CALLS`, with how the calls should end. A `try` leaves the disk
+    // unchanged.
     fn run(&mut self, word: &str, rest: &str) -> Result<Verdict, Trouble> {
         let (calls, wanted) = match word {
             "burn" | "once" => first_number(rest)?,
@@ -123,7 +124,8 @@ impl Bench {
         swept(self.alloc, told?, wanted)
     }
 
-    // `stop FROM TO TORN BYTES`: what is found after a stop of this kind, or of `any`, after FROM to TO device calls.
+    // `stop FROM TO TORN BYTES`: what is found after a stop of this kind, or of `any`, after FROM to TO
+    // device calls.
     fn stop(&self, rest: &str) -> Result<Verdict, Trouble> {
         let (from, rest) = first_number(rest)?;
         let (to, rest) = first_number(rest)?;
@@ -201,8 +203,8 @@ impl Bench {
         bytes
     }
 
-    // The result of the last calls: `told ENDS`, `counts READS WRITES SYNCS`, `groups COUNTS`, `written CONNECTION
-    // BYTES`, or `report CONNECTION PLACE LINES BYTES`.
+    // The result of the last calls: `told ENDS`, `counts READS WRITES SYNCS`, `groups COUNTS`,
+    // `written CONNECTION BYTES`, or `report CONNECTION PLACE LINES BYTES`.
     fn look(&self, word: &str, rest: &str) -> Result<Verdict, Trouble> {
         let alloc = self.alloc;
         match word {
@@ -232,8 +234,8 @@ impl Bench {
         &[]
     }
 
-    // Whether what was written to the connection has this many lines from this offset on, begins there with these bytes and ends with
-    // `$last_line`.
+    // Whether what was written to the connection has this many lines from this offset on, begins there with
+    // these bytes and ends with `$last_line`.
     fn is_reported(&self, rest: &str) -> Result<Verdict, Trouble> {
         let (conn, rest) = first_number(rest)?;
         let (at, rest) = first_number(rest)?;
@@ -245,8 +247,8 @@ impl Bench {
         truth(self.alloc, is_so)
     }
 
-    // What is on the disk: `holds TEXT`, `image BYTES`, `reads PLACE BYTES`, `left TORN BYTES`; or what an image is:
-    // `again FORMAT BYTES`, `fault FORMAT OFFSET BYTES`.
+    // What is on the disk: `holds TEXT`, `image BYTES`, `reads PLACE BYTES`, `left TORN BYTES`; or what an
+    // image is: `again FORMAT BYTES`, `fault FORMAT OFFSET BYTES`.
     fn find(&mut self, word: &str, rest: &str) -> Result<Verdict, Trouble> {
         match word {
             "holds" => self.holds(rest),

@@ -108,7 +108,8 @@ fn image_after(
     }
 }
 
-// The image of the state after the groups. Each welcome and each answer that was written must be in the state.
+// The image of the state after the groups. Each welcome and each answer that was written must be in the
+// state.
 fn built(
     alloc: Global,
     trace: &Trace,

@@ -22,7 +22,8 @@ impl<'a> Trial<'a> {
         }
     }
 
-    // Whether a stop leaves no store, one of the first state, or the old one; and whether formatting then succeeds.
+    // Whether a stop leaves no store, one of the first state, or the old one; and whether formatting then
+    // succeeds.
     fn is_format_left(&self, disk: &MemoryDisk, torn: Torn) -> Result<bool, Trouble> {
         let is_left = match self.left(disk, torn)? {
             Ok(image) => image.as_slice() == self.start || image.as_slice() == EMPTY.as_slice(),
@@ -40,7 +41,8 @@ impl<'a> Trial<'a> {
         Ok(true)
     }
 
-    // Whether formatting that stops after this many device calls leaves what it may, and whether it was stopped.
+    // Whether formatting that stops after this many device calls leaves what it may, and whether it was
+    // stopped.
     fn format_stopped(&self, calls: u64) -> Result<(bool, bool), Trouble> {
         let fuse = Guarded::new(self.store.stopped(Torn::Kept)?, Fuse::new(calls));
         let (fuse, is_met) = self.level.formatted(self.alloc, fuse);
@@ -57,7 +59,8 @@ impl<'a> Trial<'a> {
         Ok((self.is_made_new(once.into_inner())?, is_met))
     }
 
-    /// How many device calls of formatting were stopped and failed, or the first after which something was wrong.
+    /// How many device calls of formatting were stopped and failed, or the first after which something was
+    /// wrong.
     pub fn format_each(&self) -> Result<Result<u64, u64>, Trouble> {
         for calls in 0..PLENTY {
             let (is_left, is_met) = self.format_stopped(calls)?;

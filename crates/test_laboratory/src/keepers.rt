@@ -86,8 +86,8 @@ fn batch_of(alloc: Global, first: u64, entries: &[Entry]) -> Result<Batch, Fault
     Ok(batch)
 }
 
-// Records what may be found after a call that failed. If it was the device that failed, every later call must be refused, and the replica
-// must stay as it is.
+// Records what may be found after a call that failed. If it was the device that failed, every later call must
+// be refused, and the replica must stay as it is.
 fn meet<D: Disk>(
     alloc: Global,
     keeper: &mut Keeper<D>,
@@ -152,7 +152,8 @@ pub fn found<D: Disk>(alloc: Global, disk: D) -> (D, Result<Vec<u8>, Fault>) {
     }
 }
 
-/// The place of the store, how many bytes of its journal are used, and its format; or the fault of its opening.
+/// The place of the store, how many bytes of its journal are used, and its format; or the fault of its
+/// opening.
 pub fn opened<D: Disk>(alloc: Global, disk: D) -> (D, Result<String, Trouble>) {
     match Keeper::open(alloc, disk) {
         Ok(keeper) => {

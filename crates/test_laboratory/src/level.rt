@@ -29,7 +29,8 @@ impl Level {
         }
     }
 
-    /// Makes the calls on the disk, which has a store, except at the level of a disk. `start` is the image of the state in a desk's store.
+    /// Makes the calls on the disk, which has a store, except at the level of a disk. `start` is the image of
+    /// the state in a desk's store.
     pub fn made<D: Disk>(
         self,
         alloc: Global,

@@ -23,12 +23,14 @@ pub struct Lie<'a> {
     pub level: Level,
     pub bytes: &'a [u8],
     pub acts: &'a [Act],
-    /// The image of the state in these bytes, and that of another state which a changed byte may turn it into.
+    /// The image of the state in these bytes, and that of another state which a changed byte may turn it
+    /// into.
     pub start: &'a [u8],
     pub other: &'a [u8],
 }
 
-// The image of the opened store or why it can't be opened, and whether the calls after that ended as they may.
+// The image of the opened store or why it can't be opened, and whether the calls after that ended as they
+// may.
 type LiarOutcome = (Result<Vec<u8>, Fault>, bool);
 
 impl<'a> Lie<'a> {
@@ -91,8 +93,9 @@ impl<'a> Lie<'a> {
         Ok((Ok(image), is_sound))
     }
 
-    /// Whether a store with this byte changed opens as expected: with a fault, in the `same` state, in the `other`
-    /// state, or, for a desk, like a keeper (`kept`); and whether the calls after that end as they may.
+    /// Whether a store with this byte changed opens as expected: with a fault, in the `same` state, in the
+    /// `other` state, or, for a desk, like a keeper (`kept`); and whether the calls after that end as they
+    /// may.
     pub fn is_as(&self, at: usize, change: u8, wanted: &str) -> Result<bool, Trouble> {
         let liar = self.changed(at, change)?;
         let (found, is_sound) = match self.level {
@@ -109,7 +112,8 @@ impl<'a> Lie<'a> {
         Ok(is_wanted && is_sound)
     }
 
-    // Whether a keeper opens the same store with the same result: the same state, or the same fault in what was read.
+    // Whether a keeper opens the same store with the same result: the same state, or the same fault in what
+    // was read.
     fn is_kept(
         &self,
         at: usize,

@@ -24,8 +24,8 @@ pub struct Made {
     pub told: String,
     /// Whether all was right that is checked of the calls themselves.
     pub is_sound: bool,
-    /// The images of one state or two: what is found on the disk must be one of them. Both are empty if no store was opened, and after
-    /// calls of a disk or a journal.
+    /// The images of one state or two: what is found on the disk must be one of them. Both are empty if no
+    /// store was opened, and after calls of a disk or a journal.
     pub before: Vec<u8>,
     pub after: Vec<u8>,
     /// What a desk wrote, and the number of entries in each group that it gave its store.

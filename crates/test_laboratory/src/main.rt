@@ -1,9 +1,9 @@
-//! A laboratory for stores. It reads cases from standard input and carries them out on disks in memory. For each case
-//! it prints how many of its checks passed and how many failed, and what was found instead.
+//! A laboratory for stores. It reads cases from standard input and carries them out on disks in memory. For
+//! each case it prints how many of its checks passed and how many failed, and what was found instead.
 //!
-//! A script works on one disk and a list of calls (`calls disk`, `calls journal`, `calls keeper`, `calls desk`). It
-//! makes the calls (`run`), stops them at each device call (`fuse`) or lets each device call fail (`fail`), and
-//! checks what is found afterwards.
+//! A script works on one disk and a list of calls (`calls disk`, `calls journal`, `calls keeper`,
+//! `calls desk`). It makes the calls (`run`), stops them at each device call (`fuse`) or lets each device
+//! call fail (`fail`), and checks what is found afterwards.
 #![tactic(auto)]
 
 mod act;

@@ -84,7 +84,8 @@ impl<'a> Trial<'a> {
         }
     }
 
-    // Whether a stop of this kind, and then one at each device call of an opening in turn, leave what is allowed.
+    // Whether a stop of this kind, and then one at each device call of an opening in turn, leave what is
+    // allowed.
     fn leaves_behind_stops(
         &self,
         disk: &MemoryDisk,
@@ -107,7 +108,8 @@ impl<'a> Trial<'a> {
         self.leaves(&left, torn, made)
     }
 
-    // Whether the run made this many device calls and met at most one fault, and every stop leaves what is allowed.
+    // Whether the run made this many device calls and met at most one fault, and every stop leaves what is
+    // allowed.
     fn is_left(&self, run: &Run, calls: u64, stops: Stops) -> Result<bool, Trouble> {
         if !is_sound(run, calls) {
             return Ok(false);
@@ -125,8 +127,8 @@ impl<'a> Trial<'a> {
         }
     }
 
-    /// Stops the calls at each device call in turn, until a run is not stopped. Returns the number of stops, or the
-    /// first after which something was wrong.
+    /// Stops the calls at each device call in turn, until a run is not stopped. Returns the number of stops,
+    /// or the first after which something was wrong.
     pub fn fuse_each(&self, stops: Stops) -> Result<Result<u64, u64>, Trouble> {
         for calls in 0..PLENTY {
             let run = self.fused(calls)?;

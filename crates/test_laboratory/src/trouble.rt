@@ -10,7 +10,8 @@ pub enum Trouble {
     Memory,
     /// The line is outside the syntax, uses a name that was not given, or has entries that are not legal.
     Syntax,
-    /// The disk has no such bytes or no store, a call failed that should not, or a reply that a desk wrote is not in its state.
+    /// The disk has no such bytes or no store, a call failed that should not, or a reply that a desk wrote is
+    /// not in its state.
     Disk,
     /// Standard input can't be read or is not UTF-8, or standard output can't be written.
     Stream,

@@ -29,4 +29,5 @@ follows_none before = sym (append-nil before)
 
 pub follows_both : (s t u : List ℕ) (a b : List Event) → Follows s a t → Follows t b u → Follows s (a ++ b) u
 follows_both s t u a b p q =
-    q ∙ ap (λ (xs : List ℕ). xs ++ flat_map code b) p ∙ append_assoc s (flat_map code a) (flat_map code b) ∙ ap (λ (xs : List ℕ). s ++ xs) (sym (flat_map-append code a b))
+    q ∙ ap (λ (xs : List ℕ). xs ++ flat_map code b) p ∙ append_assoc s (flat_map code a) (flat_map code b)
+    ∙ ap (λ (xs : List ℕ). s ++ xs) (sym (flat_map-append code a b))

@@ -15,8 +15,8 @@ const RECEIVED: u8 = 130;
 
 const FLUSHED: u8 = 131;
 
-/// What a user types, what a server replies, and a log of the events in order. Each call reads, sends or receives one
-/// byte.
+/// What a user types, what a server replies, and a log of the events in order. Each call reads, sends or
+/// receives one byte.
 #[derive(Drop)]
 struct Dialogue<'i, 'r> {
     /// The input that is not typed yet.
@@ -36,7 +36,8 @@ impl Dialogue<'_, '_> {
 
     /// Appends an event to the log.
     fn happened(&mut self, code: &[u8]) -> Result<(), OutOfMemory>
-        ensures { self.new.log.items ≡ (if is_ok result then self.old.log.items ++ code.now else self.old.log.items) }
+        ensures { self.new.log.items ≡ (if is_ok result then self.old.log.items
+            ++ code.now else self.old.log.items) }
     {
         self.log.extend_from_slice(code)?;
         Ok(())

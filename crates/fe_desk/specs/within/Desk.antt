@@ -1,5 +1,7 @@
 -- What is always true of a desk (`docs/model.md`, "The desk").
-use Rattle.std.specs.Prelude.{◌≡◌, ℕ, ◌<◌, ◌≤◌, true, false, List, ◌∷◌, ◌++◌, length, map, drop, nat_eq, Option, None, is_some, [], ◌≢◌, Some, slice_get, slice_index_or, ◌⊎◌, IsTrue, suc, ◌/◌, ◌%◌}
+use Rattle.std.specs.Prelude.{◌≡◌, ℕ, ◌<◌, ◌≤◌, true, false, List, ◌∷◌, ◌++◌, length, map, drop, nat_eq}
+use Rattle.std.specs.Prelude.{Option, None, is_some, [], ◌≢◌, Some, slice_get, slice_index_or, ◌⊎◌, IsTrue}
+use Rattle.std.specs.Prelude.{suc, ◌/◌, ◌%◌}
 use Rattle.fe_state.specs.State.{ServerState, after_all}
 use Rattle.fe_state.specs.History.{AreLegal}
 use Rattle.fe_state.specs.declared.entry.Entry.{Entry}
@@ -14,7 +16,8 @@ use Rattle.fe_desk.specs.declared.port.Port.{Port}
 use Rattle.fe_desk.specs.declared.port_places.PortPlaces.{PortPlaces}
 use Rattle.fe_desk.specs.declared.port_set.PortSet.{PortSet}
 use Rattle.fe_desk.specs.Acknowledged.{cut_entries}
-use Rattle.fe_desk.specs.DeskRunState.{Client, DeskRunState, written_out, all_written_out, all_emptied, emptied_box, output_of, Extends}
+use Rattle.fe_desk.specs.DeskRunState.{Client, DeskRunState, written_out, all_written_out, all_emptied}
+use Rattle.fe_desk.specs.DeskRunState.{emptied_box, output_of, Extends}
 use Rattle.fe_desk.specs.Steps.{find, BeginsStream, clients_with}
 use Rattle.fe_desk.specs.Crash.{DeskState, IsFrom, disk_of}
 use Rattle.fe_disk.specs.declared.disk.Disk.{Ghosts}
@@ -30,7 +33,13 @@ use Rattle.fe_front.specs.declared.connection_set.ConnectionSet.{ConnectionSet}
 -- ---- how the fields give what callers see
 
 abbrev pub client_of : Port → Client
-client_of p = record { conn = p.conn; decoder = p.decoder; left = drop p.next p.left.items; reply = p.reply; written = p.written }
+client_of p = record {
+  conn = p.conn;
+  decoder = p.decoder;
+  left = drop p.next p.left.items;
+  reply = p.reply;
+  written = p.written;
+}
 
 abbrev pub run_state_of : {D : Type 0} → DeskInner D → DeskRunState
 run_state_of p =
@@ -52,8 +61,8 @@ desk_of p = record { run_state = run_state_of p; keeper = p.keeper; synced = p.t
 abbrev pub unstored : DeskRunState → List Entry
 unstored s = cut_entries s.handed ++ s.front.service.pending
 
--- the batch that the desk has is the one that is out of the front: it begins at the same place and is as long; and one that is cut is not
--- empty
+-- the batch that the desk has is the one that is out of the front: it begins at the same place and is as
+-- long; and one that is cut is not empty
 abbrev pub IsHanded : Handed → Option Out → Type 0
 IsHanded Nothing out = out ≡ None
 IsHanded (Cut batch) out = IsOut out batch × (0 < length batch.entries)
@@ -65,14 +74,17 @@ pub record IsAhead (s : DeskRunState) (replica : ServerState) : Type 0 where
   pub legal : AreLegal replica (unstored s)
   pub state : s.front.service.state ≡ after_all replica (unstored s)
 
--- The front is ahead of the replica; each connection has a client; all groups are stored unless the device failed; and over an honest
--- disk each image that a stop may leave stands for a prefix of the history that holds the groups that are stored.
+-- The front is ahead of the replica; each connection has a client; all groups are stored unless the device
+-- failed; and over an honest disk each image that a stop may leave stands for a prefix of the history that
+-- holds the groups that are stored.
 pub record IsDesk {D : Type 0} (model : Ghosts D) (d : DeskState D) : Type 0 where
   pub tied : IsAhead d.run_state d.keeper.state
-  pub known : (conn : ℕ) → is_connected d.run_state.front conn ≡ true → is_some (find conn d.run_state.clients) ≡ true
+  pub known : (conn : ℕ) → is_connected d.run_state.front conn ≡ true
+      → is_some (find conn d.run_state.clients) ≡ true
   pub few : d.synced ≤ length d.run_state.groups
   pub all : d.keeper.store.has_failed ≡ false → d.synced ≡ length d.run_state.groups
-  pub upheld : model.honest (disk_of d) → (begun : ServerState) → IsFrom begun d → (image : List ℕ) → model.may_leave (disk_of d) image
+  pub upheld : model.honest (disk_of d) → (begun : ServerState) → IsFrom begun d → (image : List ℕ)
+      → model.may_leave (disk_of d) image
       → LeavesPrefix begun d.run_state.groups d.synced image
 
 -- a desk whose device works
@@ -112,15 +124,18 @@ pub record OnlyWrites {D : Type 0} (model : Ghosts D) (old new : DeskState D) : 
 pub record KeepsEmpty (f g : FrontState) : Type 0 where
   pub empty : (conn : ℕ) → mails_on f.connections conn ≡ [] → mails_on g.connections conn ≡ []
 
--- mails of a client are written, maybe not all; to write the rest later comes to the same as to write all at once
+-- mails of a client are written, maybe not all; to write the rest later comes to the same as to write all at
+-- once
 pub record IsWrittenOutLater (f : FrontState) (c : Client) (g : FrontState) (d : Client) : Type 0 where
   pub conn : d.conn ≡ c.conn
   pub output : (more : List ℕ) × (d.written ≡ c.written ++ more)
   pub front : emptied_box g d.conn ≡ emptied_box f c.conn
   pub client : written_out g d ≡ written_out f c
 
--- mails of these clients are written, maybe not all; to write the rest later comes to the same as to write all at once
-pub record AreWrittenOutLater (f : FrontState) (cs : List Client) (g : FrontState) (ds : List Client) : Type 0 where
+-- mails of these clients are written, maybe not all; to write the rest later comes to the same as to write
+-- all at once
+pub record AreWrittenOutLater (f : FrontState) (cs : List Client) (g : FrontState) (ds : List Client) : Type
+    0 where
   pub front : all_emptied g ds ≡ all_emptied f cs
   pub clients : all_written_out g ds ≡ all_written_out f cs
   pub output : Extends (map output_of cs) (map output_of ds)
@@ -138,7 +153,8 @@ pub record IsFirstAt (clients : List Client) (conn at : ℕ) : Type 0 where
   pub first : (i : ℕ) → i < at → client_number_at clients i ≢ Some conn
 
 -- a connection came, with a stream of its own
-pub record Joins (f : FrontState) (cs : List Client) (conn : ℕ) (g : FrontState) (ds : List Client) : Type 0 where
+pub record Joins (f : FrontState) (cs : List Client) (conn : ℕ) (g : FrontState) (ds : List Client) : Type
+    0 where
   pub decoder : Decoding
   pub begins : BeginsStream decoder
   pub front : g ≡ connected f conn
@@ -152,11 +168,13 @@ port_bit set at = bit_at (slice_index_or set.words ((at / 64) % 16) 0) (at % 64)
 abbrev pub alike_bit : List PortSet → ℕ → ℕ → ℕ
 alike_bit sets remainder at = option_map_or (λ set. port_bit set at) (slice_get sets remainder) 1
 
--- Each index that is known is that of the first client of its number. The clients that are sorted are in the sets of their remainders.
+-- Each index that is known is that of the first client of its number. The clients that are sorted are in the
+-- sets of their remainders.
 pub record ArePlaces (places : PortPlaces) (clients : List Client) : Type 0 where
   pub known : (conn at : ℕ) → get nat_eq places.indexes conn ≡ Some at → IsFirstAt clients conn at
   pub few : places.sorted ≤ length clients
-  pub sorted : (at conn : ℕ) → at < places.sorted → client_number_at clients at ≡ Some conn → alike_bit places.alike.items (conn % remainder_count) at ≡ 1
+  pub sorted : (at conn : ℕ) → at < places.sorted → client_number_at clients at ≡ Some conn
+      → alike_bit places.alike.items (conn % remainder_count) at ≡ 1
 
 -- ---- which clients something is to be written to
 
@@ -170,10 +188,12 @@ abbrev pub AreQuiet : FrontState → List Client → Type 0
 AreQuiet f [] = Unit {0}
 AreQuiet f (c ∷ cs) = IsQuiet f c × AreQuiet f cs
 
--- the clients from this index on: nothing is to be written to one that is not in the set, once the boxes before it are empty
+-- the clients from this index on: nothing is to be written to one that is not in the set, once the boxes
+-- before it are empty
 abbrev pub IsMailedFrom : ℕ → FrontState → List Client → PortSet → Type 0
 IsMailedFrom at f [] set = Unit {0}
-IsMailedFrom at f (c ∷ cs) set = ((port_bit set at ≡ 1) ⊎ IsQuiet f c) × IsMailedFrom (suc at) (emptied_box f c.conn) cs set
+IsMailedFrom at f (c ∷ cs) set =
+    ((port_bit set at ≡ 1) ⊎ IsQuiet f c) × IsMailedFrom (suc at) (emptied_box f c.conn) cs set
 
 -- from this index on, nothing was written to a connection number that is not in the set
 abbrev pub IsSilentFrom : ℕ → List (ℕ × List ℕ) → PortSet → Type 0

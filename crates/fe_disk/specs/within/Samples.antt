@@ -15,7 +15,8 @@ Holds image sample = bytes_at image sample.at sample.length ≡ taken sample
 -- If the one sample was right before a write, the other is right after it.
 abbrev pub StaysRight : ℕ → List ℕ → Sample → Sample → Type 0
 StaysRight at bytes old new =
-    (image : List ℕ) → at + length bytes ≤ length image → Holds image old → Holds (after_write image at bytes) new
+    (image : List ℕ) → at + length bytes ≤ length image → Holds image old
+    → Holds (after_write image at bytes) new
 
 -- The sample has the last of the bytes from an offset on, 96 or fewer.
 pub record IsOf (at : ℕ) (bytes : List ℕ) (sample : Sample) : Type 0 where

@@ -1,11 +1,13 @@
 -- How a call of a store, the bytes side of a keeper, ends, and what it keeps (`docs/model.md`, "The keeper").
-use Rattle.std.specs.Prelude.{◌≡◌, ℕ, ◌≤◌, [], Option, IfSome, vec_len, vec_capacity, ◌+◌, false, IsTrue, IsSome, is_some, List, length, ◌↔◌, Bool, true, Result, MatchResult, OnOk}
+use Rattle.std.specs.Prelude.{◌≡◌, ℕ, ◌≤◌, [], Option, IfSome, vec_len, vec_capacity, ◌+◌, false, IsTrue}
+use Rattle.std.specs.Prelude.{IsSome, is_some, List, length, ◌↔◌, Bool, true, Result, MatchResult, OnOk}
 use Rattle.std.specs.Option.{option_map_or}
 use Rattle.fe_state.specs.State.{ServerState, after_all}
 use Rattle.fe_codec.specs.Image.{image_spelling, FitsImage}
 use Rattle.fe_format.specs.Layout.{longest_payload, IsImageLength}
 use Rattle.fe_format.specs.declared.format.Format.TheVariants.{Two}
-use Rattle.fe_keeper.specs.Keeper.{slices_of, can_begin, must_begin, StoreState, fits, has_slices, slices_left, stepped}
+use Rattle.fe_keeper.specs.Keeper.{slices_of, can_begin, must_begin, StoreState, fits, has_slices}
+use Rattle.fe_keeper.specs.Keeper.{slices_left, stepped}
 use Rattle.fe_keeper.specs.declared.checkpoint.Checkpoint.{Checkpoint}
 use Rattle.std.specs.List.{AllByRecursion}
 use Rattle.fe_state.specs.Limits.{most_batch_entries, greatest_place}
@@ -78,19 +80,22 @@ pub record CanStore {D : Type 0} (store : KeeperStore D) (entries : List Entry) 
   pub place : store.place + length entries ≤ greatest_place
 
 -- There is a whole checkpoint for the batch exactly if the batch needs one.
-pub record IsWholeFor {D : Type 0} (store : KeeperStore D) (entries : List Entry) (whole : Option Checkpoint) : Type 0 where
+pub record IsWholeFor {D : Type 0} (store : KeeperStore D) (entries : List Entry)
+    (whole : Option Checkpoint) : Type 0 where
   pub must : is_some whole ≡ must_begin (store_of store) entries
   pub fresh : IfSome whole (λ made. IsFresh made store.place)
 
 -- The entries are a batch for the store, with a whole checkpoint exactly if the batch needs one.
-pub record CanStoreWith {D : Type 0} (store : KeeperStore D) (entries : List Entry) (whole : Option Checkpoint) : Type 0 where
+pub record CanStoreWith {D : Type 0} (store : KeeperStore D) (entries : List Entry)
+    (whole : Option Checkpoint) : Type 0 where
   pub batch : CanStore store entries
   pub made : IsWholeFor store entries whole
 
 -- ---- a batch that is not stored yet
 
 -- Entries were taken from a state: they lead to the state now, and the log leads back.
-pub record HasTaken (before : ServerState) (entries : List Entry) (now : ServerState) (log : UndoLog) : Type 0 where
+pub record HasTaken (before : ServerState) (entries : List Entry) (now : ServerState) (log : UndoLog) : Type
+    0 where
   pub some : 1 ≤ length entries
   pub legal : AreLegal before entries
   pub state_is : now ≡ after_all before entries
@@ -99,14 +104,16 @@ pub record HasTaken (before : ServerState) (entries : List Entry) (now : ServerS
   pub room : length entries ≤ log.room
 
 -- A batch was taken from the state at whose place the store is.
-pub record HasBatch {D : Type 0} (store : KeeperStore D) (now : ServerState) (log : UndoLog) (entries : List Entry) : Type 0 where
+pub record HasBatch {D : Type 0} (store : KeeperStore D) (now : ServerState) (log : UndoLog)
+    (entries : List Entry) : Type 0 where
   pub sound : IsStore store
   pub few : length entries ≤ most_batch_entries
   pub taken : HasTaken (rewound log now) entries now log
   pub place : store.place ≡ (rewound log now).place
 
 -- There is a whole checkpoint of the state before the batch exactly if the batch needs one.
-pub record IsMadeFor {D : Type 0} (store : KeeperStore D) (before : ServerState) (entries : List Entry) (whole : Option Checkpoint) : Type 0 where
+pub record IsMadeFor {D : Type 0} (store : KeeperStore D) (before : ServerState) (entries : List Entry)
+    (whole : Option Checkpoint) : Type 0 where
   pub made : IsWholeFor store entries whole
   pub image : IfSome whole (λ made. IsImageOf made before)
 
@@ -123,8 +130,10 @@ pub record BreaksOff {D : Type 0} (model : Ghosts D) (old new : JournalState D) 
   pub rises : Rises (model.failures old.disk) (model.failures new.disk)
 
 -- Only the device fails, and the disk's honesty stays as it was.
-pub record StoreEnds {T D : Type 0} (model : Ghosts D) (result : Result T JournalFault) (old new : JournalState D) : Type 0 where
-  pub outcome : MatchResult result (λ _. WorksOn model old new) (λ fault. (fault ≡ Device) × BreaksOff model old new)
+pub record StoreEnds {T D : Type 0} (model : Ghosts D) (result : Result T JournalFault)
+    (old new : JournalState D) : Type 0 where
+  pub outcome : MatchResult result (λ _. WorksOn model old new)
+      (λ fault. (fault ≡ Device) × BreaksOff model old new)
   pub honesty : model.honest new.disk ↔ model.honest old.disk
 
 -- ---- what it keeps
@@ -135,7 +144,8 @@ pub record StaysSound {D : Type 0} (old new : KeeperStore D) : Type 0 where
   pub place : new.place ≡ old.place
 
 -- The store is sound, and counts the entries of a batch exactly if the batch is stored.
-pub record CountsBatch {T D : Type 0} (result : Result T JournalFault) (old new : KeeperStore D) (n : ℕ) : Type 0 where
+pub record CountsBatch {T D : Type 0} (result : Result T JournalFault) (old new : KeeperStore D)
+    (n : ℕ) : Type 0 where
   pub sound : IsStore new
   pub place : MatchResult result (λ _. new.place ≡ old.place + n) (λ _. new.place ≡ old.place)
 
@@ -145,13 +155,17 @@ pub record IsStepped {D : Type 0} (old new : KeeperStore D) (more : Bool) : Type
   pub more_is : more ≡ has_slices (store_of new).checkpoint
   pub ready : HasCheckpoint new
 
--- Each image that a stop leaves stands for the state, and if the call succeeds, the store still upholds the state.
-pub record Carries {T D : Type 0} (model : Ghosts D) (result : Result T JournalFault) (old new : KeeperStore D) (s : ServerState) : Type 0 where
+-- Each image that a stop leaves stands for the state, and if the call succeeds, the store still upholds the
+-- state.
+pub record Carries {T D : Type 0} (model : Ghosts D) (result : Result T JournalFault)
+    (old new : KeeperStore D) (s : ServerState) : Type 0 where
   pub any_moment : LeavesOnly model old.journal.disk new.journal.disk (λ image. StandsFor image s)
   pub upheld : OnOk result (Upholds model new s)
 
--- Each image that a stop leaves stands for one of two states, and if the call succeeds, the store upholds the second.
-pub record Leads {T D : Type 0} (model : Ghosts D) (result : Result T JournalFault) (old new : KeeperStore D) (s t : ServerState) : Type 0 where
+-- Each image that a stop leaves stands for one of two states, and if the call succeeds, the store upholds the
+-- second.
+pub record Leads {T D : Type 0} (model : Ghosts D) (result : Result T JournalFault) (old new : KeeperStore D)
+    (s t : ServerState) : Type 0 where
   pub any_moment : LeavesOnly model old.journal.disk new.journal.disk (StandsForEither s t)
   pub upheld : OnOk result (Upholds model new t)
 
@@ -159,29 +173,39 @@ pub record Leads {T D : Type 0} (model : Ghosts D) (result : Result T JournalFau
 abbrev pub Always : ServerState → Type 0
 Always s = Unit {0}
 
--- How a step of a checkpoint ends: only the device fails, no entry comes, and a state that the store upheld is carried
--- on, if it is as the step needs it.
-pub record StepEnds {T D : Type 0} (model : Ghosts D) (Needs : ServerState → Type 0) (result : Result T JournalFault) (old new : KeeperStore D) : Type 0 where
+-- How a step of a checkpoint ends: only the device fails, no entry comes, and a state that the store upheld
+-- is carried on, if it is as the step needs it.
+pub record StepEnds {T D : Type 0} (model : Ghosts D) (Needs : ServerState → Type 0)
+    (result : Result T JournalFault) (old new : KeeperStore D) : Type 0 where
   pub stays : StaysSound old new
   pub ends : StoreEnds model result old.journal new.journal
-  pub carries : model.honest old.journal.disk → (s : ServerState) → Upholds model old s → Needs s → Carries model result old new s
+  pub carries : model.honest old.journal.disk → (s : ServerState) → Upholds model old s → Needs s
+      → Carries model result old new s
 
--- How storing a batch ends: only the device fails, the store counts the entries exactly if they are stored, and a state
--- that the store upheld leads to the state after them, if it is as the call needs it and the entries are legal there.
-pub record BatchEnds {T D : Type 0} (model : Ghosts D) (Needs : ServerState → Type 0) (result : Result T JournalFault) (old new : KeeperStore D) (entries : List Entry) : Type 0 where
+-- How storing a batch ends: only the device fails, the store counts the entries exactly if they are stored,
+-- and a state that the store upheld leads to the state after them, if it is as the call needs it and the
+-- entries are legal there.
+pub record BatchEnds {T D : Type 0} (model : Ghosts D) (Needs : ServerState → Type 0)
+    (result : Result T JournalFault) (old new : KeeperStore D) (entries : List Entry) : Type 0 where
   pub counts : CountsBatch result old new (length entries)
   pub ends : StoreEnds model result old.journal new.journal
-  pub leads : model.honest old.journal.disk → (s : ServerState) → Upholds model old s → Needs s → AreLegal s entries → Leads model result old new s (after_all s entries)
+  pub leads : model.honest old.journal.disk → (s : ServerState) → Upholds model old s → Needs s
+      → AreLegal s entries → Leads model result old new s (after_all s entries)
 
--- Each image that a stop leaves holds the contents, and if the call succeeds, the journal keeps them and the checkpoint's draft.
-pub record CarriesDraft {T D : Type 0} (model : Ghosts D) (result : Result T JournalFault) (old new : JournalState D) (contents : Contents) (c : Checkpoint) (s : ServerState) : Type 0 where
+-- Each image that a stop leaves holds the contents, and if the call succeeds, the journal keeps them and the
+-- checkpoint's draft.
+pub record CarriesDraft {T D : Type 0} (model : Ghosts D) (result : Result T JournalFault)
+    (old new : JournalState D) (contents : Contents) (c : Checkpoint) (s : ServerState) : Type 0 where
   pub any_moment : LeavesOnly model old.disk new.disk (Holds contents)
   pub drafted : OnOk result (KeepsDraft model new contents c s)
 
 -- ---- calls of the device
 
--- How many device calls make room for a batch at most. A whole checkpoint, if the batch needs one, has this many slices.
-pub record MakesRoom {D : Type 0} (store : StoreState D) (entries : List Entry) (whole : ℕ) (before after : Calls) : Type 0 where
+-- How many device calls make room for a batch at most. A whole checkpoint, if the batch needs one, has this
+-- many slices.
+pub record MakesRoom {D : Type 0} (store : StoreState D) (entries : List Entry) (whole : ℕ)
+    (before after : Calls) : Type 0 where
   pub none : IsTrue (fits store entries) → MakesAtMost 0 0 0 before after
-  pub to_finish : must_begin store entries ≡ false → MakesAtMost 0 (slices_left store.checkpoint + 2) 2 before after
+  pub to_finish : must_begin store entries ≡ false
+      → MakesAtMost 0 (slices_left store.checkpoint + 2) 2 before after
   pub most : MakesAtMost 1 (slices_left store.checkpoint + (whole + 6)) 5 before after

@@ -1,4 +1,5 @@
--- Which fault a keeper returns for a fault of its journal or its store, or a refusal of its replica (`docs/model.md`, "The keeper").
+-- Which fault a keeper returns for a fault of its journal or its store, or a refusal of its replica
+-- (`docs/model.md`, "The keeper").
 use Rattle.fe_journal.specs.declared.fault.JournalFault.{JournalFault}
 use Rattle.fe_journal.specs.declared.fault.JournalFault.TheVariants as journal
 use Rattle.fe_journal.specs.declared.fault.StoreFault.{StoreFault}
@@ -6,7 +7,8 @@ use Rattle.fe_journal.specs.declared.fault.StoreFault.TheVariants as store
 use Rattle.fe_replica.specs.declared.taking.Refused.{Refused}
 use Rattle.fe_replica.specs.declared.taking.Refused.TheVariants as replica
 use Rattle.fe_keeper.specs.declared.fault.Fault.{Fault}
-use Rattle.fe_keeper.specs.declared.fault.Fault.TheVariants.{Device, Failed, NoMemory, Mismatch, Damaged, Unformatted}
+use Rattle.fe_keeper.specs.declared.fault.Fault.TheVariants.{Device, Failed, NoMemory, Mismatch, Damaged}
+use Rattle.fe_keeper.specs.declared.fault.Fault.TheVariants.{Unformatted}
 
 abbrev pub fault_of_journal : JournalFault → Fault
 fault_of_journal journal.Device = Device

@@ -1,4 +1,5 @@
--- Replaying the groups of a slot, one after the other: their entries are carried out on a state (`docs/model.md`, "The keeper").
+-- Replaying the groups of a slot, one after the other: their entries are carried out on a state
+-- (`docs/model.md`, "The keeper").
 use Rattle.std.specs.Prelude.{◌≡◌, ℕ, Bool, true, false, List, [], ◌∷◌}
 use Rattle.fe_state.specs.State.{ServerState}
 use Rattle.fe_state.specs.History.{IsHistory}
@@ -17,4 +18,5 @@ pub record CanGoOn (format : Format) (payloads : List (List ℕ)) (s : ServerSta
 -- the first payload was replayed, and the rest is still to be read; or there was none
 abbrev pub IsNext : Format → List (List ℕ) → Cursor → ServerState → ServerState → Bool → Type 0
 IsNext format [] groups old new more = (more ≡ false) × (new ≡ old)
-IsNext format (payload ∷ payloads) groups old new more = (more ≡ true) × Replays format payload old new × Lists groups payloads
+IsNext format (payload ∷ payloads) groups old new more =
+    (more ≡ true) × Replays format payload old new × Lists groups payloads

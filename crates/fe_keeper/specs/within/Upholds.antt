@@ -1,6 +1,7 @@
--- How a keeper's store, its bytes side, stands to a state and to the images that its disk may leave. It upholds a state
--- if these images stand for it (`docs/model.md`, "The keeper").
-use Rattle.std.specs.Prelude.{◌≡◌, ℕ, ◌+◌, ◌*◌, ◌≤◌, List, ◌++◌, length, Option, Some, None, vec_len, vec_capacity, ◌⊎◌, ◌-◌, take, false}
+-- How a keeper's store, its bytes side, stands to a state and to the images that its disk may leave. It
+-- upholds a state if these images stand for it (`docs/model.md`, "The keeper").
+use Rattle.std.specs.Prelude.{◌≡◌, ℕ, ◌+◌, ◌*◌, ◌≤◌, List, ◌++◌, length, Option, Some, None, vec_len}
+use Rattle.std.specs.Prelude.{vec_capacity, ◌⊎◌, ◌-◌, take, false}
 use Rattle.fe_state.specs.declared.entry.Entry.{Entry}
 use Rattle.std.specs.List.{AllByRecursion}
 use Rattle.fe_state.specs.Limits.{most_batch_entries, greatest_place}
@@ -58,13 +59,20 @@ CatchesUp entries (Some old) (Some new) = HasMoreToCatchUp entries old new
 
 -- ---- over any disk
 
--- An image of the state now may have the next generation, unless the slot that counts is of format 2 and nothing came since its image.
+-- An image of the state now may have the next generation, unless the slot that counts is of format 2 and
+-- nothing came since its image.
 abbrev pub IsNumbered : {D : Type 0} → ℕ → JournalState D → Type 0
-IsNumbered place j = (j.generation ≤ place + 1) ⊎ ((j.generation ≤ place + 2) × (j.used ≡ 0) × (j.format ≡ Two))
+IsNumbered place j =
+    (j.generation ≤ place + 1) ⊎ ((j.generation ≤ place + 2) × (j.used ≡ 0) × (j.format ≡ Two))
 
 -- a checkpoint is under way: the journal's slot begun is its image's, and its catch-up has what came since
 pub record IsUnderWay {D : Type 0} (place : ℕ) (j : JournalState D) (c : Checkpoint) : Type 0 where
-  pub begun : j.begun ≡ Some (record { format = Two; generation = j.generation + 1; image_length = vec_len c.image; written = c.written })
+  pub begun : j.begun ≡ Some (record {
+    format = Two;
+    generation = j.generation + 1;
+    image_length = vec_len c.image;
+    written = c.written;
+  })
   pub allowed : IsImageLength Two (vec_len c.image)
   pub written : c.written ≤ vec_len c.image
   pub numbered : j.generation + 1 ≤ c.place + 2
@@ -102,7 +110,8 @@ store_of store =
 
 -- ---- over an honest disk
 
--- A checkpoint's image is that of an earlier state, written so far as the draft says, and the catch-up spells what came since.
+-- A checkpoint's image is that of an earlier state, written so far as the draft says, and the catch-up spells
+-- what came since.
 pub record IsDraftOf (c : Checkpoint) (d : Draft) (s : ServerState) : Type 0 where
   pub base : ServerState
   pub entries : List Entry
@@ -137,20 +146,26 @@ pub record AreRooms (rooms : Rooms) : Type 0 where
 abbrev pub kept_of : {D : Type 0} → Inside D → KeeperState D
 kept_of k = record { state = k.state; store = store_of k.store }
 
--- The store and the state agree on the place, and the log is empty and has room for a batch. Over an honest disk that has not failed, the
--- store upholds the state.
+-- The store and the state agree on the place, and the log is empty and has room for a batch. Over an honest
+-- disk that has not failed, the store upholds the state.
 pub record IsKept {D : Type 0} (model : Ghosts D) (k : Inside D) : Type 0 where
   pub store : IsStore k.store
   pub place : k.store.place ≡ k.state.place
   pub log : k.log ≡ empty_log k.log.room
   pub room : most_batch_entries ≤ k.log.room
-  pub upheld : model.honest k.store.journal.disk → k.store.journal.has_failed ≡ false → Upholds model k.store k.state
+  pub upheld : model.honest k.store.journal.disk → k.store.journal.has_failed ≡ false
+      → Upholds model k.store k.state
 
 -- ---- slices of an image
 
 -- the slot that the journal began is the checkpoint's, and is written as far
 abbrev pub IsBegunFor : {D : Type 0} → JournalState D → Checkpoint → Type 0
-IsBegunFor j c = j.begun ≡ Some (record { format = Two; generation = j.generation + 1; image_length = vec_len c.image; written = c.written })
+IsBegunFor j c = j.begun ≡ Some (record {
+  format = Two;
+  generation = j.generation + 1;
+  image_length = vec_len c.image;
+  written = c.written;
+})
 
 -- the checkpoint once one slice more is written
 abbrev pub sliced : Checkpoint → Checkpoint
@@ -161,11 +176,18 @@ abbrev pub journal_sliced : {D : Type 0} → JournalState D → D → Checkpoint
 journal_sliced j disk c =
     record j {
       disk = disk;
-      begun = Some (record { format = Two; generation = j.generation + 1; image_length = vec_len c.image; written = c.written });
+      begun = Some (record {
+        format = Two;
+        generation = j.generation + 1;
+        image_length = vec_len c.image;
+        written = c.written;
+      });
     }
 
--- The journal keeps these contents and a draft. The draft is that of the checkpoint, whose image and catch-up lead to the state.
-pub record KeepsDraft {D : Type 0} (model : Ghosts D) (j : JournalState D) (contents : Contents) (c : Checkpoint) (s : ServerState) : Type 0 where
+-- The journal keeps these contents and a draft. The draft is that of the checkpoint, whose image and catch-up
+-- lead to the state.
+pub record KeepsDraft {D : Type 0} (model : Ghosts D) (j : JournalState D) (contents : Contents)
+    (c : Checkpoint) (s : ServerState) : Type 0 where
   pub draft : Draft
   pub keeps : KeepsContents model j contents (Some draft)
   pub is_draft : IsDraftOf c draft s

@@ -1,6 +1,7 @@
--- How the neighbours of the nodes represent the lists, and how all lists are read from them. No public clause cites
--- this module (`docs/model.md`, "Waiting requests").
-use Rattle.std.specs.Prelude.{◌≡◌, ℕ, zero, suc, ◌<◌, ◌^◌, ◌⊎◌, List, [], ◌∷◌, length, map, Option, Some, None, slice_index_or, slice_set}
+-- How the neighbours of the nodes represent the lists, and how all lists are read from them. No public clause
+-- cites this module (`docs/model.md`, "Waiting requests").
+use Rattle.std.specs.Prelude.{◌≡◌, ℕ, zero, suc, ◌<◌, ◌^◌, ◌⊎◌, List, [], ◌∷◌, length, map, Option, Some}
+use Rattle.std.specs.Prelude.{None, slice_index_or, slice_set}
 use Rattle.std.specs.List.{range_with_len}
 use Rattle.fe_pool.specs.declared.neighbours.Neighbours.{Neighbours}
 use Rattle.fe_pool.specs.Pool.{Contents, first_or}
@@ -27,7 +28,8 @@ next_of (Some neighbours) = neighbours.next
 -- the neighbours of each node of the list are those the list gives it, between `before` and `after`
 abbrev pub IsNodeRun : List Link → Option ℕ → List ℕ → Option ℕ → Type 0
 IsNodeRun links before [] after = Unit {0}
-IsNodeRun links before (node ∷ nodes) after = (link_at links node ≡ Some (record { previous = before; next = first_or after nodes }))
+IsNodeRun links before (node ∷ nodes) after =
+    (link_at links node ≡ Some (record { previous = before; next = first_or after nodes }))
     × IsNodeRun links (Some node) nodes after
 
 -- the list is complete: nothing comes before it or after it
@@ -36,7 +38,8 @@ IsWholeRun links nodes = IsNodeRun links None nodes None
 
 -- each node that has neighbours is on a complete list
 abbrev pub AllListed : List Link → Type 0
-AllListed links = (node : ℕ) (neighbours : Neighbours) → link_at links node ≡ Some neighbours → (nodes : List ℕ) × IsWholeRun links nodes × IsNodeAmong node nodes
+AllListed links = (node : ℕ) (neighbours : Neighbours) → link_at links node ≡ Some neighbours
+    → (nodes : List ℕ) × IsWholeRun links nodes × IsNodeAmong node nodes
 
 -- the nodes that follow one another from a node on, up to a maximum number
 abbrev pub run_from : List Link → ℕ → Option ℕ → List ℕ
@@ -74,14 +77,16 @@ with_previous links (Some at) previous =
 -- these are the free nodes from `first` on
 abbrev pub IsFreeRun : List (Option ℕ) → Option ℕ → List ℕ → Type 0
 IsFreeRun followers first [] = first ≡ None
-IsFreeRun followers first (node ∷ nodes) = (first ≡ Some node) × IsFreeRun followers (slice_index_or followers node None) nodes
+IsFreeRun followers first (node ∷ nodes) =
+    (first ≡ Some node) × IsFreeRun followers (slice_index_or followers node None) nodes
 
 -- the columns as a contract sees them
 abbrev pub contents : {T : Type 0} → Columns T → Contents T
 contents c = record { items = c.items; of_word = lists c.of_word; of_session = lists c.of_session }
 
--- the invariant of every pool: there are fewer than 2^32 nodes, all columns have one length, the free nodes from `first_free` on are
--- exactly those without an item, each once, a free node is on no list, and each node that has neighbours is on a list that agrees with them
+-- the invariant of every pool: there are fewer than 2^32 nodes, all columns have one length, the free nodes
+-- from `first_free` on are exactly those without an item, each once, a free node is on no list, and each node
+-- that has neighbours is on a list that agrees with them
 pub record IsPool {T : Type 0} (c : Columns T) (first_free : Option ℕ) : Type 0 where
   pub fits : length c.items < 2 ^ 32
   pub followers_length : length c.followers ≡ length c.items
@@ -90,8 +95,10 @@ pub record IsPool {T : Type 0} (c : Columns T) (first_free : Option ℕ) : Type 
   pub free : List ℕ
   pub free_linked : IsFreeRun c.followers first_free free
   pub free_different : AllDifferent free
-  pub free_listed : (node : ℕ) → node < length c.items → slice_index_or c.items node None ≡ None → IsNodeAmong node free
-  pub free_empty : (node : ℕ) → IsNodeAmong node free → (node < length c.items) × (slice_index_or c.items node None ≡ None)
+  pub free_listed : (node : ℕ) → node < length c.items → slice_index_or c.items node None ≡ None
+      → IsNodeAmong node free
+  pub free_empty : (node : ℕ) → IsNodeAmong node free
+      → (node < length c.items) × (slice_index_or c.items node None ≡ None)
   pub loose : (node : ℕ) → slice_index_or c.items node None ≡ None → IsLoose c node
   pub words : AllListed c.of_word
   pub sessions : AllListed c.of_session

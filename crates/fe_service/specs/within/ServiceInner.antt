@@ -1,4 +1,5 @@
--- How the parts of a service change while it serves. No public clause cites this module (`docs/model.md`, "The service").
+-- How the parts of a service change while it serves. No public clause cites this module (`docs/model.md`,
+-- "The service").
 use Rattle.std.specs.Prelude.{◌≡◌, ℕ, ◌+◌, ◌≤◌, ◌⊎◌, List, [], ◌∷◌, ◌++◌, length, Some, None}
 use Rattle.std.specs.FinMap.{get, len}
 use Rattle.fe_words.specs.Table.{row}
@@ -7,16 +8,19 @@ use Rattle.fe_waits.specs.Waiting.{WaitingAccess, IsOn, NoneOnWord}
 use Rattle.fe_state.specs.State.{ServerState, reply, after, after_all}
 use Rattle.fe_state.specs.declared.entry.Entry.{Entry}
 use Rattle.fe_state.specs.Limits.{greatest_place, most_batch_entries}
-use Rattle.fe_service.specs.Service.{WaitingAccesses, AreUsable, request_of, IsTurn, AreTurns, without_turn, without_turns}
+use Rattle.fe_service.specs.Service.{WaitingAccesses, AreUsable, request_of, IsTurn, AreTurns, without_turn}
+use Rattle.fe_service.specs.Service.{without_turns}
 use Rattle.fe_service.specs.declared.service_inner.ServiceInner.{ServiceInner}
 
 -- no request that waits on the word may be served
 abbrev pub IsQuietAt : ServerState → WaitingAccesses → ℕ → ℕ → Type 0
-IsQuietAt s waiting array index = (key : ℕ × ℕ) (w : WaitingAccess) → get waiting key ≡ Some w → IsOn w array index → reply s (request_of w) ≡ None
+IsQuietAt s waiting array index = (key : ℕ × ℕ) (w : WaitingAccess) → get waiting key ≡ Some w
+    → IsOn w array index → reply s (request_of w) ≡ None
 
 -- all requests that wait on the word would have to wait if this were its tag
 abbrev pub WaitAtTag : WaitingAccesses → ℕ → ℕ → Tag → Type 0
-WaitAtTag waiting array index tag = (key : ℕ × ℕ) (w : WaitingAccess) → get waiting key ≡ Some w → IsOn w array index → row w.op tag 0 ≡ None
+WaitAtTag waiting array index tag =
+    (key : ℕ × ℕ) (w : WaitingAccess) → get waiting key ≡ Some w → IsOn w array index → row w.op tag 0 ≡ None
 
 -- some request that waits on the word may not be served
 pub record HasIdle (s : ServerState) (waiting : WaitingAccesses) (array index : ℕ) : Type 0 where

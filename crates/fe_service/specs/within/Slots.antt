@@ -1,6 +1,7 @@
 -- Which slot of the waiting lists (`fe_waits`) each session has. No public clause cites this module.
 -- See `docs/model.md`, "Waiting requests".
-use Rattle.std.specs.Prelude.{◌≡◌, ℕ, ◌↔◌, ◌+◌, ◌<◌, ◌≤◌, List, [], ◌∷◌, ◌++◌, zero, suc, map, length, Option, Some, None, IsSome, slice_get, slice_index_or, unwrap_or}
+use Rattle.std.specs.Prelude.{◌≡◌, ℕ, ◌↔◌, ◌+◌, ◌<◌, ◌≤◌, List, [], ◌∷◌, ◌++◌, zero, suc, map, length, Option}
+use Rattle.std.specs.Prelude.{Some, None, IsSome, slice_get, slice_index_or, unwrap_or}
 use Rattle.std.specs.Ordering.{nat_cmp}
 use Rattle.std.specs.FinMap.{FinMap, get, len, entries, from_entries}
 use Rattle.fe_service.specs.AttachmentsState.{AttachmentsState, count_of, without_session}
@@ -41,7 +42,8 @@ abbrev pub slot_in : FinMap nat_cmp Occupant → ℕ → Option ℕ
 slot_in occupants session = option_map (λ occupant. occupant.slot) (get occupants session)
 
 -- a map with other keys, and other values, by entry
-abbrev pub rekeyed : {K L X Y : Type 0} {R : K → K → Ordering} {S : L → L → Ordering} → (K → L) → (X → Y) → FinMap R X → FinMap S Y
+abbrev pub rekeyed : {K L X Y : Type 0} {R : K → K → Ordering} {S : L → L → Ordering} → (K → L) → (X → Y)
+    → FinMap R X → FinMap S Y
 rekeyed key value m = from_entries (map (λ e. (key e.0, value e.1)) (entries m))
 
 -- the attachments of the occupants
@@ -58,7 +60,13 @@ by_session owners members = rekeyed (session_key owners) (λ waiter. waiter) mem
 
 -- the request of a row, with the session instead of its slot
 abbrev pub request_from : List (Option ℕ) → Row → WaitingRequest
-request_from owners row = record { session = owner_of owners row.slot; number = row.number; array = row.array; index = row.index; op = row.op }
+request_from owners row = record {
+  session = owner_of owners row.slot;
+  number = row.number;
+  array = row.array;
+  index = row.index;
+  op = row.op;
+}
 
 -- the same for the row of each node, if it has one
 abbrev pub requests_from : List (Option ℕ) → List (Option Row) → List (Option WaitingRequest)
@@ -75,17 +83,26 @@ pub record AreFree (owners : List (Option ℕ)) (slots : List ℕ) : Type 0 wher
   pub vacant : (i slot : ℕ) → slice_get slots i ≡ Some slot → owner_at owners slot ≡ None
   pub once : (i j slot : ℕ) → slice_get slots i ≡ Some slot → slice_get slots j ≡ Some slot → i ≡ j
 
--- the invariant of the waiting lists, the occupants, the slots' owners and the free slots, whose vector has this capacity, enough for all
--- slots: occupants and owners agree, each slot is free or has an owner, and requests wait only in slots that have an owner
-pub record AreAttachments (waits : Waiting) (occupants : FinMap nat_cmp Occupant) (owners : List (Option ℕ)) (slots : List ℕ) (capacity : ℕ) : Type 0 where
+-- the invariant of the waiting lists, the occupants, the slots' owners and the free slots, whose vector has
+-- this capacity, enough for all slots: occupants and owners agree, each slot is free or has an owner, and
+-- requests wait only in slots that have an owner
+pub record AreAttachments (waits : Waiting) (occupants : FinMap nat_cmp Occupant) (owners : List (Option ℕ))
+    (slots : List ℕ) (capacity : ℕ) : Type 0 where
   pub sized : length owners ≡ most_sessions
-  pub agree : (session slot : ℕ) → (slot_in occupants session ≡ Some slot) ↔ (owner_at owners slot ≡ Some session)
+  pub agree : (session slot : ℕ) → (slot_in occupants session ≡ Some slot)
+      ↔ (owner_at owners slot ≡ Some session)
   pub free : AreFree owners slots
   pub counted : length slots + len occupants ≡ most_sessions
   pub reserved : most_sessions ≤ capacity
-  pub owned : (key : ℕ × ℕ) (waiter : WaitingAccess) → get waits.members key ≡ Some waiter → IsSome (owner_at owners key.0)
+  pub owned : (key : ℕ × ℕ) (waiter : WaitingAccess) → get waits.members key ≡ Some waiter
+      → IsSome (owner_at owners key.0)
 
 -- the attachments as contracts see them
 abbrev pub attachments_state_of : Waiting → FinMap nat_cmp Occupant → List (Option ℕ) → AttachmentsState
 attachments_state_of waits occupants owners =
-    record { arrays = waits.arrays; attachments = attachments_of occupants; waiting = by_session owners waits.members; requests_by_node = requests_from owners waits.nodes }
+    record {
+      arrays = waits.arrays;
+      attachments = attachments_of occupants;
+      waiting = by_session owners waits.members;
+      requests_by_node = requests_from owners waits.nodes;
+    }

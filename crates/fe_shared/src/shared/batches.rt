@@ -1,7 +1,9 @@
-//! How what is under the hall's lock cuts batches, and posts those that were stored (`ARCHITECTURE.md`, "Threads"). A batch that was cut
-//! and not posted is out. Each cut is noted in the hall's history (`docs/headline.md`, "Every acknowledged answer").
+//! How what is under the hall's lock cuts batches, and posts those that were stored (`ARCHITECTURE.md`,
+//! "Threads"). A batch that was cut and not posted is out. Each cut is noted in the hall's history
+//! (`docs/headline.md`, "Every acknowledged answer").
 
-ghost use Rattle.std.specs.Prelude.{◌≡◌, ◌+◌, ℕ, [], Some, false, IfErr, IfOk, IfSome, IsTrue, OnOk, OnErr, length};
+ghost use Rattle.std.specs.Prelude.{◌≡◌, ◌+◌, ℕ, [], Some, false, IfErr, IfOk, IfSome, IsTrue, OnOk, OnErr};
+ghost use Rattle.std.specs.Prelude.{length};
 ghost use Rattle.fe_front.specs.Posting.{may_have, Notes};
 ghost use Rattle.fe_front.specs.Event as event;
 ghost use Rattle.fe_history.specs.Acts.{WasStoredLast};
@@ -21,8 +23,9 @@ use std::marker::Model;
 #[derive(Clone, Copy)]
 pub struct AllDurable(());
 
-/// A batch that was cut and is to be stored, and how many were cut before it. Only a cut makes one, and nothing changes
-/// it. It is not `Drop`, so whoever has one takes the batch out, which needs a keeper to store it.
+/// A batch that was cut and is to be stored, and how many were cut before it. Only a cut makes one, and
+/// nothing changes it. It is not `Drop`, so whoever has one takes the batch out, which needs a keeper to
+/// store it.
 pub struct CutBatch {
     batch: Batch,
     count: u64,
@@ -59,7 +62,8 @@ pub enum CutOutcome {
     Strange(Uncut),
 }
 
-/// Shows that a batch was posted: contracts see the place, the number of entries, after it. Only a post makes one.
+/// Shows that a batch was posted: contracts see the place, the number of entries, after it. Only a post makes
+/// one.
 #[derive(Drop)]
 pub struct Posted {
     durable: u64,
@@ -87,7 +91,8 @@ pub enum Unposted {
 }
 
 impl<C: Tally, M: Tally> Shared<C, M> {
-    /// Hands out all pending entries, if there are some and no batch is out, and notes the cut. `None`: there may be some later.
+    /// Hands out all pending entries, if there are some and no batch is out, and notes the cut. `None`: there
+    /// may be some later.
     pub fn cut(
         &mut self,
         history_words: &HistoryWords<M>,
@@ -123,9 +128,10 @@ impl<C: Tally, M: Tally> Shared<C, M> {
         Some(CutOutcome::Batch(CutBatch { batch, count }))
     }
 
-    /// Posts the batch that is out, once it is stored: its entries are durable, and each one's mail goes into the box of the connection
-    /// that has its session. Owes rings to the connections whose boxes change and, in any case, to those whose read sides wait. The batch
-    /// is not posted if a book has no room for its mails, or if it is not the one that is out.
+    /// Posts the batch that is out, once it is stored: its entries are durable, and each one's mail goes into
+    /// the box of the connection that has its session. Owes rings to the connections whose boxes change and,
+    /// in any case, to those whose read sides wait. The batch is not posted if a book has no room for its
+    /// mails, or if it is not the one that is out.
     pub fn post(
         &mut self,
         batch: Batch,
@@ -138,7 +144,8 @@ impl<C: Tally, M: Tally> Shared<C, M> {
         ensures step { OnOk result (MakesStep self.old (event.Post batch) [] self.new) }
         ensures durable { IfOk result (λ posted. posted ≡ batch.first + length batch.entries) }
         ensures notes { Notes self.old.front self.new.front owed.old.changed owed.new.changed }
-        ensures added { (conn : ℕ) → IsTrue (waits self.new.watched conn) → IsTrue (may_have owed.new.changed conn) }
+        ensures added { (conn : ℕ) → IsTrue (waits self.new.watched conn)
+            → IsTrue (may_have owed.new.changed conn) }
         ensures err { OnErr result (MakesNothing self.old self.new) }
     {
         self.used = true;

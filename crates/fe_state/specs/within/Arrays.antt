@@ -1,6 +1,8 @@
--- The set of array ids that is kept beside the table of arrays, to find an id's position fast; and a session's window, the numbers that it
--- may use, in a ring of cells (`docs/model.md`, "The state of the server").
-use Rattle.std.specs.Prelude.{◌≡◌, ℕ, ◌+◌, ◌≤◌, zero, suc, ◌%◌, List, length, Option, Some, None, slice_index_or}
+-- The set of array ids that is kept beside the table of arrays, to find an id's position fast; and a
+-- session's window, the numbers that it may use, in a ring of cells (`docs/model.md`, "The state of the
+-- server").
+use Rattle.std.specs.Prelude.{◌≡◌, ℕ, ◌+◌, ◌≤◌, zero, suc, ◌%◌, List, length, Option, Some, None}
+use Rattle.std.specs.Prelude.{slice_index_or}
 use Rattle.std.specs.FinMap.{FinMap, keys, empty, insert}
 use Rattle.std.specs.Ordering.{nat_cmp}
 use Rattle.indexmap.specs.IndexSet.{IndexSet, index_set_len, spare}

@@ -1,5 +1,5 @@
--- What the functions that read a reply's frame return: the reply or, of `parts_of`, the frame's kind and body; None if the bytes spell none
--- (`docs/formats.md`, "Frames", has the kinds).
+-- What the functions that read a reply's frame return: the reply or, of `parts_of`, the frame's kind and
+-- body; None if the bytes spell none (`docs/formats.md`, "Frames", has the kinds).
 use Rattle.std.specs.Prelude.{ℕ, List, length, ◌&&◌, Option, Some, None, nat_lt, nat_le, ◌==◌, if◌then◌else◌}
 use Rattle.std.specs.Str.{is_utf8}
 use Rattle.std.specs.Int.{w32, w64}
@@ -22,7 +22,8 @@ unfoldable pub refused_of : List ℕ → Option ServerMessage
 refused_of body = do
   number ← next_number w64 body
   code ← next_byte number.1
-  if nat_lt code.0 1 then None else if nat_lt 10 code.0 then None else ended code.1 (server.Refused number.0 code.0)
+  if nat_lt code.0 1 then None else if nat_lt 10 code.0 then None else ended code.1
+      (server.Refused number.0 code.0)
 
 -- the reply that a frame with this kind and body spells; None for a report, which `report_of` reads
 unfoldable pub reply_of_kind : ℕ → List ℕ → Option ServerMessage
@@ -37,7 +38,8 @@ reply_of_kind kind body =
 
 -- the report with this text, if it is 1 to 262,144 bytes of UTF-8
 abbrev pub report_of : List ℕ → Option ServerMessage
-report_of text = if nat_lt 0 (length text) && nat_le (length text) longest_report && is_utf8 text then Some (server.Report text) else None
+report_of text = if nat_lt 0 (length text) && nat_le (length text) longest_report
+    && is_utf8 text then Some (server.Report text) else None
 
 -- the kind and the body, if the bytes are exactly one frame
 unfoldable pub parts_of : List ℕ → Option (ℕ × List ℕ)

@@ -1,5 +1,6 @@
 -- The program's faults: how the faults of each command are mapped to them, and the exit status for each.
-use Rattle.std.specs.Prelude.{ℕ, ◌≡◌, ◌⊎◌, List, take, string_bytes, Option, Some, false, ◌==◌, Bool, true, if◌then◌else◌, Result, Ok, Err, IfOk, IfErr}
+use Rattle.std.specs.Prelude.{ℕ, ◌≡◌, ◌⊎◌, List, take, string_bytes, Option, Some, false, ◌==◌, Bool, true}
+use Rattle.std.specs.Prelude.{if◌then◌else◌, Result, Ok, Err, IfOk, IfErr}
 use Rattle.fe_client.specs.declared.fault.CallFault.{CallFault}
 use Rattle.fe_client.specs.declared.fault.CallFault.TheVariants as call
 use Rattle.fe_look.specs.declared.fault.LookFault.{LookFault}
@@ -34,7 +35,8 @@ use Rattle.fe_server.specs.declared.served.Served.{Served}
 use Rattle.clap.specs.declared.error.kind.ErrorKind.{ErrorKind}
 use Rattle.clap.specs.declared.error.kind.ErrorKind.TheVariants as kind
 
--- the exit status: 2 for a fault of the input, the output or the settings, 4 for one of the socket, otherwise 3
+-- the exit status: 2 for a fault of the input, the output or the settings, 4 for one of the socket, otherwise
+-- 3
 abbrev pub status_of : Fault → ℕ
 status_of (fault.Line number) = 2
 status_of fault.Input = 2
@@ -109,7 +111,9 @@ pub record AreSettings (settings : Settings) : Type 0 where
 
 -- the file can't be read, memory for its text ran out, or some text is refused with this fault
 abbrev pub RefusesFile : Fault → Type 0
-RefusesFile end = (end ≡ fault.Unreadable) ⊎ ((end ≡ fault.Memory) ⊎ ((text : List ℕ) × (why : SettingsFault) × RefusesText text why × (end ≡ of_settings why)))
+RefusesFile end = (end ≡ fault.Unreadable)
+    ⊎ ((end ≡ fault.Memory) ⊎ ((text : List ℕ) × (why : SettingsFault) × RefusesText text why
+    × (end ≡ of_settings why)))
 
 -- ---- how `femem serve` ends
 
@@ -124,22 +128,28 @@ pub record WritesBooksOf {D : Type 0} (ended : ServeResult D) (before after : Op
   pub written : Appends before after (books_text served.audit.books)
 
 -- the writer of books failed with this fault, or memory ran out; a front of their text was written
-pub record BreaksOffBooks (has_failed : StreamFault → Type 0) (before after : Option (List ℕ)) (books : Books) (end : Fault) : Type 0 where
+pub record BreaksOffBooks (has_failed : StreamFault → Type 0) (before after : Option (List ℕ)) (books : Books)
+    (end : Fault) : Type 0 where
   pub why : StreamFault
   pub is_why : (why ≡ stream.Memory out_of_memory) ⊎ has_failed why
   pub is_end : end ≡ of_stream why
   pub count : ℕ
   pub front : Appends before after (take count (books_text books))
 
--- The fault is the one with which serving ended, and nothing was written; or the books were not written to their end.
-abbrev pub IsFaultOf : {D : Type 0} → (StreamFault → Type 0) → Option (List ℕ) → Option (List ℕ) → ServeResult D → Fault → Type 0
-IsFaultOf has_failed before after (Ok (Ok served)) end = BreaksOffBooks has_failed before after served.audit.books end
+-- The fault is the one with which serving ended, and nothing was written; or the books were not written to
+-- their end.
+abbrev pub IsFaultOf : {D : Type 0} → (StreamFault → Type 0) → Option (List ℕ) → Option (List ℕ)
+    → ServeResult D → Fault → Type 0
+IsFaultOf has_failed before after (Ok (Ok served)) end =
+    BreaksOffBooks has_failed before after served.audit.books end
 IsFaultOf has_failed before after (Ok (Err failed)) end = (end ≡ of_stop failed.fault) × (after ≡ before)
 IsFaultOf has_failed before after (Err why) end = (end ≡ of_serve why) × (after ≡ before)
 
--- The text of books was written: those of a server of the store that some settings name, which ended without a fault. They count each
--- call and each mail in exactly one column, and are not spent. `is_at` says of a path and a file that the file was found there.
-pub record WritesBooks {F : Type 0} (model : Ghosts (FileDisk F)) (is_at : List ℕ → F → Type 0) (before after : Option (List ℕ)) : Type 0 where
+-- The text of books was written: those of a server of the store that some settings name, which ended without
+-- a fault. They count each call and each mail in exactly one column, and are not spent. `is_at` says of a
+-- path and a file that the file was found there.
+pub record WritesBooks {F : Type 0} (model : Ghosts (FileDisk F)) (is_at : List ℕ → F → Type 0)
+    (before after : Option (List ℕ)) : Type 0 where
   pub settings : Settings
   pub are : AreSettings settings
   pub served : Served (FileDisk F)
@@ -148,9 +158,10 @@ pub record WritesBooks {F : Type 0} (model : Ghosts (FileDisk F)) (is_at : List 
   pub unspent : served.audit.books.spent ≡ false
   pub written : Appends before after (books_text served.audit.books)
 
--- The fault of a server of the store that some settings name: it was not served for this reason, the server ended with this fault, or its
--- books were not written to their end.
-pub record FailsServing {F : Type 0} (model : Ghosts (FileDisk F)) (is_at : List ℕ → F → Type 0) (has_failed : StreamFault → Type 0) (before after : Option (List ℕ)) (end : Fault) : Type 0 where
+-- The fault of a server of the store that some settings name: it was not served for this reason, the server
+-- ended with this fault, or its books were not written to their end.
+pub record FailsServing {F : Type 0} (model : Ghosts (FileDisk F)) (is_at : List ℕ → F → Type 0)
+    (has_failed : StreamFault → Type 0) (before after : Option (List ℕ)) (end : Fault) : Type 0 where
   pub settings : Settings
   pub are : AreSettings settings
   pub ended : ServeResult (FileDisk F)
@@ -158,7 +169,8 @@ pub record FailsServing {F : Type 0} (model : Ghosts (FileDisk F)) (is_at : List
   pub unserved : IfErr ended (IsUnserved model (is_at (string_bytes settings.store)) settings.format)
   pub is_end : IsFaultOf has_failed before after ended end
 
--- the status for words that ask for no command: 0 for help or a version, 3 if memory ran out, 2 for any other words
+-- the status for words that ask for no command: 0 for help or a version, 3 if memory ran out, 2 for any other
+-- words
 abbrev pub words_status : ErrorKind → ℕ
 words_status kind.OutOfMemory = 3
 words_status kind.DisplayHelp = 0
