@@ -46,7 +46,7 @@ BLOCKS = {
         ("  printf 'attach 7", "blocks.page_of_operating"),
     ),
     "docs/patterns.md": (("femem run < examples/queue_of_one.txt", "runs.worked_schedules"),),
-    "docs/stops.md": (("life 1 ", "blocks.timeline"),),
+    "docs/headline.md": (("life 1 ", "blocks.timeline"),),
     "docs/performance.md": (("make bench-serve", NOT_RUN + "minutes, and a quiet machine; outside.py runs the benches on less work"),),
     "docs/replication.md": (
         ("   install -d ", NOT_RUN + "it needs the package's user and a mount; its postinst, which deb.py runs, makes the store so"),
@@ -224,8 +224,8 @@ def saves(place, server, runs):
 
 
 def timeline(place):
-    """over the two stops that docs/stops.md shows, each request is answered as the page says, and adds once"""
-    lives = [re.findall(r"(?<!\w)(\d) (create|int_fetch_add)(?: hits)?(?:, sent again)?(?:: (\d))?", line) for line in block("docs/stops.md", "life 1 ").splitlines()]
+    """over the two stops that docs/headline.md shows, each request is answered as the page says, and adds once"""
+    lives = [re.findall(r"(?<!\w)(\d) (create|int_fetch_add)(?: hits)?(?:, sent again)?(?:: (\d))?", line) for line in block("docs/headline.md", "life 1 ").splitlines()]
     same([len(life) for life in lives], [3, 2, 1], "requests of each life")
     lines, wanted = [], []
     for at, life in enumerate(lives):

@@ -100,7 +100,7 @@ def cited(_place):
 PROMISING = ("fe_desk", "fe_server", "fe_keeper", "fe_hall")
 # The pages whose tables name what the crates declare, and words there that are something else: a folder, a word of schedules, an array of
 # the Python client.
-DECLARING = ("docs/headline.md", "docs/store.md", "docs/stops.md", "docs/model.md", "ARCHITECTURE.md", "CONTRIBUTING.md")
+DECLARING = ("docs/headline.md", "docs/store.md", "docs/model.md", "ARCHITECTURE.md", "CONTRIBUTING.md")
 SPARED = {"src", "nowait", "NAME_t"}
 # A line that declares something: a function, a type, a definition, a law, a clause, or a field. It has the name.
 DECLARATION = re.compile(

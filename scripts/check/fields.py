@@ -60,7 +60,7 @@ def fields_of(spelling):
 
 def frames(_place):
     """the tables of frames in docs/formats.md have the kinds, fields and sizes of the spellings that the proofs rest on, in their order"""
-    lines = re.sub(r" =\n +", " = ", text("crates/fe_wire/specs/Spelling.antt"))
+    lines = re.sub(r"\n {4,}", " ", text("crates/fe_wire/specs/Spelling.antt"))
     kinds_of = {name: re.findall(r"\d+", both) for name, both in re.findall(r"^(\w+)_kind \w+ = if \w+ then (.*)$", lines, re.M)}
     wanted = {}
     for name, kind, body in re.findall(r"^(?:reply_)?spelling \(?(?:server\.|Call number \()?(\w+).*? = frame (\d+|\(.*?_kind .*?\)+|\w+_kind \w+) (.*)$", lines, re.M):

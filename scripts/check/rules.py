@@ -1,5 +1,6 @@
-"""Rules of the sources: one record for the disk model, one meaning for a type's name in a file."""
+"""Rules of the sources: one record for the disk model, one meaning for a type's name in a file, one width."""
 
+import glob
 import os
 import re
 
@@ -15,6 +16,9 @@ TYPE = re.compile(r"^\s*(?:pub(?:\([a-z]+\))? )?(?:struct|enum|trait) (\w+)", re
 # wants std's error, and the one call of the system whose error is a number.
 MADE_FROM = re.compile(r"\b(?:AllocError|AllocFailed|fmt::Error|ErrorKind::OutOfMemory|from_raw_os_error)\b")
 MAKERS = ("crates/fe_memory/", "crates/fe_options/", "crates/femem/", "crates/fe_disk/src/system_file.rt")
+# How wide a line may be, in columns; and what can't be broken: an attribute, and a line of a text in bytes.
+WIDTH = 110
+WHOLE = re.compile(r"\s*#\[|\\0")
 USED = re.compile(r"^\s*(?:pub )?use (fe_\w+)::(?:\{([^}]*)\}|(\w+));", re.M)
 
 
@@ -68,4 +72,15 @@ def memory(_place):
     return told(wrong, count, 200, "uses of OutOfMemory")
 
 
-CHECKS = (device, types, memory)
+def widths(_place):
+    """no line of a crate's sources and definitions is wider than 110 columns"""
+    count, wrong = 0, []
+    for files in ("src/**/*.rt", "specs/**/*.antt"):
+        for path in sorted(glob.glob(f"crates/*/{files}", root_dir=TOP, recursive=True)):
+            lines = text_of(path).split("\n")
+            count += len(lines)
+            wrong += [f"{path}:{k}: {len(it)}" for k, it in enumerate(lines, 1) if len(it) > WIDTH and not WHOLE.match(it)]
+    return told(wrong, count, 40000, "lines")
+
+
+CHECKS = (device, types, memory, widths)

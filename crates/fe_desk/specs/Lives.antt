@@ -1,5 +1,5 @@
 -- A store over any number of stops: what each life, from one opening to the next, did, and what stands after
--- all of them. And steps that are given again until they are taken. See `docs/stops.md`, and of the steps
+-- all of them. And steps that are given again until they are taken. See `docs/headline.md`, and of the steps
 -- `docs/model.md`, "The desk".
 use Rattle.std.specs.Prelude.{◌≡◌, ℕ, ◌≤◌, List, [], ◌∷◌, ◌++◌, length, take, ◌⊎◌, Bool, false, map, Contains}
 use Rattle.std.specs.Prelude.{Option, None, Some}

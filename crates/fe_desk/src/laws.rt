@@ -1,4 +1,4 @@
-//! Laws of what desks did, over any number of stops (`docs/stops.md`), and of steps that are given again
+//! Laws of what desks did, over any number of stops (`docs/headline.md`), and of steps that are given again
 //! (`docs/model.md`, "The desk"). A law is a function that does nothing; its clause is proved.
 
 ghost use Rattle.fe_desk.specs.Acknowledged.{AcknowledgedStand, AnySessionMayBeAsked};

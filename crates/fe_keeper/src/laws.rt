@@ -1,5 +1,5 @@
 //! Laws of what images of a device stand for (`docs/model.md`, "The keeper"), and of histories over stops
-//! (`docs/stops.md`). Each function states one, and does nothing.
+//! (`docs/headline.md`). Each function states one, and does nothing.
 
 ghost use Rattle.fe_keeper.specs.Damage.{StandsForOne, AreToldApart, StopsJoin};
 
