@@ -74,19 +74,16 @@ takes_same a b kept same few still receipts =
     let none = takes_none a kept few in record { conn = still.conn; count = still.mails ∙ none.count; taken = still.taken ∙ none.taken; receipts = receipts ∙ none.receipts }
 
 -- a mail is taken, and its receipt kept
-pub takes_one : (a b c d : MailSeatState) (kept same all : List Receipt) (m : Mail) (more : Bool) → b ≡ a → same ≡ kept → c ≡ mail_taken b m more → d ≡ c → all ≡ receipts_with c.conn same (m ∷ [])
-    → TakesOn a d kept all (m ∷ [])
-takes_one a b c d kept same all m more seat receipts taken as_it_was keeps =
-    let took : d ≡ mail_taken a m more = as_it_was ∙ taken ∙ ap (λ (s : MailSeatState). mail_taken s m more) seat in
-    record {
-      conn = ap (λ (s : MailSeatState). s.conn) took;
-      count = ap (λ (s : MailSeatState). s.mails) took;
-      taken = ap (λ (s : MailSeatState). s.taken) took;
-      receipts =
-          keeps
-          ∙ ap (λ (s : MailSeatState). receipts_with s.conn same (m ∷ [])) (taken ∙ ap (λ (s : MailSeatState). mail_taken s m more) seat)
-          ∙ ap (λ (rs : List Receipt). receipts_with a.conn rs (m ∷ [])) receipts;
-    }
+pub takes_one : (a b : MailSeatState) (kept same all : List Receipt) (m : Mail) (more : Bool) → same ≡ kept → b ≡ mail_taken a m more → all ≡ receipts_with b.conn same (m ∷ []) → TakesOn a b kept all (m ∷ [])
+takes_one a b kept same all m more receipts took keeps = record {
+  conn = ap (λ (s : MailSeatState). s.conn) took;
+  count = ap (λ (s : MailSeatState). s.mails) took;
+  taken = ap (λ (s : MailSeatState). s.taken) took;
+  receipts =
+      keeps
+      ∙ ap (λ (s : MailSeatState). receipts_with s.conn same (m ∷ [])) took
+      ∙ ap (λ (rs : List Receipt). receipts_with a.conn rs (m ∷ [])) receipts;
+}
 
 -- all that a side took, and that it took when it leaves
 pub as_taken : {before after left : MailSeatState} {none kept : List Receipt} {mails : List Mail} → TakesOn before after none kept mails → none ≡ [] → TookNoMail after left → AreTaken before left kept mails

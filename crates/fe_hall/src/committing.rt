@@ -103,16 +103,10 @@ fn tend<D: Disk>(keeper: &mut Keeper<D>, slices: bool) -> Result<bool, Fault>
     ensures still { OnOk result (IsStill D.Disk keeper.old keeper.new) }
     ensures device { IfErr result (λ fault. (fault ≡ Device) × Breaks D.Disk keeper.old keeper.new) }
 {
-    if slices {
-        if keeper.checkpoint_step()? {
-            return Ok(true);
-        }
-        // Its last slice was just written, and none is begun beside it; or an append finished it.
-    } else if keeper.checkpoint_finish()? {
-        return Ok(false);
+    // If its last slice was just written, none is begun beside it.
+    if advance(keeper, slices)? {
+        return Ok(slices);
     }
-    // It names what is always true of the keeper (`docs/DECISIONS.md`, "Toolchain").
-    let _ = keeper.state();
     if keeper.used() <= MOST_USED {
         return Ok(false);
     }
@@ -122,5 +116,20 @@ fn tend<D: Disk>(keeper: &mut Keeper<D>, slices: bool) -> Result<bool, Fault>
             Fault::NoMemory(_) => Ok(false),
             _ => Err(fault),
         },
+    }
+}
+
+/// Writes a slice of a checkpoint, or finishes it. Returns whether slices may be left of it, or whether it
+/// was finished: there was one, which no append had finished before. The fault is `Device`.
+fn advance<D: Disk>(keeper: &mut Keeper<D>, slices: bool) -> Result<bool, Fault>
+    requires works { keeper.old.store.has_failed ≡ false }
+    ensures keeps { KeepsStanding D.Disk keeper.old keeper.new }
+    ensures still { OnOk result (IsStill D.Disk keeper.old keeper.new) }
+    ensures device { IfErr result (λ fault. (fault ≡ Device) × Breaks D.Disk keeper.old keeper.new) }
+{
+    if slices {
+        keeper.checkpoint_step()
+    } else {
+        keeper.checkpoint_finish()
     }
 }

@@ -12,6 +12,7 @@ mod commit_end;
 mod committing;
 mod ended;
 mod ends;
+mod first_receipts;
 mod hall;
 mod halves;
 mod hold;

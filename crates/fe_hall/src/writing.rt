@@ -11,11 +11,11 @@ ghost use Rattle.fe_history.specs.Acts.{AreIssued, IsLegal};
 ghost use Rattle.fe_shared.specs.Seats.{TookNoMail};
 
 use crate::baton::BatonGuard;
+use crate::first_receipts::FirstReceipts;
 use crate::hall::Hall;
 use crate::halves::{HalfFault, WriteHalf};
 use crate::write_end::WriteEnd;
-use fe_history::{History, Receipt, Receipts, Tally};
-use fe_memory::reserve_one;
+use fe_history::{History, Receipts, Tally};
 use fe_messages::Reply;
 use fe_shared::{Free, MailSeat, Taking};
 use std::alloc::Global;
@@ -28,9 +28,6 @@ const BATCH_BYTES: usize = 65_536;
 /// A write has at most this many bytes while the read side waits for the box, so that it learns that bytes go
 /// out, however slowly.
 const PIECE_BYTES: usize = 4096;
-
-/// The most receipts that a side keeps.
-const RECEIPTS: usize = 1024;
 
 /// Serves the direction to the client of a connection, until it ends. It waits for mail, takes all of it out
 /// of the box, or enough for some 64 KiB of frames, and makes one write of these, outside the lock.
@@ -63,7 +60,7 @@ pub fn write_side<C: Tally, M: Tally, H: WriteHalf, R: Wait>(
     let (seat, mut free) = seat.begin_side();
     let mut writing = Writing {
         seat,
-        receipts: Vec::new(alloc),
+        receipts: FirstReceipts::new(alloc),
         frames: Vec::new(alloc),
         history: hall.history(),
     };
@@ -71,7 +68,7 @@ pub fn write_side<C: Tally, M: Tally, H: WriteHalf, R: Wait>(
     depart(rt, &mut free, hall, &mut writing.seat, end);
     let Writing {
         seat,
-        receipts,
+        receipts: FirstReceipts { list: receipts },
         history,
         ..
     } = writing;
@@ -84,13 +81,12 @@ pub fn write_side<C: Tally, M: Tally, H: WriteHalf, R: Wait>(
 #[derive(Drop)]
 struct Writing<M: Tally> {
     seat: MailSeat<M>,
-    /// The receipts of the first answers that were taken.
-    receipts: Vec<Receipt>,
+    /// Of the answers that were taken.
+    receipts: FirstReceipts,
     /// The frames of the mails that were taken and are not written yet.
     frames: Vec<u8>,
     /// The history in which those answers were issued.
     history: History<M>,
-    ghost few: { length receipts.items ≤ 1024 },
 }
 
 impl<M: Tally> Writing<M> {
@@ -104,7 +100,8 @@ impl<M: Tally> Writing<M> {
     ) -> WriteEnd
         requires { self.old.frames.items ≡ [] }
         ensures wrote { (mails : List TakenMail)
-            × TakesOn self.old.seat self.new.seat self.old.receipts.items self.new.receipts.items mails
+            × TakesOn self.old.seat self.new.seat self.old.receipts.list.items self.new.receipts.list.items
+            mails
             × (H.is_known half.old → H.is_known half.new
             × IsWritten (H.got half.old) mails result (H.got half.new))
             × AreIssued self.old.seat.conn mails self.new.history }
@@ -141,7 +138,8 @@ impl<M: Tally> Writing<M> {
     ) -> Result<(), WriteEnd>
         requires { self.old.frames.items ≡ [] }
         ensures took { (mails : List TakenMail)
-            × TakesOn self.old.seat self.new.seat self.old.receipts.items self.new.receipts.items mails
+            × TakesOn self.old.seat self.new.seat self.old.receipts.list.items self.new.receipts.list.items
+            mails
             × IsBatch mails × AreSpelled [] result mails self.new.frames.items
             × IssuesOn self.old.seat.conn mails self.old.history self.new.history }
         ensures ended_as { IfErr result (λ end. IsEndAfter end self.new.seat.last_answer) }
@@ -172,17 +170,15 @@ impl<M: Tally> Writing<M> {
         // It may wait, so nothing that was taken is left to write, or more mails are in the box.
         requires { (self.old.frames.items ≡ []) ⊎ (self.old.seat.more ≡ true) }
         ensures took { (mails : List TakenMail)
-            × TakesOn self.old.seat self.new.seat self.old.receipts.items self.new.receipts.items mails
+            × TakesOn self.old.seat self.new.seat self.old.receipts.list.items self.new.receipts.list.items
+            mails
             × (length mails ≤ 1) × AreSpelled self.old.frames.items result mails self.new.frames.items
             × IssuesOn self.old.seat.conn mails self.old.history self.new.history }
         ensures more { IfOk result (λ more. more ≡ self.new.seat.more) }
         ensures ended_as { IfErr result (λ end. IsEndAfter end self.new.seat.last_answer) }
     {
-        let keeps = self.receipts.len() < RECEIPTS;
-        if keeps {
-            if let Err(error) = reserve_one(&mut self.receipts) {
-                return Err(WriteEnd::NoMemory(error));
-            }
+        if let Err(error) = self.receipts.reserve() {
+            return Err(WriteEnd::NoMemory(error));
         }
         let taking = hall.take_mail(rt, free, &mut self.seat, &mut self.history, baton_guard);
         let (mail, more) = match taking {
@@ -191,13 +187,7 @@ impl<M: Tally> Writing<M> {
             Taking::Stopped => return Err(WriteEnd::Stopped),
             Taking::Spent => return Err(WriteEnd::Spent),
         };
-        if keeps {
-            if let Some(receipt) = Receipt::of(self.seat.conn(), &mail) {
-                if self.receipts.push(receipt).is_err() {
-                    unreachable!();
-                }
-            }
-        }
+        self.receipts.keep(self.seat.conn(), &mail);
         match Reply::of(mail).put(&mut self.frames) {
             Ok(()) => Ok(more),
             Err(error) => Err(WriteEnd::NoMemory(error)),

@@ -6,7 +6,7 @@ use Rattle.fe_hall.proofs.writing.Writing.take_mails.Goals as goal
 
 pub loop-init : goal.loop-init
 loop-init g c =
-    let s = c.args.self.now in (([], takes_none s.seat s.receipts.items s.few, batch_none, c.requires, (prefix_self s.history, tt)), inl c.requires, (tt, tt))
+    let s = c.args.self.now in (([], takes_none s.seat s.receipts.list.items s.receipts.few, batch_none, c.requires, (prefix_self s.history, tt)), inl c.requires, (tt, tt))
 
 pub returns-in_err-more-clause-took : goal.returns-in_err-more-clause-took
 returns-in_err-more-clause-took g c =
@@ -18,7 +18,7 @@ returns-in_err-more-clause-took g c =
     let p = err_from_is_err_and c.from_residual.result c.from_residual.ensures.1 in
     let room : length l.frames.items < 65536 = omega arith in
     let short = subst (λ (xs : List ℕ). length xs < 65536) i.3 room in
-    let takes = takes_on s.seat l.seat n.seat s.receipts.items l.receipts.items n.receipts.items i.0 t.0 i.1 t.1 in
+    let takes = takes_on s.seat l.seat n.seat s.receipts.list.items l.receipts.list.items n.receipts.list.items i.0 t.0 i.1 t.1 in
     rw (p.1, p.2) (i.0 ++ t.0, takes, batch_more i.0 t.0 i.2 t.2 short, spells_on Bool (Unit {0}) c.in_err-more.field-0.0 l.frames.items n.frames.items i.0 t.0 i.3 t.3, issues_on s.seat.conn l.seat.conn i.0 t.0 s.history l.history n.history i.1.conn i.4 t.4)
 
 pub loop-preserved : goal.loop-preserved
@@ -30,7 +30,7 @@ loop-preserved g c =
     let t = c.in_ok-more.ensures.took in
     let room : length l.frames.items < 65536 = omega arith in
     let short = subst (λ (xs : List ℕ). length xs < 65536) i.3 room in
-    let takes = takes_on s.seat l.seat n.seat s.receipts.items l.receipts.items n.receipts.items i.0 t.0 i.1 t.1 in
+    let takes = takes_on s.seat l.seat n.seat s.receipts.list.items l.receipts.list.items n.receipts.list.items i.0 t.0 i.1 t.1 in
     ((i.0 ++ t.0, takes, batch_more i.0 t.0 i.2 t.2 short, spelled_more l.frames.items n.frames.items i.0 t.0 i.3 t.3, issues_on s.seat.conn l.seat.conn i.0 t.0 s.history l.history n.history i.1.conn i.4 t.4), inr c.in_ok-more.ensures.more, (tt, tt))
 
 pub loop-preserved-then-more : goal.loop-preserved-then-more
@@ -42,5 +42,5 @@ loop-preserved-then-more g c =
     let t = c.in_ok-more.ensures.took in
     let room : length l.frames.items < 65536 = omega arith in
     let short = subst (λ (xs : List ℕ). length xs < 65536) i.3 room in
-    let takes = takes_on s.seat l.seat n.seat s.receipts.items l.receipts.items n.receipts.items i.0 t.0 i.1 t.1 in
+    let takes = takes_on s.seat l.seat n.seat s.receipts.list.items l.receipts.list.items n.receipts.list.items i.0 t.0 i.1 t.1 in
     ((i.0 ++ t.0, takes, batch_more i.0 t.0 i.2 t.2 short, spelled_more l.frames.items n.frames.items i.0 t.0 i.3 t.3, issues_on s.seat.conn l.seat.conn i.0 t.0 s.history l.history n.history i.1.conn i.4 t.4), inr c.in_ok-more.ensures.more, (tt, tt))
