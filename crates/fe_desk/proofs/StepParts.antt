@@ -12,7 +12,7 @@ use Rattle.fe_desk.specs.DeskRunState.{output_of, Extends, Client, DeskRunState,
 use Rattle.fe_desk.specs.Steps.{find, Acts, DeskStep}
 use Rattle.fe_desk.specs.Messages.{outputs}
 use Rattle.fe_desk.specs.within.Desk.{AreWrittenOutLater, HasStore, KeepsFront, IsDesk, IsAhead, client_of, desk_of, run_state_of}
-use Rattle.fe_desk.specs.within.Goes.{Empties, HasEmptied, Settles, StillHolds}
+use Rattle.fe_desk.specs.within.Goes.{Empties, Settles}
 use Rattle.fe_desk.proofs.Advancing.{desk_as, tied_as}
 use Rattle.fe_desk.proofs.Outputs.{all_written_out-extends}
 use Rattle.fe_desk.proofs.Emptying.{boxes_empty, no_box}
@@ -121,23 +121,6 @@ when_ok (Err e) none p = absurd (true≢false none)
 pub when_err : {T E P : Type 0} (r : Result T E) → is_err r ≡ true → OnErr r P → P
 when_err (Ok x) some p = absurd (true≢false (sym some))
 when_err (Err e) some p = p
-
--- the same of how the boxes were emptied
-pub settles_ok : (r : Result (Unit {0}) OutOfMemory) (s t : DeskRunState) → is_err r ≡ false → Settles r s t → t ≡ discharged s
-settles_ok (Ok x) s t none h = h
-settles_ok (Err e) s t none h = absurd (true≢false none)
-
-pub settles_err : (r : Result (Unit {0}) OutOfMemory) (s t : DeskRunState) → is_err r ≡ true → Settles r s t → (s.owes ≡ true) × StillHolds s t
-settles_err (Ok x) s t some h = absurd (true≢false (sym some))
-settles_err (Err e) s t some h = h
-
-pub empties_ok : (r : Result (Unit {0}) OutOfMemory) (s t : DeskRunState) → is_err r ≡ false → Empties r s t → HasEmptied s t
-empties_ok (Ok x) s t none h = h
-empties_ok (Err e) s t none h = absurd (true≢false none)
-
-pub empties_err : (r : Result (Unit {0}) OutOfMemory) (s t : DeskRunState) → is_err r ≡ true → Empties r s t → StillHolds s t
-empties_err (Ok x) s t some h = absurd (true≢false (sym some))
-empties_err (Err e) s t some h = h
 
 -- mails that were owed are written, where all are
 pub settles_all : (r : Result (Unit {0}) OutOfMemory) (s t : DeskRunState) → s.owes ≡ true → Empties r s t → Settles r s t

@@ -400,9 +400,6 @@ module _ {D : Type 0} (model : Ghosts D) (old new : KeeperState D) where
   device_alone Cause (Damaged offset) works memory mismatch fails = absurd fails
   device_alone Cause Unformatted works memory mismatch fails = absurd fails
 
-  pub still_short : (Cause : Fault → Type 0) (fault : Fault) → fault ≡ NoMemory out_of_memory → Fails model Cause old new fault → IsStill model old new
-  still_short Cause fault is fails = still_same (subst (Fails model Cause old new) is fails).1.same
-
 -- what is said of a fault is said of a result that has it
 pub fault_is : {T : Type 0} (result : Result T Fault) (fault : Fault) (P : Fault → Type 0) → IsErrAnd result (λ f. f ≡ fault) → P fault → IfErr result P
 fault_is (Ok x) fault P is p = absurd is

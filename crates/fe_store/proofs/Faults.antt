@@ -17,15 +17,6 @@ not_sized store.Unformatted answer found is sized = absurd (cc)
 not_sized store.Failed answer found is sized = absurd is
 not_sized (store.Mismatch place) answer found is sized = absurd is
 
--- an unformatted device is reported exactly where there was one
-pub unformatted_of : (end : keeper.Fault) (answer : OpenFault) → IsOpenFaultOf end answer → answer ≡ fault.Unformatted → end ≡ store.Unformatted
-unformatted_of store.Device answer is odd = cc
-unformatted_of (store.NoMemory error) answer is odd = cc
-unformatted_of (store.Damaged offset) answer is odd = cc
-unformatted_of store.Unformatted answer is odd = refl
-unformatted_of store.Failed answer is odd = absurd is
-unformatted_of (store.Mismatch place) answer is odd = absurd is
-
 -- why an unformatted image is not formatted
 pub made_reason : (end : keeper.Fault) (answer : OpenFault) (image : List ℕ) → IsOpenFaultOf end answer → (end ≡ store.Device) ⊎ ((end ≡ store.Unformatted) ⊎ (end ≡ store.NoMemory out_of_memory))
     → IsReason image fault.Unformatted → IsReason image answer
