@@ -28,7 +28,7 @@ use Rattle.fe_disk.specs.declared.disk.Disk.{Ghosts}
 
 -- ---- what was told
 
-contains_act : (acts : List Act) (a : Act) → StandsIn acts a → Contains acts a
+pub contains_act : (acts : List Act) (a : Act) → StandsIn acts a → Contains acts a
 contains_act acts a is = (is.0, slice_get_within acts is.0 a is.1, get_or_from_slice_get acts is.0 a a is.1)
 
 contains_issued : (acts : List Act) (receipts : List Receipt) → EachIssued receipts acts → AllByRecursion (λ r. Contains acts (Issued r)) receipts

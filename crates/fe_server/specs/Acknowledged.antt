@@ -1,6 +1,6 @@
 -- What an account, a hall's history and receipts, says of its answers, and of the images that a stop may leave after each.
 -- See `docs/model.md`, "The hall".
-use Rattle.std.specs.Prelude.{◌≡◌, ◌⊎◌, ℕ, ◌+◌, ◌<◌, ◌≤◌, true, false, List, ◌∷◌, ◌++◌, flat_map, length, slice_get, take, Some, MatchBool, Contains, ◌↔◌, [], Option, None, Result, Ok, Err}
+use Rattle.std.specs.Prelude.{◌≡◌, ◌⊎◌, ℕ, ◌+◌, ◌<◌, ◌≤◌, true, false, List, ◌∷◌, ◌++◌, flat_map, length, slice_get, take, Some, MatchBool, All, Contains, ◌↔◌, [], Option, None, Result, Ok, Err, IfOk}
 use Rattle.std.specs.List.{AllByRecursion}
 use Rattle.fe_disk.specs.Runs.{LeavesOnly}
 use Rattle.fe_state.specs.State.{ServerState}
@@ -19,10 +19,12 @@ use Rattle.fe_history.specs.declared.receipt.Receipt.{Receipt}
 use Rattle.fe_disk.specs.declared.disk.Disk.{Ghosts}
 use Rattle.fe_keeper.specs.declared.fault.Fault as keeper
 use Rattle.fe_keeper.specs.declared.fault.Fault.TheVariants as store
+use Rattle.fe_server.specs.Connections.{AnswersIssued, AreCounted, IsOfConnection}
 use Rattle.fe_server.specs.declared.failed.Failed.{Failed}
 use Rattle.fe_server.specs.declared.served.Served.{Served}
 use Rattle.fe_server.specs.declared.stop_fault.StopFault.{StopFault}
 use Rattle.fe_server.specs.declared.stop_fault.StopFault.TheVariants as fault
+use Rattle.fe_server.specs.declared.transcript.Transcript.{Transcript}
 use Rattle.fe_hall.specs.declared.commit_end.CommitEnd.TheVariants.{Stopped, Store, Strange, Spent}
 
 -- One of the first n groups has the entry of that place. From the end of that group's append on, up to the last disk,
@@ -122,10 +124,25 @@ abbrev pub account_in : {D : Type 0} → Result (Served D) (Failed D) → Accoun
 account_in (Ok served) = record { receipts = served.audit.receipts; history = served.audit.history; own = true }
 account_in (Err failed) = failed.account
 
+-- the transcripts in what is returned
+abbrev pub transcripts_in : {D : Type 0} → Result (Served D) (Failed D) → List Transcript
+transcripts_in (Ok served) = served.transcripts
+transcripts_in (Err failed) = failed.transcripts
+
+-- Of each connection that ended: the first messages of what its socket received were handled, and it was sent the frames of the mails that
+-- were taken for it, and nothing else: all, unless a write failed or memory was short (`each`). Each answer among these mails was issued in
+-- the account's history (`issued`). After `Ok` the books count the calls and mails of these connections, and no others (`counted`).
+pub record HasTranscripts {D : Type 0} (answer : Result (Served D) (Failed D)) : Type 0 where
+  pub each : All IsOfConnection (transcripts_in answer)
+  pub issued : All (AnswersIssued (account_in answer).history) (transcripts_in answer)
+  pub counted : IfOk answer (λ (served : Served D). AreCounted served.transcripts served.audit.books)
+
 -- A keeper whose disk works and that has no checkpoint under way, as one just opened, was served. It is returned with what was stored
--- since; the answer is one that the committing side's end allows (`IsAnswerAt`); and `IsAcknowledged` holds of the account.
+-- since; the answer is one that the committing side's end allows (`IsAnswerAt`); `IsAcknowledged` holds of the account; and
+-- `HasTranscripts` holds.
 pub record WasServed {D : Type 0} (model : Ghosts D) (opened : KeeperState D) (answer : Result (Served D) (Failed D)) : Type 0 where
   pub works : opened.store.has_failed ≡ false
   pub none_under_way : opened.store.checkpoint ≡ None
   pub committed : (end : CommitEnd) × HasCommitted model opened (keeper_in answer) end × IsAnswerAt end (fault_in answer)
   pub acknowledged : (end : CommitEnd) × IsAnswerAt end (fault_in answer) × IsAcknowledged model opened (keeper_in answer) end (account_in answer)
+  pub transcripts : HasTranscripts answer

@@ -1,6 +1,7 @@
 pub mod Acknowledged
 pub mod Arrivals
 pub mod BooksText
+pub mod Connections
 pub mod FinishedConnections
 pub mod Serving
 pub mod Sides

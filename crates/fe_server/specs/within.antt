@@ -1,2 +1,3 @@
 -- Definitions that no public clause rests on.
 pub mod HasServed
+pub mod Leavings

@@ -3,6 +3,7 @@
 
 ghost use Rattle.std.specs.Prelude.{◌≡◌, List, [], IfOk, IsSome};
 ghost use Rattle.fe_mail.specs.declared.mail.Mail.{Mail as TakenMail};
+ghost use Rattle.fe_history.specs.Acts.{AreIssued};
 ghost use Rattle.fe_hall.specs.Reads.{HandlesStream};
 ghost use Rattle.fe_hall.specs.Writes.{AreTaken, IsWritten};
 ghost use Rattle.fe_server.specs.Sides.{most_reads};
@@ -90,8 +91,10 @@ impl Connection {
         ensures handled { HandlesStream result.0.socket.from.received seats.calls result.1.read.seat
             result.1.read.sent.items result.1.read.end }
         // The socket was sent the frames of the mails that were taken, and nothing else: all, unless a write failed or memory was short.
+        // Each answer among them was issued to it.
         ensures sent { (all : List TakenMail) × AreTaken seats.mails result.1.write.seat result.1.write.receipts.items all
-            × IsWritten [] all result.1.write.end result.0.socket.to.writer.sent }
+            × IsWritten [] all result.1.write.end result.0.socket.to.writer.sent
+            × AreIssued seats.mails.conn all result.1.write.receipts.history }
     {
         let Connection { admission, socket } = self;
         let ServedSocket { from, to, socket } = socket.begin();

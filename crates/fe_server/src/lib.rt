@@ -24,6 +24,8 @@ mod sides;
 mod socket_handle;
 mod stop_fault;
 mod stream;
+mod transcript;
+mod transcript_log;
 
 pub use books::books_text;
 pub use failed::Failed;
@@ -33,3 +35,5 @@ pub use served::Served;
 pub use server::serve_store;
 pub use stop_fault::StopFault;
 pub use stream::{StreamRead, StreamWrite};
+pub use transcript::Transcript;
+pub use transcript_log::TranscriptLog;

@@ -34,8 +34,8 @@ pub fn serve<
     settings: &Settings,
     gate: &G,
 ) -> Result<Result<Served<FileDisk<F>>, Failed<FileDisk<F>>>, ServeFault<FileDisk<F>>>
-    // The store at the path in the settings was opened and served: its keeper is returned with what was stored since, and its account says
-    // which answers were issued, that is handed out.
+    // The store at the path in the settings was opened and served: its keeper is returned with what was stored since, its account says
+    // which answers were issued, that is handed out, and its transcripts what each connection received and was sent.
     ensures served { IfOk result (ServesFile ⟦<FileDisk<F> as Disk>⟧
         (F.is_at (string_bytes settings.now.store)) settings.now.format) }
     // Otherwise that store was not opened, and the fault is true of it; or it was opened, and its keeper is returned as it was opened.

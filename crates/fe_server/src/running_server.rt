@@ -3,6 +3,7 @@
 
 ghost use Rattle.std.specs.Prelude.{◌≡◌, ◌∷◌, [], IfOk, IfErr, nat_lt};
 ghost use Rattle.fe_front.specs.Front.{IsFirst};
+ghost use Rattle.fe_history.specs.Acts.{AreIssued};
 ghost use Rattle.fe_history.specs.declared.act.Act.TheVariants as act;
 ghost use Rattle.fe_shared.specs.declared.last_answer.LastAnswer.TheVariants as LastAnswer;
 ghost use Rattle.fe_server.specs.Transcripts.{IsTranscript};
@@ -230,8 +231,10 @@ impl<C: Tally, M: Tally> RunningServer<C, M> {
         requires transcript { IsTranscript connection.socket.from.received connection.socket.to.writer.sent
             connection.admission.conn outcome.read.seat outcome.read.sent.items outcome.read.end
             outcome.write.seat outcome.write.receipts.items outcome.write.end }
+        // Each answer that its write side took was issued to it.
+        requires issued { AreIssued connection.admission.conn outcome.write.seat.taken outcome.write.receipts.history }
     {
-        self.finished.lock(rt).add(outcome, self.keeps);
+        self.finished.lock(rt).add(&connection, outcome, self.keeps);
         let admission = connection.close();
         self.register.lock(rt).leave(admission);
         self.freed.notify_all();

@@ -7,7 +7,7 @@ ghost use Rattle.fe_history.specs.Receipts.{IsBorneOut};
 ghost use Rattle.fe_history.specs.declared.act.Act.TheVariants as act;
 ghost use Rattle.fe_hall.specs.declared.commit_end.CommitEnd.{CommitEnd};
 ghost use Rattle.fe_hall.specs.declared.commit_end.CommitEnd.TheVariants as hall;
-ghost use Rattle.fe_server.specs.Acknowledged.{IsAcknowledged, HasCommitted, HasCommittedAndNoted, IsAnswerAt, account_in, fault_in, keeper_in};
+ghost use Rattle.fe_server.specs.Acknowledged.{IsAcknowledged, HasCommitted, HasCommittedAndNoted, HasTranscripts, IsAnswerAt, account_in, fault_in, keeper_in};
 ghost use Rattle.fe_server.specs.FinishedConnections.{IsSettled};
 ghost use Rattle.fe_server.specs.within.HasServed.{AreBlank, HasServed};
 ghost use Rattle.fe_server.specs.declared.stop_fault.StopFault.TheVariants as fault;
@@ -19,6 +19,7 @@ use crate::register::ServerEnded;
 use crate::running_server::{Opened, RunningServer, Unbegun};
 use crate::served::Served;
 use crate::stop_fault::StopFault;
+use crate::transcript_log::TranscriptLog;
 use fe_disk::Disk;
 use fe_hall::{Account, ConnectRight, Gate, NewHistory, PARTS, StoreSeat, Tally};
 use fe_keeper::Keeper;
@@ -62,6 +63,10 @@ pub fn serve_store<D: Disk + Drop + Send, G: Gate + Sync, R: Clock + Threads + W
     // append stands for a state with the group. Each receipt's answer is in that history.
     ensures acknowledged { (end : CommitEnd) × IsAnswerAt end (fault_in result)
         × IsAcknowledged D.Disk keeper (keeper_in result) end (account_in result) }
+    // Of each connection that ended: the first messages of what its socket received were handled, and it was sent the frames of the mails
+    // that were taken for it, and nothing else: all, unless a write failed or memory was short. Each answer among them was issued in the
+    // account's history. After `Ok` the books count the calls and mails of these connections, and no others.
+    ensures transcripts { HasTranscripts result }
 {
     let history = NewHistory::new(keeper.state());
     serve_as::<Brand, Brand, D, G, R>(
@@ -132,23 +137,31 @@ fn closed<C: Tally, M: Tally, D: Disk>(
         (λ served. IsSettled opened.server.keeps served.keeper.state served.audit) }
     ensures leaves { (kept : Kept) × IsAccountOf seat kept.items kept.history (account_in result) }
     ensures issued { EachIssued (account_in result).receipts (account_in result).history }
+    ensures transcripts { HasTranscripts result }
 {
     let ended = over.fault();
     let (hall, finished, keeps) = opened.into_parts(over);
+    let transcripts = finished.transcripts();
     if let Some(fault) = ended {
         let account = finished.account(hall, seat);
         return Err(Failed {
             fault,
             keeper,
             account,
+            transcripts,
         });
     }
     match finished.close(hall, seat, keeper.state(), keeps) {
-        Ok(audit) => Ok(Served { audit, keeper }),
+        Ok(audit) => Ok(Served {
+            audit,
+            keeper,
+            transcripts,
+        }),
         Err((fault, account)) => Err(Failed {
             fault,
             keeper,
             account,
+            transcripts,
         }),
     }
 }
@@ -159,6 +172,7 @@ fn unserved<D: Disk>(_why: Unbegun, keeper: Keeper<D>, account: Account) -> Fail
         (act.Began keeper.state ∷ []) }
     ensures fault { result.fault ≡ fault.Memory }
     ensures account { result.account ≡ account }
+    ensures transcripts { result.transcripts ≡ [] }
 {
     // It names what is always true of the keeper (`docs/DECISIONS.md`, "Toolchain").
     let _ = keeper.state();
@@ -166,6 +180,7 @@ fn unserved<D: Disk>(_why: Unbegun, keeper: Keeper<D>, account: Account) -> Fail
         fault: StopFault::Memory,
         keeper,
         account,
+        transcripts: TranscriptLog::none(),
     }
 }
 

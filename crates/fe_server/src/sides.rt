@@ -13,6 +13,7 @@ ghost use Rattle.fe_server.specs.Sides.{HasHandled, HasWritten, ends_stream, mos
 ghost use Rattle.fe_server.specs.Transcripts.{AreRead};
 
 mod finished_connections;
+mod finished_sides;
 
 use crate::connection::STACK;
 use crate::reads::{ReadLimit, Unstarted};

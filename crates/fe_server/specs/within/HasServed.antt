@@ -7,7 +7,7 @@ use Rattle.fe_shared.specs.Seats.{IsBlankOf}
 use Rattle.fe_disk.specs.declared.disk.Disk.{Ghosts}
 use Rattle.fe_keeper.specs.Keeper.{KeeperState}
 use Rattle.fe_hall.specs.declared.commit_end.CommitEnd.{CommitEnd}
-use Rattle.fe_server.specs.Acknowledged.{IsAcknowledged, HasCommitted, IsAnswerAt, account_in, fault_in, keeper_in}
+use Rattle.fe_server.specs.Acknowledged.{IsAcknowledged, HasCommitted, HasTranscripts, IsAnswerAt, account_in, fault_in, keeper_in}
 use Rattle.fe_server.specs.FinishedConnections.{IsSettled}
 use Rattle.fe_server.specs.declared.failed.Failed.{Failed}
 use Rattle.fe_server.specs.declared.served.Served.{Served}
@@ -22,8 +22,9 @@ pub record AreBlank {B : Type 0} (calls_ledger calls_parts all_calls calls_name 
   pub begun : acts ≡ Began state ∷ []
 
 -- The store of a keeper was served: the keeper is returned with what was stored since, the answer is one that the committing side's end
--- allows (`IsAnswerAt`), `IsAcknowledged` holds of the account, and the audit, if there is one, is settled.
+-- allows (`IsAnswerAt`), `IsAcknowledged` holds of the account, the audit, if there is one, is settled, and `HasTranscripts` holds.
 pub record HasServed {D : Type 0} (model : Ghosts D) (keeper : KeeperState D) (accepts : ℕ) (answer : Result (Served D) (Failed D)) : Type 0 where
   pub committed : (end : CommitEnd) × HasCommitted model keeper (keeper_in answer) end × IsAnswerAt end (fault_in answer)
   pub acknowledged : (end : CommitEnd) × IsAnswerAt end (fault_in answer) × IsAcknowledged model keeper (keeper_in answer) end (account_in answer)
   pub settled : IfOk answer (λ (served : Served D). IsSettled (nat_lt 0 accepts) served.keeper.state served.audit)
+  pub transcripts : HasTranscripts answer

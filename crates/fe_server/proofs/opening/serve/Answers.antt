@@ -10,6 +10,7 @@ returns-in-Some-clause-served g c = record {
     none_under_way = c.in-Ok.ensures.none_under_way;
     committed = c.serve_store.ensures.committed;
     acknowledged = c.serve_store.ensures.acknowledged;
+    transcripts = c.serve_store.ensures.transcripts;
   };
 }
 

@@ -2,6 +2,7 @@ use Rattle.std.proofs.Common.{Bool, sym, subst, ◌∙◌}
 use Rattle.fe_state.specs.State.{ServerState}
 use Rattle.fe_server.specs.FinishedConnections.{IsSettled}
 use Rattle.fe_server.proofs.Ends.{closed_answers, unclosed_answers, unclosed_fault, fault_answers}
+use Rattle.fe_server.proofs.Leavings.{all_counted, all_issued}
 use Rattle.fe_server.proofs.server.closed.Goals as goal
 
 pub returns-in-Some-clause-answer : goal.returns-in-Some-clause-answer
@@ -19,3 +20,23 @@ returns-in-Ok-clause-settled g c =
 
 pub returns-in-Err-clause-answer : goal.returns-in-Err-clause-answer
 returns-in-Err-clause-answer g c = unclosed_answers _ c.in-Err.fault (sym c.fault-ended.ensures ∙ c.in_default.is) (unclosed_fault c.in-Err.fault _ c.in-Err.ensures.faults)
+
+pub returns-in-Some-clause-transcripts : goal.returns-in-Some-clause-transcripts
+returns-in-Some-clause-transcripts g c =
+    let whole = c.transcripts-transcripts.ensures.whole in
+    record { each = whole.each; issued = all_issued _ _ _ c.account-account.result.history _ whole c.account-account.ensures.leaves.that; counted = tt }
+
+pub returns-in-Ok-clause-transcripts : goal.returns-in-Ok-clause-transcripts
+returns-in-Ok-clause-transcripts g c =
+    let whole = c.transcripts-transcripts.ensures.whole in
+    let e = c.in-Ok.ensures in
+    let of = e.audit in record {
+      each = whole.each;
+      issued = all_issued _ _ _ c.in-Ok.audit.history _ whole e.leaves.that;
+      counted = all_counted of.0 of.1 _ _ _ _ _ _ c.in-Ok.audit whole of.2.0 of.2.1 of.3;
+    }
+
+pub returns-in-Err-clause-transcripts : goal.returns-in-Err-clause-transcripts
+returns-in-Err-clause-transcripts g c =
+    let whole = c.transcripts-transcripts.ensures.whole in
+    record { each = whole.each; issued = all_issued _ _ _ c.in-Err.account.history _ whole c.in-Err.ensures.leaves.that; counted = tt }

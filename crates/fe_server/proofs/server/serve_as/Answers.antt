@@ -6,6 +6,7 @@ use Rattle.fe_server.specs.Acknowledged.{IsAcknowledged, HasCommitted, account_i
 use Rattle.fe_server.specs.FinishedConnections.{IsSettled}
 use Rattle.fe_server.specs.declared.served.Served.{Served}
 use Rattle.fe_server.proofs.Acknowledged.{ended_acknowledged, unbegun_acknowledged}
+use Rattle.fe_server.proofs.Leavings.{no_transcripts}
 use Rattle.fe_server.proofs.server.serve_as.Goals as goal
 
 pub returns-in-Err : goal.returns-in-Err
@@ -19,6 +20,7 @@ returns-in-Err g c =
             (u.ensures.account ∙ c.account-nothing.ensures.account) c.requires.begun c.account-nothing.ensures.legal,
       );
       settled = tt;
+      transcripts = no_transcripts u.result u.ensures.transcripts;
     }
 
 pub returns : goal.returns
@@ -39,4 +41,5 @@ returns g c =
             (ended_acknowledged g.D.Disk c.args.keeper r.0 r.1.end r.2 account e.leaves.0.items e.leaves.0.history c.run-keeper.ensures e.leaves.1 e.issued),
       );
       settled = subst (λ (k : Bool). IfOk answer (λ (s : Served g.row.D.Denot). IsSettled k s.keeper.state s.audit)) c.in-Ok.ensures.keeps e.settled;
+      transcripts = e.transcripts;
     }

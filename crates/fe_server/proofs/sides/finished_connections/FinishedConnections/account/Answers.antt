@@ -4,4 +4,4 @@ use Rattle.fe_server.proofs.sides.finished_connections.FinishedConnections.accou
 pub returns-clause-issued : goal.returns-clause-issued
 returns-clause-issued g c =
     let p = c.into_parts-receipts in
-    account_issued c.args.seat p.result.0.items p.result.1 c.account_of.result c.account_of.ensures p.ensures.issued
+    account_issued c.args.seat p.result.2.items p.result.3 c.account_of.result c.account_of.ensures p.ensures.issued
