@@ -18,7 +18,7 @@ MADE_FROM = re.compile(r"\b(?:AllocError|AllocFailed|fmt::Error|ErrorKind::OutOf
 MAKERS = ("crates/fe_memory/", "crates/fe_options/", "crates/femem/", "crates/fe_disk/src/system_file.rt")
 # How wide a line may be, in columns; and what can't be broken: an attribute, and a line of a text in bytes.
 WIDTH = 110
-WHOLE = re.compile(r"\s*#\[|\\0")
+WHOLE = re.compile(r"\s*(#\[|\\0)")
 USED = re.compile(r"^\s*(?:pub )?use (fe_\w+)::(?:\{([^}]*)\}|(\w+));", re.M)
 
 

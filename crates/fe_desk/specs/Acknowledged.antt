@@ -104,8 +104,8 @@ made_entries groups handed f = entries_of groups ++ (cut_entries handed ++ f.ser
 
 -- the batch is the last of the groups, and begins at the mark: all entries before the mark are posted, or
 -- were there at opening
-pub record IsLast (begun : ServerState) (groups : List (List Entry)) (durable : ℕ) (batch : Batch) : Type
-    0 where
+pub record IsLast (begun : ServerState) (groups : List (List Entry)) (durable : ℕ)
+    (batch : Batch) : Type 0 where
   pub before : List (List Entry)
   pub groups_are : groups ≡ before ++ batch.entries ∷ []
   pub first : batch.first ≡ durable
@@ -124,8 +124,8 @@ IsOnItsWay begun groups f (Stored batch) = IsLast begun groups f.durable batch �
 -- connection has only such sessions; the front's state is that after all entries that were made, stored or
 -- not, and each entry that finishes a request has the reply to it; only what is stored is posted; and unless
 -- the device failed, all groups are stored.
-pub record IsAcknowledged {D : Type 0} (begun : ServerState) (asked : ℕ → ℕ → Bool) (d : DeskState D) : Type
-    0 where
+pub record IsAcknowledged {D : Type 0} (begun : ServerState) (asked : ℕ → ℕ → Bool)
+    (d : DeskState D) : Type 0 where
   pub answers : AnswersStand begun (stored_groups d) asked d.run_state
   pub boxed : (conn : ℕ) → AllByRecursion (StandsOn begun (stored_groups d) (asked conn))
       (mails_on d.run_state.front.connections conn)

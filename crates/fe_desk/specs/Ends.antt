@@ -69,8 +69,8 @@ IsStoreNow is now = now ≡ record is { disk = now.disk }
 -- ---- groups
 
 -- a group is appended, after room is made for it if there is none, and the replica has its entries
-pub record IsAppended {D : Type 0} (old : KeeperState D) (group : List Entry) (new : KeeperState D) : Type
-    0 where
+pub record IsAppended {D : Type 0} (old : KeeperState D) (group : List Entry)
+    (new : KeeperState D) : Type 0 where
   pub state : new.state ≡ after_all old.state group
   pub store : IsStoreNow (appended (made_room old.store group) group) new.store
 
@@ -128,8 +128,8 @@ StopsMaking s conn t =
 
 -- The first of a connection's messages are taken. The next has no room, since the batch at hand is not
 -- stored: it did nothing, and it and those after it are left.
-pub record TakesFirst (s : DeskRunState) (conn : ℕ) (messages : List ClientMessage) (t : DeskRunState) : Type
-    0 where
+pub record TakesFirst (s : DeskRunState) (conn : ℕ) (messages : List ClientMessage)
+    (t : DeskRunState) : Type 0 where
   pub taken : List ClientMessage
   pub next : ClientMessage
   pub behind : List ClientMessage
@@ -218,8 +218,8 @@ pub record Tears {D : Type 0} (last : DeskRunState) (new : DeskState D) : Type 0
 
 -- In a step with bytes: the first messages, maybe none, were taken; the next found no room, since the batch
 -- at hand was not stored.
-pub record TearsBytes {D : Type 0} (s : DeskRunState) (conn : ℕ) (piece : List ℕ) (new : DeskState D) : Type
-    0 where
+pub record TearsBytes {D : Type 0} (s : DeskRunState) (conn : ℕ) (piece : List ℕ)
+    (new : DeskState D) : Type 0 where
   pub last : DeskRunState
   pub stops : StopsBefore s conn last ⊎ StopsBehind s conn piece last
   pub tears : Tears last new

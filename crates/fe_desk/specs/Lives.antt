@@ -121,8 +121,8 @@ FinishOnceIn groups =
 -- The groups that the stops kept are one history, with any groups that go on from the last image. In it a
 -- session's number finishes at most once until the session is closed, and all mails that were written in any
 -- life, or are in one that goes on, stand on it.
-pub record AreOneStore {D : Type 0} (begun : ServerState) (stops : List (Stop D)) (s : ServerState) : Type
-    0 where
+pub record AreOneStore {D : Type 0} (begun : ServerState) (stops : List (Stop D))
+    (s : ServerState) : Type 0 where
   pub lives : List Life
   pub same : map handed_by lives ≡ map stored_by stops
   pub are : AreLives begun lives s

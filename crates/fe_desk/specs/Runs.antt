@@ -163,8 +163,8 @@ IsPastOpening (Some (suc n, fault)) = ⊤
 
 -- The opening was at fault, and what its fault says of the disk is true. Nothing else was done: the disk was
 -- synced at most once, read at most four times, and never written.
-pub record IsNotOpened {D : Type 0} (model : Ghosts D) (disk : D) (ran : Ran D) (fault : DeskFault) : Type
-    0 where
+pub record IsNotOpened {D : Type 0} (model : Ghosts D) (disk : D) (ran : Ran D)
+    (fault : DeskFault) : Type 0 where
   pub is_fault : IsOpenFault fault
   pub says : model.honest disk → TellsOpening fault (model.seen disk) (model.calls disk)
       (model.calls ran.disk)
@@ -182,8 +182,8 @@ pub record IsNotOpened {D : Type 0} (model : Ghosts D) (disk : D) (ran : Ran D) 
 
 -- A desk was opened over the state that the disk stands for, and the steps led from there to what the trace
 -- and the disk are. Its groups are a history from that state.
-pub record IsOpened {D : Type 0} (model : Ghosts D) (disk : D) (steps : List Step) (ran : Ran D) : Type
-    0 where
+pub record IsOpened {D : Type 0} (model : Ghosts D) (disk : D) (steps : List Step)
+    (ran : Ran D) : Type 0 where
   pub first : DeskState D
   pub last : DeskState D
   pub opened : model.honest disk → StandsFor (model.seen disk) first.keeper.state

@@ -53,8 +53,8 @@ HoldsSince model begun history n here (append ∷ appends) last =
 -- all but the last if the side ended because the device failed. Over an honest disk that had not failed, each
 -- image that a stop leaves at any moment stands for a prefix of that history, with all groups whose appends
 -- had ended by then. An end of `None`: the side goes on.
-pub record Commits {D : Type 0} (model : Ghosts D) (old new : KeeperState D) (end : Option CommitEnd) : Type
-    0 where
+pub record Commits {D : Type 0} (model : Ghosts D) (old new : KeeperState D)
+    (end : Option CommitEnd) : Type 0 where
   pub groups : List (List Entry)
   pub history : IsHistory old.state groups
   pub stored : ℕ

@@ -84,8 +84,8 @@ abbrev pub receipts_with : ℕ → List Receipt → List Mail → List Receipt
 receipts_with conn receipts mails = take most_receipts (receipts ++ filter_map (receipt_of conn) mails)
 
 -- a side took these mails next
-pub record TakesOn (before after : MailSeatState) (kept kept_after : List Receipt) (mails : List Mail) : Type
-    0 where
+pub record TakesOn (before after : MailSeatState) (kept kept_after : List Receipt)
+    (mails : List Mail) : Type 0 where
   pub conn : after.conn ≡ before.conn
   pub count : after.mails ≡ before.mails + length mails
   pub taken : after.taken ≡ before.taken ++ mails

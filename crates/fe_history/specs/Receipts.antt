@@ -34,8 +34,8 @@ pub record IsAsIssued (r : Receipt) (session number : ℕ) (k : Kept) : Type 0 w
   pub same_answer : k.answer ≡ r.answer
 
 -- the messages have a call of this number and request somewhere after an attach of the session
-pub record IsCalledBehind (messages : List ClientMessage) (session number : ℕ) (request : Request) : Type
-    0 where
+pub record IsCalledBehind (messages : List ClientMessage) (session number : ℕ)
+    (request : Request) : Type 0 where
   pub attach : ℕ
   pub call : ℕ
   pub is_attach : slice_get messages attach ≡ Some (Attach session)

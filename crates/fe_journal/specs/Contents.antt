@@ -36,8 +36,8 @@ end_of_groups [] = 0
 end_of_groups (payload ∷ payloads) = 5 + length payload + end_of_groups payloads
 
 -- The groups from `at` on, up to the first gate that is not open.
-pub record HoldsGroups (format : Format) (bytes : List ℕ) (area at : ℕ) (payloads : List (List ℕ)) : Type
-    0 where
+pub record HoldsGroups (format : Format) (bytes : List ℕ) (area at : ℕ)
+    (payloads : List (List ℕ)) : Type 0 where
   pub stand : StandFrom format bytes area at payloads
   pub ended : IsGateShut bytes (area + (at + end_of_groups payloads))
 

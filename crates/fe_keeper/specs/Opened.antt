@@ -44,8 +44,8 @@ keeper_over journal state =
     }
 
 -- Each image that a stop may leave holds contents that the journal knows, and these stand for the state.
-pub record KeepsState {D : Type 0} (model : Ghosts D) (journal : JournalState D) (state : ServerState) : Type
-    0 where
+pub record KeepsState {D : Type 0} (model : Ghosts D) (journal : JournalState D)
+    (state : ServerState) : Type 0 where
   pub contents : Contents
   pub keeps : KeepsContents model journal contents None
   pub stands : Stands contents state
@@ -59,8 +59,8 @@ pub record IsStoreIn {D : Type 0} (image : List ℕ) (store : StoreState D) : Ty
 
 -- The image stands for the keeper's state, and so does each image that a stop may leave. The store is that of
 -- the slot that counts in the image.
-pub record IsOpenedFrom {D : Type 0} (model : Ghosts D) (image : List ℕ) (keeper : KeeperState D) : Type
-    0 where
+pub record IsOpenedFrom {D : Type 0} (model : Ghosts D) (image : List ℕ)
+    (keeper : KeeperState D) : Type 0 where
   pub state : StandsFor image keeper.state
   pub durable : EachStandsFor model keeper.store.disk keeper.state
   pub store : IsStoreIn image keeper.store

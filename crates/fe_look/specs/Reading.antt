@@ -62,8 +62,8 @@ ReadsFor (Whole bytes) before now = HasRead 9 before now
 -- A store is given up, without a fault of its disk and with the size of a store, only after a hundred
 -- readings, each of which makes four reads at least, of both headers and their gates. It is `Unformatted`
 -- only if none made more, and `Device` only if one made five more.
-pub record GivesUpLate {D T : Type 0} (model : Ghosts D) (result : Result T OpenFault) (old new : D) : Type
-    0 where
+pub record GivesUpLate {D T : Type 0} (model : Ghosts D) (result : Result T OpenFault)
+    (old new : D) : Type 0 where
   pub device : IsErrOf result fault.Device
       → Rises (model.failures old) (model.failures new) ⊎ HasRead 405 (model.calls old) (model.calls new)
   pub unformatted : IsErrOf result fault.Unformatted

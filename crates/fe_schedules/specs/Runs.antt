@@ -167,8 +167,8 @@ pub record SoFar (read : List ℕ) (before now : Option (List ℕ)) (r : Run) : 
 
 -- All of these bytes ran as lines. What they print was written, except the text `kept`. A stop leaves on the
 -- disk all that they stored.
-pub record Whole (input : List ℕ) (before now : Option (List ℕ)) (kept : List ℕ) (disk : MemoryState) : Type
-    0 where
+pub record Whole (input : List ℕ) (before now : Option (List ℕ)) (kept : List ℕ)
+    (disk : MemoryState) : Type 0 where
   pub lines : List (List ℕ)
   pub all : lines_of input ≡ lines
   pub text : List ℕ

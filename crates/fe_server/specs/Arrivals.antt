@@ -1,5 +1,5 @@
--- Whether more connections come, and how many places (a server has a fixed number) are kept for clients that wait for one.
--- See `ARCHITECTURE.md`, "Threads".
+-- Whether more connections come, and how many places (a server has a fixed number) are kept for clients that
+-- wait for one. See `ARCHITECTURE.md`, "Threads".
 use Rattle.std.specs.Prelude.{◌≡◌, ◌⊎◌, ◌-◌, ◌<◌, ◌≤◌, ℕ, true, Option, None, Some, Result, Ok, Err}
 use Rattle.fe_server.specs.declared.register.Admission.{Admission}
 use Rattle.fe_server.specs.declared.register.Bounds.{Bounds}
@@ -11,8 +11,8 @@ use Rattle.fe_server.specs.declared.register.NoMore.{NoMore}
 abbrev pub HasEnded : ℕ → NoMore → Type 0
 HasEnded accepts no_more = (no_more.over ≡ true) ⊎ ((0 < accepts) × (accepts ≤ no_more.came))
 
--- How many clients wait for a place after a client asked for one: if it was one of them (`Some`), one less, since it waits no longer
--- whether it got in or not.
+-- How many clients wait for a place after a client asked for one: if it was one of them (`Some`), one less,
+-- since it waits no longer whether it got in or not.
 abbrev pub awaited_after : Option Expected → ℕ → ℕ
 awaited_after None awaited = awaited
 awaited_after (Some expected) awaited = awaited - 1

@@ -1,4 +1,5 @@
--- What the transcripts of connections that have ended say of them, and of a server's books and history (`docs/proved.md`, "Server").
+-- What the transcripts of connections that have ended say of them, and of a server's books and history
+-- (`docs/proved.md`, "Server").
 use Rattle.std.specs.Prelude.{◌≡◌, ℕ, List, filter_map, sum_by, All, Contains}
 use Rattle.fe_mail.specs.Books.{Books}
 use Rattle.fe_history.specs.Receipts.{receipt_of}
@@ -7,14 +8,16 @@ use Rattle.fe_history.specs.declared.act.Act.TheVariants.{Issued}
 use Rattle.fe_server.specs.Transcripts.{IsTranscript}
 use Rattle.fe_server.specs.declared.transcript.Transcript.{Transcript}
 
--- The first messages of what the connection's socket received were handled, and it was sent the frames of the mails that were taken, and
--- nothing else: all of them, unless a write failed or memory was short.
+-- The first messages of what the connection's socket received were handled, and it was sent the frames of the
+-- mails that were taken, and nothing else: all of them, unless a write failed or memory was short.
 abbrev pub IsOfConnection : Transcript → Type 0
-IsOfConnection t = IsTranscript t.received t.sent t.conn t.calls t.list t.read_end t.mails t.receipts t.write_end
+IsOfConnection t =
+    IsTranscript t.received t.sent t.conn t.calls t.list t.read_end t.mails t.receipts t.write_end
 
 -- each answer among the mails that were taken for the connection was issued to it
 abbrev pub AnswersIssued : List Act → Transcript → Type 0
-AnswersIssued history t = All (λ r. Contains history (Issued r)) (filter_map (receipt_of t.conn) t.mails.taken)
+AnswersIssued history t =
+    All (λ r. Contains history (Issued r)) (filter_map (receipt_of t.conn) t.mails.taken)
 
 -- how many calls these connections made, and how many mails were taken for them
 abbrev pub calls_of : List Transcript → ℕ

@@ -1,4 +1,5 @@
--- The transcript of a connection's socket: the bytes that it received and those that it was sent (`docs/proved.md`, "Server").
+-- The transcript of a connection's socket: the bytes that it received and those that it was sent
+-- (`docs/proved.md`, "Server").
 use Rattle.std.specs.Prelude.{ℕ, List, [], ◌∷◌, ◌++◌, Option, ◌≡◌, option_map}
 use Rattle.fe_streams.specs.Incoming.{bytes_read}
 use Rattle.fe_mail.specs.declared.mail.Mail.{Mail}
@@ -25,10 +26,13 @@ bytes_in bytes = fold-Bytes (List ℕ) more_bytes bytes
 abbrev pub AreRead : Option (List ℕ) → Option (List ℕ) → List ℕ → Type 0
 AreRead first left received = bytes_read first left ≡ option_map (λ _. received) first
 
--- What the socket of a connection received and was sent, and what its two sides did that began with new seats. The first messages of
--- what it received were handled: those that the read side's seat has, and no others. It was sent the frames of the mails that the write
--- side took, and nothing else: all of them, unless a write failed or memory was short.
-pub record IsTranscript (received sent : List ℕ) (conn : ℕ) (calls : CallSeatState) (list : List ClientMessage) (read_end : ReadEnd) (mails : MailSeatState) (receipts : List Receipt) (write_end : WriteEnd) : Type 0 where
+-- What the socket of a connection received and was sent, and what its two sides did that began with new
+-- seats. The first messages of what it received were handled: those that the read side's seat has, and no
+-- others. It was sent the frames of the mails that the write side took, and nothing else: all of them, unless
+-- a write failed or memory was short.
+pub record IsTranscript (received sent : List ℕ) (conn : ℕ) (calls : CallSeatState)
+    (list : List ClientMessage) (read_end : ReadEnd) (mails : MailSeatState) (receipts : List Receipt)
+    (write_end : WriteEnd) : Type 0 where
   pub handled : HandlesStream received (first_call_seat conn) calls list read_end
   pub all : List Mail
   pub taken : AreTaken (first_mail_seat conn) mails receipts all

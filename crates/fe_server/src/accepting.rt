@@ -1,5 +1,6 @@
-//! The accepting thread of a server, which takes in clients and starts a thread for each connection (`ARCHITECTURE.md`, "Threads"). The
-//! hall is the front that all threads share; it has a seat for each side of a connection (`docs/model.md`, "The hall").
+//! The accepting thread of a server, which takes in clients and starts a thread for each connection
+//! (`ARCHITECTURE.md`, "Threads"). The hall is the front that all threads share; it has a seat for each side
+//! of a connection (`docs/model.md`, "The hall").
 
 ghost use Rattle.fe_server.specs.Arrivals.{HasEnded};
 
@@ -22,12 +23,14 @@ use std::{io, thread};
 /// How many milliseconds the acceptor waits after a connection could not be accepted.
 const PAUSE: u64 = 10;
 
-/// How many milliseconds a client waits at most for a place among the `connections` (`docs/settings.md`) that is about to be free.
+/// How many milliseconds a client waits at most for a place among the `connections` (`docs/settings.md`) that
+/// is about to be free.
 const ROOM_WAIT: u64 = 1000;
 
-/// Shows that no connection comes any more, and that those that came have ended. Only `serve_clients` makes it. Without it the hall is
-/// stopped only at a fault: of the committing side, or if its thread can't be started, or if a book (a count of calls or mails) is full.
-/// It is not `Drop`, since the hall has to be stopped.
+/// Shows that no connection comes any more, and that those that came have ended. Only `serve_clients` makes
+/// it. Without it the hall is stopped only at a fault: of the committing side, or if its thread can't be
+/// started, or if a book (a count of calls or mails) is full. It is not `Drop`, since the hall has to be
+/// stopped.
 pub(crate) struct AllServed {
     no_more: NoMore,
 }
@@ -40,7 +43,8 @@ impl AllServed {
     }
 }
 
-/// Serves the connections that come, until as many came as the setting `accepts` says or nothing is stored any more, and all have ended.
+/// Serves the connections that come, until as many came as the setting `accepts` says or nothing is stored
+/// any more, and all have ended.
 pub(crate) fn serve_clients<
     C: Tally + Send + Sync,
     M: Tally + Send + Sync,
@@ -116,8 +120,8 @@ impl<
         unreachable!()
     }
 
-    /// Begins to serve a client, if there is room for it and the hall makes its seats. A client for whom a place is
-    /// about to be free waits for it in a thread of its own.
+    /// Begins to serve a client, if there is room for it and the hall makes its seats. A client for whom a
+    /// place is about to be free waits for it in a thread of its own.
     fn welcome<E>(&self, scope: &Scope<'s, E>, accepted: Accepted) {
         let (rt, server) = (self.rt, self.server);
         match server.enter(rt) {
@@ -139,7 +143,8 @@ impl<
         }
     }
 
-    /// Starts the thread of a client who waits for its place. If that can't be done, the client waits no more.
+    /// Starts the thread of a client who waits for its place. If that can't be done, the client waits no
+    /// more.
     fn start_late<E>(&self, scope: &Scope<'s, E>, waiting: Waiting) {
         let (rt, alloc, server, right, gate) = (
             self.rt,
@@ -162,8 +167,8 @@ impl<
         }
     }
 
-    /// Starts the thread of a connection. If that can't be done, this thread takes the last connection that waits for its thread, mostly
-    /// this one, reads nothing from it, and ends it.
+    /// Starts the thread of a connection. If that can't be done, this thread takes the last connection that
+    /// waits for its thread, mostly this one, reads nothing from it, and ends it.
     fn start<E>(&self, scope: &Scope<'s, E>, arrival: Arrival<C, M>) {
         let (rt, alloc, server, gate) = (self.rt, self.alloc, self.server, self.gate);
         match server.put(rt, arrival) {
@@ -199,7 +204,8 @@ fn serve_next<
     }
 }
 
-/// Takes a client that waits for a place, and serves it once one is free, or sends it away if it gets none within `millis` milliseconds.
+/// Takes a client that waits for a place, and serves it once one is free, or sends it away if it gets none
+/// within `millis` milliseconds.
 fn serve_late<
     C: Tally + Send + Sync,
     M: Tally + Send + Sync,
@@ -232,8 +238,9 @@ fn serve_late<
     }
 }
 
-/// Pauses after a connection could not be accepted, for example with too many open files or too little memory, so that the next try does
-/// not follow at once. It does not after an interrupted call, or if the client had gone already.
+/// Pauses after a connection could not be accepted, for example with too many open files or too little
+/// memory, so that the next try does not follow at once. It does not after an interrupted call, or if the
+/// client had gone already.
 fn pause<R: Clock>(rt: &R, error: io::Error) {
     match error.kind() {
         ErrorKind::Interrupted | ErrorKind::ConnectionAborted => {}

@@ -1,4 +1,5 @@
-//! A connection with its seats, the rights of its two sides in the hall, the front that all threads share (`docs/model.md`, "The hall").
+//! A connection with its seats, the rights of its two sides in the hall, the front that all threads share
+//! (`docs/model.md`, "The hall").
 
 ghost use Rattle.std.specs.Prelude.{◌≡◌, IfOk};
 
@@ -15,15 +16,16 @@ use std::sync::Wait;
 use std::thread::Threads;
 use std::time::Clock;
 
-/// A connection that was admitted, and its two sides' seats, before its threads begin. It is not `Drop`, as its connection is not.
+/// A connection that was admitted, and its two sides' seats, before its threads begin. It is not `Drop`, as
+/// its connection is not.
 pub(crate) struct Arrival<C: Tally, M: Tally> {
     pub(crate) connection: Connection,
     pub(crate) seats: NewSeats<C, M>,
     ghost own: { seats ≡ connection.admission.conn },
 }
 
-/// Shows that a client that waited for its thread was served or sent away, or that none waited. Only `Arrival::serve`
-/// and the functions below make it.
+/// Shows that a client that waited for its thread was served or sent away, or that none waited. Only
+/// `Arrival::serve` and the functions below make it.
 #[derive(Drop)]
 pub(crate) struct ArrivalEnded(());
 

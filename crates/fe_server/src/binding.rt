@@ -1,4 +1,5 @@
-//! Making the socket, first under another name, so that its file is there only once it listens (`docs/DECISIONS.md`, "Server").
+//! Making the socket, first under another name, so that its file is there only once it listens
+//! (`docs/DECISIONS.md`, "Server").
 
 ghost use Rattle.std.specs.Prelude.{◌≡◌, ◌<◌, ◌++◌, codes, length, string_bytes, IfSome, IsSome};
 
@@ -17,12 +18,14 @@ const BESIDE: &str = ".new";
 /// The most bytes in the path of a socket on Linux.
 const LONGEST: usize = 107;
 
-/// The most connections that are taken off a listener at a time. Only servers that start have a reason to connect to the other name.
+/// The most connections that are taken off a listener at a time. Only servers that start have a reason to
+/// connect to the other name.
 const VISITORS: u64 = 4096;
 
-/// Binds a listener to a path that is not empty and does not exist, if the server may open as many files as it needs to serve a client.
-/// The file appears there once clients can connect. If the other name can't be used (it is too long or taken, the file system has no hard
-/// links, memory is short), the path itself is bound, and the file appears a moment before it listens. `None` if that fails too.
+/// Binds a listener to a path that is not empty and does not exist, if the server may open as many files as
+/// it needs to serve a client. The file appears there once clients can connect. If the other name can't be
+/// used (it is too long or taken, the file system has no hard links, memory is short), the path itself is
+/// bound, and the file appears a moment before it listens. `None` if that fails too.
 pub(crate) fn bind<R: Files + Net>(rt: &R, alloc: Global, path: &str) -> Option<UnixListener>
     ensures named { IsSome result → 0 < length path.now }
 {
@@ -36,9 +39,10 @@ pub(crate) fn bind<R: Files + Net>(rt: &R, alloc: Global, path: &str) -> Option<
     }
 }
 
-/// A listener that is bound to the other name, and then moved to its path. Another server that starts at the same moment may take a
-/// socket that does not listen yet for one that a killed server left, and put its own there. So this one is the listener only if what is
-/// at the path in the end is what was at the other name when it was reached there.
+/// A listener that is bound to the other name, and then moved to its path. Another server that starts at the
+/// same moment may take a socket that does not listen yet for one that a killed server left, and put its own
+/// there. So this one is the listener only if what is at the path in the end is what was at the other name
+/// when it was reached there.
 fn bind_ready<R: Files + Net>(rt: &R, alloc: Global, path: &str) -> Option<UnixListener> {
     let beside = name_beside(alloc, path)?;
     let listener = bind_beside(rt, beside.as_str())?;
@@ -111,7 +115,8 @@ fn name_beside(alloc: Global, path: &str) -> Option<String>
     format!(in alloc; "{path}{BESIDE}").ok()
 }
 
-/// A listener at the other name. A socket at which nobody listens, such as one that a killed server left, is removed first.
+/// A listener at the other name. A socket at which nobody listens, such as one that a killed server left, is
+/// removed first.
 fn bind_beside<R: Files + Net>(rt: &R, beside: &str) -> Option<UnixListener> {
     if is_left(rt, beside) {
         let _ = fs::remove_file(rt, beside);
@@ -119,8 +124,8 @@ fn bind_beside<R: Files + Net>(rt: &R, beside: &str) -> Option<UnixListener> {
     UnixListener::bind(rt, beside).ok()
 }
 
-/// Whether a path has a socket at which nobody listens. One that this process may not connect to, or that is of another kind, counts
-/// as somebody's.
+/// Whether a path has a socket at which nobody listens. One that this process may not connect to, or that is
+/// of another kind, counts as somebody's.
 fn is_left<R: Files + Net>(rt: &R, path: &str) -> bool {
     let is_socket = match fs::symlink_metadata(rt, path) {
         Ok(found) => found.file_type().is_socket(),

@@ -1,4 +1,5 @@
-//! The books of a server, its counts of calls and mails (`docs/model.md`, "Mails, connections and books"), as it prints them at its end.
+//! The books of a server, its counts of calls and mails (`docs/model.md`, "Mails, connections and books"), as
+//! it prints them at its end.
 
 ghost use Rattle.std.specs.Prelude.{◌≡◌, ◌++◌, string_bytes, IfOk, OnOk};
 ghost use Rattle.fe_server.specs.BooksText.{made_text, unmade_text, mails_line, books_text};
@@ -43,7 +44,8 @@ fn put_mails(text: &mut String, books: &Books) -> Result<(), OutOfMemory>
     Ok(())
 }
 
-/// The text of the books, two lines: what became of the calls, and of the mails. Fails if there is no memory for it.
+/// The text of the books, two lines: what became of the calls, and of the mails. Fails if there is no memory
+/// for it.
 pub fn books_text(alloc: Global, books: &Books) -> Result<String, OutOfMemory>
     ensures { IfOk result (λ text. string_bytes text ≡ books_text books.now) }
 {

@@ -1,4 +1,5 @@
-//! The bytes that a connection's socket received, or was sent, for clauses alone (`docs/proved.md`, "Server").
+//! The bytes that a connection's socket received, or was sent, for clauses alone (`docs/proved.md`,
+//! "Server").
 
 ghost use Rattle.std.specs.Prelude.{◌≡◌, ◌++◌, ◌∷◌, []};
 

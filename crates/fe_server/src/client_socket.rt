@@ -1,5 +1,5 @@
-//! The socket of a client. No other file reads from it, writes to it or shuts it down; its bytes are noted as they are read and written
-//! (`docs/proved.md`, "Server").
+//! The socket of a client. No other file reads from it, writes to it or shuts it down; its bytes are noted as
+//! they are read and written (`docs/proved.md`, "Server").
 
 ghost use Rattle.std.specs.Prelude.{◌≡◌, []};
 
@@ -85,7 +85,8 @@ pub(crate) struct FreshSocket {
 }
 
 impl FreshSocket {
-    /// Waits for a client at a listener. One for which there is no memory is closed, and the error is `Other`.
+    /// Waits for a client at a listener. One for which there is no memory is closed, and the error is
+    /// `Other`.
     pub(crate) fn accept(alloc: Global, listener: &UnixListener) -> io::Result<FreshSocket> {
         let (stream, _) = listener.accept()?;
         match FreshSocket::of(alloc, stream) {

@@ -1,5 +1,5 @@
-//! A connection: its socket and its number (`ARCHITECTURE.md`, "Threads"). The socket's bytes are read and written by `client_socket.rt`
-//! alone, which notes them. Seats are the hall's (`docs/model.md`, "The hall").
+//! A connection: its socket and its number (`ARCHITECTURE.md`, "Threads"). The socket's bytes are read and
+//! written by `client_socket.rt` alone, which notes them. Seats are the hall's (`docs/model.md`, "The hall").
 
 ghost use Rattle.std.specs.Prelude.{◌≡◌, List, [], IfOk, IsSome};
 ghost use Rattle.fe_mail.specs.declared.mail.Mail.{Mail as TakenMail};
@@ -23,8 +23,8 @@ use std::time::Clock;
 /// The size of the stack of each thread of a connection, in bytes.
 pub(crate) const STACK: usize = 1 << 20;
 
-/// A client that was accepted and is not admitted yet. It is not `Drop`: it becomes a connection, or its socket is
-/// closed because the register had no room for it.
+/// A client that was accepted and is not admitted yet. It is not `Drop`: it becomes a connection, or its
+/// socket is closed because the register had no room for it.
 pub(crate) struct Accepted {
     socket: FreshSocket,
 }
@@ -43,7 +43,8 @@ impl Accepted {
     }
 }
 
-/// A connection that was admitted: its number and its socket. It is not `Drop`, since the admission has to be given back.
+/// A connection that was admitted: its number and its socket. It is not `Drop`, since the admission has to be
+/// given back.
 pub(crate) struct Connection {
     pub(crate) admission: Admission,
     socket: FreshSocket,
@@ -65,7 +66,8 @@ impl Connection {
         SocketHandle::of(self.admission.conn, &self.socket.socket)
     }
 
-    /// Serves its client, until both sides have ended. If the writing thread can't be started, nothing is read.
+    /// Serves its client, until both sides have ended. If the writing thread can't be started, nothing is
+    /// read.
     pub(crate) fn serve<
         C: Tally + Send + Sync,
         M: Tally + Send + Sync,
@@ -90,9 +92,10 @@ impl Connection {
         // What was handled is the beginning of what the socket received.
         ensures handled { HandlesStream result.0.socket.from.received seats.calls result.1.read.seat
             result.1.read.sent.items result.1.read.end }
-        // The socket was sent the frames of the mails that were taken, and nothing else: all, unless a write failed or memory was short.
-        // Each answer among them was issued to it.
-        ensures sent { (all : List TakenMail) × AreTaken seats.mails result.1.write.seat result.1.write.receipts.items all
+        // The socket was sent the frames of the mails that were taken, and nothing else: all, unless a write
+        // failed or memory was short. Each answer among them was issued to it.
+        ensures sent { (all : List TakenMail) × AreTaken seats.mails result.1.write.seat
+            result.1.write.receipts.items all
             × IsWritten [] all result.1.write.end result.0.socket.to.writer.sent
             × AreIssued seats.mails.conn all result.1.write.receipts.history }
     {
@@ -116,7 +119,8 @@ impl Connection {
     }
 }
 
-/// A connection that was served: its number, and its socket with what it received and was sent. It is not `Drop` either.
+/// A connection that was served: its number, and its socket with what it received and was sent. It is not
+/// `Drop` either.
 pub(crate) struct ServedConnection {
     pub(crate) admission: Admission,
     pub(crate) socket: ServedSocket,

@@ -1,7 +1,9 @@
-//! The server: a hall, the front that its threads share, served at a Unix socket over the store in a file (`ARCHITECTURE.md`, "Threads").
+//! The server: a hall, the front that its threads share, served at a Unix socket over the store in a file
+//! (`ARCHITECTURE.md`, "Threads").
 //!
-//! Each connection has two threads, one more accepts clients, and one stores. They share the hall under one lock, under a second one the
-//! register, which says which connections are there, and under a third what those that ended did.
+//! Each connection has two threads, one more accepts clients, and one stores. They share the hall under one
+//! lock, under a second one the register, which says which connections are there, and under a third what
+//! those that ended did.
 #![tactic(auto)]
 
 mod accepting;

@@ -8,8 +8,8 @@ use std::io;
 use std::os::fd::OwnedFd;
 use std::os::unix::net::{UnixListener, UnixStream};
 
-/// The listener of a server. It gives a connection only to a caller who shows that the server had not ended when it
-/// asked (`Running`).
+/// The listener of a server. It gives a connection only to a caller who shows that the server had not ended
+/// when it asked (`Running`).
 #[derive(Drop)]
 pub(crate) struct Listener {
     listener: UnixListener,
@@ -20,7 +20,8 @@ impl Listener {
         Listener { listener }
     }
 
-    /// Another handle of the listener, as a stream. To shut that down ends a waiting `accept`; a listener has no such call.
+    /// Another handle of the listener, as a stream. To shut that down ends a waiting `accept`; a listener has
+    /// no such call.
     pub(crate) fn shutdown_socket(&self) -> io::Result<UnixStream> {
         let listener = self.listener.try_clone()?;
         Ok(UnixStream::from(OwnedFd::from(listener)))

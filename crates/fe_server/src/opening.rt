@@ -1,4 +1,5 @@
-//! What `femem serve` does: it opens the store, makes the socket, and then serves (`docs/proved.md`, "Server").
+//! What `femem serve` does: it opens the store, makes the socket, and then serves (`docs/proved.md`,
+//! "Server").
 
 ghost use Rattle.std.specs.Prelude.{◌≡◌, ◌<◌, string_bytes, false, IsTrue, All, IfOk, IfErr};
 ghost use Rattle.fe_mail.specs.Books.{AddUp};
@@ -22,8 +23,9 @@ use std::sync::Wait;
 use std::thread::Threads;
 use std::time::Clock;
 
-/// Serves the store that the settings name, at the socket that they name, and gives what the server left, or why it did not begin. It
-/// opens the store before it makes the socket, so the socket's file means that the server is ready.
+/// Serves the store that the settings name, at the socket that they name, and gives what the server left, or
+/// why it did not begin. It opens the store before it makes the socket, so the socket's file means that the
+/// server is ready.
 pub fn serve<
     F: StoreFile + Drop + Send,
     R: Files<File = File> + Net + Clock + Threads + Wait + Sync,
@@ -34,11 +36,13 @@ pub fn serve<
     settings: &Settings,
     gate: &G,
 ) -> Result<Result<Served<FileDisk<F>>, Failed<FileDisk<F>>>, ServeFault<FileDisk<F>>>
-    // The store at the path in the settings was opened and served: its keeper is returned with what was stored since, its account says
-    // which answers were issued, that is handed out, and its transcripts what each connection received and was sent.
+    // The store at the path in the settings was opened and served: its keeper is returned with what was
+    // stored since, its account says which answers were issued, that is handed out, and its transcripts what
+    // each connection received and was sent.
     ensures served { IfOk result (ServesFile ⟦<FileDisk<F> as Disk>⟧
         (F.is_at (string_bytes settings.now.store)) settings.now.format) }
-    // Otherwise that store was not opened, and the fault is true of it; or it was opened, and its keeper is returned as it was opened.
+    // Otherwise that store was not opened, and the fault is true of it; or it was opened, and its keeper is
+    // returned as it was opened.
     ensures unserved { IfErr result (IsUnserved ⟦<FileDisk<F> as Disk>⟧
         (F.is_at (string_bytes settings.now.store)) settings.now.format) }
     ensures add_up { IfOk result (λ answer. IfOk answer (λ served. AddUp served.audit.books)) }

@@ -1,5 +1,5 @@
-//! How many reads are made from a connection at most: as many as the setting `turns` says (`docs/settings.md`), or none if it, or its
-//! write side, gets no thread.
+//! How many reads are made from a connection at most: as many as the setting `turns` says
+//! (`docs/settings.md`), or none if it, or its write side, gets no thread.
 
 ghost use Rattle.std.specs.Prelude.{◌≡◌};
 ghost use Rattle.fe_server.specs.Sides.{most_reads};

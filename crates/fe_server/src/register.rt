@@ -1,7 +1,9 @@
-//! The register: which connections a server has, and which clients wait for a place among them (`ARCHITECTURE.md`, "Threads"). A
-//! connection's seats are the rights of its two sides in the hall, the front that all threads share (`docs/model.md`, "The hall").
+//! The register: which connections a server has, and which clients wait for a place among them
+//! (`ARCHITECTURE.md`, "Threads"). A connection's seats are the rights of its two sides in the hall, the
+//! front that all threads share (`docs/model.md`, "The hall").
 
-ghost use Rattle.std.specs.Prelude.{◌≡◌, ◌↔◌, ◌⊎◌, ◌+◌, ◌-◌, ◌^◌, ◌<◌, ◌≤◌, ◌∷◌, ◌++◌, [], true, false, IfOk, IfErr, OnErr, OnOk, IsTrue};
+ghost use Rattle.std.specs.Prelude.{◌≡◌, ◌↔◌, ◌⊎◌, ◌+◌, ◌-◌, ◌^◌, ◌<◌, ◌≤◌, ◌∷◌, ◌++◌, [], true, false, IfOk};
+ghost use Rattle.std.specs.Prelude.{IfErr, OnErr, OnOk, IsTrue};
 ghost use Rattle.fe_server.specs.FinishedConnections.{IsAdded, without};
 ghost use Rattle.fe_server.specs.Arrivals.{HasEnded, IsBoundBy, awaited_after, kept_from};
 ghost use Rattle.fe_server.specs.Acknowledged.{fault_of_end};
@@ -18,8 +20,8 @@ use std::net::Shutdown;
 use std::os::unix::net::UnixStream;
 use std::thread::JoinHandle;
 
-/// How many connections may be there at once (the setting `connections`), and how many may come in all (`accepts`; 0 sets no bound). They
-/// are made of settings alone, so nobody is refused for other bounds.
+/// How many connections may be there at once (the setting `connections`), and how many may come in all
+/// (`accepts`; 0 sets no bound). They are made of settings alone, so nobody is refused for other bounds.
 #[derive(Clone, Copy)]
 pub(crate) struct Bounds {
     most: u64,
@@ -39,26 +41,27 @@ impl Bounds {
     }
 }
 
-/// The right to one connection, within these bounds. Only `Register::enter` makes it. It is not `Drop`: a connection cannot end without giving it back to
-/// `Register::leave`.
+/// The right to one connection, within these bounds. Only `Register::enter` makes it. It is not `Drop`: a
+/// connection cannot end without giving it back to `Register::leave`.
 pub(crate) struct Admission {
     /// The number of the connection, which no other one has.
     pub(crate) conn: u64,
     bounds: Bounds,
 }
 
-/// Shows that one more connection could not come: no place was free beside those kept for clients who wait, `accepts` came in all, or the
-/// server had ended. Only a register makes it.
+/// Shows that one more connection could not come: no place was free beside those kept for clients who wait,
+/// `accepts` came in all, or the server had ended. Only a register makes it.
 #[derive(Drop)]
 pub(crate) struct Full {
     bounds: Bounds,
 }
 
-/// A place that is about to be free, kept for a client who waits for it. Only `Register::put_late` makes it. It is not
-/// `Drop`: the client who has it enters, or finds that there is no room.
+/// A place that is about to be free, kept for a client who waits for it. Only `Register::put_late` makes it.
+/// It is not `Drop`: the client who has it enters, or finds that there is no room.
 pub(crate) struct Expected(());
 
-/// Shows that no connection comes any more: the server has ended, or as many came as may come. Only `Register::running` makes it.
+/// Shows that no connection comes any more: the server has ended, or as many came as may come. Only
+/// `Register::running` makes it.
 #[derive(Drop)]
 pub(crate) struct NoMore {
     over: bool,
@@ -66,8 +69,8 @@ pub(crate) struct NoMore {
     accepts: u64,
 }
 
-/// Shows that a client was put into the register, and a thread has to take it. It is not `Drop`: either such a thread
-/// was started, or this thread took a client in its place.
+/// Shows that a client was put into the register, and a thread has to take it. It is not `Drop`: either such
+/// a thread was started, or this thread took a client in its place.
 pub(crate) struct Waiting(());
 
 impl Waiting {
@@ -92,18 +95,20 @@ pub(crate) struct NoArrival(());
 #[derive(Drop)]
 pub(crate) struct NoLate(());
 
-/// Shows that a server had not ended. Only `Register::running` makes it, and no connection is accepted without it.
+/// Shows that a server had not ended. Only `Register::running` makes it, and no connection is accepted
+/// without it.
 #[derive(Drop)]
 pub(crate) struct Running(());
 
-/// Shows that the committing side of a server, the thread that stores, has ended, and how. Only `Register::end` makes
-/// it. It is not `Drop`, since the streams of the connections that are left have to be ended.
+/// Shows that the committing side of a server, the thread that stores, has ended, and how. Only
+/// `Register::end` makes it. It is not `Drop`, since the streams of the connections that are left have to be
+/// ended.
 pub(crate) struct Ending {
     end: CommitEnd,
 }
 
-/// Shows that a server has ended, and how its committing side did. Only `Register::shut_all` makes it, and a server that has begun gives
-/// neither its books nor its account without it.
+/// Shows that a server has ended, and how its committing side did. Only `Register::shut_all` makes it, and a
+/// server that has begun gives neither its books nor its account without it.
 #[derive(Drop)]
 pub(crate) struct ServerEnded {
     end: CommitEnd,
@@ -161,8 +166,8 @@ impl<C: Tally, M: Tally> Register<C, M> {
         }
     }
 
-    /// Keeps a connection until its thread takes it, and its handle until it leaves. Gives it back if there is no memory for it, or its
-    /// socket can't be shared once more.
+    /// Keeps a connection until its thread takes it, and its handle until it leaves. Gives it back if there
+    /// is no memory for it, or its socket can't be shared once more.
     pub(crate) fn put(&mut self, arrival: Arrival<C, M>) -> Result<Waiting, Unkept<C, M>>
         ensures put { OnOk result (self.new.arrivals.items ≡ self.old.arrivals.items ++ arrival ∷ []) }
         ensures handle { OnOk result (IsAdded (λ handle. handle.conn ≡ arrival.connection.admission.conn)
@@ -189,7 +194,8 @@ impl<C: Tally, M: Tally> Register<C, M> {
 
     /// Takes a connection whose threads have not begun, the last that was put.
     pub(crate) fn take(&mut self) -> Result<Arrival<C, M>, NoArrival>
-        ensures taken { IfOk result (λ arrival. self.old.arrivals.items ≡ self.new.arrivals.items ++ arrival ∷ []) }
+        ensures taken { IfOk result (λ arrival. self.old.arrivals.items
+            ≡ self.new.arrivals.items ++ arrival ∷ []) }
         ensures none { OnErr result (self.old.arrivals.items ≡ []) }
         ensures counts { (self.new.admitted ≡ self.old.admitted) × (self.new.came ≡ self.old.came)
             × (self.new.present ≡ self.old.present) }
@@ -200,14 +206,16 @@ impl<C: Tally, M: Tally> Register<C, M> {
         }
     }
 
-    /// Whether a client who waits has to wait on: the server has as many connections as it may have, and has not ended.
+    /// Whether a client who waits has to wait on: the server has as many connections as it may have, and has
+    /// not ended.
     pub(crate) fn is_full(&self, bounds: Bounds) -> bool
         ensures { IsTrue result ↔ ((self.now.over ≡ false) × (bounds.most ≤ self.now.present)) }
     {
         !self.over && self.present >= bounds.most
     }
 
-    /// Whether the clients who wait may become the last of the `accepts` that come. If `accepts` is 0, there is no last one.
+    /// Whether the clients who wait may become the last of the `accepts` that come. If `accepts` is 0, there
+    /// is no last one.
     pub(crate) fn may_reach(&self, accepts: u64) -> bool
         ensures { IsTrue result ↔ ((self.now.over ≡ false) × (self.now.came < accepts)
             × (accepts ≤ self.now.came + self.now.awaited)) }
@@ -215,16 +223,18 @@ impl<C: Tally, M: Tally> Register<C, M> {
         !self.over && self.came < accepts && accepts - self.came <= self.awaited
     }
 
-    /// Keeps a client for its thread, and for it a place that became free since it was refused, or that of a connection that is about to
-    /// end. Each place is kept once, so nobody waits again for a connection that was awaited in vain. Returns the client if there is no
-    /// such place, if as many clients wait as there are places, if the server has ended, or if there is no memory.
+    /// Keeps a client for its thread, and for it a place that became free since it was refused, or that of a
+    /// connection that is about to end. Each place is kept once, so nobody waits again for a connection that
+    /// was awaited in vain. Returns the client if there is no such place, if as many clients wait as there
+    /// are places, if the server has ended, or if there is no memory.
     pub(crate) fn put_late(
         &mut self,
         accepted: Accepted,
         full: Full,
     ) -> Result<Waiting, (Accepted, Full)>
         ensures put { OnOk result
-            (IsAdded (λ late. late.0 ≡ accepted) self.old.waiting_clients.items self.new.waiting_clients.items) }
+            (IsAdded (λ late. late.0 ≡ accepted) self.old.waiting_clients.items
+            self.new.waiting_clients.items) }
         ensures awaited { OnOk result (self.new.awaited ≡ self.old.awaited + 1) }
         ensures back { IfErr result (λ back. (back.0 ≡ accepted) × (back.1 ≡ full)) }
         // A client who waits is not counted yet.
@@ -260,7 +270,8 @@ impl<C: Tally, M: Tally> Register<C, M> {
     /// Takes a client that waits for a place and whose thread has not begun, the last that was put.
     pub(crate) fn take_late(&mut self) -> Result<(Accepted, Expected), NoLate>
         ensures taken { IfOk result
-            (λ late. IsAdded (λ kept. kept.0 ≡ late.0) self.new.waiting_clients.items self.old.waiting_clients.items) }
+            (λ late. IsAdded (λ kept. kept.0 ≡ late.0) self.new.waiting_clients.items
+            self.old.waiting_clients.items) }
         ensures none { OnErr result (self.old.waiting_clients.items ≡ []) }
         ensures counts { (self.new.admitted ≡ self.old.admitted) × (self.new.came ≡ self.old.came)
             × (self.new.present ≡ self.old.present) }
@@ -274,8 +285,8 @@ impl<C: Tally, M: Tally> Register<C, M> {
         }
     }
 
-    /// Admits one more connection within the bounds, and gives it the next number. A place that another client waits for is not given to
-    /// one who does not wait.
+    /// Admits one more connection within the bounds, and gives it the next number. A place that another
+    /// client waits for is not given to one who does not wait.
     pub(crate) fn enter(
         &mut self,
         expected: Option<Expected>,
@@ -284,14 +295,17 @@ impl<C: Tally, M: Tally> Register<C, M> {
         ensures bounds { IsBoundBy bounds result }
         ensures number { IfOk result (λ admission. (admission.conn ≡ self.old.admitted)
             × (self.new.admitted ≡ admission.conn + 1)) }
-        ensures few { OnOk result ((self.new.present ≡ self.old.present + 1) × (self.new.present ≤ bounds.most)) }
+        ensures few { OnOk result ((self.new.present ≡ self.old.present + 1)
+            × (self.new.present ≤ bounds.most)) }
         ensures came { OnOk result ((self.new.came ≡ self.old.came + 1)
             × (0 < bounds.accepts → self.new.came ≤ bounds.accepts)) }
         ensures running { OnOk result (self.old.over ≡ false) }
-        ensures refused { OnErr result ((self.new.admitted ≡ self.old.admitted) × (self.new.came ≡ self.old.came)
+        ensures refused { OnErr result ((self.new.admitted ≡ self.old.admitted)
+            × (self.new.came ≡ self.old.came)
             × (self.new.present ≡ self.old.present)) }
         ensures awaited { self.new.awaited ≡ awaited_after expected self.old.awaited }
-        // It is refused only if the server has ended, no place is free beside those kept for others, all came, or no number is left.
+        // It is refused only if the server has ended, no place is free beside those kept for others, all
+        // came, or no number is left.
         ensures why { OnErr result ((self.old.over ≡ true)
             ⊎ (bounds.most ≤ self.old.present + kept_from expected self.old.awaited)
             ⊎ ((0 < bounds.accepts) × (bounds.accepts ≤ self.old.came)) ⊎ (2 ^ 64 ≤ self.old.admitted + 1)) }
@@ -323,7 +337,8 @@ impl<C: Tally, M: Tally> Register<C, M> {
         self.handles.retain(|handle| handle.conn != conn);
     }
 
-    /// Takes a connection off the count of those that came, since the hall made no seats for it, and closes it. It has still to leave.
+    /// Takes a connection off the count of those that came, since the hall made no seats for it, and closes
+    /// it. It has still to leave.
     pub(crate) fn refuse(&mut self, unserved: Unserved) -> Admission
         ensures came { self.new.came ≡ self.old.came - 1 }
         ensures present { self.new.present ≡ self.old.present }
@@ -371,10 +386,12 @@ impl<C: Tally, M: Tally> Register<C, M> {
         ServerEnded { end }
     }
 
-    /// Whether connections may come: the server has not ended and, unless `accepts` is 0, fewer than that came.
+    /// Whether connections may come: the server has not ended and, unless `accepts` is 0, fewer than that
+    /// came.
     pub(crate) fn running(&self, accepts: u64) -> Result<Running, NoMore>
         ensures running { OnOk result (self.now.over ≡ false) }
-        ensures no_more { IfErr result (λ no_more. (no_more.accepts ≡ accepts) × (no_more.came ≡ self.now.came)
+        ensures no_more { IfErr result (λ no_more. (no_more.accepts ≡ accepts)
+            × (no_more.came ≡ self.now.came)
             × (no_more.over ≡ self.now.over)) }
         ensures why { IfErr result (HasEnded accepts) }
     {
@@ -390,7 +407,8 @@ impl<C: Tally, M: Tally> Register<C, M> {
         Ok(Running(()))
     }
 
-    /// Ends the register of a server that has ended. By then each client that was put was taken, so none is dismissed here.
+    /// Ends the register of a server that has ended. By then each client that was put was taken, so none is
+    /// dismissed here.
     pub(crate) fn close(self) {
         let Register {
             arrivals,
@@ -422,7 +440,8 @@ fn keep_place(handles: &mut Vec<SocketHandle>, is_free: bool) -> bool {
     true
 }
 
-/// How many of the awaited places are kept from a client that wants to enter. A client for whom a place was kept waits no more.
+/// How many of the awaited places are kept from a client that wants to enter. A client for whom a place was
+/// kept waits no more.
 fn places_kept(awaited: &mut u64, expected: Option<Expected>) -> u64
     ensures kept { result ≡ kept_from expected awaited.old }
     ensures awaited { awaited.new ≡ awaited_after expected awaited.old }

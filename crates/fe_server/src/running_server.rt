@@ -1,5 +1,6 @@
-//! What the threads of a server share (`ARCHITECTURE.md`, "Threads"): the hall, one front under a lock, with a seat for each side of a
-//! connection (`docs/model.md`, "The hall"), the register of connections, and what those did that have ended.
+//! What the threads of a server share (`ARCHITECTURE.md`, "Threads"): the hall, one front under a lock, with
+//! a seat for each side of a connection (`docs/model.md`, "The hall"), the register of connections, and what
+//! those did that have ended.
 
 ghost use Rattle.std.specs.Prelude.{◌≡◌, ◌∷◌, [], IfOk, IfErr, nat_lt};
 ghost use Rattle.fe_front.specs.Front.{IsFirst};
@@ -37,7 +38,8 @@ use std::sync::{Condvar, CondvarTimeouts, Mutex, Wait};
 use std::thread::SpawnError;
 use std::time::{Clock, Duration};
 
-/// How many milliseconds the write sides have to write the mails that are left, once nothing is stored any more.
+/// How many milliseconds the write sides have to write the mails that are left, once nothing is stored any
+/// more.
 const LAST_WAIT: u64 = 400;
 
 /// What the threads of a server share. `C` and `M` name the hall's ledgers (`Tally`) of calls and of mails.
@@ -46,14 +48,15 @@ pub(crate) struct RunningServer<C: Tally, M: Tally> {
     register: Mutex<Register<C, M>>,
     /// What the connections did that have ended.
     finished: Mutex<FinishedConnections<C, M>>,
-    /// The condition variable that is rung when a place for a connection may be free, when a client who waited for one waits no more, and
-    /// when the server ends.
+    /// The condition variable that is rung when a place for a connection may be free, when a client who
+    /// waited for one waits no more, and when the server ends.
     freed: Condvar,
     /// How many connections may be there, and come.
     bounds: Bounds,
     /// How many reads are made from each connection at most.
     pub(crate) turns: u64,
-    /// Whether what was sent and the receipts are kept, to be compared when the hall is closed. They are if `accepts` bounds them.
+    /// Whether what was sent and the receipts are kept, to be compared when the hall is closed. They are if
+    /// `accepts` bounds them.
     keeps: bool,
 }
 
@@ -73,8 +76,9 @@ pub(crate) struct Opened<C: Tally, M: Tally> {
 }
 
 impl<C: Tally, M: Tally> Opened<C, M> {
-    /// A server with no connection, whose front begins with a copy of a state; the seat of its committing side; and the right to make
-    /// connections. Fails if memory is short, or if the listener can't get a second handle.
+    /// A server with no connection, whose front begins with a copy of a state; the seat of its committing
+    /// side; and the right to make connections. Fails if memory is short, or if the listener can't get a
+    /// second handle.
     pub(crate) fn new(
         alloc: Global,
         state: &State,
@@ -84,7 +88,8 @@ impl<C: Tally, M: Tally> Opened<C, M> {
         listener: &Listener,
         settings: &Settings,
     ) -> Result<(Opened<C, M>, StoreSeat<M>, ConnectRight), Unbegun>
-        requires { AreBlank C.name C.parts C.all calls.name calls.parts M.name M.parts M.all mails.name mails.parts
+        requires { AreBlank C.name C.parts C.all calls.name calls.parts M.name M.parts M.all mails.name
+            mails.parts
             M.book history.book history.acts state.now }
         ensures begun { IfOk result (λ opened. opened.0.begun.value ≡ state.now) }
         ensures most { IfOk result (λ opened. opened.0.server.bounds.most ≡ settings.now.connections) }
@@ -165,8 +170,9 @@ impl<C: Tally, M: Tally> RunningServer<C, M> {
         self.register.lock(rt).enter(None, bounds)
     }
 
-    /// Keeps a client until its thread takes it, and for it a place that is about to be free. Returns the client if each such place was
-    /// already waited for, as many clients wait as there are places, the server has ended, or there is no memory.
+    /// Keeps a client until its thread takes it, and for it a place that is about to be free. Returns the
+    /// client if each such place was already waited for, as many clients wait as there are places, the server
+    /// has ended, or there is no memory.
     pub(crate) fn put_late<R: Wait>(
         &self,
         rt: &R,
@@ -181,8 +187,8 @@ impl<C: Tally, M: Tally> RunningServer<C, M> {
         self.register.lock(rt).take_late()
     }
 
-    /// Waits for a place that is about to be free, at most `millis` milliseconds, and then admits the client for whom it is kept, if there
-    /// is room.
+    /// Waits for a place that is about to be free, at most `millis` milliseconds, and then admits the client
+    /// for whom it is kept, if there is room.
     pub(crate) fn enter_late<R: Clock + Wait>(
         &self,
         rt: &R,
@@ -205,7 +211,8 @@ impl<C: Tally, M: Tally> RunningServer<C, M> {
         entered
     }
 
-    /// Keeps a connection until its thread takes it. Gives it back if there is no memory for it, or its socket can't be shared once more.
+    /// Keeps a connection until its thread takes it. Gives it back if there is no memory for it, or its
+    /// socket can't be shared once more.
     pub(crate) fn put<R: Wait>(
         &self,
         rt: &R,
@@ -232,7 +239,8 @@ impl<C: Tally, M: Tally> RunningServer<C, M> {
             connection.admission.conn outcome.read.seat outcome.read.sent.items outcome.read.end
             outcome.write.seat outcome.write.receipts.items outcome.write.end }
         // Each answer that its write side took was issued to it.
-        requires issued { AreIssued connection.admission.conn outcome.write.seat.taken outcome.write.receipts.history }
+        requires issued { AreIssued connection.admission.conn outcome.write.seat.taken
+            outcome.write.receipts.history }
     {
         self.finished.lock(rt).add(&connection, outcome, self.keeps);
         let admission = connection.close();
@@ -266,9 +274,9 @@ impl<C: Tally, M: Tally> RunningServer<C, M> {
         (keeper, over, seat)
     }
 
-    /// Ends the server after its committing side: no connection comes any more, and those that are there end. A write side ends its
-    /// stream once it has written the mails of its box, and a read side ends it as soon as it has another message. A stream that neither
-    /// has ended in time is ended here.
+    /// Ends the server after its committing side: no connection comes any more, and those that are there end.
+    /// A write side ends its stream once it has written the mails of its box, and a read side ends it as soon
+    /// as it has another message. A stream that neither has ended in time is ended here.
     fn end<R: Clock + Wait>(&self, rt: &R, ended: Ended) -> ServerEnded
         ensures { result.end ≡ ended }
     {
@@ -290,8 +298,9 @@ impl<C: Tally, M: Tally> RunningServer<C, M> {
         self.register.lock(rt).stop_accepting();
     }
 
-    /// Whether connections may come: the server has not ended and, unless `accepts` is 0, fewer than that came. If the clients who
-    /// wait for a place may be the last that come, it first waits to learn whether they got in.
+    /// Whether connections may come: the server has not ended and, unless `accepts` is 0, fewer than that
+    /// came. If the clients who wait for a place may be the last that come, it first waits to learn whether
+    /// they got in.
     pub(crate) fn running<R: Wait>(&self, rt: &R, accepts: u64) -> Result<Running, NoMore>
         ensures why { IfErr result (HasEnded accepts) }
     {
@@ -307,7 +316,8 @@ impl<C: Tally, M: Tally> RunningServer<C, M> {
         served.end(self.hall.stop(rt));
     }
 
-    /// Stops the hall because the committing thread could not be started. The closing reports that as a lack of memory.
+    /// Stops the hall because the committing thread could not be started. The closing reports that as a lack
+    /// of memory.
     pub(crate) fn fall_short<R: Wait, F>(&self, rt: &R, _refused: &SpawnError<F>) {
         self.finished.lock(rt).short = true;
         self.hall.stop(rt);

@@ -1,4 +1,5 @@
-//! A fault at the start of a server, for which `femem serve` prints one line (`docs/operating.md`, "What a server says").
+//! A fault at the start of a server, for which `femem serve` prints one line (`docs/operating.md`, "What a
+//! server says").
 
 use fe_disk::Disk;
 use fe_keeper::Keeper;

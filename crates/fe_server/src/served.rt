@@ -5,8 +5,8 @@ use fe_disk::Disk;
 use fe_hall::Audit;
 use fe_keeper::Keeper;
 
-/// What a server leaves that ended without a fault: the result of closing its hall, with the books, the keeper of its store, and, for
-/// clauses alone, the transcripts of its connections.
+/// What a server leaves that ended without a fault: the result of closing its hall, with the books, the
+/// keeper of its store, and, for clauses alone, the transcripts of its connections.
 #[derive(Drop)]
 pub struct Served<D: Disk> {
     pub audit: Audit,

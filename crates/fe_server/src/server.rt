@@ -7,7 +7,8 @@ ghost use Rattle.fe_history.specs.Receipts.{IsBorneOut};
 ghost use Rattle.fe_history.specs.declared.act.Act.TheVariants as act;
 ghost use Rattle.fe_hall.specs.declared.commit_end.CommitEnd.{CommitEnd};
 ghost use Rattle.fe_hall.specs.declared.commit_end.CommitEnd.TheVariants as hall;
-ghost use Rattle.fe_server.specs.Acknowledged.{IsAcknowledged, HasCommitted, HasCommittedAndNoted, HasTranscripts, IsAnswerAt, account_in, fault_in, keeper_in};
+ghost use Rattle.fe_server.specs.Acknowledged.{IsAcknowledged, HasCommitted, HasCommittedAndNoted};
+ghost use Rattle.fe_server.specs.Acknowledged.{HasTranscripts, IsAnswerAt, account_in, fault_in, keeper_in};
 ghost use Rattle.fe_server.specs.FinishedConnections.{IsSettled};
 ghost use Rattle.fe_server.specs.within.HasServed.{AreBlank, HasServed};
 ghost use Rattle.fe_server.specs.declared.stop_fault.StopFault.TheVariants as fault;
@@ -34,8 +35,9 @@ use std::thread;
 use std::thread::{Promise, Scope, Threads};
 use std::time::Clock;
 
-/// Serves the clients of a listener over the store of a keeper, until as many connections as the setting `accepts` says (0: no bound)
-/// have come and ended, or a fault ends the server: `Device`, `Memory` or `Strange` (`StopFault`).
+/// Serves the clients of a listener over the store of a keeper, until as many connections as the setting
+/// `accepts` says (0: no bound) have come and ended, or a fault ends the server: `Device`, `Memory` or
+/// `Strange` (`StopFault`).
 pub fn serve_store<D: Disk + Drop + Send, G: Gate + Sync, R: Clock + Threads + Wait + Sync>(
     rt: &R,
     alloc: Global,
@@ -44,8 +46,8 @@ pub fn serve_store<D: Disk + Drop + Send, G: Gate + Sync, R: Clock + Threads + W
     keeper: Keeper<D>,
     gate: &G,
 ) -> Result<Served<D>, Failed<D>>
-    // However it ends, the keeper is returned: it is the one before, with what was stored since. Its fault, or none, is one
-    // that the committing side's end allows.
+    // However it ends, the keeper is returned: it is the one before, with what was stored since. Its fault,
+    // or none, is one that the committing side's end allows.
     ensures committed { (end : CommitEnd)
         × HasCommitted D.Disk keeper (keeper_in result) end
         × IsAnswerAt end (fault_in result) }
@@ -57,15 +59,17 @@ pub fn serve_store<D: Disk + Drop + Send, G: Gate + Sync, R: Clock + Threads + W
         (λ served. All (IsBorneOut served.keeper.state served.audit.sent) served.audit.receipts) }
     // After `Ok`, if the number of connections is bounded, these are the receipts of every write side.
     ensures whole { IfOk result (λ served. 0 < settings.now.accepts → IsTrue served.audit.whole) }
-    // Of each answer in the account's history: it was issued to a connection that had asked for its session before. If the account's
-    // `own` is true, as after `Ok`, it is also the one of its entry, in a group that was stored before, or it was kept from the beginning.
-    // For one in a group, over an honest disk that had not failed before, each image that a stop leaves since the end of that group's
-    // append stands for a state with the group. Each receipt's answer is in that history.
+    // Of each answer in the account's history: it was issued to a connection that had asked for its session
+    // before. If the account's `own` is true, as after `Ok`, it is also the one of its entry, in a group that
+    // was stored before, or it was kept from the beginning. For one in a group, over an honest disk that had
+    // not failed before, each image that a stop leaves since the end of that group's append stands for a
+    // state with the group. Each receipt's answer is in that history.
     ensures acknowledged { (end : CommitEnd) × IsAnswerAt end (fault_in result)
         × IsAcknowledged D.Disk keeper (keeper_in result) end (account_in result) }
-    // Of each connection that ended: the first messages of what its socket received were handled, and it was sent the frames of the mails
-    // that were taken for it, and nothing else: all, unless a write failed or memory was short. Each answer among them was issued in the
-    // account's history. After `Ok` the books count the calls and mails of these connections, and no others.
+    // Of each connection that ended: the first messages of what its socket received were handled, and it was
+    // sent the frames of the mails that were taken for it, and nothing else: all, unless a write failed or
+    // memory was short. Each answer among them was issued in the account's history. After `Ok` the books
+    // count the calls and mails of these connections, and no others.
     ensures transcripts { HasTranscripts result }
 {
     let history = NewHistory::new(keeper.state());
@@ -99,7 +103,8 @@ fn serve_as<
     mails: Blank,
     history: NewHistory,
 ) -> Result<Served<D>, Failed<D>>
-    requires { AreBlank C.name C.parts C.all calls.name calls.parts M.name M.parts M.all mails.name mails.parts
+    requires { AreBlank C.name C.parts C.all calls.name calls.parts M.name M.parts M.all mails.name
+        mails.parts
         M.book history.book history.acts keeper.state }
     ensures { HasServed D.Disk keeper settings.now.accepts result }
 {
@@ -123,8 +128,8 @@ fn serve_as<
     closed(opened, over, seat, keeper)
 }
 
-/// Closes the hall of a server that has ended. If the committing side ended with a fault, or the closing finds one, the account is returned
-/// in place of the audit.
+/// Closes the hall of a server that has ended. If the committing side ended with a fault, or the closing
+/// finds one, the account is returned in place of the audit.
 fn closed<C: Tally, M: Tally, D: Disk>(
     opened: Opened<C, M>,
     over: ServerEnded,
@@ -166,7 +171,8 @@ fn closed<C: Tally, M: Tally, D: Disk>(
     }
 }
 
-/// What a server that can't begin leaves. Memory is short, or its listener can't get a second handle; both are reported as `Memory`.
+/// What a server that can't begin leaves. Memory is short, or its listener can't get a second handle; both
+/// are reported as `Memory`.
 fn unserved<D: Disk>(_why: Unbegun, keeper: Keeper<D>, account: Account) -> Failed<D>
     ensures committed { HasCommittedAndNoted D.Disk keeper result.keeper hall.Stopped
         (act.Began keeper.state ∷ []) }
@@ -197,7 +203,8 @@ impl<D: Disk + Drop, M: Tally> Promise<(Keeper<D>, ServerEnded, StoreSeat<M>)> f
         HasCommittedAndNoted D.Disk p.before.value r.0 r.1.end r.2 };
 }
 
-/// Serves clients, and stores what they do. Returns the keeper, how the server ended, and the committing side's seat.
+/// Serves clients, and stores what they do. Returns the keeper, how the server ended, and the committing
+/// side's seat.
 fn run<
     C: Tally + Send + Sync,
     M: Tally + Send + Sync,

@@ -1,7 +1,8 @@
-//! The two sides of a connection, a reading and a writing thread, and what they leave (`ARCHITECTURE.md`, "Threads"). Seats, receipts and
-//! lists of messages are the hall's (`docs/model.md`, "The hall").
+//! The two sides of a connection, a reading and a writing thread, and what they leave (`ARCHITECTURE.md`,
+//! "Threads"). Seats, receipts and lists of messages are the hall's (`docs/model.md`, "The hall").
 //!
-//! What a connection leaves is made here, and used up by `FinishedConnections::add`: its fields are private to this file and that one.
+//! What a connection leaves is made here, and used up by `FinishedConnections::add`: its fields are private
+//! to this file and that one.
 
 ghost use Rattle.std.specs.Prelude.{◌≡◌, ◌≢◌, ◌+◌, List, [], true, false, IsSome};
 ghost use Rattle.std.specs.Io.KnownBytes.{IsAtEnd};
@@ -39,7 +40,8 @@ pub(crate) trait HangUp {
     fn hang_up(&self);
 }
 
-/// The right of a connection's side to end the stream. It is not `Drop`: the side does so, or leaves the stream to the other side.
+/// The right of a connection's side to end the stream. It is not `Drop`: the side does so, or leaves the
+/// stream to the other side.
 struct StreamEnd<'a, E: HangUp> {
     stream: &'a E,
 }
@@ -77,7 +79,8 @@ pub(crate) struct ConnectionSeats<C: Tally, M: Tally> {
     ghost one: { calls.conn ≡ mails.conn },
 }
 
-/// What the read side of a connection did. It has ended the stream, except at `Closed` and `Turns`, after which the write side goes on.
+/// What the read side of a connection did. It has ended the stream, except at `Closed` and `Turns`, after
+/// which the write side goes on.
 pub(crate) struct ReadOutcome<C: Tally> {
     seat: CallSeat<C>,
     sent: Vec<ClientMessage>,
@@ -97,8 +100,8 @@ pub(crate) struct WriteOutcome<M: Tally> {
     ghost shut: { parted.is_shut ≡ true },
 }
 
-/// What the two sides of a connection did. Only serving a connection makes one, and only `FinishedConnections::add` uses it up: it
-/// is not `Drop`, so no connection that was served is left out.
+/// What the two sides of a connection did. Only serving a connection makes one, and only
+/// `FinishedConnections::add` uses it up: it is not `Drop`, so no connection that was served is left out.
 pub(crate) struct ConnectionOutcome<C: Tally, M: Tally> {
     read: ReadOutcome<C>,
     write: WriteOutcome<M>,
@@ -106,7 +109,8 @@ pub(crate) struct ConnectionOutcome<C: Tally, M: Tally> {
     ghost one: { read.seat.conn ≡ write.seat.conn },
 }
 
-/// The promise of the writing thread: what it returns follows from the half (the direction to the client) and the seat with which it began.
+/// The promise of the writing thread: what it returns follows from the half (the direction to the client) and
+/// the seat with which it began.
 #[derive(Drop)]
 struct Wrote<W: WriteHalf + Drop, M: Tally> {
     before: Snapshot<W>,
@@ -120,9 +124,10 @@ impl<W: WriteHalf + Drop, M: Tally> Promise<(W, WriteOutcome<M>)> for Wrote<W, M
         r.1.seat r.1.receipts r.1.end };
 }
 
-/// Serves a connection over the two directions of its stream, from a reader and to a writer, until both its sides have ended. The
-/// beginning of what was received was handled; if the writer's bytes are known, as those of a socket are, it got the frames of the mails
-/// that were taken: all, unless a write failed or memory was short.
+/// Serves a connection over the two directions of its stream, from a reader and to a writer, until both its
+/// sides have ended. The beginning of what was received was handled; if the writer's bytes are known, as
+/// those of a socket are, it got the frames of the mails that were taken: all, unless a write failed or
+/// memory was short.
 pub(crate) fn serve_streams<
     C: Tally + Send + Sync,
     M: Tally + Send + Sync,
@@ -146,15 +151,18 @@ pub(crate) fn serve_streams<
     ensures handled { from.received ≡ [] → HandlesStream result.0.received
         seats.calls result.2.read.seat result.2.read.sent.items result.2.read.end }
     // Where the bytes that the reader had at first are known, those received are the ones that were read.
-    ensures read { AreRead (I.remaining result.0.incoming.began.value) (I.remaining result.0.incoming.reader) result.0.received }
+    ensures read { AreRead (I.remaining result.0.incoming.began.value) (I.remaining result.0.incoming.reader)
+        result.0.received }
     ensures wrote { let write = result.2.write in
         (all : List TakenMail) × AreTaken seats.mails write.seat write.receipts.items all
         × (IsSome (O.contents to.writer)
-        → IsWritten (known_bytes (O.contents to.writer)) all write.end (known_bytes (O.contents result.1.writer)))
+        → IsWritten (known_bytes (O.contents to.writer)) all write.end
+        (known_bytes (O.contents result.1.writer)))
         × AreIssued seats.mails.conn all write.receipts.history }
     ensures departed { result.2.write.end ≢ WriteEnd.Stopped → result.2.write.seat.departed ≡ true }
-    // The read side ends as `Turns` only after as many reads as it may make, as `Closed` only at the end of the stream, and as `Device`
-    // only after a read that failed; the write side only after a write that failed.
+    // The read side ends as `Turns` only after as many reads as it may make, as `Closed` only at the end of
+    // the stream, and as `Device` only after a read that failed; the write side only after a write that
+    // failed.
     ensures turns { result.2.read.end ≡ ReadEnd.Turns
         → result.0.reads ≡ from.reads + most_reads result.2.reads server.now.turns }
     ensures ended { result.2.read.end ≡ ReadEnd.Closed → IsAtEnd (I.remaining result.0.incoming.reader) }
@@ -164,7 +172,8 @@ pub(crate) fn serve_streams<
     serve_over(rt, alloc, server, gate, seats, from, to, ends, reads)
 }
 
-/// Serves a connection over the two directions of its stream, in two threads, until both its sides have ended.
+/// Serves a connection over the two directions of its stream, in two threads, until both its sides have
+/// ended.
 fn serve_over<
     C: Tally + Send + Sync,
     M: Tally + Send + Sync,
@@ -188,7 +197,8 @@ fn serve_over<
     ensures handled { HasHandled H.is_known H.known H.reads H.ended H.failed
         (most_reads result.2.reads server.now.turns) from result.0 seats.calls result.2.read.seat
         result.2.read.sent.items result.2.read.end }
-    // If the half's bytes are known, it got the frames of the mails that were taken: all, unless a write failed or memory was short.
+    // If the half's bytes are known, it got the frames of the mails that were taken: all, unless a write
+    // failed or memory was short.
     ensures wrote { HasWritten W.is_known W.got W.failed to result.1 seats.mails
         result.2.write.seat result.2.write.receipts result.2.write.end }
 {
@@ -197,7 +207,8 @@ fn serve_over<
         rt,
         move |scope| -> (H, W, ConnectionOutcome<C, M>)
             ensures { HasHandled H.is_known H.known H.reads H.ended H.failed
-                (most_reads result.2.reads server.entry.now.turns) from result.0 seats.calls result.2.read.seat
+                (most_reads result.2.reads server.entry.now.turns) from result.0 seats.calls
+                result.2.read.seat
                 result.2.read.sent.items result.2.read.end
                 × HasWritten W.is_known W.got W.failed to result.1 seats.mails
                 result.2.write.seat result.2.write.receipts result.2.write.end }
@@ -228,7 +239,8 @@ fn serve_in<
     ends: &'s E,
     reads: ReadLimit,
 ) -> (H, W, ConnectionOutcome<C, M>)
-    ensures { HasHandled H.is_known H.known H.reads H.ended H.failed (most_reads result.2.reads server.now.turns)
+    ensures { HasHandled H.is_known H.known H.reads H.ended H.failed
+        (most_reads result.2.reads server.now.turns)
         from result.0 seats.calls result.2.read.seat result.2.read.sent.items result.2.read.end
         × HasWritten W.is_known W.got W.failed to result.1 seats.mails
         result.2.write.seat result.2.write.receipts result.2.write.end }
@@ -263,8 +275,9 @@ fn serve_in<
     }
 }
 
-/// Runs the read side of a connection. If the client has ended its stream, or the reads are used up, the write side
-/// still writes what it took. At every other end the stream is ended, which ends the write side too.
+/// Runs the read side of a connection. If the client has ended its stream, or the reads are used up, the
+/// write side still writes what it took. At every other end the stream is ended, which ends the write side
+/// too.
 fn run_read_side<C: Tally, M: Tally, G: Gate, R: Clock + Wait, H: ReadHalf + Drop, E: HangUp>(
     rt: &R,
     alloc: Global,
@@ -275,7 +288,8 @@ fn run_read_side<C: Tally, M: Tally, G: Gate, R: Clock + Wait, H: ReadHalf + Dro
     stream: StreamEnd<'_, E>,
     reads: &ReadLimit,
 ) -> (H, ReadOutcome<C>)
-    ensures handled { HasHandled H.is_known H.known H.reads H.ended H.failed (most_reads reads.now server.now.turns)
+    ensures handled { HasHandled H.is_known H.known H.reads H.ended H.failed
+        (most_reads reads.now server.now.turns)
         from result.0 seat result.1.seat result.1.sent.items result.1.end }
 {
     let mut from = from;

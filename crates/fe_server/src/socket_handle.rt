@@ -37,7 +37,8 @@ impl SocketHandle {
         }
     }
 
-    /// Whether the connection is about to end, and no client waits or waited for that: its stream takes no more bytes.
+    /// Whether the connection is about to end, and no client waits or waited for that: its stream takes no
+    /// more bytes.
     pub(crate) fn is_ending(&self) -> bool {
         !self.is_expected && self.socket.has_ended()
     }

@@ -1,4 +1,5 @@
-//! A fault that ends a server after its start, for which `femem serve` prints one line (`docs/operating.md`, "What a server says").
+//! A fault that ends a server after its start, for which `femem serve` prints one line (`docs/operating.md`,
+//! "What a server says").
 
 use fe_keeper::Fault;
 
@@ -7,9 +8,11 @@ use fe_keeper::Fault;
 pub enum StopFault {
     /// The device of the store failed.
     Device,
-    /// Memory ran out, the committing thread could not be started, or the listener could not get a second handle.
+    /// Memory ran out, the committing thread could not be started, or the listener could not get a second
+    /// handle.
     Memory,
-    /// A layer below answered what a correct one never answers, or a book (a count of calls or mails) is full.
+    /// A layer below answered what a correct one never answers, or a book (a count of calls or mails) is
+    /// full.
     Strange,
 }
 

@@ -1,4 +1,5 @@
-//! The two directions of a connection, over any reader and over any writer, for its two sides in the hall (`docs/proved.md`, "Server").
+//! The two directions of a connection, over any reader and over any writer, for its two sides in the hall
+//! (`docs/proved.md`, "Server").
 
 ghost use Rattle.std.specs.Prelude.{◌≡◌, []};
 ghost use Rattle.fe_server.specs.Transcripts.{AreRead};
@@ -64,7 +65,8 @@ impl<R: Read> ReadHalf for StreamRead<R> {
     }
 }
 
-/// The direction to the client, over a writer. Its bytes are known if those of the writer are, as those that a `SocketWriter` notes.
+/// The direction to the client, over a writer. Its bytes are known if those of the writer are, as those that
+/// a `SocketWriter` notes.
 #[derive(Drop)]
 pub struct StreamWrite<W: Write> {
     writer: W,

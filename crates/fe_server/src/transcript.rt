@@ -1,4 +1,5 @@
-//! What the socket of a connection received and was sent, and what its two sides did, for clauses alone (`docs/proved.md`, "Server").
+//! What the socket of a connection received and was sent, and what its two sides did, for clauses alone
+//! (`docs/proved.md`, "Server").
 
 use crate::byte_log::ByteLog;
 use fe_hall::{CallSeat, MailSeat, ReadEnd, Receipt, WriteEnd};
@@ -6,7 +7,8 @@ use fe_wire::ClientMessage;
 use std::collections::LinkedList;
 use std::marker::Brand;
 
-/// What the socket of a connection received and was sent, and what its two sides did. The program makes none: only clauses speak of it.
+/// What the socket of a connection received and was sent, and what its two sides did. The program makes none:
+/// only clauses speak of it.
 pub struct Transcript {
     conn: u64,
     received: ByteLog,

@@ -66,7 +66,8 @@ impl<'a, C: Tally, M: Tally> Opening<OneMore<'a, C, M>, Transcript> for Longer {
         more.outcome.now.write.end ∷ [] };
 }
 
-/// The transcripts of connections that ended, in the order in which they did. The list exists in proofs alone: the code keeps nothing.
+/// The transcripts of connections that ended, in the order in which they did. The list exists in proofs
+/// alone: the code keeps nothing.
 pub struct TranscriptLog {
     seen: Seen<Transcript, u64, AnyList>,
 }
@@ -112,8 +113,10 @@ impl TranscriptLog {
         connection: &ServedConnection,
         outcome: &ConnectionOutcome<C, M>,
     ) -> TranscriptLog
-        ensures { result ≡ self.now ++ transcript_of connection.now.socket.from.received connection.now.socket.to.writer.sent
-            connection.now.admission.conn outcome.now.read.seat outcome.now.read.sent.items outcome.now.read.end
+        ensures { result ≡ self.now ++ transcript_of connection.now.socket.from.received
+            connection.now.socket.to.writer.sent
+            connection.now.admission.conn outcome.now.read.seat outcome.now.read.sent.items
+            outcome.now.read.end
             outcome.now.write.seat outcome.now.write.receipts.items outcome.now.write.end ∷ [] }
     {
         let more = OneMore {

@@ -50,8 +50,8 @@ pub record MayReopen (floor answers : ℕ) (dropped : List Dropped) (sessions : 
 
 -- answers for numbers in the window of `floor`, at most `end` - `floor` of them, were dropped: they were
 -- added to those dropped earlier, and to keep them again gives what was kept before
-pub record WereDropped (floor end : ℕ) (before after : FinMap nat_cmp Kept) (old new : List Dropped) : Type
-    0 where
+pub record WereDropped (floor end : ℕ) (before after : FinMap nat_cmp Kept)
+    (old new : List Dropped) : Type 0 where
   -- the answers dropped, the latest first
   pub answers : List Dropped
   pub added : new ≡ old ++ reverse answers

@@ -145,8 +145,8 @@ IsLogOf l s = MayFollowAll l.undos l.dropped s
 
 -- An entry was added to a log: what it changed of one session, and `change`, what it changed of the arrays.
 -- From the sessions after it, those before it can be put back.
-pub record Remembers (change : Change) (old new : UndoLog) (sessions after : FinMap nat_cmp Session) : Type
-    0 where
+pub record Remembers (change : Change) (old new : UndoLog)
+    (sessions after : FinMap nat_cmp Session) : Type 0 where
   pub session : ℕ
   pub session_change : SessionChange
   pub undos : new.undos ≡ record { session = session; session_change = session_change; change = change }

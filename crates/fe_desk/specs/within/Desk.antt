@@ -134,8 +134,8 @@ pub record IsWrittenOutLater (f : FrontState) (c : Client) (g : FrontState) (d :
 
 -- mails of these clients are written, maybe not all; to write the rest later comes to the same as to write
 -- all at once
-pub record AreWrittenOutLater (f : FrontState) (cs : List Client) (g : FrontState) (ds : List Client) : Type
-    0 where
+pub record AreWrittenOutLater (f : FrontState) (cs : List Client) (g : FrontState)
+    (ds : List Client) : Type 0 where
   pub front : all_emptied g ds ≡ all_emptied f cs
   pub clients : all_written_out g ds ≡ all_written_out f cs
   pub output : Extends (map output_of cs) (map output_of ds)
@@ -153,8 +153,8 @@ pub record IsFirstAt (clients : List Client) (conn at : ℕ) : Type 0 where
   pub first : (i : ℕ) → i < at → client_number_at clients i ≢ Some conn
 
 -- a connection came, with a stream of its own
-pub record Joins (f : FrontState) (cs : List Client) (conn : ℕ) (g : FrontState) (ds : List Client) : Type
-    0 where
+pub record Joins (f : FrontState) (cs : List Client) (conn : ℕ) (g : FrontState)
+    (ds : List Client) : Type 0 where
   pub decoder : Decoding
   pub begins : BeginsStream decoder
   pub front : g ≡ connected f conn

@@ -117,8 +117,8 @@ TakesStream s conn piece t = TakesBytes s (find conn s.clients) piece t
 
 -- memory was short for them: what was read, and where it stopped; to give the rest again comes to the same as
 -- to take all at once
-pub record LeavesStream (s : DeskRunState) (conn : ℕ) (piece : List ℕ) (fed : Bool) (t : DeskRunState) : Type
-    0 where
+pub record LeavesStream (s : DeskRunState) (conn : ℕ) (piece : List ℕ) (fed : Bool)
+    (t : DeskRunState) : Type 0 where
   pub stops : StopsShort fed s conn piece t
   pub read : MatchBool fed (ReadsPiece s conn piece t) (ReadsNone s t)
   pub again : (u : DeskRunState) → TakesStream t conn (if fed then [] else piece) u

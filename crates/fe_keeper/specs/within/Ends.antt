@@ -94,8 +94,8 @@ pub record CanStoreWith {D : Type 0} (store : KeeperStore D) (entries : List Ent
 -- ---- a batch that is not stored yet
 
 -- Entries were taken from a state: they lead to the state now, and the log leads back.
-pub record HasTaken (before : ServerState) (entries : List Entry) (now : ServerState) (log : UndoLog) : Type
-    0 where
+pub record HasTaken (before : ServerState) (entries : List Entry) (now : ServerState)
+    (log : UndoLog) : Type 0 where
   pub some : 1 ≤ length entries
   pub legal : AreLegal before entries
   pub state_is : now ≡ after_all before entries

@@ -1,5 +1,5 @@
-//! What the connections of a server did that have ended: what their seats count, what they sent, their receipts
-//! (`docs/model.md`, "The hall").
+//! What the connections of a server did that have ended: what their seats count, what they sent, their
+//! receipts (`docs/model.md`, "The hall").
 
 ghost use Rattle.std.specs.Prelude.{◌≡◌, ◌⊎◌, ◌∷◌, ◌++◌, [], true, false, Some, IsTrue, IfOk, IfErr, map};
 ghost use mathlib.Core.List.{IsPrefix};
@@ -26,19 +26,21 @@ use std::alloc::Global;
 /// What the connections did that have ended.
 #[derive(Drop)]
 pub(crate) struct FinishedConnections<C: Tally, M: Tally> {
-    /// Memory was short for something that the closing of the hall needs, or the committing thread could not be started.
+    /// Memory was short for something that the closing of the hall needs, or the committing thread could not
+    /// be started.
     pub(crate) short: bool,
     /// A book of the hall, a count of calls or mails, is full.
     pub(crate) spent: bool,
-    /// The seats of their sides, which count calls and mails, the receipts of the write sides, if they are kept, and the transcripts.
+    /// The seats of their sides, which count calls and mails, the receipts of the write sides, if they are
+    /// kept, and the transcripts.
     sides: FinishedSides<C, M>,
     /// If they are kept, of each read side the first 1,024 attaches and calls that it handled.
     sent: Vec<Vec<ClientMessage>>,
 }
 
 impl<C: Tally, M: Tally> FinishedConnections<C, M> {
-    /// Nothing: no connection has ended. It takes the right to make connections, so a connection that ends can't put an empty one in its
-    /// place.
+    /// Nothing: no connection has ended. It takes the right to make connections, so a connection that ends
+    /// can't put an empty one in its place.
     pub(crate) fn new(
         alloc: Global,
         _right: &ConnectRight,
@@ -52,17 +54,20 @@ impl<C: Tally, M: Tally> FinishedConnections<C, M> {
         }
     }
 
-    /// Adds what the sides of a connection did and saw. What was sent and the receipts are added only if `keeps`.
+    /// Adds what the sides of a connection did and saw. What was sent and the receipts are added only if
+    /// `keeps`.
     pub(crate) fn add(
         &mut self,
         connection: &ServedConnection,
         outcome: ConnectionOutcome<C, M>,
         keeps: bool,
     )
-        requires transcript { IsTranscript connection.now.socket.from.received connection.now.socket.to.writer.sent
+        requires transcript { IsTranscript connection.now.socket.from.received
+            connection.now.socket.to.writer.sent
             connection.now.admission.conn outcome.read.seat outcome.read.sent.items outcome.read.end
             outcome.write.seat outcome.write.receipts.items outcome.write.end }
-        requires issued { AreIssued connection.now.admission.conn outcome.write.seat.taken outcome.write.receipts.history }
+        requires issued { AreIssued connection.now.admission.conn outcome.write.seat.taken
+            outcome.write.receipts.history }
         ensures calls { self.new.sides.calls ≡ joined_to self.old.sides.calls outcome.read.seat.calls }
         ensures mails { self.new.sides.mails ≡ joined_to self.old.sides.mails outcome.write.seat.mails }
         // What has to be kept is kept, or `short` says that memory was short for it.
@@ -117,13 +122,15 @@ impl<C: Tally, M: Tally> FinishedConnections<C, M> {
     /// The transcripts of the connections.
     pub(crate) fn transcripts(&self) -> TranscriptLog
         ensures same { result ≡ self.now.sides.transcripts }
-        ensures whole { AreWhole self.now.sides.calls self.now.sides.mails self.now.sides.receipts.history result }
+        ensures whole { AreWhole self.now.sides.calls self.now.sides.mails self.now.sides.receipts.history
+            result }
     {
         self.sides.transcripts()
     }
 
     /// The account of a hall that is not closed.
-    // (It is not inlined: LLVM takes minutes over a function that moves large values several times and also reaches into them.)
+    // (It is not inlined: LLVM takes minutes over a function that moves large values several times and also
+    // reaches into them.)
     #[inline(never)]
     pub(crate) fn account(self, hall: Hall<C, M>, seat: StoreSeat<M>) -> Account
         ensures leaves { IsAccountOf seat self.sides.receipts.items self.sides.receipts.history result }
@@ -141,8 +148,9 @@ impl<C: Tally, M: Tally> FinishedConnections<C, M> {
         self.short || keeps && !self.sides.is_whole()
     }
 
-    /// Closes a hall with what its connections did. `state` is what is stored. `Memory` if memory was short for some of that, or the
-    /// committing thread could not be started; `Strange` if a book is full, a seat is missing or a receipt is strange.
+    /// Closes a hall with what its connections did. `state` is what is stored. `Memory` if memory was short
+    /// for some of that, or the committing thread could not be started; `Strange` if a book is full, a seat
+    /// is missing or a receipt is strange.
     // (It is not inlined, for the reason that `account` gives.)
     #[inline(never)]
     pub(crate) fn close(
@@ -157,7 +165,8 @@ impl<C: Tally, M: Tally> FinishedConnections<C, M> {
             × ((self.sides.calls ≡ Some calls) × (self.sides.mails ≡ Some mails) × (self.spent ≡ false))
             × IsAudit calls mails (map (λ v. v.items) self.sent.items) self.sides.receipts.whole audit) }
         ensures settled { IfOk result (IsSettled keeps state.now) }
-        ensures leaves { IsAccountOf seat self.sides.receipts.items self.sides.receipts.history (account_left result) }
+        ensures leaves { IsAccountOf seat self.sides.receipts.items self.sides.receipts.history
+            (account_left result) }
         ensures issued { EachIssued (account_left result).receipts (account_left result).history }
         ensures faults { IfErr result
             (λ e. ((e.0 ≡ fault.Memory) × (lacks self.short keeps self.sides.receipts.whole ≡ true))

@@ -1,5 +1,5 @@
-//! What the sides of connections left that have ended: their seats, their receipts, and for clauses alone their transcripts
-//! (`docs/model.md`, "The hall").
+//! What the sides of connections left that have ended: their seats, their receipts, and for clauses alone
+//! their transcripts (`docs/model.md`, "The hall").
 
 ghost use Rattle.std.specs.Prelude.{◌≡◌, ◌++◌, [], None, false, IsTrue, OnOk};
 ghost use Rattle.fe_history.specs.Acts.{EachIssued, GoesOnFrom};
@@ -32,7 +32,12 @@ impl<C: Tally, M: Tally> Model for FinishedSides<C, M> {
 
     ghost coded = { Prim.hlevel (codes, acts.the_row.coded) };
 
-    ghost view = { λ f. record { calls = f.calls; mails = f.mails; receipts = f.receipts; transcripts = f.transcripts } };
+    ghost view = { λ f. record {
+      calls = f.calls;
+      mails = f.mails;
+      receipts = f.receipts;
+      transcripts = f.transcripts;
+    } };
 
     ghost invariant = { λ f. AreWhole f.calls f.mails f.receipts.history f.transcripts };
 }
@@ -50,8 +55,8 @@ impl<C: Tally, M: Tally> FinishedSides<C, M> {
         }
     }
 
-    /// Adds what the sides of a connection did. `transcripts` are these and its own. Its receipts are kept only if `keeps`. Fails if memory
-    /// is short for them.
+    /// Adds what the sides of a connection did. `transcripts` are these and its own. Its receipts are kept
+    /// only if `keeps`. Fails if memory is short for them.
     pub(super) fn add(
         &mut self,
         transcripts: TranscriptLog,
