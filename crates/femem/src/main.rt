@@ -105,8 +105,9 @@ fn run_by<R: Source, W: Sink>(alloc: Global, reader: &mut R, writer: &mut W) -> 
         × RunsAll (R.remaining reader.old) (W.contents writer.old) (W.contents writer.new) disk) }
     ensures flushed { OnOk result (W.is_handed_on writer.new) }
     // The fault and its line are those of the schedule: the first lines of the input ran, and what the fault
-    // says ended them.
-    ensures fault { IfErr result (λ fault. (fault ≡ Fault.Memory)
+    // says ended them. Or there was no memory for the disk, and nothing was read or written.
+    ensures fault { IfErr result (λ fault. ((fault ≡ Fault.Memory) × (reader.new ≡ reader.old)
+        × (writer.new ≡ writer.old))
         ⊎ ((end : ScheduleFault) × (fault ≡ of_schedule end)
         × RunsUntil (ReaderFails R.has_failed R.was_read reader.old reader.new) (W.has_failed writer.new)
         (reader.new ≡ reader.old) end (R.remaining reader.old) (W.contents writer.old)
@@ -132,9 +133,10 @@ fn serve_by<
 >(rt: &R, path: &str, writer: &mut W) -> Result<(), Fault>
     ensures books { OnOk result (WritesBooks ⟦<FileDisk<F> as Disk>⟧ F.is_at
         (W.contents writer.old) (W.contents writer.new)) }
-    // The fault is the one that there was: the settings were refused, or it is that of serving the store that
-    // they name.
-    ensures fault { IfErr result (λ end. RefusesFile end ⊎ FailsServing ⟦<FileDisk<F> as Disk>⟧ F.is_at
+    // The fault is the one that there was: the settings were refused, and nothing was written; or it is that
+    // of serving the store that they name.
+    ensures fault { IfErr result (λ end. (RefusesFile end × (writer.new ≡ writer.old))
+        ⊎ FailsServing ⟦<FileDisk<F> as Disk>⟧ F.is_at
         (W.has_failed writer.new) (W.contents writer.old) (W.contents writer.new) end) }
 {
     let settings = settings_at(rt, path)?;
