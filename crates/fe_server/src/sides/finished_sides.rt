@@ -55,8 +55,8 @@ impl<C: Tally, M: Tally> FinishedSides<C, M> {
         }
     }
 
-    /// Adds what the sides of a connection did. `transcripts` are these and its own. Its receipts are kept
-    /// only if `keeps`. Fails if memory is short for them.
+    /// Adds what the sides of a connection did. `transcripts` are those so far and its own. Its receipts are
+    /// kept only if `keeps`. Fails if memory is short for them.
     pub(super) fn add(
         &mut self,
         transcripts: TranscriptLog,
