@@ -115,7 +115,7 @@ class Job(Ticket[T]):
     log: List[Ticket[Any]]
     mend: Optional[Callable[[List[Ticket[Any]]], Steps[Any]]] = None
     is_interrupted = False
-    # Whether its caller no longer waits; `undo` then makes steps that undo what was done.
+    # Whether its caller no longer waits; `undo` then makes steps that undo what was done, if that is anything: a true result.
     is_abandoned = False
 
     def __init__(self, steps: Steps[T], undo: Optional[Callable[[T], Steps[Any]]] = None, gives_back: bool = False) -> None:
@@ -197,7 +197,7 @@ class JobRunner:
 
     def _undo(self, job: Job[Any], now: float) -> None:
         undo, job.undo = job.undo, None
-        if undo is not None and job.error is None:
+        if undo is not None and job.result:
             self.start(Job(undo(job.result)), now)
 
     def _advance(self, job: Job[Any], go_on: Callable[[], Step]) -> None:
@@ -278,15 +278,10 @@ class JobRunner:
         job.asked = ()
         for ticket in tickets:
             ticket.finished = nobody  # nothing holds itself
+        outcome, error = tickets[0].result, tickets[0].error
         if isinstance(step, (Batch, First)):
-            outcomes = outcomes_of(tickets)
-            fails, steps = self.failure is not None, job.steps
-            go_on = partial(steps.throw, self._failure_again()) if fails else partial(steps.send, outcomes)
-            self._advance(job, go_on)
-        elif tickets[0].error is not None:
-            self._advance(job, partial(job.steps.throw, tickets[0].error))
-        else:
-            self._advance(job, partial(job.steps.send, tickets[0].result))
+            outcome, error = outcomes_of(tickets), None if self.failure is None else self._failure_again()
+        self._advance(job, partial(job.steps.send, outcome) if error is None else partial(job.steps.throw, error))
 
     def _show(self, array: Array, now: float) -> None:
         """Makes a request wait there. Whoever fills the word ends it: then it is emptied, and another one waits."""

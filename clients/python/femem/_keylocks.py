@@ -7,15 +7,15 @@ lock is from then on. The former owner may still empty the old OWNER, and nobody
 from __future__ import annotations
 
 import zlib
-from typing import Any, Dict, Generic, Optional, Type, TypeVar, Union
+from typing import Any, Dict, Generic, List, Optional, Type, TypeVar, Union
 
 from . import requests
 from ._arguments import seconds_of
 from ._errors import NoArray, NotNow, NotOwner
 from ._jobs import Steps
 from ._locks import Lock
-from ._operations import Absence, Tries, batch, is_full, marked_array, operation_with, size_of
-from .requests import Array, add, empty, fill, look
+from ._operations import batch, is_full, marked_array, operation_with, size_of
+from .requests import Array, Request, add, empty, fill, look
 
 K = TypeVar("K", bound="KeyLock")
 
@@ -27,7 +27,7 @@ LARGEST = 29000  # places, with their spares, that fit into a server
 class KeyLock(Lock):
     """The lock of a key, used as a `Lock`. Made by `Locks.of`."""
 
-    COUNT = COUNT
+    COUNT, MOVES = COUNT, True
     REQUESTS = {"acquire": (24, 24), "try_acquire": (24, 0), "release": (16, 0)}
 
     def __init__(self, client: Any, locks: Locks[Any], first: int) -> None:
@@ -60,34 +60,10 @@ class KeyLock(Lock):
             self._has_moved = True
             raise NoArray(self._name)
 
-    def _own(self, array: Array, end: Optional[float], nowait: bool, patience: Optional[float], tries: Tries) -> Steps[bool]:
-        self._adopted = self._core.holdings.left.take(array, self.OWNER)
-        mine = look(array, self.OWNER) if self._adopted else fill(array, self.OWNER, self._session)
-        asked = [mine, look(array, self._next), add(array, self.COUNT, 1)]
-        done, next, count = yield from batch(asked, NotNow)
+    def _count(self, array: Array, *asked: Request[Any], key: Optional[bytes] = None) -> Steps[List[Any]]:
+        *found, next, count = yield from batch([*asked, look(array, self._next), add(array, self.COUNT, 1)], NotNow)
         yield from self._follow(array, next)
-        if not is_full(done):
-            count = None if nowait else (yield from self._wait_there(array, end, patience, tries))
-        if count is None:
-            return False
-        self._number(array, int(count))
-        return True
-
-    def _wait_there(self, array: Array, end: Optional[float], patience: Optional[float], tries: Tries) -> Steps[Optional[int]]:
-        """The count of this acquisition, or `None` if it was not in time. Looks whether the place is dead, and who is away."""
-        absence, pause = None if patience is None else Absence(patience), self._pause(patience)
-        while True:
-            rest = self._left(end)
-            got = yield from self._wait(array, pause if rest is None else min(pause, rest), tries)
-            other = add(array, self.COUNT, 1) if got else look(array, self.OWNER)
-            next, found = yield from batch([look(array, self._next), other], NotNow)
-            yield from self._follow(array, next)
-            if got:
-                return int(found)
-            if rest is not None and rest <= pause:
-                return None
-            if absence is not None:
-                yield from self._break_if_away(array, [int(found)] if is_full(found) else [], absence)
+        return [*found, count]
 
     def _owner_of(self, array: Array) -> Steps[Optional[int]]:
         owner, next = yield from batch([look(array, self.OWNER), look(array, self._next)], NotNow)
@@ -112,7 +88,7 @@ class KeyLock(Lock):
         self._core.holdings.words.pop((array.id, self.OWNER), None)
         return is_full(done)
 
-    @operation_with(undo="_release_if_got", light=True)
+    @operation_with(undo="_give_back", light=True)
     def acquire(  # type: ignore[override]
         self, timeout: Optional[float] = None, *, takeover_after: Optional[float] = None
     ) -> Steps[bool]:

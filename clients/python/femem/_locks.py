@@ -13,7 +13,7 @@ from ._holdings import Hold, Read, Release
 from ._jobs import Look, Mended, Steps, Wait
 from ._operations import FIRST_LOOK, LAST_LOOK, Absence, Pattern, Tries, batch, done_at, is_full, marked_array
 from ._operations import operation, operation_with, shared_array, size_of
-from .requests import Array, add, empty, fill, look
+from .requests import Array, Request, add, empty, fill, look
 from ._tickets import Ticket
 
 K = TypeVar("K", bound="Turn")
@@ -28,6 +28,7 @@ class Owned(Pattern):
     LENGTH = 2
     # The words that are made full.
     COUNTS: Tuple[int, ...] = (COUNT,)
+    MOVES = False  # whether it may go on at another word, so that who waits looks where it is
     REQUESTS = {"acquire": (9, 14), "campaign": (9, 14), "try_acquire": (9, 0), "release": (6, 0), "resign": (6, 0)}
 
     def __init__(self, client: Any, name: str) -> None:
@@ -124,35 +125,29 @@ class Owned(Pattern):
         return True
 
     def _own(self, array: Array, end: Optional[float], nowait: bool, patience: Optional[float], tries: Tries) -> Steps[bool]:
-        """Fills word OWNER. Whether in time."""
-        counts = add(array, self.COUNT, 1)
-        if (yield from self._adopt(array, tries)):
-            self._adopted = True
-            done, count = None, (yield from batch([counts]))[0]
-        else:
-            mine = fill(array, self.OWNER, self._session)
-            done, count = yield from batch([mine, counts], NotNow, key=tries.next())
+        """Fills word OWNER, or adopts what an earlier process left there. Whether in time."""
+        self._adopted = bool(self._core.holdings.left.take_unkeyed(array, (self.OWNER,), self._core.file))
+        if self._adopted and tries.key is not None:  # a new key cannot have it
+            self._adopted = False
+            yield from batch([empty(array, self.OWNER)], NotNow)
+        mine = look(array, self.OWNER) if self._adopted else fill(array, self.OWNER, self._session)
+        done, count = yield from self._count(array, mine, key=tries.next())
         if not is_full(done):
             if nowait:
                 return False
-            if patience is None:
+            if patience is None and not self.MOVES:
                 got = yield from self._wait(array, self._left(end), tries)
             else:
                 got = yield from self._watch(array, end, patience, tries)
             if not got:
                 return False
-            (count,) = yield from batch([counts])
+            (count,) = yield from self._count(array)
         self._number(array, int(count))
         return True
 
-    def _adopt(self, array: Array, tries: Tries) -> Steps[bool]:
-        """Adopts what an earlier process left. A new key cannot have it: then it is emptied."""
-        if not self._core.holdings.left.take_unkeyed(array, (self.OWNER,), self._core.file):
-            return False
-        if tries.key is not None:
-            yield from batch([empty(array, self.OWNER)], NotNow)
-            return False
-        return (yield from self._owner_of(array)) == self._session
+    def _count(self, array: Array, *asked: Request[Any], key: Optional[bytes] = None) -> Steps[List[Any]]:
+        """Asks these together with the count of an acquisition."""
+        return batch([*asked, add(array, self.COUNT, 1)], NotNow, key=key)
 
     def _wait(self, array: Array, seconds: Optional[float], tries: Tries) -> Steps[bool]:
         try:
@@ -161,16 +156,19 @@ class Owned(Pattern):
             return False
         return True
 
-    def _watch(self, array: Array, end: Optional[float], patience: float, tries: Tries) -> Steps[bool]:
+    def _watch(self, array: Array, end: Optional[float], patience: Optional[float], tries: Tries) -> Steps[bool]:
         """Waits, and looks whether the owner is there. An owner that was absent for that long loses it."""
         absence, pause = Absence(patience), self._pause(patience)
         while True:
             rest = self._left(end)
             if (yield from self._wait(array, pause if rest is None else min(pause, rest), tries)):
                 return True
-            if rest is not None and rest <= pause:
+            is_over = rest is not None and rest <= pause
+            if is_over and not self.MOVES:
                 return False
             owner = yield from self._owner_of(array)
+            if is_over:
+                return False
             yield from self._break_if_away(array, [] if owner is None else [owner], absence)
 
     @staticmethod
@@ -180,6 +178,8 @@ class Owned(Pattern):
 
     def _break_if_away(self, array: Array, sessions: Iterable[int], absence: Absence) -> Steps[None]:
         """`NoArray` if one of them was absent for too long: then the lock is broken."""
+        if not absence.may_end:
+            return
         presence = yield from self._show()
         gone = absence.gone((yield Look()), presence, sessions, self._now())
         if gone is not None:
@@ -251,11 +251,9 @@ class Owned(Pattern):
         if hold.word not in done_at(asked, frames.READFE, hold.array):
             yield from batch([empty(hold.array, hold.word)], NotNow, NoArray)
 
-    def _release_if_got(self, got: object) -> Steps[None]:
-        """Releases it after an acquisition that no caller waits for any more."""
-        if got:
-            with suppress(NotOwner):
-                yield from self._release(Release())
+    def _give_back(self, got: object) -> Steps[None]:
+        """After an acquisition that no caller waits for any more."""
+        return self._release(Release())
 
     def _break(self, array: Optional[Array] = None) -> Steps[bool]:
         """Removes the array, and with it whatever its owner may still do to it. Whether this client removed
@@ -276,7 +274,7 @@ class Lock(Owned):
     session acquires it at once; `adopted` is then true.
     """
 
-    @operation_with(undo="_release_if_got", light=True)
+    @operation_with(undo="_give_back", light=True)
     def acquire(self, timeout: Optional[float] = None, *, takeover_after: Optional[float] = None, key: Optional[Key] = None) -> Steps[bool]:
         """Waits for the lock. Returns whether it was acquired in time.
 
@@ -286,7 +284,7 @@ class Lock(Owned):
         """
         return self._acquisition(timeout, False, seconds_of(takeover_after, "takeover_after"), key)
 
-    @operation_with(undo="_release_if_got", light=True)
+    @operation_with(undo="_give_back", light=True)
     def try_acquire(self) -> Steps[bool]:
         """Takes the lock if it is free now."""
         return self._acquisition(None, True)
@@ -315,7 +313,7 @@ class Lock(Owned):
 class Election(Owned):
     """One leader at a time. What the leader changes can refuse an earlier one by the number that `campaign` returns."""
 
-    @operation_with(undo="_release_if_got")
+    @operation_with(undo="_give_back")
     def campaign(self, timeout: Optional[float] = None, *, takeover_after: Optional[float] = 5.0) -> Steps[Optional[int]]:
         """Waits until this client leads. Returns its number, greater than that of each leader before, or `None` in time.
 
@@ -384,7 +382,7 @@ class ReadWriteLock(Owned, Generic[K]):
 
     # Reading.
 
-    @operation_with(undo="_leave_if_got", light=True)
+    @operation_with(undo="_give_read_back", light=True)
     def acquire_read(self, timeout: Optional[float] = None, *, takeover_after: Optional[float] = None) -> Steps[bool]:
         """Waits until this client may read. Returns whether it may, in time."""
         read, patience = Read(self._caller()), seconds_of(takeover_after, "takeover_after")
@@ -425,7 +423,7 @@ class ReadWriteLock(Owned, Generic[K]):
 
     def _sit(self, array: Array, end: Optional[float], patience: Optional[float]) -> Steps[Optional[int]]:
         """Takes a seat. Where all are taken it waits at one after the other."""
-        absence, pause = None if patience is None else Absence(patience), FIRST_LOOK
+        absence, pause = Absence(patience), FIRST_LOOK
         while True:
             seat = self._seats[self._next_seat % len(self._seats)]
             if is_full((yield from batch([fill(array, seat, self._session)], NotNow))[0]):
@@ -434,8 +432,7 @@ class ReadWriteLock(Owned, Generic[K]):
             if len(holders) < len(self._seats):
                 self._next_seat = next(seat for seat in self._seats if seat not in holders) - self.SEATS
                 continue
-            if absence is not None:
-                yield from self._break_if_away(array, holders.values(), absence)
+            yield from self._break_if_away(array, holders.values(), absence)
             rest = self._left(end)
             if rest == 0.0:
                 return None
@@ -519,9 +516,8 @@ class ReadWriteLock(Owned, Generic[K]):
         if not is_there:
             raise NotOwner(f"{self._name} was broken")
 
-    def _leave_if_got(self, got: bool) -> Steps[None]:
-        if got:
-            yield from self._leave(Release())
+    def _give_read_back(self, got: bool) -> Steps[None]:
+        return self._leave(Release())
 
     def _mend_left(self, release: Release, asked: Sequence[Ticket[Any]]) -> Steps[None]:
         """Ends the release. Its seat was given back together with the bit."""
@@ -552,7 +548,7 @@ class ReadWriteLock(Owned, Generic[K]):
 
     # Writing.
 
-    @operation_with(undo="_release_if_got", light=True)
+    @operation_with(undo="_give_back", light=True)
     def acquire_write(self, timeout: Optional[float] = None, *, takeover_after: Optional[float] = None) -> Steps[bool]:
         """Waits until only this client may read and write. Returns whether it may, in time."""
         return self._acquisition(timeout, patience=seconds_of(takeover_after, "takeover_after"))
@@ -566,12 +562,12 @@ class ReadWriteLock(Owned, Generic[K]):
 
     def _wait_for_readers(self, array: Array, end: Optional[float], patience: Optional[float]) -> Steps[bool]:
         """The last one that reads fills the word DOOR. With patience, one that is absent loses its seat with all."""
-        absence, pause = None if patience is None else Absence(patience), self._pause(patience)
+        absence, pause = Absence(patience), self._pause(patience)
         while True:
             _, bits = yield from batch([requests.purge(array, self.DOOR), look(array, self.READERS)])
             if not bits:
                 return True
-            if absence is not None:
+            if absence.may_end:
                 holders = yield from self._holders(array, self._reading(bits))
                 yield from self._break_if_away(array, holders.values(), absence)
             rest = self._left(end)
@@ -620,7 +616,7 @@ class Turn(Pattern):
         self._timeout = seconds_of(timeout)
         self._patience = seconds_of(takeover_after, "takeover_after")
 
-    @operation_with(undo="_release_if_got", light=True)
+    @operation_with(undo="_give_back", light=True)
     def acquire(self) -> Steps[bool]:
         """Begins the block: its `with` calls this."""
         kind = ReadWriteLock.acquire_write if self._writes else ReadWriteLock.acquire_read
@@ -639,8 +635,8 @@ class Turn(Pattern):
         kind = ReadWriteLock.release_write if self._writes else ReadWriteLock.release_read
         return kind.steps(self._lock)
 
-    def _release_if_got(self, got: bool) -> Steps[None]:
-        return self._lock._release_if_got(got) if self._writes else self._lock._leave_if_got(got)
+    def _give_back(self, got: bool) -> Steps[None]:
+        return self._lock._give_back(got) if self._writes else self._lock._give_read_back(got)
 
     def _can_mend(self) -> bool:
         self._array = self._lock._array

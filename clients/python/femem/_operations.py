@@ -168,8 +168,10 @@ def is_there(report: Report, presence: Array, session: int) -> bool:
 class Absence:
     """Since when sessions were absent, seen again and again."""
 
-    def __init__(self, patience: float) -> None:
-        self._patience = patience
+    def __init__(self, patience: Optional[float]) -> None:
+        """`None`: they may be absent for ever."""
+        self.may_end = patience is not None
+        self._patience = patience or 0.0
         self._since: Dict[int, float] = {}
 
     def gone(self, report: Report, presence: Array, sessions: Iterable[int], now: float) -> Optional[int]:

@@ -63,7 +63,7 @@ class Semaphore(Pattern):
             self._array = array
         return self._array
 
-    @operation_with(undo="_release_if_got", light=True)
+    @operation_with(undo="_give_back", light=True)
     def acquire(self, timeout: Optional[float] = None, *, key: Optional[Key] = None) -> Steps[bool]:
         """Waits for a permit. Returns whether it got one in time.
 
@@ -72,7 +72,7 @@ class Semaphore(Pattern):
         """
         return (yield from self._acquire(self._deadline(timeout), False, key))
 
-    @operation_with(undo="_release_if_got", light=True)
+    @operation_with(undo="_give_back", light=True)
     def try_acquire(self) -> Steps[bool]:
         """Takes a permit if one is free now."""
         return (yield from self._acquire(None, True, None))
@@ -218,9 +218,8 @@ class Semaphore(Pattern):
         self._last = permit if is_quiet else None
         return True
 
-    def _release_if_got(self, got: bool) -> Steps[None]:
-        if got:
-            yield from Semaphore.release.steps(self)
+    def _give_back(self, got: bool) -> Steps[None]:
+        return Semaphore.release.steps(self)
 
     def _mend(self, array: Array, gives_back: bool, asked: Sequence[Ticket[Any]]) -> Steps[None]:
         """After an acquisition was interrupted within its steps."""

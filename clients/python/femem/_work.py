@@ -61,7 +61,7 @@ class WorkJob(Pattern):
     @operation
     def move(self, next: WorkQueue, value: int, timeout: Optional[float] = None) -> Steps[None]:
         """Puts the value into the next queue, and is done, in one step: `next.put(value, timeout, for_job=job)`."""
-        yield from next._put_for(self, number_of_bits(value, 64, "value"), next._deadline(timeout))
+        return WorkQueue.put.steps(next, value, timeout, for_job=self)
 
     def _can_mend(self) -> bool:
         return not self.has_moved
@@ -169,27 +169,32 @@ class WorkQueue(Moves):
         one step. So the value is put once for each job, whoever takes the job and however often. `NotOwner`, and nothing is
         put, if another attempt has ended the job. In time or not, a job that does not move stays this client's.
         """
-        end = self._deadline(timeout)
+        end, number = self._deadline(timeout), number_of_bits(value, 64, "value")
+        if number == NOTHING:
+            raise ValueError("a job is below 2^64 - 1")
         if for_job is not None:
             if key is not None:
                 raise ValueError("what is put for a job needs no key")
-            yield from self._put_for(for_job, number_of_bits(value, 64, "value"), end)
+            yield from self._put_for(for_job, number, end)
             return
-        if number_of_bits(value, 64, "value") == NOTHING:
-            raise ValueError("a job is below 2^64 - 1")
-        tries = Tries(self._core, key, WRITEEF, value)
+        tries = Tries(self._core, key, WRITEEF, number)
         try:
-            if (yield from tries.begin()) is None:
-                yield from self._open()
-                while not (yield from self._put_into(*(yield from self._ticket(end)), value, tries)):
-                    pass
+            if (yield from tries.begin()) is not None:
+                return
+            yield from self._open()
+            while True:
+                page, slot = yield from self._ticket(end)
+                fills = made(WRITEEF, page.id, self._value_at(slot), number, True)
+                done = yield from self._offer(page, slot, fills, tries.next())
+                if is_full(done):
+                    return
+                if isinstance(done, NoArray):
+                    self._forget_page(page)
         finally:
             tries.end()
 
     def _put_for(self, job: WorkJob, value: int, end: Optional[float]) -> Steps[None]:
         """Once for each job, also if this process asks again."""
-        if value == NOTHING:
-            raise ValueError("a job is below 2^64 - 1")
         if job._client is not self._client:
             raise ValueError("the job is another client's")
         if job.has_moved:
@@ -285,14 +290,6 @@ class WorkQueue(Moves):
             if page.id not in self._pages or ticket < self._capacity + page.finished - older:
                 return True  # (without its page it is of no use)
         return False
-
-    def _put_into(self, page: Page, slot: int, value: int, tries: Tries) -> Steps[bool]:
-        """Puts the value into a slot, with its signal. Whether it is in."""
-        fills = made(WRITEEF, page.id, self._value_at(slot), value, True)
-        done = yield from self._offer(page, slot, fills, tries.next())
-        if isinstance(done, NoArray):
-            self._forget_page(page)
-        return is_full(done)
 
     # Taking.
 
@@ -400,10 +397,7 @@ class WorkQueue(Moves):
             except NoArray:
                 value = NOTHING
             (source,) = yield from batch(looks[1:], NotNow, NoArray)
-        if not is_full(value) or value == NOTHING:
-            self._let_go(page.id << 16 | slot)
-            return None
-        return (yield from self._given(page, slot, int(value), 0, source))
+        return (yield from self._given(page, slot, value, 0, source))
 
     def _claim(self, page: Page, slot: int, attempt: int, *looks: Request[Any]) -> Steps[Optional[List[Any]]]:
         """Claims an attempt of the job, and looks. `None` if another client has it. It is noted before it is sent."""
@@ -423,11 +417,11 @@ class WorkQueue(Moves):
     def _let_go(self, number: int) -> None:
         self._core.holdings.jobs.pop(number, None)
 
-    def _given(self, page: Page, slot: int, value: int, attempt: int, source: Any = 0) -> Steps[Optional[WorkJob]]:
-        """The job of a slot that this client has claimed, if it counts."""
+    def _given(self, page: Page, slot: int, value: Any, attempt: int, source: Any = 0) -> Steps[Optional[WorkJob]]:
+        """The job of a slot that this client has claimed, if it has a value and counts."""
         number = page.id << 16 | slot
-        if (yield from self._settle(page, slot, source)):
-            return type(self).JOB(self, number, value, attempt + 1)
+        if is_full(value) and value != NOTHING and (yield from self._settle(page, slot, source)):
+            return type(self).JOB(self, number, int(value), attempt + 1)
         self._let_go(number)
         return None
 
@@ -446,10 +440,8 @@ class WorkQueue(Moves):
             yield Hand()
             self._there = None
             return (yield from self._take_any_over(page, [slot], presence))
-        if is_full(found[0]) and found[0] != NOTHING and isinstance(found[1], NotNow):
-            return (yield from self._given(page, slot, int(found[0]), 0, found[2]))
-        self._let_go(number)
-        return None
+        value, ended, source = found
+        return (yield from self._given(page, slot, value if isinstance(ended, NotNow) else NOTHING, 0, source))
 
     # Jobs that nobody has.
 
@@ -466,11 +458,7 @@ class WorkQueue(Moves):
             if job is not None:
                 break
         self._is_first = self._is_first and job is not None
-        self._plan()
-        return job
-
-    def _plan(self) -> None:
-        """When to look again: later the more this look has cost, but in time for a job whose taker may be absent."""
+        # When to look again: later the more this look has cost, but in time for a job whose taker may be absent.
         least, after = max(0.01, min(1.0, self._away_after / 4)), self._cost * LOOK_COST
         if any(page.open for page in self._by_age()):
             after = min(after, self._away_after, self._due - self._now())
@@ -479,6 +467,7 @@ class WorkQueue(Moves):
         if not self._is_first:
             self._soonest = self._now() + least
             self._look_at = max(self._soonest, self._now() + after)
+        return job
 
     def _rescue_page(self, page: Page, presence: int) -> Steps[Optional[WorkJob]]:
         if page.finished >= self._slots:
@@ -561,10 +550,7 @@ class WorkQueue(Moves):
         found = yield from self._claim(page, slot, len(claims), look(page.id, self._end_at(slot)))
         if found is None:
             return None
-        if isinstance(found[0], NotNow):
-            return (yield from self._given(page, slot, int(value), len(claims)))
-        self._let_go(number)
-        return None
+        return (yield from self._given(page, slot, value if isinstance(found[0], NotNow) else NOTHING, len(claims)))
 
     @staticmethod
     def _claims(words: Sequence[Any]) -> List[int]:
@@ -632,20 +618,17 @@ class WorkQueue(Moves):
                 continue  # the first words of a page
             slot, place = divmod(word - FIRST_SLOT, 3 + self._attempts)
             number = id << 16 | slot
-            if ticket.error is None:
-                yield from self._unclaim(id, slot, place - 2)
-            elif jobs.get(number) is request:
+            if ticket.error is not None:
+                if jobs.get(number) is request:
+                    self._let_go(number)
+            # The slot is not left claimed: it is void if it has no value, and otherwise the attempt has failed.
+            elif (yield from self._void(self._pages.get(id) or Page(id), slot)) == NOTHING:
                 self._let_go(number)
+            else:
+                with suppress(NotOwner):  # its page is gone
+                    yield from self._give_up(number, place - 2)
         if any(ticket.error is None for ticket in asked):
             yield from self._tell_all()
-
-    def _unclaim(self, id: int, slot: int, attempt: int) -> Steps[None]:
-        """The slot is not left claimed: it is void if it has no value, and otherwise the attempt has failed."""
-        if (yield from self._void(self._pages.get(id) or Page(id), slot)) == NOTHING:
-            self._let_go(id << 16 | slot)
-            return
-        with suppress(NotOwner):  # its page is gone
-            yield from self._give_up(id << 16 | slot, attempt)
 
     @operation
     def aside(self) -> Steps[List[Tuple[int, int]]]:

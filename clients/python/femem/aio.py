@@ -355,9 +355,6 @@ class Once(Awaiting, words.Once):
 
 
 class WorkJob(Awaiting, work.WorkJob):
-    def __init__(self, queue: Any, number: int, value: int, attempt: int) -> None:
-        work.WorkJob.__init__(self, queue, number, value, attempt)
-
     async def __aenter__(self) -> WorkJob:
         return self
 

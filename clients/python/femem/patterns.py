@@ -125,7 +125,7 @@ class Exit:
         if pattern is None:
             return kind._exit  # type: ignore[no-any-return]
         leave = functools.partial(pattern._exit, block=Block(pattern._client))
-        pattern._entering[get_ident()] = weakref.ref(leave)
+        pattern.__dict__.setdefault("_entering", {})[get_ident()] = weakref.ref(leave)
         return leave
 
 
@@ -133,8 +133,8 @@ class Entered(Blocking):
     """What has a `with` block, which is ended once, wherever it is interrupted."""
 
     __exit__ = Exit()
-    # The `__exit__` of the block that each thread is about to enter.
-    _entering: Dict[int, weakref.ref[functools.partial[None]]]
+    # The `__exit__` of the block that each thread is about to enter. Each pattern that has blocks gets its own.
+    _entering: Dict[int, weakref.ref[functools.partial[None]]] = {}
     # What ends the block, done or failed. One that was left before, or is none, ends what this client has.
     _end_of: Callable[[Optional[Block], bool], Job[None]]
 
@@ -161,10 +161,6 @@ class Entered(Blocking):
 
 class Held(Entered):
     """What a `with` holds: its operations `acquire` and `release` begin and end the block."""
-
-    def __init__(self, client: Client, name: Any, *sizes: Any, **more: Any) -> None:
-        self._entering = {}
-        super().__init__(client, name, *sizes, **more)
 
     def __enter__(self: C) -> C:
         job = _job(self, self._operations["acquire"])
@@ -225,10 +221,6 @@ class Once(Blocking, words.Once):
 
 
 class WorkJob(Entered, work.WorkJob):
-    def __init__(self, queue: Any, number: int, value: int, attempt: int) -> None:
-        self._entering = {}
-        work.WorkJob.__init__(self, queue, number, value, attempt)
-
     def __enter__(self) -> WorkJob:
         leave = self._entry()
         if leave is not None:
