@@ -296,9 +296,8 @@ class Calls:
 
     def forget(self, *keys: Key) -> None:
         """Makes the session file drop the keys' answers: the keys will not be used again."""
-        self._with_file()
-        for spelled in [key_bytes(key) for key in keys]:
-            self._ask(partial(self._core.forget, spelled))
+        file, spelled = self._with_file(), [key_bytes(key) for key in keys]
+        self._ask(lambda now: file.forget(*spelled))
 
     @asking
     def bye(self) -> Asking[None]:
@@ -326,9 +325,10 @@ class Calls:
         ticket.key = key_bytes(key)
         return ticket
 
-    def _with_file(self) -> None:
+    def _with_file(self) -> SessionFile:
         if self._core.file is None:
             raise ValueError("a key needs a client with a session file")
+        return self._core.file
 
     def _seconds(self, timeout: Timeout) -> Optional[float]:
         return self.timeout if timeout is DEFAULT else seconds_of(timeout)

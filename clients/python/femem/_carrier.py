@@ -203,9 +203,9 @@ def _is_no_socket(path: str) -> bool:
         return False
 
 
-def _user(number: int) -> str:
+def _name(find: Callable[[int], Any], number: int) -> str:
     try:
-        return pwd.getpwuid(number).pw_name
+        return str(find(number)[0])
     except KeyError:
         return str(number)
 
@@ -219,12 +219,9 @@ def _no_right(path: str) -> errors.NoRight:
             break
         except OSError:
             at = os.path.dirname(at)
-    try:
-        group = grp.getgrgid(there.st_gid).gr_name
-    except KeyError:
-        group = str(there.st_gid)
+    group = _name(grp.getgrgid, there.st_gid)
     if there.st_mode & (stat.S_IXGRP if stat.S_ISDIR(there.st_mode) else stat.S_IWGRP):
-        who = f"members of its group {group} may ('adduser {_user(os.geteuid())} {group}', and a new login)"
+        who = f"members of its group {group} may ('adduser {_name(pwd.getpwuid, os.geteuid())} {group}', and a new login)"
     else:
-        who = f"its owner {_user(there.st_uid)} may"
+        who = f"its owner {_name(pwd.getpwuid, there.st_uid)} may"
     return errors.NoRight(f"may not use {path}: {who}")

@@ -179,10 +179,6 @@ class Core(JobRunner, Attachment):
             else:
                 self.file.close()
 
-    def forget(self, key: bytes, now: float) -> None:
-        assert self.file is not None
-        self.file.forget(key)
-
     def keys(self) -> List[bytes]:
         """The keys that have an answer, and those whose request has none yet."""
         assert self.file is not None

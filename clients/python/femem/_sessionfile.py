@@ -174,9 +174,10 @@ class SessionFile:
         self.state.floor = floor
         self.state.asked_floor = max(floor, self.state.asked_floor)
 
-    def forget(self, key: bytes) -> None:
-        if key in self.state.keyed:
-            self._note(FORGOTTEN_KIND, LENGTH.pack(len(key)), key)
+    def forget(self, *keys: bytes) -> None:
+        for key in keys:
+            if key in self.state.keyed:
+                self._note(FORGOTTEN_KIND, LENGTH.pack(len(key)), key)
 
     def ending(self) -> None:
         self._note(LEAVING_KIND)

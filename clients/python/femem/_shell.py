@@ -19,6 +19,7 @@ from typing import Any, List, Optional, Tuple
 from . import observer
 from ._errors import FememError, ServerUnreachable
 from .observer import Look, Observer, overview
+from .requests import OPERATIONS
 
 HELP = """\
 report                              what waits, as the server reports it
@@ -35,10 +36,7 @@ Words = List[str]
 COMMANDS = {"report": 0, "watch": 1, "graph": 1, "metrics": 0}
 
 # What femem-cli does.
-REMOVED = (
-    "create", "find", "remove", "readfe", "readff", "readxx", "writeef", "writeff", "writexf", "purge", "int_fetch_add",
-    "queue", "lock", "help", "quit",
-)  # fmt: skip
+REMOVED = ("create", "find", "remove", *(name for name, *_ in OPERATIONS.values()), "queue", "lock", "help", "quit")
 
 
 class Usage(Exception):
@@ -58,9 +56,9 @@ def main(arguments: Optional[Words] = None) -> int:
     """Returns the status: 0; 1 if it failed; 2 for a wrong command line; 4 if the server can't be used."""
     path, command, given = read(sys.argv[1:] if arguments is None else arguments)
     end_on_signals()
-    shell = Shell(path, given)
     try:
-        shell.run(command)
+        with Observer(path, store=given.store, program=given.program, timeout=given.reconnect_timeout) as source:
+            Shell(source, given).run(command)
     except Usage as usage:
         return fail(str(usage), USAGE)
     except ServerUnreachable as error:
@@ -69,8 +67,6 @@ def main(arguments: Optional[Words] = None) -> int:
         return fail(describe(error), FAILED)
     except KeyboardInterrupt:
         return 128 + signal.SIGINT
-    finally:
-        shell.close()
     return 0
 
 
@@ -157,13 +153,10 @@ def describe(error: BaseException) -> str:
 class Shell:
     """Runs one command."""
 
-    def __init__(self, path: str, given: argparse.Namespace) -> None:
+    def __init__(self, source: Observer, given: argparse.Namespace) -> None:
         self._given = given
-        self._observer = Observer(path, store=given.store, program=given.program, timeout=given.reconnect_timeout)
+        self._observer = source
         self._trouble = ""
-
-    def close(self) -> None:
-        self._observer.close()
 
     def run(self, words: Words) -> None:
         command, *rest = words

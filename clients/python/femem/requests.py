@@ -106,11 +106,9 @@ def create(name: Union[str, bytes], length: int, full: bool = False) -> Request[
     """Makes an array: its words are empty, or all full with value 0. `NameTaken`, `ArrayLimit`, `WordLimit`, `BadName`, `BadLength`."""
     spelled = _name_bytes(name)
     try:
-        size = operator.index(length)
-    except TypeError:
-        raise TypeError(f"length is not a whole number: {length!r}") from None
-    if not 0 <= size < 2**32:
-        raise answered(frames.BAD_LENGTH, f"{size}")
+        size = number_of_bits(length, 32, "length")
+    except ValueError:
+        raise answered(frames.BAD_LENGTH, f"{operator.index(length)}") from None
     return Request(frames.create(0, spelled, size, _flag(full, "full")), read_array)
 
 
