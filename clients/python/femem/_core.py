@@ -365,10 +365,8 @@ class Core(JobRunner, Attachment):
 
     def _check(self) -> None:
         """Raises the reason if nothing can be asked any more."""
-        if self.failure is not None:
+        if self.failure is not None or self._leaving is not None:
             raise self._failure_again()
-        if self._leaving is not None:
-            raise errors.Closed("the session is being ended")
 
     def _admit(self, tickets: Sequence[Ticket[Any]], now: float) -> Sequence[Ticket[Any]]:
         """The tickets that may be asked. The others end here, or have ended before."""
@@ -377,10 +375,7 @@ class Core(JobRunner, Attachment):
             ticket.taken = True
         if self.failure is not None or self._leaving is not None:
             for ticket in admitted:
-                try:
-                    self._check()
-                except errors.FememError as error:
-                    self._end(ticket, error=error)
+                self._end(ticket, error=self._failure_again())
             return ()
         if self.is_idle or not self.is_busy():
             self._asked_at = now
@@ -389,8 +384,8 @@ class Core(JobRunner, Attachment):
 
     def _failure_again(self) -> errors.FememError:
         """A new error for each ticket, since an error that two threads raise gets the traces of both."""
-        assert self.failure is not None
-        return type(self.failure)(*self.failure.args)
+        failure = self.failure or errors.Closed("the session is being ended")
+        return type(failure)(*failure.args)
 
     def _end(self, ticket: Ticket[T], result: Optional[T] = None, error: Optional[BaseException] = None) -> None:
         ticket.end(result, error)

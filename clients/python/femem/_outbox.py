@@ -373,22 +373,20 @@ class Outbox:
         self._has_ended(ticket)
 
     def _has_ended(self, ticket: Ticket[Any]) -> None:
+        """What else was asked under its key ends like it."""
         self._ended.append(ticket)
-        if ticket.key is not None:
-            self._end_key(ticket, ticket.key, ticket.result, ticket.error)
-
-    def _end_key(self, ticket: Ticket[Any], key: bytes, result: Any, error: Optional[BaseException]) -> None:
-        """What else was asked under the ticket's key ends like it."""
-        if self.keys.get(key) is ticket:
-            del self.keys[key]
-        followers = [follower for follower in ticket.followers or () if not follower.done]
+        if ticket.key is None:
+            return
+        if self.keys.get(ticket.key) is ticket:
+            del self.keys[ticket.key]
+        error, followers = ticket.error, [follower for follower in ticket.followers or () if not follower.done]
         if followers and isinstance(error, errors.Withdrawn):
             # It did not happen, and the others still wait for it: the first of them asks in its place.
             first, *first.followers = followers
             self.add((first,))
             return
         for follower in followers:
-            self._end(follower, result, None if error is None else type(error)(*error.args))
+            self._end(follower, ticket.result, None if error is None else type(error)(*error.args))
 
     def _end_by(self, ticket: Ticket[Any], answer: Answer) -> None:
         """Ends the ticket by its answer. `ProtocolError` is raised too."""

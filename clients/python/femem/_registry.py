@@ -38,7 +38,7 @@ class Entry:
     def note(self, sessions: int) -> None:
         """The client has that many sessions now."""
         try:
-            os.pwrite(self._file, b"%d\n" % sessions, 0)
+            os.ftruncate(self._file, os.pwrite(self._file, b"%d\n" % sessions, 0))
         except OSError as error:
             log.warning("session %d: %s: %s", self.session, self._path, error)
 
@@ -68,20 +68,9 @@ def temporary(path: str) -> int:
 
 def enter(path: str, session: int, sessions: int) -> Optional[Entry]:
     """The locked file of a temporary session, or `None` if there is no folder for it."""
-    name = os.path.join(folder_of(path), str(session))
-    try:
-        file = os.open(name, os.O_RDWR | os.O_CREAT | os.O_CLOEXEC | os.O_NOFOLLOW | os.O_NOCTTY, 0o660)
-    except OSError:
-        return None
-    entry = Entry(name, file, session)
-    try:
-        fcntl.flock(file, fcntl.LOCK_EX | fcntl.LOCK_NB)
-        os.truncate(file, 0)
-        os.pwrite(file, b"%d\n" % sessions, 0)
-    except OSError as error:
-        log.warning("session %d: %s: %s", session, name, error)
-        entry.release()
-        return None
+    entry = _locked(os.path.join(folder_of(path), str(session)), session, os.O_CREAT)
+    if entry is not None:
+        entry.note(sessions)
     return entry
 
 
@@ -110,14 +99,14 @@ def _abandoned(folder: str) -> Iterator[Entry]:
         return
     for name in names:
         if name.isascii() and name.isdigit() and int(name) < 2**64:
-            entry = _taken(os.path.join(folder, name), int(name))
+            entry = _locked(os.path.join(folder, name), int(name), os.O_NONBLOCK)
             if entry is not None:
                 yield entry
 
 
-def _taken(name: str, session: int) -> Optional[Entry]:
+def _locked(name: str, session: int, more: int) -> Optional[Entry]:
     try:
-        file = os.open(name, os.O_RDWR | os.O_CLOEXEC | os.O_NOFOLLOW | os.O_NOCTTY | os.O_NONBLOCK)
+        file = os.open(name, os.O_RDWR | os.O_CLOEXEC | os.O_NOFOLLOW | os.O_NOCTTY | more, 0o660)
     except OSError:
         return None
     entry = Entry(name, file, session)
@@ -125,7 +114,9 @@ def _taken(name: str, session: int) -> Optional[Entry]:
         fcntl.flock(file, fcntl.LOCK_EX | fcntl.LOCK_NB)
         if os.fstat(file).st_nlink:
             return entry
-    except OSError:
+    except BlockingIOError:
         pass  # its client lives
+    except OSError as error:
+        log.warning("session %d: %s: %s", session, name, error)
     entry.release()
     return None

@@ -76,7 +76,10 @@ class WorkJob(Pattern):
         elif FINISHED not in done_at(asked, INT_FETCH_ADD):
             yield from queue._finished(id)
         else:
-            yield from queue._remove_if_ended(id)
+            page = queue._pages.get(id) or Page(id)
+            yield from queue._count([page], FINISHED)
+            if page.finished >= queue._slots:
+                yield from queue._remove(page)
 
     @operation_with(gives_back=True)
     def fail(self) -> Steps[None]:

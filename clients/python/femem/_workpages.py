@@ -2,7 +2,7 @@
 
 from __future__ import annotations
 
-from typing import Any, Dict, Iterable, List, Optional, Set
+from typing import Any, Dict, List, Optional, Set
 
 from . import requests
 from ._errors import NameTaken, NoArray, NotNow, NotOwner, OtherPattern
@@ -57,6 +57,7 @@ class Pages(Pattern):
         self._capacity = capacity
         self._slots = min(max(-(-capacity // 4), min(capacity, LEAST)), PAGE_WORDS // (3 + attempts))
         self._attempts = attempts
+        self._length = FIRST_SLOT + self._slots * (3 + attempts)  # of a page
         self._root = 0
         self._names = [0] * PAGES
         self._pages: Dict[int, Page] = {}
@@ -90,14 +91,11 @@ class Pages(Pattern):
         yield from self._find_pages()
         self._root = root.id
 
-    def _length(self) -> int:
-        return FIRST_SLOT + self._slots * (3 + self._attempts)
-
     def _find_pages(self) -> Steps[None]:
         found = yield from batch([requests.find(f"{self._name}_{k}") for k in range(PAGES)], NoArray)
         for array in found:
-            if is_full(array) and array.length != self._length():
-                raise OtherPattern(f"{array} of {self._name} has {array.length} words, not {self._length()}")
+            if is_full(array) and array.length != self._length:
+                raise OtherPattern(f"{array} of {self._name} has {array.length} words, not {self._length}")
         self._names = [array.id if is_full(array) else 0 for array in found]
         self._pages = {id: self._pages.get(id) or Page(id) for id in self._names if id}
 
@@ -120,7 +118,7 @@ class Pages(Pattern):
         if 0 not in self._names:
             return False
         k = self._names.index(0)
-        (made,) = yield from batch([requests.create(f"{self._name}_{k}", self._length())], NameTaken)
+        (made,) = yield from batch([requests.create(f"{self._name}_{k}", self._length)], NameTaken)
         if is_full(made):
             yield from self._begin_page(made.id)
             self._names[k], self._pages[made.id] = made.id, Page(made.id)
@@ -172,18 +170,16 @@ class Pages(Pattern):
 
     def _ends(self, page: Page, slots: List[int]) -> Steps[List[int]]:
         found = yield from batch([look(page.id, self._end_at(slot)) for slot in slots], NotNow, NoArray)
-        ended = [slot for slot, end in zip(slots, found) if not isinstance(end, NotNow)]
-        self._note_ends(page, slots, found)
-        return ended
+        return self._note_ends(page, slots, found)
 
     @staticmethod
-    def _note_ends(page: Page, slots: Iterable[int], ends: Iterable[Any]) -> None:
-        """By what their ENDs have, which may be empty."""
-        for slot, end in zip(slots, ends):
-            if not isinstance(end, NotNow):
-                if is_full(end) and end >= LEAST_ADDRESS:
-                    page.moved.add(end)  # (before the slot counts as ended: another thread may remove the page then)
-                page.ended.add(slot)
+    def _note_ends(page: Page, slots: List[int], ends: List[Any]) -> List[int]:
+        """The slots that have ended, by what their ENDs have, which may be empty."""
+        ended = [slot for slot, end in zip(slots, ends) if not isinstance(end, NotNow)]
+        # (before they count as ended: another thread may remove the page then)
+        page.moved.update([end for end in ends if is_full(end) and end >= LEAST_ADDRESS])
+        page.ended.update(ended)
+        return ended
 
     # Slots.
 
@@ -212,12 +208,6 @@ class Pages(Pattern):
             self._has_counted(page, before + 1)
             if before + 1 >= self._slots:
                 yield from self._remove(page)
-
-    def _remove_if_ended(self, id: int) -> Steps[None]:
-        page = self._pages.get(id) or Page(id)
-        yield from self._count([page], FINISHED)
-        if page.finished >= self._slots:
-            yield from self._remove(page)
 
     def _void(self, page: Page, slot: int) -> Steps[Any]:
         """Ends a slot without a value. The value, if there is one after all, or `NOTHING`."""
