@@ -9,17 +9,14 @@ from __future__ import annotations
 
 import enum
 import itertools
-import logging
 import random
 from typing import Callable, Iterator, List, Optional, Set
 
 from . import _errors as errors, _frames as frames
 from ._errors import ProtocolError
-from .events import Events
+from .events import Events, log
 from ._outbox import Outbox
 from ._tickets import Ticket
-
-log = logging.getLogger("femem")
 
 # How often a client whose session is nobody else's attaches again after another connection took it: a late attach of a
 # former client may take it.

@@ -4,7 +4,6 @@ from __future__ import annotations
 
 import errno
 import grp
-import logging
 import os
 import pwd
 import stat
@@ -16,9 +15,8 @@ from typing import Any, Callable, Dict, Optional, Sequence
 from . import _errors as errors, _registry as registry
 from ._attachment import ENDED
 from ._core import Core
+from .events import log
 from ._tickets import Ticket, nobody
-
-log = logging.getLogger("femem")
 
 FAREWELL = 1.0  # how long the end of a temporary session may take when its client is closed, in seconds
 

@@ -12,7 +12,7 @@ from contextlib import suppress
 from functools import partial
 from inspect import Parameter, Signature, signature
 from threading import get_ident
-from typing import Any, Callable, List, Optional, Type, TypeVar
+from typing import Any, Callable, List, Optional, Type
 
 from . import _errors as errors, _registry as registry, _worker as worker, requests
 from ._arguments import DEFAULT, Choice, Key, Timeout, numbers, request_of
@@ -21,10 +21,8 @@ from ._faces import Concatenate, ForThreads, P
 from ._holdings import ACCESS
 from ._jobs import Batch, Job, Present, Wait
 from .requests import Request
-from ._tickets import Last, Ticket, nobody, result_of
+from ._tickets import Last, T, Ticket, nobody, result_of
 from ._worker import Worker
-
-T = TypeVar("T")
 
 
 def end_session(path: str, session: int, sessions: int) -> None:

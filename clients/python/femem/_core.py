@@ -7,27 +7,22 @@ relies on the server's rules in docs/formats.md, "What a client has to know".
 
 from __future__ import annotations
 
-import logging
 import time
 from collections import deque
-from typing import Any, Callable, Deque, Dict, List, Optional, Sequence, Tuple, TypeVar
+from typing import Any, Callable, Deque, Dict, List, Optional, Sequence, Tuple
 
 from . import _errors as errors, _frames as frames, _reports as reports
 from ._attachment import ATTACHING, DOWN, ENDED, READY, Attachment, unexpected
 from ._errors import ProtocolError
-from .events import Events, OnEvent
+from .events import Events, OnEvent, log
 from ._frames import Answer
 from ._holdings import Holdings
 from ._jobs import Job, JobRunner
 from ._outbox import PATIENCE, Outbox
 from .requests import NOTHING, number_of_bits
 from ._sessionfile import SessionFile
-from ._tickets import Ticket
+from ._tickets import T, Ticket
 from ._window import Used
-
-T = TypeVar("T")
-
-log = logging.getLogger("femem")
 
 
 class Core(JobRunner, Attachment):

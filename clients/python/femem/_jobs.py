@@ -8,13 +8,11 @@ from __future__ import annotations
 
 from dataclasses import dataclass
 from functools import partial
-from typing import Any, Callable, ClassVar, Dict, Generator, List, Optional, Sequence, Set, TypeVar, Union
+from typing import Any, Callable, ClassVar, Dict, Generator, List, Optional, Sequence, Set, Union
 
 from . import _errors as errors, _reports as reports
 from .requests import NOTHING, Array, Request, purge, readff
-from ._tickets import Last, Ticket, Timeouts, nobody, outcomes_of
-
-T = TypeVar("T")
+from ._tickets import Last, T, Ticket, Timeouts, nobody, outcomes_of
 
 
 class Wait:

@@ -6,7 +6,6 @@ for both, and returns its result in one and an awaitable of it in the other.
 
 from __future__ import annotations
 
-from functools import partial
 from threading import get_ident
 from typing import Any, Callable, Dict, Iterable, List, Optional, Sequence, Tuple
 

@@ -10,14 +10,13 @@ Numbers that this process itself may have left at a server are used again by its
 from __future__ import annotations
 
 import fcntl
-import logging
 import os
 import secrets
 from collections import defaultdict
 from contextlib import suppress
 from typing import Callable, DefaultDict, Iterator, List, Optional
 
-log = logging.getLogger("femem")
+from .events import log
 
 # The numbers of temporary sessions that this process may have left, by the path of the socket.
 left: DefaultDict[str, List[int]] = defaultdict(list)

@@ -6,7 +6,6 @@ step: an exception from a signal handler leaves nothing half done, wherever it c
 
 from __future__ import annotations
 
-import logging
 import math
 import os
 import select
@@ -24,9 +23,8 @@ from . import _errors as errors
 from ._attachment import READY
 from ._carrier import FAREWELL, FIRST_PAUSE, LONGEST_PAUSE, NOT_HERE, Carrier
 from ._core import Core
+from .events import log
 from ._lease import READ_TIME, Lease
-
-log = logging.getLogger("femem")
 
 SWEEP_PATIENCE = 5.0  # how long a client waits for its server to end the session of a killed one, in seconds
 

@@ -32,9 +32,8 @@ from ._jobs import Job
 from ._faces import ForTasks, show_as
 from .requests import Array, Request, number_of_bits
 from ._sessionfile import SessionFile
-from ._tickets import Last, Ticket, nobody
+from ._tickets import Last, T, Ticket, nobody
 
-T = TypeVar("T")
 C = TypeVar("C", bound="Held")
 
 # The tasks that were cancelled while their operation happened. They got its result, and are still to be cancelled.
