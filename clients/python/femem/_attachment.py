@@ -40,13 +40,10 @@ class Handshake:
     """How a new client begins in a session that may have been used before, up to a floor from which on none
     was.
 
-    A former process may have used any of the 32 numbers from the floor on. So the client raises the floor by 32: the numbers
-    from there on were never used, and no old answer can be taken for one of a new request.
-
-    For that it must know the newest floor. Replies to the former process for entries that were not yet stored at the attach
-    come to the new connection, perhaps an older welcome among them. So the client first tries a welcome's floor: `settle` of
-    the current floor changes nothing, and of an older one is refused at once. A cancel of an unused number, sent after it, is
-    refused at once too; when that refusal has come, the settle's has come before or never will.
+    The client raises the floor by 32, so that no old answer can be taken for one of a new request. For that it must know the
+    newest floor, and an older welcome may come first (docs/formats.md, "What a client has to know"). So it tries a welcome's
+    floor: `settle` of the current floor changes nothing, and of an older one is refused at once. A cancel of an unused number,
+    sent after it, is refused at once too; when that refusal has come, the settle's has come before or never will.
     """
 
     def __init__(self, floor: int, probes: Iterator[int], to_send: bytearray) -> None:
@@ -75,22 +72,16 @@ class Handshake:
             if self._is_newest and reply.floor == self._target:
                 self.new_floor = reply.floor
         elif isinstance(reply, frames.Welcome):
-            self._welcomed(reply.floor)
+            if reply.floor < self._newest or self._is_newest and reply.floor != self._tried:
+                raise ProtocolError(f"a welcome with floor {reply.floor} behind one with {self._newest}")
+            self._newest = reply.floor
         elif isinstance(reply, frames.Refusal):
             self._refused(reply)
         elif isinstance(reply, frames.Withdrawn) and reply.number in self._cancelled:
             self._cancelled.discard(reply.number)
         else:
             raise ProtocolError("a reply that nobody asked for")
-
-    def _welcomed(self, floor: int) -> None:
-        if floor < self._newest or self._is_newest and floor != self._tried:
-            raise ProtocolError(f"a welcome with floor {floor} behind one with {self._newest}")
-        self._newest = floor
-        self._try_newer()
-
-    def _try_newer(self) -> None:
-        """Tries another floor, once the tried one is known to be old and there is a newer one."""
+        # The tried floor is known to be old, and there is a newer one.
         if self._is_old and self._probe is None and self._newest > self._tried:
             self._try(self._newest)
 
@@ -102,25 +93,19 @@ class Handshake:
             self._is_old = True
         elif code == frames.NOT_WAITING and number == self._probe:
             self._probe = None
-            if self._is_old:
-                self._try_newer()
-            else:
+            if not self._is_old:
                 self._is_newest = True
                 self.to_send += frames.settle(self._target)
         elif code == frames.NOT_WAITING and number in self._cancelled:
             self._cancelled.discard(number)
         elif code == frames.STILL_WAITING and number == self._target and self._is_newest and not self._has_cleared:
-            self._clear()
+            self._has_cleared = True
+            for waits in range(self._tried, self._target):  # perhaps, from the former process
+                self._cancelled.add(waits)
+                self.to_send += frames.cancel(waits)
+            self.to_send += frames.settle(self._target)
         else:
             raise unexpected(refusal)
-
-    def _clear(self) -> None:
-        """Takes back what still waits from the former process."""
-        self._has_cleared = True
-        for number in range(self._tried, self._target):
-            self._cancelled.add(number)
-            self.to_send += frames.cancel(number)
-        self.to_send += frames.settle(self._target)
 
 
 class Phase(enum.Enum):
@@ -273,17 +258,16 @@ class Attachment:
     def _take_stranger(self, reply: frames.Reply, now: float) -> None:
         """A reply before the session is this client's: it may be for the session's former client."""
         if self._handshake is not None:
-            self._handshake.take(reply)
-            self._go_on_handshake(self._handshake)
+            self._go_on_handshake(self._handshake, reply)
         elif isinstance(reply, frames.Welcome):
             self.phase = HANDSHAKE
             self._handshake = Handshake(reply.floor, self._probes, self.to_send)
-            self._go_on_handshake(self._handshake)
         elif not isinstance(reply, (frames.Answer, frames.Settled)):
             raise ProtocolError("a reply that nobody asked for")
         self._probed_at = now
 
-    def _go_on_handshake(self, handshake: Handshake) -> None:
+    def _go_on_handshake(self, handshake: Handshake, reply: frames.Reply) -> None:
+        handshake.take(reply)
         if handshake.new_floor is not None:
             self._outbox.begin(handshake.new_floor)
             self._handshake = None
@@ -336,8 +320,7 @@ class Attachment:
         elif self.phase is ATTACHING:
             self._take_attach_refusal(refusal, now)
         elif self._handshake is not None:
-            self._handshake.take(refusal)
-            self._go_on_handshake(self._handshake)
+            self._go_on_handshake(self._handshake, refusal)
         elif not self._outbox.refused(refusal, now, self._leaving is not None):
             self._take_other_refusal(refusal)
 

@@ -82,8 +82,9 @@ class Core(JobRunner, Attachment):
         admitted = self._admit(tickets, now)
         if timeout is not None:
             self.is_urgent = True
-            for ticket in admitted:
-                self._timeouts.add(now + timeout, ticket)
+            for ticket in tickets:
+                if not ticket.done:
+                    self._timeouts.add(now + timeout, ticket)
         self._outbox.add(admitted)
         self._pump(now)
 
@@ -130,11 +131,7 @@ class Core(JobRunner, Attachment):
             finished()
             return
         ticket.finished = finished
-        timeout = None if until is None else max(0.0, until - now)
-        if ticket.taken and timeout is not None:
-            self.is_urgent = True
-            self._timeouts.add(now + timeout, ticket)
-        self.take((ticket,), timeout, now)
+        self.take((ticket,), None if until is None else max(0.0, until - now), now)
 
     def report(self, now: float, ticket: Optional[Ticket[reports.Report]] = None) -> Ticket[reports.Report]:
         asked: Ticket[reports.Report] = ticket or Ticket()

@@ -233,8 +233,6 @@ class JobRunner:
                 tickets[0].key = step.key
             seconds = step.seconds if job.until is None else max(0.0, job.until - now)  # if its caller has begun the step
             job.until = None
-            if seconds is not None and tickets[0].taken and not tickets[0].done:
-                self._timeouts.add(now + seconds, tickets[0])
             self._await(job, step, tickets)
             self.take(tickets, seconds, now)
             return

@@ -1,8 +1,4 @@
-"""Locks by key: the words of one array, found by a hash of the key. docs/patterns.md has the words and the steps.
-
-A place is a lock's two words: OWNER, as of a lock, and NEXT. Who takes a lock over fills NEXT with another place, where the key's
-lock is from then on. The former owner may still empty the old OWNER, and nobody looks there any more.
-"""
+"""Locks by key: the words of one array, found by a hash of the key. docs/patterns.md has the words and the steps."""
 
 from __future__ import annotations
 

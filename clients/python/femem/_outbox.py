@@ -51,11 +51,10 @@ class Outbox:
         self._queue: Deque[Ticket[Any]] = deque()
         # How often it asked again for a floor that an earlier process's late request held.
         self._clearings = 0
-        # Whether requests of an earlier process still have its numbers, those before `_first`; and which of these are
-        # withdrawn. The new numbers of those that were moved, by the former ones.
+        # Whether requests of an earlier process still have its numbers, those before `_first`. The new numbers of those that were
+        # moved, by the former ones.
         self._passes = False
         self._first = 0
-        self._withdrawn: Set[int] = set()
         self._moved_to: Dict[int, int] = {}
         self.start_over()
 
@@ -64,7 +63,7 @@ class Outbox:
         # How many replies to cancels of each number are due.
         self._cancelled: Counter[int] = Counter()
         self._settle_sent: Optional[float] = None
-        self._withdrawn = set()
+        self._withdrawn: Set[int] = set()  # numbers of an earlier process
         # The former numbers that were asked again and have no reply yet, and whether the settle above them is still to be sent.
         self._asked_again: Set[int] = set()
         self._settles_later = False
@@ -273,11 +272,8 @@ class Outbox:
     def _pass_earlier(self, window: Window[Ticket[Any]], now: float) -> None:
         """Sends the requests of an earlier process again, and gives those that wait numbers of this one. Nothing else is sent.
 
-        **Which requests can be late.** A request that is taken back is withdrawn, and its number is free again: if the
-        server reads it once more, it is carried out. It can come once more only over another connection, and that must
-        attach the session in front of it: the server refuses what comes behind another connection's attach. This client
-        sends requests only once its connection's last attach is answered, so none of its own comes behind an attach that
-        the server has not read, and none is late. Another client that had the file may have been less careful. So all
+        None of this client's own requests is late, since it sends them only once its connection's last attach is answered.
+        Another client that had the file may have been less careful (docs/formats.md, "What a client has to know"). So all
         that it left waiting is withdrawn, and the floor is raised above its numbers, where they never take effect, before
         any of it is sent under a new number or said not to have happened. A late request that comes before the floor is
         raised is the request: its answer counts.

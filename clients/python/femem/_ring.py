@@ -1,17 +1,9 @@
 """Words that hand on values, each put once and taken once: what queues and semaphores are made of.
 
-Two words count tickets, and ticket t means slot t modulo the number of slots. **A ticket says where to look. It obliges
-nobody.** A value goes in by one `writeef` and out by one `readfe`, so each value is put once and taken once whatever stops,
-and a wait can be taken back. A ticket that nobody uses costs time, not values:
-
-- A client keeps a ticket whose time ran out, and looks there first the next time.
-- Where the other side has the ticket and is late or gone, a client waits a moment and then looks at all slots.
-- A putter whose taker has the ticket and has not come fills the signal with its slot. Who waits for a value also waits for
-  the signal: one of them empties it, and looks at that slot. If the signal is full, the putter makes it say all slots. A
-  client that waits looks at all slots now and then even without a signal.
-
-So a value that lies there is found by whoever waits for one, and a free slot by whoever waits for room, whatever the tickets
-say: no client goes round without end. Each round of a loop waits, or takes or fills a slot, or was outrun by one that did.
+docs/patterns.md, "A queue of several values", says what a ticket and the signal mean, and has the steps. A ticket says where
+to look, and obliges nobody: a value that lies there is found by whoever waits for one, and a free slot by whoever waits for
+room, whatever the tickets say. No client goes round without end: each round of a loop waits, or takes or fills a slot, or
+was outrun by one that did.
 """
 
 from __future__ import annotations

@@ -243,4 +243,3 @@ class Semaphore(Pattern):
     def holders(self) -> Steps[List[int]]:
         """The sessions that hold permits, each once for every permit."""
         return [holder for holder in (yield from self._look((yield from self._find()))) if holder is not None]
-

@@ -1,10 +1,8 @@
 """The session file: what a client must know about its session when its own process is restarted.
 
-It holds the session's number, its floor, the next number, each request without an answer, and the answers to requests
-under keys. docs/session-file.md has its format, which the C client has too.
-
-A record is written and synced before the message that it is about is sent. So the file has everything that the server may
-have seen, and a request in the file without an answer may be sent again: it is carried out once.
+docs/session-file.md has its format, which the C client has too. A record is written and synced before the message that it
+is about is sent. So the file has everything that the server may have seen, and a request in the file without an answer may
+be sent again: it is carried out once.
 """
 
 from __future__ import annotations

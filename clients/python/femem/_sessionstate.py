@@ -134,16 +134,15 @@ class State:
         self._open: Set[bytes] = set()  # the keys of `unanswered`
         self._greatest = 0  # the greatest number that a request was given
         # By the kind of a record: takes the one whose fields begin at a place, and returns where it ends.
-        self._takes: Tuple[Callable[[bytes, int], int], ...] = (
-            self._none, self._asked, self._ended, self._answered, self._moved, self._forgotten, self._kept, self._leaving
-        )  # fmt: skip
+        takes = (self._asked, self._ended, self._answered, self._moved, self._forgotten, self._kept, self._leaving)
+        self._takes: Dict[int, Callable[[bytes, int], int]] = dict(enumerate(takes, ASKED_KIND))
 
     def take(self, payload: bytes) -> None:
         at, end, takes = 0, len(payload), self._takes
         try:
             while at < end:
                 at = takes[payload[at]](payload, at + 1)
-        except (struct.error, IndexError):
+        except (struct.error, LookupError):
             at = end + 1
         if at > end:
             raise Contradiction("a record of no kind, or one that does not end")
@@ -162,9 +161,6 @@ class State:
         self.floor, self.asked_floor, self.next = floor, asked, upcoming
 
     # The records. What is cut short at the end of the payload is refused by `take`.
-
-    def _none(self, payload: bytes, at: int) -> int:
-        raise IndexError(at)
 
     def _asked(self, payload: bytes, at: int) -> int:
         number, caller, flags, length = ASKED.unpack_from(payload, at)

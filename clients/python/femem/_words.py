@@ -245,4 +245,3 @@ class Barrier(Pattern):
         """Breaks the round: whoever waits, or comes later, gets `BrokenBarrier` until `reset`."""
         self._array = None
         yield from self._decide((yield from self._find()), self.BROKEN)
-

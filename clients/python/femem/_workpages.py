@@ -220,11 +220,7 @@ class Pages(Pattern):
 
 
 class Moves(Pages):
-    """What a work queue does to be the next one of a job, which moves once. docs/work-queue.md has the steps.
-
-    The new job is put first, with the address of the word END of the job from which it comes. Whoever fills
-    that END with the address of the new job's word SOURCE ends the one and lets the other count, in one step.
-    """
+    """What a work queue does to be the next one of a job, which moves once ("A job that moves on")."""
 
     def _settle(self, page: Page, slot: int, source: Any) -> Steps[bool]:
         """Whether the job of a slot counts, by its word SOURCE. One that a move put there is moved, unless its END is full."""
