@@ -114,7 +114,7 @@ OWNED = (
     (PATTERNS, "Here the word is empty while the lock is free. A `writeef` of the client's own session number", f"{C}lock.c", "fp_fill(lock->array, owner_of(lock), femem_session("),
     (PATTERNS, "It raises the floor to F and drops them.", "crates/fe_state/specs/Sessions.antt", "raised s floor = record { floor = floor; kept = retain_keys s.kept (nat_le floor) }"),
     (PATTERNS, "A client waits # ms for a partner", f"{C}ring.c", "enum { SOON = #,"),
-    (PATTERNS, "A client waits # ms for a partner", f"{PYTHON}_ring.py", "SOON = 0.00#"),
+    (PATTERNS, "A client waits # ms for a partner", f"{PYTHON}_queues.py", "SOON = 0.00#"),
     (PATTERNS, "waited for # ms looks at all slots, again after another # ms, and so on, up to # s apart", f"{C}pattern.h", "FIRST_LOOK = #, LAST_LOOK = #",
      lambda first, last: [first, 2 * first, last // 1000]),
     (PATTERNS, "(with # places: 1 in # for 10 keys", f"{C}lock.c", "USUAL_CAPACITY = #", lambda n: [n, 2 * n // (10 * 9)]),

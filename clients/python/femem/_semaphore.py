@@ -13,7 +13,7 @@ from ._jobs import Mended, Steps
 from ._operations import FIRST_LOOK, LAST_LOOK, Pattern, Tries, batch, done_at, is_full
 from ._operations import marked_array, operation, operation_with, size_of
 from .requests import Array, add, empty, fill, look
-from ._ring import HEAD, SLOTS, TAIL, TRUST, Ring
+from ._queues import HEAD, SLOTS, TAIL, TRUST, Ring
 from ._tickets import Ticket
 
 

@@ -9,7 +9,7 @@ import explorer
 from explorer import POINT, Fault, Interrupted
 from stepping import Call, wait_for
 
-from femem import _errors as errors, _keylocks as keylocks, _locks as locks, _queues as queues, requests, _ring as ring, _semaphore as semaphore, _words as words, _work as work
+from femem import _errors as errors, _keylocks as keylocks, _locks as locks, _queues as queues, requests, _semaphore as semaphore, _words as words, _work as work
 from femem._jobs import Job, first_of
 from femem._operations import PRESENCE, once, shared_array
 
@@ -345,7 +345,7 @@ def using_again(permits):
 
 
 def permits_are_free(permits):
-    return is_empty("s", first=ring.SLOTS + permits)
+    return is_empty("s", first=queues.SLOTS + permits)
 
 
 SEMAPHORE, SEMAPHORE_OF_ONE = made(semaphore.Semaphore, "s", 2), made(semaphore.Semaphore, "s", 1)
@@ -528,7 +528,7 @@ def channel(world, client):
 
 
 QUEUE, QUEUE_OF_TWO, CHANNEL = made(queues.BoundedQueue, "q", 1), made(queues.BoundedQueue, "q", 2), made(queues.Channel, "c")
-IN_QUEUE, IN_CHANNEL = values_are_there("q", ring.SLOTS), values_are_there("c", 0, looks=False)
+IN_QUEUE, IN_CHANNEL = values_are_there("q", queues.SLOTS), values_are_there("c", 0, looks=False)
 TWO_VALUES, ONE_QUEUE, TWO_QUEUE = [1, 2], queue(1), queue(2)
 
 Scenario("channel_making", [putting([1], channel), getting(1, channel)], IN_CHANNEL, MAKING, ends_by=0.0)
@@ -542,8 +542,8 @@ Scenario("queue_two_put", [putting([1, 2], TWO_QUEUE), putting([3], TWO_QUEUE), 
 Scenario("queue_two_get", [putting([1, 2], TWO_QUEUE), getting(2, TWO_QUEUE), getting(2, TWO_QUEUE)], IN_QUEUE, THREE, make=QUEUE_OF_TWO)
 Scenario("queue_timeout", [putting(TWO_VALUES, ONE_QUEUE, timeout=0.3), getting(2, ONE_QUEUE, 0.3)], IN_QUEUE, TIMED, make=QUEUE)
 Scenario("queue_key", [putting(TWO_VALUES, ONE_QUEUE, True), getting(2, ONE_QUEUE, has_key=True)],
-         values_are_there("q", ring.SLOTS, True), KILLED, make=QUEUE)  # fmt: skip
-Scenario("queue_cut", [putting([1], ONE_QUEUE), getting(1, ONE_QUEUE)], values_are_there("q", ring.SLOTS, False, True), CUT_OFF, make=QUEUE)
+         values_are_there("q", queues.SLOTS, True), KILLED, make=QUEUE)  # fmt: skip
+Scenario("queue_cut", [putting([1], ONE_QUEUE), getting(1, ONE_QUEUE)], values_are_there("q", queues.SLOTS, False, True), CUT_OFF, make=QUEUE)
 
 
 # Work queues.

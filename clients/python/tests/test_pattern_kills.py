@@ -16,7 +16,7 @@ from femem._jobs import Pause
 from femem._locks import GENERATIONS
 from femem.patterns import Barrier, BoundedQueue, Channel, Counter, Election, Future, Lock, ReadWriteLock, Semaphore
 from femem.patterns import WorkQueue
-from femem._ring import Ring
+from femem._queues import Ring
 
 # How long what was begun may take to end, in seconds.
 BOUND = 60

@@ -225,7 +225,7 @@ class Queues(WithClients):
     def test_a_value_whose_taker_is_gone_wakes_one_client(self):
         """Of five that wait, one empties the signal and takes the value. The others ask for nothing."""
         server = self.server()
-        with mock.patch("femem._ring.FIRST_LOOK", 60.0), Client(self.path, 1, probe_interval=100.0) as client:
+        with mock.patch("femem._queues.FIRST_LOOK", 60.0), Client(self.path, 1, probe_interval=100.0) as client:
             others = [Client(self.path, 2 + k, probe_interval=100.0) for k in range(5)]
             queue, taken, asked = BoundedQueue(client, "queue", 8), [], []
             queue.qsize()
