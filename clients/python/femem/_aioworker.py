@@ -34,7 +34,6 @@ class AsyncWorker(Carrier):
     def prepare(self) -> None:
         """Within the event loop, before anything else."""
         self.changed = asyncio.Event()
-        self.departed = asyncio.Event()
 
     def start(self) -> None:
         self.connecting = asyncio.get_running_loop().create_task(self._keep_connected())
@@ -64,8 +63,7 @@ class AsyncWorker(Carrier):
             if self.is_temporary and self.connecting is not None and self.core.failure is None:
                 self.core.depart(now(), FAREWELL)  # the session is ended, within that time
                 self.move()
-                while self.core.failure is None:
-                    await self.departed.wait()
+                await asyncio.wait([self.connecting])
         finally:
             self.core.close()
             try:
@@ -95,7 +93,6 @@ class AsyncWorker(Carrier):
             self._timer = None
         if self.core.failure is not None:
             self.changed.set()
-            self.departed.set()
             return
         time = self.core.next_time()
         if time is not None and time != float("inf"):

@@ -117,8 +117,7 @@ class Calls:
         elif number is None:
             number, is_temporary = registry.temporary(self.path), True
         self.session = number
-        more = (patience, pause, wait_for_server, on_event)
-        self._begin(Choice(self.path, number, file, is_temporary, count, *more))
+        self._begin(Choice(self.path, number, file, is_temporary, count, patience, pause, wait_for_server, on_event))
 
     @classmethod
     def _of(cls: Type[C], choice: Choice) -> C:
@@ -132,16 +131,11 @@ class Calls:
     def _begin(self, choice: Choice) -> None:
         self._make(choice)
 
-    def _may_grow(self, choice: Choice) -> None:
+    def _may_grow(self, choice: Choice, begin: Callable[[Choice], Calls]) -> None:
         """A client whose session ends with it opens a further one by itself."""
         if choice.is_temporary and choice.sessions == 1:
-            self._core.may_grow()
             (further,) = choice._replace(sessions=2).all_further()
-            self._worker.further = partial(self._grown, further)
-
-    @classmethod
-    def _grown(cls: Type[C], choice: Choice) -> C:
-        return cls._of(choice)
+            self._worker.further = partial(begin, further)
 
     def _recover(self) -> None:
         """What the former process with this session file had no answer for."""

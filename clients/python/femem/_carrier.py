@@ -128,9 +128,9 @@ class Carrier:
         failure = further.failure
         if failure is not None and asked.number is None and self.further is not None and self.core.failure is None:
             self.core.move_waits(False, now)  # there is no room for a further session
-            self.core.comes_home(ticket, now)
+            self.core.comes_back(ticket, None, now)
             return
-        self.core.has_come_back(ticket, asked)
+        self.core.comes_back(ticket, asked, now)
         if failure is not None:
             self.core.fail(type(failure)(*failure.args))
 

@@ -67,7 +67,7 @@ class Client(Calls, ForThreads):
                 self.session = choice.file.state.session
                 choice = choice._replace(session=self.session)
             self._make(choice)
-            self._may_grow(choice)
+            self._may_grow(choice, Client._of)
             self._opening.result()
             for each in choice.all_further():
                 further = Client._of(each)

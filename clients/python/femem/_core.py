@@ -39,6 +39,7 @@ class Core(JobRunner, Attachment):
         # The requests that have to wait, for `take_moved`.
         self.moved: List[Ticket[Any]] = []
         outbox = Outbox(bytearray(), self.ended, file, self.moved if moves_waits else None, events)
+        outbox.may_grow = is_own and not moves_waits
         # What a former process with the same session file had no answer for.
         self.recovered: List[Ticket[Any]] = []
         if file is not None and file.state.floor:
@@ -240,11 +241,8 @@ class Core(JobRunner, Attachment):
         self.moved.clear()
         return moved
 
-    def may_grow(self) -> None:
-        """Its client opens a further session once many requests wait (`wants_session`)."""
-        self._outbox.may_grow = True
-
     def wants_session(self) -> bool:
+        """Whether its client, which has no further session yet, is to open one for requests that wait."""
         return self._outbox.is_crowded
 
     def move_waits(self, moves: bool, now: float) -> None:
@@ -252,11 +250,13 @@ class Core(JobRunner, Attachment):
         self.moves_waits = moves
         self._outbox.move_waits(self.moved if moves else None, now)
 
-    def comes_home(self, ticket: Ticket[Any], now: float) -> None:
-        """A request was not made over the other session after all."""
+    def comes_back(self, ticket: Ticket[Any], asked: Optional[Ticket[Any]], now: float) -> None:
+        """Ends the ticket like `asked`, the one made over the other session. `None`: it was not made there after all."""
         if self._elsewhere.pop(ticket, None) is None:
             return
-        if ticket.taken_back is not None:
+        if asked is not None:
+            self._end(ticket, asked.result, asked.error)
+        elif ticket.taken_back is not None:
             self._end(ticket, error=ticket.taken_back)
         else:
             ticket.asks_first = False
@@ -266,11 +266,6 @@ class Core(JobRunner, Attachment):
     def moved_to(self, ticket: Ticket[Any], take_back: Callable[[errors.Withdrawn], object]) -> None:
         """Notes that another session makes the request, and how that takes it back."""
         self._elsewhere[ticket] = take_back
-
-    def has_come_back(self, ticket: Ticket[Any], asked: Ticket[Any]) -> None:
-        """Ends the ticket like `asked`, the one made over the other session."""
-        if self._elsewhere.pop(ticket, None) is not None:
-            self._end(ticket, asked.result, asked.error)
 
     # Events of the connection.
 

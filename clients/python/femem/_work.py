@@ -476,8 +476,13 @@ class WorkQueue(Moves):
         if page.finished >= self._slots:
             yield from self._remove(page)
             return None
-        if page.tail < self._slots and page is not self._newest():
-            yield from self._end_tickets(page)
+        if page.tail < self._slots and page is not self._newest():  # no putter draws the tickets that it has left
+            rest = self._slots - page.tail
+            (old,) = yield from batch([add(page.id, TAIL, rest)], NoArray)
+            if is_full(old):
+                page.tail = old + rest
+                for slot in range(old, self._slots):
+                    yield from self._void(page, slot)
         some, page.open = page.open[:LOOK_OPEN], page.open[LOOK_OPEN:]
         job = yield from self._take_any_over(page, some, presence)
         head = min(page.head, page.tail, self._slots)
@@ -493,15 +498,6 @@ class WorkQueue(Moves):
         if len(page.ended) >= self._slots:
             yield from self._remove(page)
         return job
-
-    def _end_tickets(self, page: Page) -> Steps[None]:
-        """Ends the slots of a page that is not the newest and has tickets left: no putter draws them."""
-        rest = self._slots - page.tail
-        (old,) = yield from batch([add(page.id, TAIL, rest)], NoArray)
-        if is_full(old):
-            page.tail = old + rest
-            for slot in range(old, self._slots):
-                yield from self._void(page, slot)
 
     def _take_any_over(self, page: Page, slots: Sequence[int], presence: int) -> Steps[Optional[WorkJob]]:
         """Takes the job of one of these slots if nobody has it, and notes which slots are open."""

@@ -52,7 +52,7 @@ class AsyncClient(Calls, ForTasks):
         self._choice = choice
         self._core = choice.core(now)
         self._worker = AsyncWorker(choice.path, self._core, choice.is_temporary, choice.waits_for_server)
-        self._may_grow(choice)
+        self._may_grow(choice, AsyncClient._grown)
         self.recovered = []
 
     @classmethod
