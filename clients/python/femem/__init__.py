@@ -13,10 +13,9 @@
 import logging
 
 from . import requests
-from ._calls import Recovered
+from ._calls import Recovered, show_as
 from ._client import Client, Pipeline
 from ._errors import *
-from ._faces import show_as
 from .observer import Observer
 from ._reports import Report, Waiter
 from .requests import Array, Request

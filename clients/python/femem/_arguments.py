@@ -11,7 +11,7 @@ from ._core import Core
 from .events import OnEvent
 from .requests import Request
 from ._sessionfile import SessionFile
-from ._tickets import Ticket
+from ._jobs import Ticket
 
 MOST = 64  # how many sessions the server keeps
 

@@ -16,7 +16,7 @@ from . import _errors as errors, _frames as frames
 from ._errors import ProtocolError
 from .events import Events, log
 from ._outbox import Outbox
-from ._tickets import Ticket
+from ._jobs import Ticket
 
 # How often a client whose session is nobody else's attaches again after another connection took it: a late attach of a
 # former client may take it.

@@ -1,4 +1,5 @@
-"""What `Client` and `AsyncClient` have in common: each operation stands here once, and two faces run it.
+"""What `Client` and `AsyncClient` have in common: each operation stands here once, and two faces run it: that of threads
+returns the result, and that of tasks awaits it.
 
 A method marked by `call` makes a request, and one marked by `asking` says what it asks of the core. `_call`
 and `_perform` of the face for threads return the answer, and those of the one for asyncio an awaitable of it.
@@ -8,9 +9,11 @@ from __future__ import annotations
 
 import functools
 import os
+import sys
 from dataclasses import dataclass
 from functools import partial
-from typing import TYPE_CHECKING, Any, Callable, Dict, Generic, Iterable, List, NamedTuple, Optional, Sequence, Type, TypeVar, Union
+from typing import TYPE_CHECKING, Any, Callable, Coroutine, Dict, Generic, Iterable, List, NamedTuple, Optional, Sequence, Type
+from typing import TypeVar, Union, get_type_hints, overload
 
 from . import _registry as registry, requests
 from ._arguments import DEFAULT, MOST, Choice, Key, Path, Timeout, key_bytes, pause_of, request_of, seconds_of
@@ -18,18 +21,47 @@ from ._arguments import ticket_of
 from ._core import Core
 from ._errors import FememError
 from .events import OnEvent
-from ._faces import Concatenate, P, T, faced
-from ._jobs import Job, first_of
+from ._jobs import Job, T, Ticket, first_of, outcomes_of, result_of
 from ._reports import Report
 from .requests import Array, ArrayLike, Request, number_of_bits
 from ._sessionfile import SessionFile
-from ._tickets import Ticket, outcomes_of, result_of
 
 if TYPE_CHECKING:
     import asyncio
     from concurrent.futures import Future
 
+    from typing_extensions import Concatenate as Concatenate, ParamSpec
+
+    P = ParamSpec("P")
+else:
+    P, Concatenate = TypeVar("P"), Any  # (only types name it)
+
 C = TypeVar("C", bound="Calls")
+D = TypeVar("D", bound="faced[Any, Any]")
+
+
+class ForThreads:
+    """What threads call."""
+
+
+class ForTasks:
+    """What asyncio's tasks call."""
+
+
+class faced(Generic[P, T]):
+    """A method of both. Each class with a face makes a function of it, or says by `_perform` how it runs."""
+
+    @overload
+    def __get__(self, owner: ForThreads, kind: Any = None) -> Callable[P, T]: ...
+
+    @overload
+    def __get__(self, owner: ForTasks, kind: Any = None) -> Callable[P, Coroutine[Any, Any, T]]: ...
+
+    @overload
+    def __get__(self: D, owner: None, kind: Any = None) -> D: ...
+
+    def __get__(self, owner: Any, kind: Any = None) -> Any:
+        return self if owner is None else partial(owner._perform, self)
 
 
 @dataclass
@@ -326,3 +358,14 @@ class Calls:
 
     def _seconds(self, timeout: Timeout) -> Optional[float]:
         return self.timeout if timeout is DEFAULT else seconds_of(timeout)
+
+
+def show_as(module: str, names: Sequence[str]) -> None:
+    """Tracebacks, `help` and pickles name the classes of private modules as programs do: `femem.NotOwner`."""
+    for name in names:
+        found = vars(sys.modules[module])[name]
+        if isinstance(found, type) and found.__module__.startswith("femem._"):
+            # (what its annotations name is in the private module)
+            own, hints = vars(found).get("__annotations__", {}), get_type_hints(found)
+            own.update((each, hints[each]) for each in own)
+            found.__module__ = module

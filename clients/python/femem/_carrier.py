@@ -16,7 +16,7 @@ from . import _errors as errors, _registry as registry
 from ._attachment import ENDED
 from ._core import Core
 from .events import log
-from ._tickets import Ticket, nobody
+from ._jobs import Ticket, nobody
 
 FAREWELL = 1.0  # how long the end of a temporary session may take when its client is closed, in seconds
 

@@ -16,12 +16,10 @@ from typing import Any, Callable, List, Optional, Type
 
 from . import _errors as errors, _registry as registry, _worker as worker, requests
 from ._arguments import DEFAULT, Choice, Key, Timeout, numbers, request_of
-from ._calls import Asking, Calls
-from ._faces import Concatenate, ForThreads, P
+from ._calls import Asking, Calls, Concatenate, ForThreads, P
 from ._holdings import ACCESS
-from ._jobs import Batch, Job, Present, Wait
+from ._jobs import Batch, Job, Last, Present, T, Ticket, Wait, nobody, result_of
 from .requests import Request
-from ._tickets import Last, T, Ticket, nobody, result_of
 from ._worker import Worker
 
 

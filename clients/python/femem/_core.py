@@ -17,11 +17,10 @@ from ._errors import ProtocolError
 from .events import Events, OnEvent, log
 from ._frames import Answer
 from ._holdings import Holdings
-from ._jobs import Job, JobRunner
+from ._jobs import Job, JobRunner, T, Ticket
 from ._outbox import PATIENCE, Outbox
 from .requests import NOTHING, number_of_bits
 from ._sessionfile import SessionFile
-from ._tickets import T, Ticket
 from ._window import Used
 
 

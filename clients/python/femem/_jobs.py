@@ -1,18 +1,144 @@
-"""Several requests that make one operation of a pattern, as the steps of a generator that the client itself runs.
+"""What is under way: requests, and jobs, which are several requests that make one operation of a pattern.
 
-A generator yields what it wants and is sent the result. It runs where the client reads its replies, not in the thread or
-task that asked, so that one may be interrupted anywhere and nothing is left half done.
+The steps of a job are those of a generator. It yields what it wants and is sent the result. It runs where the client reads its
+replies, not in the thread or task that asked, so that one may be interrupted anywhere and nothing is left half done.
 """
 
 from __future__ import annotations
 
+import heapq
+import itertools
 from dataclasses import dataclass
 from functools import partial
-from typing import Any, Callable, ClassVar, Dict, Generator, List, Optional, Sequence, Set, Union
+from typing import Any, Callable, ClassVar, Dict, Generator, Generic, List, Optional, Sequence, Set, Tuple, TypeVar, Union
 
-from . import _errors as errors, _reports as reports
-from .requests import NOTHING, Array, Request, purge, readff
-from ._tickets import Last, T, Ticket, Timeouts, nobody, outcomes_of
+from . import _reports as reports
+from ._errors import ANSWER_ERRORS, FememError, ProtocolError, Withdrawn
+from ._frames import DONE, VALUE, Answer
+from .requests import NOTHING, Array, Request, purge, read_done, read_value, readff
+
+T = TypeVar("T")
+
+
+def nobody() -> None:
+    """Called if no caller waits."""
+
+
+class Ticket(Generic[T]):
+    """Something asked of the server. Once `done`, it has a `result` or an `error`. A caller makes it, the
+    core takes it, numbers and sends it, and then it is done. Attributes that most tickets never set are in
+    the class, since there is a ticket for each request."""
+
+    number: Optional[int] = None
+    sent_at = 0.0
+    asked_at = 0.0  # when it was asked, if events are wanted
+    # Whether the core has it.
+    taken = False
+    done = False
+    result: Optional[T] = None
+    error: Optional[BaseException] = None
+    # The error that it ends with when it is taken back, once that is asked for.
+    taken_back: Optional[Withdrawn] = None
+    cancel_sent = False  # whether a cancel of it was sent over this connection
+    is_presence = False  # whether it only shows that this client is there: no caller waits for it
+    # Whether the next process with the session file takes it back instead of waiting on.
+    ends_with_process = False
+    # The key under which the session file keeps its answer, and tickets asked under that key meanwhile.
+    key: Optional[bytes] = None
+    followers: Optional[List[Ticket[T]]] = None
+    has_moved = False  # whether it was taken back to make room, and is to be sent again
+    # Whether it is first asked without waiting. If it would wait, another session asks it again.
+    asks_first = False
+
+    finished: Callable[[], None] = staticmethod(nobody)  # called once it is done
+
+    def __init__(self, request: Request[T] = NOTHING) -> None:
+        self.request = request
+
+    def must_end(self) -> bool:
+        """Whether the server must end it, whatever other clients do."""
+        return self.cancel_sent or self.asks_first or not self.request.may_wait
+
+    def end(self, result: Optional[T] = None, error: Optional[BaseException] = None) -> None:
+        self.result = result
+        self.error = error
+        self.done = True
+
+    def end_by(self, answer: Answer) -> None:
+        """Ends it by its answer. `ProtocolError` is raised too, if that can't be the answer to its request."""
+        request, code = self.request, answer.code
+        if code == VALUE and request.read is read_value:
+            self.result = answer.value  # type: ignore[assignment]
+        elif code in ANSWER_ERRORS:
+            self.error = ANSWER_ERRORS[code](request)
+        elif code != DONE or request.read is not read_done:
+            try:
+                self.result = request.read(answer)
+            except ProtocolError as error:
+                self.end(error=error)
+                raise
+        self.done = True
+
+
+def result_of(ticket: Ticket[T]) -> T:
+    """The result of a ticket that is done. Raises its error."""
+    error = ticket.error
+    if error is None:
+        return ticket.result  # type: ignore[return-value]
+    try:
+        raise error
+    finally:
+        del ticket, error  # the error's traceback would hold it
+
+
+def outcomes_of(tickets: Sequence[Ticket[Any]]) -> List[Any]:
+    return [ticket.result if ticket.error is None else ticket.error for ticket in tickets]
+
+
+class Last:
+    """Called as a ticket is done. It goes on to the next one that is not, and calls `done` behind the last one."""
+
+    __slots__ = ("_left", "_done")
+
+    def __init__(self, tickets: Sequence[Ticket[Any]], done: Callable[[], None]) -> None:
+        """Before the tickets are asked. There is at least one."""
+        self._left = iter(tickets)
+        self._done = done
+        next(self._left).finished = self
+
+    def __call__(self) -> None:
+        for ticket in self._left:
+            if not ticket.done:
+                ticket.finished = self
+                return
+        self._done()
+
+
+class Timeouts:
+    """Tickets by the time at which they are to be taken back."""
+
+    _FEW = 1024  # from how many on those that are done are dropped
+
+    def __init__(self) -> None:
+        self._heap: List[Tuple[float, int, Ticket[Any]]] = []
+        self._order = itertools.count()
+        self._many = self._FEW
+
+    def add(self, time: float, ticket: Ticket[Any]) -> None:
+        heapq.heappush(self._heap, (time, next(self._order), ticket))
+        if len(self._heap) > self._many:
+            self._heap = [entry for entry in self._heap if not entry[2].done]
+            heapq.heapify(self._heap)
+            self._many = max(self._FEW, 2 * len(self._heap))
+
+    def first(self) -> Optional[float]:
+        while self._heap and self._heap[0][2].done:
+            heapq.heappop(self._heap)
+        return self._heap[0][0] if self._heap else None
+
+    def take(self, now: float) -> Optional[Ticket[Any]]:
+        first = self.first()
+        return heapq.heappop(self._heap)[2] if first is not None and first <= now else None
 
 
 class Wait:
@@ -95,7 +221,7 @@ def first_of(asked: Sequence[Request[Any]], seconds: Optional[float]) -> Steps[D
     found = {k: outcome for k, outcome in enumerate(outcomes) if not isinstance(outcome, BaseException)}
     failed = [outcome for outcome in outcomes if isinstance(outcome, BaseException)]
     if not found and failed:
-        raise next((error for error in failed if not isinstance(error, errors.Withdrawn)), failed[0])
+        raise next((error for error in failed if not isinstance(error, Withdrawn)), failed[0])
     return found
 
 
@@ -128,7 +254,7 @@ class JobRunner:
     """The part of a core that runs jobs: it asks what a step wants, and goes on once that is done. The rest
     of the core has these:"""
 
-    failure: Optional[errors.FememError]
+    failure: Optional[FememError]
     clock: Callable[[], float]
     is_urgent: bool
     take: Callable[[Sequence[Ticket[Any]], Optional[float], float], None]
@@ -137,7 +263,7 @@ class JobRunner:
     withdraw_all: Callable[[Sequence[Ticket[Any]], float], None]
     _check: Callable[[], None]
     _admit: Callable[[Sequence[Ticket[Any]], float], Sequence[Ticket[Any]]]
-    _failure_again: Callable[[], errors.FememError]
+    _failure_again: Callable[[], FememError]
     _end: Callable[..., None]
 
     def __init__(self) -> None:
@@ -170,12 +296,12 @@ class JobRunner:
         """Takes back what the job waits for. It ends with `Withdrawn`, or is done if everything had happened."""
         if not job.taken:
             job.taken = True
-            self._end(job, error=errors.Withdrawn("it was not begun"))
+            self._end(job, error=Withdrawn("it was not begun"))
         job.is_interrupted = True
         for ticket in list(job.asked):
             if ticket in self._pauses:
                 self._pauses.discard(ticket)
-                self._end(ticket, error=errors.Withdrawn("interrupted"))
+                self._end(ticket, error=Withdrawn("interrupted"))
             elif ticket.request.may_wait:
                 self.withdraw(ticket, now)
 
@@ -209,7 +335,7 @@ class JobRunner:
             else:
                 try:
                     self._ask(job, step)
-                except errors.FememError as error:
+                except FememError as error:
                     go_on = partial(job.steps.throw, error)
                     continue
                 return
@@ -222,7 +348,7 @@ class JobRunner:
         self._check()
         may_wait = isinstance(step, (Wait, First))
         if job.is_interrupted and (may_wait or isinstance(step, Pause)):
-            raise errors.Withdrawn("interrupted")
+            raise Withdrawn("interrupted")
         if isinstance(step, (Batch, Wait, First)):
             # (the tickets of a step that the caller has begun are there)
             tickets = list(job.asked) or [Ticket(request) for request in step.requests]

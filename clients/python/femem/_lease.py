@@ -22,7 +22,7 @@ from typing import Any, List, Optional, Sequence
 from ._errors import ProtocolError
 from ._frames import ANSWER_BYTES, NOT_NOW, NOT_WAITING, NOWAIT, READFE, WINDOW, WRITEEF, Answer, Refusal
 from ._frames import Reply, ReplyDecoder, Settled, Withdrawn, append_under, cancel, pack_number, settle
-from ._tickets import Ticket
+from ._jobs import Ticket
 from ._window import LONGEST_STEP, Used
 
 # How long a caller waits for its answer, in seconds. After that the thread waits for it.

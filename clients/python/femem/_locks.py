@@ -10,11 +10,10 @@ from . import _frames as frames, requests
 from ._arguments import Key, seconds_of
 from ._errors import FememError, NoArray, NotNow, NotOwner, TimedOut
 from ._holdings import Hold, Read, Release
-from ._jobs import Look, Mended, Steps, Wait
+from ._jobs import Look, Mended, Steps, Ticket, Wait
 from ._operations import FIRST_LOOK, LAST_LOOK, Absence, Pattern, Tries, batch, done_at, is_full, marked_array
 from ._operations import operation, operation_with, shared_array, size_of
 from .requests import Array, Request, add, empty, fill, look
-from ._tickets import Ticket
 
 K = TypeVar("K", bound="Turn")
 

@@ -11,13 +11,12 @@ from typing import Any, Callable, Dict, Iterable, List, Optional, Sequence, Tupl
 
 from . import _frames as frames, requests
 from ._arguments import Key, key_bytes, seconds_of
+from ._calls import Concatenate, P, faced
 from ._core import Core
 from ._errors import NameTaken, NoArray, NotNow, OtherPattern
-from ._faces import Concatenate, P, T, faced
-from ._jobs import Batch, Pause, Present, Steps, Wait
+from ._jobs import Batch, Pause, Present, Steps, T, Ticket, Wait
 from ._reports import Report
 from .requests import Array, Request, fill, look, number_of_bits
-from ._tickets import Ticket
 
 # Each client that uses a lock or a work queue waits at this array's word, so that reports show that it is there.
 PRESENCE = "presence"

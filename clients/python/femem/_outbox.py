@@ -12,7 +12,7 @@ from ._frames import NOWAIT, Answer, append_under, pack_number
 from .requests import of_frame, read_done, read_value
 from ._sessionfile import SessionFile
 from ._sessionstate import Asked, Contradiction
-from ._tickets import Ticket
+from ._jobs import Ticket
 from ._window import Window
 
 # How long requests that wait keep their numbers while there are more of them than numbers, in seconds.

@@ -12,11 +12,10 @@ from . import requests
 from ._arguments import Key
 from ._errors import BadName, FememError, NoArray, NotNow, NotOwner, TimedOut, Withdrawn, WordLimit
 from ._frames import INT_FETCH_ADD, NOWAIT, READFF, WRITEEF
-from ._jobs import Hand, Job, Look, Steps, Wait
+from ._jobs import Hand, Job, Look, Steps, Ticket, Wait
 from ._operations import FIRST_LOOK, LAST_LOOK, Pattern, Tries, batch, done_at, is_full
 from ._operations import operation, operation_with, size_of
 from .requests import Array, Request, add, fill, look, made, made_before, number_of_bits
-from ._tickets import Ticket
 from ._workpages import CHUNK, DONE, DROPPED, FINISHED, FIRST_SLOT, HEAD, JOBS, LARGEST, MOST_ATTEMPTS
 from ._workpages import NOTHING, PAGES, ROOM, TAIL, Moves, Page
 

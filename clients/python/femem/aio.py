@@ -25,14 +25,12 @@ from . import _operations as operations, _queues as queues, _registry as registr
 from . import _words as words, _work as work
 from ._aioworker import AsyncWorker, now
 from ._arguments import DEFAULT, Choice, Key, Timeout, request_of, seconds_of
-from ._calls import Asking, Calls
+from ._calls import Asking, Calls, ForTasks, show_as
 from ._carrier import NOT_HERE
 from ._client import end_session
-from ._jobs import Job
-from ._faces import ForTasks, show_as
+from ._jobs import Job, Last, T, Ticket, nobody
 from .requests import Array, Request, number_of_bits
 from ._sessionfile import SessionFile
-from ._tickets import Last, T, Ticket, nobody
 
 C = TypeVar("C", bound="Held")
 

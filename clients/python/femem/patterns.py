@@ -20,9 +20,9 @@ from typing import TYPE_CHECKING, Any, Callable, Dict, Optional, TypeVar
 from . import _keylocks as keylocks, _locks as locks, _operations as operations, _queues as queues
 from . import _semaphore as semaphore, _words as words, _work as work
 from ._arguments import seconds_of
+from ._calls import ForThreads
 from ._client import Client
 from ._errors import FememError, TimedOut
-from ._faces import ForThreads
 from ._jobs import Job, Mended, Steps
 from .requests import Array, number_of_bits
 

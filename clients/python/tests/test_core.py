@@ -15,7 +15,7 @@ from world import World, run, run_beside
 from femem import _errors as errors, requests
 from femem._attachment import Phase
 from femem._lease import Lease
-from femem._tickets import Ticket
+from femem._jobs import Ticket
 
 
 class Schedules(unittest.TestCase):

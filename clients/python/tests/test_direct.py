@@ -591,7 +591,7 @@ class Replies(WithFolder):
                 (answer[:25], None),
             ):
                 lent = self.lent(here)
-                ticket = femem._tickets.Ticket(requests.readff(1, 0))
+                ticket = femem._jobs.Ticket(requests.readff(1, 0))
                 there.sendall(reply)
                 self.assertFalse(lent.call([ticket]))
                 self.assertEqual((lent.rest, lent.is_known), ([] if known is None else [known], True))
@@ -606,7 +606,7 @@ class Replies(WithFolder):
     def test_a_lease_keeps_what_comes_with_its_answers(self):
         """A floor may come any time. Anything else ends the lease, for the thread to take it."""
         here, there = socket.socketpair()
-        answer, ticket = frame(66, 40, 1, 5, 0), femem._tickets.Ticket(requests.readff(1, 0))
+        answer, ticket = frame(66, 40, 1, 5, 0), femem._jobs.Ticket(requests.readff(1, 0))
         with here, there:
             lent = self.lent(here, 41)
             there.sendall(frame(68, 40) + answer)
@@ -617,12 +617,12 @@ class Replies(WithFolder):
                 (frame(67, 39), [frames.Withdrawn(39)], False),
                 (b"wrong", [], True),
             ):
-                lent, ticket = self.lent(here), femem._tickets.Ticket(requests.readff(1, 0))
+                lent, ticket = self.lent(here), femem._jobs.Ticket(requests.readff(1, 0))
                 there.sendall(answer + more)
                 self.assertFalse(lent.call([ticket]))
                 self.assertEqual((ticket.result, lent.rest), (None if failed else 5, rest))
                 self.assertEqual((lent.is_known, lent.is_over, lent.failure is not None), (True, True, failed))
-                self.assertFalse(lent.call([femem._tickets.Ticket(requests.readff(1, 0))]))
+                self.assertFalse(lent.call([femem._jobs.Ticket(requests.readff(1, 0))]))
 
     @mock.patch.object(lease, "READ_TIME", LONG)
     def test_a_lease_takes_the_answers_of_a_batch(self):
@@ -637,7 +637,7 @@ class Replies(WithFolder):
             ([answers[0] + answers[1]], 2, False),
         ):
             lent = self.lent(here)
-            tickets = [femem._tickets.Ticket(requests.readff(1, 0, nowait=True)) for _ in range(3)]
+            tickets = [femem._jobs.Ticket(requests.readff(1, 0, nowait=True)) for _ in range(3)]
             for piece in pieces:
                 there.send(piece)
             self.assertEqual(lent.call(tickets), is_done)
@@ -662,7 +662,7 @@ class Replies(WithFolder):
                 (frame(68, 35) + answer, 35, [frames.Settled(35)], True),
                 (frame(66, 40, 1, 0, 0) + answered + settled + answer, 0, [frames.Answer(40, 1)], False),
             ):
-                shown, ticket = femem._tickets.Ticket(requests.readff(2, 0)), femem._tickets.Ticket(requests.readff(1, 0))
+                shown, ticket = femem._jobs.Ticket(requests.readff(2, 0)), femem._jobs.Ticket(requests.readff(1, 0))
                 shown.number = 35
                 lent = lease.Lease(here, frames.ReplyDecoder(), 40, 40, None, 35, shown)
                 there.sendall(replies)

@@ -13,7 +13,7 @@ from femem import _errors as errors, _frames as frames, requests
 from femem._attachment import Phase
 from femem._sessionfile import SessionFile
 from femem._sessionstate import Asked
-from femem._tickets import Ticket
+from femem._jobs import Ticket
 
 
 class SessionFolder:

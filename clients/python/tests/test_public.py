@@ -14,7 +14,7 @@ import unittest
 import paths
 
 import femem
-from femem._faces import faced
+from femem._calls import faced
 
 ROOT = pathlib.Path(paths.__file__).resolve().parents[1]
 

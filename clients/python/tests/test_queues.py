@@ -14,7 +14,7 @@ import stepping
 from femem import Client, _work as work
 from femem._jobs import Job
 from femem.patterns import BoundedQueue, Channel, Semaphore, WorkQueue
-from femem._tickets import result_of
+from femem._jobs import result_of
 from femem._workpages import address
 
 

@@ -5,7 +5,7 @@ import random
 from model import Model, read_messages
 
 from femem import _core as core
-from femem._tickets import Ticket
+from femem._jobs import Ticket
 
 
 class Core(core.Core):
