@@ -105,13 +105,6 @@ class AsyncWorker(Carrier):
             self.transport.write(bytes(core.to_send))
             core.to_send.clear()
 
-    async def _close_wait_sessions(self) -> None:
-        is_there = self._ends_further()
-        for further in [*self.wait_sessions]:
-            further._worker.is_temporary = is_there
-            await further.close()
-            is_there = further._core.has_left
-
     def forked(self) -> None:
         """In a child of the process: as in `Client`. The loop is the parent's too, so only the socket is closed."""
         super().forked()
@@ -138,7 +131,8 @@ class AsyncWorker(Carrier):
         finally:
             self._sign_off()
         self.move()
-        await self._close_wait_sessions()
+        for further in self._end_further():
+            await further.close()
 
     async def _connect_on(self) -> None:
         pause = FIRST_PAUSE

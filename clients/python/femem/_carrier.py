@@ -10,7 +10,7 @@ import stat
 import time
 import weakref
 from functools import partial
-from typing import Any, Callable, Dict, Optional, Sequence
+from typing import Any, Callable, Dict, Iterator, Optional, Sequence
 
 from . import _errors as errors, _registry as registry
 from ._attachment import ENDED
@@ -161,10 +161,14 @@ class Carrier:
         is_wrong = is_wrong or is_missing or number in _WRONG
         return errors.ServerUnreachable(self.core.trouble) if is_wrong else None
 
-    def _ends_further(self) -> bool:
-        """Whether further sessions can be ended, as the client ends. What waits over them is withdrawn in any case."""
+    def _end_further(self) -> Iterator[Any]:
+        """The further clients, each to be closed: it ends its session, if the server is there. What waits is withdrawn in any case."""
         core = self.core
-        return isinstance(core.failure, errors.Closed) and (core.has_left or core.was_ready and not self.is_temporary)
+        is_there = isinstance(core.failure, errors.Closed) and (core.has_left or core.was_ready and not self.is_temporary)
+        for further in [*self.wait_sessions]:
+            further._worker.is_temporary = is_there
+            yield further
+            is_there = further._core.has_left
 
     def _sign_off(self) -> None:
         """Says whether the temporary session is left behind."""

@@ -85,8 +85,7 @@ class Owned(Pattern):
         """Returns whether it was acquired in time."""
         self._broke, self._adopted = None, False
         yield from self._show()
-        tries = Tries(self._core, key, frames.WRITEEF, self._session)
-        try:
+        with Tries(self._core, key, frames.WRITEEF, self._session) as tries:
             done = yield from tries.begin()
             if done is not None:
                 return (yield from self._take_again(hold, int.from_bytes(done[14:22], "big")))
@@ -100,8 +99,6 @@ class Owned(Pattern):
                     return True
                 except NoArray:
                     self._array = None  # it was broken
-        finally:
-            tries.end()
 
     def _number(self, array: Array, count: int) -> None:
         self._generation = array.id * GENERATIONS + count + 1

@@ -258,7 +258,10 @@ class Tries:
             self.core.file.forget(self.key)
         return self.key
 
-    def end(self) -> None:
+    def __enter__(self) -> Tries:
+        return self
+
+    def __exit__(self, *failure: object) -> None:
         if self._is_begun and self.key is not None:
             self.core.holdings.keys.discard(self.key)
 

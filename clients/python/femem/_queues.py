@@ -323,12 +323,9 @@ class BoundedQueue(Pattern):
     def _put(self, value: int, end: Optional[float], nowait: bool, key: Optional[Key]) -> Steps[None]:
         number = number_of_bits(value, 64, "value")
         words = self._array or (yield from self._find())
-        tries = Tries(self._core, key, WRITEEF, number)
-        try:
+        with Tries(self._core, key, WRITEEF, number) as tries:
             if key is None or (yield from tries.begin()) is None:
                 yield from self._ring.put(words, number, end, nowait, tries)
-        finally:
-            tries.end()
 
     @operation_with(light=True)
     def get(self, timeout: Optional[float] = None, *, key: Optional[Key] = None) -> Steps[int]:
@@ -345,13 +342,10 @@ class BoundedQueue(Pattern):
 
     def _get(self, end: Optional[float], nowait: bool, key: Optional[Key]) -> Steps[int]:
         words = self._array or (yield from self._find())
-        tries = Tries(self._core, key, READFE, 0)
-        try:
+        with Tries(self._core, key, READFE, 0) as tries:
             if key is not None and (yield from tries.begin()) is not None:
                 return tries.value
             return (yield from self._ring.get(words, end, nowait, tries))
-        finally:
-            tries.end()
 
     @operation_with(light=True)
     def qsize(self) -> Steps[int]:

@@ -80,8 +80,8 @@ class Semaphore(Pattern):
         self._adopted = False
         array = yield from self._find()
         yield from self._core.holdings.left.look_up(array, self._words, self._session)
-        tries, unkeyed = Tries(self._core, key, frames.WRITEEF, self._session), Tries(self._core, None, frames.READFE, 0)
-        try:
+        unkeyed = Tries(self._core, None, frames.READFE, 0)
+        with Tries(self._core, key, frames.WRITEEF, self._session) as tries:
             done = yield from tries.begin()
             if done is not None:
                 return (yield from self._take_again(array, done))
@@ -106,8 +106,6 @@ class Semaphore(Pattern):
                 else:
                     if hint < self._permits and (yield from self._take(array, hint, tries)):
                         return True
-        finally:
-            tries.end()
 
     def _adopt(self, array: Array, tries: Tries) -> Steps[bool]:
         """Adopts a permit that an earlier process left, except for a key, and gives back all others."""

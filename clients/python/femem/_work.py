@@ -179,8 +179,7 @@ class WorkQueue(Moves):
                 raise ValueError("what is put for a job needs no key")
             yield from self._put_for(for_job, number, end)
             return
-        tries = Tries(self._core, key, WRITEEF, number)
-        try:
+        with Tries(self._core, key, WRITEEF, number) as tries:
             if (yield from tries.begin()) is not None:
                 return
             yield from self._open()
@@ -192,8 +191,6 @@ class WorkQueue(Moves):
                     return
                 if isinstance(done, NoArray):
                     self._forget_page(page)
-        finally:
-            tries.end()
 
     def _put_for(self, job: WorkJob, value: int, end: Optional[float]) -> Steps[None]:
         """Once for each job, also if this process asks again."""

@@ -186,14 +186,6 @@ class Worker(Carrier):
             core.to_send.clear()
             self._give_up_connection(self._socket)
 
-    def _close_wait_sessions(self) -> None:
-        """Ends the further sessions, if the server is there; what waits over them is withdrawn in any case."""
-        is_there = self._ends_further()
-        for further in [*self.wait_sessions]:
-            further._worker.is_temporary = is_there
-            further.close()
-            is_there = further._core.has_left
-
     def _run(self) -> None:
         self.own_thread = get_ident()
         pause = FIRST_PAUSE
@@ -222,7 +214,8 @@ class Worker(Carrier):
             self.is_over = True
             self.own_thread = 0
             self._do_what_is_asked()
-        self._close_wait_sessions()
+        for further in self._end_further():
+            further.close()
         self._waker.close()
         self._woken.close()
 
