@@ -194,8 +194,6 @@ class Calls:
     def _further(self) -> Sequence[Calls]:
         return [further for further in [*self._worker.wait_sessions] if further.failure is None]
 
-    # Arrays.
-
     @call
     def create(self, name: Union[str, bytes], length: int, full: bool = False, *, timeout: Timeout = DEFAULT) -> Request[Array]:
         """Creates an array of `length` words of value 0, all full or all empty. Never waits.
@@ -264,8 +262,6 @@ class Calls:
         The word stays full. `nowait`, `timeout` as in `readfe`.
         """
         return requests.int_fetch_add(array, index, value, nowait)
-
-    # More at a time.
 
     @asking
     def submit_many(self, asked: Iterable[Request[Any]], *, timeout: Timeout = DEFAULT) -> Asking[List[Any]]:
@@ -342,8 +338,6 @@ class Calls:
     _ask: Callable[[Callable[[float], object]], None]
     _catch_up: Callable[[], None]  # returns once what was asked before is done
     _future: Callable[[Ticket[Any]], Any]  # the future of a ticket
-
-    # Arguments.
 
     def _keyed(self, key: Key, request: Request[T]) -> Ticket[T]:
         self._with_file()

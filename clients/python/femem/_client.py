@@ -115,8 +115,6 @@ class Client(Calls, ForThreads):
         """
         self._worker.end()
 
-    # More at a time.
-
     def submit(self, request: Request[T], *, timeout: Timeout = DEFAULT, key: Optional[Key] = None) -> Future[T]:
         """Asks without waiting for the answer: `client.submit(requests.readfe(array, 0))`.
 

@@ -347,8 +347,6 @@ class Core(JobRunner, Attachment):
         opening, leaving = self._opening, self._leaving
         return opening is not None and not opening.done or leaving is not None and not leaving.done
 
-    # Tickets.
-
     def _check(self) -> None:
         """Raises the reason if nothing can be asked any more."""
         if self.failure is not None or self._leaving is not None:
@@ -377,8 +375,6 @@ class Core(JobRunner, Attachment):
         ticket.end(result, error)
         self.ended.append(ticket)
 
-    # Sending.
-
     def _pump(self, now: float) -> None:
         """Sends what may be sent now."""
         if self.phase is not READY:
@@ -392,8 +388,6 @@ class Core(JobRunner, Attachment):
         if self._reports and self._report_sent is None:
             self._report_sent = now
             self.to_send += frames.report()
-
-    # Replies.
 
     def _take(self, reply: frames.Reply, now: float) -> None:
         if isinstance(reply, frames.Welcome):

@@ -376,8 +376,6 @@ class ReadWriteLock(Owned, Generic[K]):
             yield from self._stand_up(array, seat, bool(bits & self._bit(seat)))
         return array
 
-    # Reading.
-
     @operation_with(undo="_give_read_back", light=True)
     def acquire_read(self, timeout: Optional[float] = None, *, takeover_after: Optional[float] = None) -> Steps[bool]:
         """Waits until this client may read. Returns whether it may, in time."""
@@ -541,8 +539,6 @@ class ReadWriteLock(Owned, Generic[K]):
             yield from self._stand_up(array, own, False)
         if seat is not None:
             yield from self._stand_up(array, seat, own != seat or self.READERS in added)
-
-    # Writing.
 
     @operation_with(undo="_give_back", light=True)
     def acquire_write(self, timeout: Optional[float] = None, *, takeover_after: Optional[float] = None) -> Steps[bool]:

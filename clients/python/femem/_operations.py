@@ -191,9 +191,6 @@ def is_full(outcome: object) -> bool:
     return not isinstance(outcome, BaseException)
 
 
-# Times.
-
-
 def end_of(timeout: Optional[float], now: float) -> Optional[float]:
     """The time at which the timeout ends."""
     seconds = seconds_of(timeout)
@@ -209,9 +206,6 @@ def size_of(size: int, what: str) -> int:
     if not found:
         raise ValueError(f"{what} is at least 1")
     return found
-
-
-# Operations of several tries under one key.
 
 
 class Tries:

@@ -163,8 +163,6 @@ class Outbox:
         self._queue.clear()
         return tickets
 
-    # Sending.
-
     def send(self, now: float) -> None:
         """Sends requests as far as the window has room, and messages that make more room."""
         window = self.window
@@ -390,8 +388,6 @@ class Outbox:
             ticket.end_by(answer)
         finally:
             self._has_ended(ticket)
-
-    # Replies.
 
     def answered_all(self, replies: Sequence[frames.Reply], first: int) -> Tuple[int, bool]:
         """Takes the answers from the first of these on. Where they end, and whether one of them ended a request."""

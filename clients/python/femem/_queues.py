@@ -80,8 +80,6 @@ class Ring:
     def slot(self, ticket: int) -> int:
         return SLOTS + ticket % self.slots
 
-    # Putting.
-
     def put(self, words: Array, value: int, end: Optional[float], nowait: bool, tries: Tries) -> Steps[None]:
         ticket = (yield from self._put_ticket(words)) if self._puts else (yield from self._new_ticket(words, TAIL))
         clock: Optional[Clock] = None
@@ -186,8 +184,6 @@ class Ring:
         (told,) = yield from batch([fill(words, SIGNAL, slot)], NotNow)
         if not is_full(told):
             yield from batch([requests.writexf(words, SIGNAL, ALL)])
-
-    # Taking.
 
     def get(self, words: Array, end: Optional[float], nowait: bool, tries: Tries) -> Steps[int]:
         is_kept = bool(self._gets)

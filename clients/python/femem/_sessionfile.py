@@ -114,8 +114,6 @@ class SessionFile:
         self.state = State(secrets.randbits(63) | 2**63)
         self.compact()
 
-    # Reading.
-
     def _read(self) -> None:
         with open(self._file, "rb", closefd=False) as file:
             content = file.read()

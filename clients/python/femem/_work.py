@@ -157,8 +157,6 @@ class WorkQueue(Moves):
         self._absent: Dict[int, float] = {}
         self._empty: Dict[int, float] = {}
 
-    # Putting.
-
     @operation_with(light=True)
     def put(
         self, value: int, timeout: Optional[float] = None, *, key: Optional[Key] = None, for_job: Optional[WorkJob] = None
@@ -289,8 +287,6 @@ class WorkQueue(Moves):
             if page.id not in self._pages or ticket < self._capacity + page.finished - older:
                 return True  # (without its page it is of no use)
         return False
-
-    # Taking.
 
     @operation_with(undo="_give_up_job", light=True)
     def take(self, timeout: Optional[float] = None) -> Steps[Any]:

@@ -62,8 +62,6 @@ class Pages(Pattern):
         self._names = [0] * PAGES
         self._pages: Dict[int, Page] = {}
 
-    # Words.
-
     def _value_at(self, slot: int) -> int:
         return FIRST_SLOT + slot * (3 + self._attempts)
 
@@ -75,8 +73,6 @@ class Pages(Pattern):
 
     def _source_at(self, slot: int) -> int:
         return self._value_at(slot) + 2 + self._attempts
-
-    # Pages.
 
     def _open(self) -> Steps[None]:
         """Fills the root's last words, or compares them with what other clients gave."""
@@ -180,8 +176,6 @@ class Pages(Pattern):
         page.moved.update([end for end in ends if is_full(end) and end >= LEAST_ADDRESS])
         page.ended.update(ended)
         return ended
-
-    # Slots.
 
     def _end(self, id: int, slot: int, how: int) -> Steps[bool]:
         """Ends a slot, once. Removes its page if this was the last one there."""

@@ -118,8 +118,6 @@ class AsyncClient(Calls, ForTasks):
         """As `Client.close`."""
         await self._worker.close()
 
-    # More at a time.
-
     def submit(self, request: Request[T], *, timeout: Timeout = DEFAULT, key: Optional[Key] = None) -> asyncio.Future[T]:
         """Asks without waiting for the answer. Cancelling the future takes its request back, without telling whether
         it had happened; a cancelled `await` of an operation by its own name does tell. With a key, as `once`."""
