@@ -77,9 +77,6 @@ class AsyncWorker(Carrier):
         what(now())
         self.move()
 
-    def _is_callers(self) -> bool:
-        return True
-
     def move(self) -> None:
         """After each change: sends, completes the ended tickets, which may ask for more, and sets the timer."""
         while True:

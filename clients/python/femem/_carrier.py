@@ -10,6 +10,7 @@ import stat
 import time
 import weakref
 from functools import partial
+from threading import get_ident
 from typing import Any, Callable, Dict, Iterator, Optional, Sequence
 
 from . import _errors as errors, _registry as registry
@@ -49,7 +50,7 @@ class Carrier:
 
     # Does something with the core, given the time, after what was asked before.
     ask: Callable[[Callable[[float], object]], None]
-    _is_callers: Callable[[], bool]  # whether a caller completes tickets now, who is told of an interruption
+    own_thread = 0  # the number of the client's own thread while it runs, if it has one
 
     def __init__(self, path: str, core: Core, is_temporary: bool, waits: bool) -> None:
         self.path = path
@@ -81,7 +82,8 @@ class Carrier:
             try:
                 ticket.finished()
             except BaseException as error:
-                if isinstance(error, Exception) or not self._is_callers():
+                # (a caller, which does this at other times, is told of its interruption)
+                if isinstance(error, Exception) or get_ident() == self.own_thread:
                     log.exception("session %d: a callback failed", self.core.session)
                 else:
                     interrupt = error

@@ -136,7 +136,7 @@ class Client(Calls, ForThreads):
 
     def _check_thread(self) -> None:
         """Raises if this is the client's own thread, which runs the futures' callbacks: it would wait for itself."""
-        if self._worker.is_own_thread():
+        if get_ident() == self._worker.own_thread:
             raise RuntimeError("a callback can't wait for its own client: use submit")
 
     def _call(self, request: Request[T], timeout: Timeout) -> T:
@@ -270,7 +270,7 @@ class Client(Calls, ForThreads):
         return result
 
     def _catch_up(self) -> None:
-        if not self._worker.is_own_thread():
+        if get_ident() != self._worker.own_thread:
             gate = threading.Lock()
             gate.acquire()
             self._ask(lambda now: gate.release())

@@ -82,7 +82,6 @@ class Worker(Carrier):
         # The locks at which callers wait for their answers, for a child to open them, and whether this is the child.
         self._gates: Set[threading.Lock] = set()
         self._is_forked = False
-        self.own_thread = 0  # the thread's number while it runs
         # Once the thread has ended, callers do its work in its place, one at a time.
         self._ending = threading.RLock()
         self._woken_number = self._woken.fileno()
@@ -136,12 +135,6 @@ class Worker(Carrier):
             self._end()  # it was never started
         elif threading.current_thread() is not self._thread:
             self._thread.join()
-
-    def is_own_thread(self) -> bool:
-        return get_ident() == self.own_thread
-
-    def _is_callers(self) -> bool:
-        return not self.is_own_thread()  # a caller does this after the thread's end, and a signal interrupts it
 
     # The thread: it does what callers ask, connects, reads, and looks at the clock.
 
