@@ -134,9 +134,6 @@ class Attachment:
     _leaving: Optional[Ticket[None]] = None
     _opening: Optional[Ticket[None]] = None
     _asked_at = 0.0  # since when something is asked and not done
-    # When the report that is due was asked for over this connection, and the end of the session.
-    _report_sent: Optional[float] = None
-    _bye_sent: Optional[float] = None
 
     def __init__(
         self, session: int, outbox: Outbox, events: Optional[Events], reconnect_timeout: Optional[float],
@@ -180,8 +177,9 @@ class Attachment:
         self._probes_sent: Set[int] = set()
         self._probe: Optional[int] = None  # the probe whose echo is due
         self._probed_at = 0.0
-        self._report_sent = None
-        self._bye_sent = None
+        # When the report that is due was asked for over this connection, and the end of the session.
+        self._report_sent: Optional[float] = None
+        self._bye_sent: Optional[float] = None
 
     # The connection, and the clock.
 

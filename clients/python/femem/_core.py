@@ -40,9 +40,7 @@ class Core(JobRunner, Attachment):
         outbox = Outbox(bytearray(), self.ended, file, self.moved if moves_waits else None, events)
         outbox.may_grow = is_own and not moves_waits
         # What a former process with the same session file had no answer for.
-        self.recovered: List[Ticket[Any]] = []
-        if file is not None and file.state.floor:
-            self.recovered = outbox.resume(file)
+        self.recovered: List[Ticket[Any]] = outbox.resume(file) if file is not None and file.state.floor else []
         JobRunner.__init__(self)
         Attachment.__init__(self, number, outbox, events, reconnect_timeout, probe_interval, is_own or file is not None)
         self.file = file
@@ -133,21 +131,16 @@ class Core(JobRunner, Attachment):
         ticket.finished = finished
         self.take((ticket,), None if until is None else max(0.0, until - now), now)
 
-    def report(self, now: float, ticket: Optional[Ticket[reports.Report]] = None) -> Ticket[reports.Report]:
-        asked: Ticket[reports.Report] = ticket or Ticket()
-        if self._admit((asked,), now):
-            self._reports.append(asked)
+    def report(self, now: float, ticket: Ticket[reports.Report]) -> None:
+        if self._admit((ticket,), now):
+            self._reports.append(ticket)
             self._pump(now)
-        return asked
 
     def leave(self, now: float, ticket: Optional[Ticket[None]] = None, at_any_rate: bool = False) -> Ticket[None]:
         """Ends the session. `StillWaiting` if something has no answer yet, unless `at_any_rate`."""
         asked: Ticket[None] = ticket or Ticket()
         if self.failure is None and self.is_busy() and not at_any_rate:
-            error = errors.StillWaiting("a request of this client has no answer yet")
-            if ticket is None:
-                raise error
-            self._end(ticket, error=error)
+            self._end(asked, error=errors.StillWaiting("a request of this client has no answer yet"))
         elif self._admit((asked,), now):
             self._leaving = asked
             if self.file is not None:

@@ -394,8 +394,7 @@ class WorkQueue(Awaiting, work.WorkQueue):
 
 async def shared_array(client: AsyncClient, name: str, length: int, full: bool) -> Array:
     """As `patterns.shared_array`."""
-    array: Array = await client._run_job(Job(operations.shared_array(name, length, full)))
-    return array
+    return await client._run_job(Job(operations.shared_array(name, length, full)))
 
 
 __all__ = [

@@ -311,8 +311,7 @@ class Endings(unittest.TestCase):
         core = world.core(7)
         array = run(world, core, requests.create("a", 1))
         core.submit(requests.readfe(array, 0), world.now)
-        with self.assertRaises(errors.StillWaiting):
-            core.leave(world.now)
+        self.assertIsInstance(core.leave(world.now).error, errors.StillWaiting)
 
     def test_a_session_that_is_not_kept_is_told(self):
         world = World(1)
