@@ -364,7 +364,7 @@ def try_late(server):
         expect("a request that is taken back", type(taken_back.exception(60)), femem.TimedOut)
         number = taken_back.asked[1].number
         earlier.connect(server.path)
-        earlier.sendall(frames.attach(client.session) + frames.access(number, frames.READFE, word.id, 0, 0, False))
+        earlier.sendall(frames.attach(client.session) + frames.pack_access(30, frames.ACCESS, number, frames.READFE, word.id, 0, 0))
         earlier.settimeout(60)
         decoder, refused = frames.ReplyDecoder(), []
         while not refused:

@@ -11,7 +11,6 @@ from ._core import Core
 from .events import OnEvent
 from .requests import Request
 from ._sessionfile import SessionFile
-from ._jobs import Ticket
 
 MOST = 64  # how many sessions the server keeps
 
@@ -70,15 +69,6 @@ def request_of(request: object) -> Request[Any]:
     if not isinstance(request, Request):
         raise TypeError(f"not a request of femem.requests: {request!r}")
     return request
-
-
-def ticket_of(future: object, core: Core) -> Ticket[Any]:
-    owner, ticket = getattr(future, "asked", (None, None))
-    if not isinstance(ticket, Ticket):
-        raise TypeError(f"not a future of submit: {future!r}")
-    if owner is not core:
-        raise ValueError(f"a future of another client: {future!r}")
-    return ticket
 
 
 def numbers(session: int, count: int) -> List[int]:

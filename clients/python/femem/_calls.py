@@ -17,7 +17,6 @@ from typing import TypeVar, Union, get_type_hints, overload
 
 from . import _registry as registry, requests
 from ._arguments import DEFAULT, MOST, Choice, Key, Path, Timeout, key_bytes, pause_of, request_of, seconds_of
-from ._arguments import ticket_of
 from ._core import Core
 from ._errors import FememError
 from .events import OnEvent
@@ -288,7 +287,12 @@ class Calls:
 
     def withdraw(self, future: Union[Future[Any], asyncio.Future[Any]]) -> None:
         """Takes a waiting request back. Its future ends with `Withdrawn`, or with its answer if it has happened."""
-        self._ask(partial(self._core.withdraw, ticket_of(future, self._core)))
+        owner, ticket = getattr(future, "asked", (None, None))
+        if not isinstance(ticket, Ticket):
+            raise TypeError(f"not a future of submit: {future!r}")
+        if owner is not self._core:
+            raise ValueError(f"a future of another client: {future!r}")
+        self._ask(partial(self._core.withdraw, ticket))
 
     @asking
     def report(self) -> Asking[Report]:

@@ -164,7 +164,7 @@ class Carrier:
         return errors.ServerUnreachable(self.core.trouble) if is_wrong else None
 
     def _end_further(self) -> Iterator[Any]:
-        """The further clients, each to be closed: it ends its session, if the server is there. What waits is withdrawn in any case."""
+        """The further clients, each to be closed: it ends its session if the server is there. What waits is withdrawn anyway."""
         core = self.core
         is_there = isinstance(core.failure, errors.Closed) and (core.has_left or core.was_ready and not self.is_temporary)
         for further in [*self.wait_sessions]:

@@ -48,14 +48,8 @@ def remove(number: int, array: int) -> bytes:
     return _frame(4, struct.pack(">QQ", number, array))
 
 
-pack_access = struct.Struct(">IBQBQIQ").pack  # length, kind, number, code, array, index and operand
-
-
-def access(number: int, code: int, array: int, index: int, operand: int, nowait: bool) -> bytes:
-    """`struct.error` if an argument is not a whole number or has too many bits."""
-    return pack_access(30, NOWAIT if nowait else ACCESS, number, code, array, index, operand)
-
-
+# An access: length 30, kind, number, code, array, index and operand. `struct.error` if one is no whole number or has too many bits.
+pack_access = struct.Struct(">IBQBQIQ").pack
 pack_number = struct.Struct(">Q").pack_into
 
 

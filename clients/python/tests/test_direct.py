@@ -668,7 +668,7 @@ class Replies(WithFolder):
                 there.sendall(replies)
                 self.assertEqual(lent.call([ticket]), is_done)
                 self.assertEqual((lent.left, lent.rest, lent.tickets, lent.tickets.left), (left, rest, [shown, None], 35))
-                asked = (shown.request.frame, frames.cancel(35), frames.settle(40), frames.access(0, frames.READFF, 1, 0, 0, True))
+                asked = (shown.request.frame, frames.cancel(35), frames.settle(40), frames.pack_access(30, frames.NOWAIT, 0, frames.READFF, 1, 0, 0))
                 sent = bytearray(b"".join(asked))
                 frames.pack_number(sent, 5, 40)
                 frames.pack_number(sent, len(sent) - 29, 41)
