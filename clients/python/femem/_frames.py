@@ -48,7 +48,7 @@ def remove(number: int, array: int) -> bytes:
     return _frame(4, struct.pack(">QQ", number, array))
 
 
-# An access: length 30, kind, number, code, array, index and operand. `struct.error` if one is no whole number or has too many bits.
+# An access: length 30, kind, number, code, array, index, operand. `struct.error` if one is no whole number or is too large.
 pack_access = struct.Struct(">IBQBQIQ").pack
 pack_number = struct.Struct(">Q").pack_into
 

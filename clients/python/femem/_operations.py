@@ -34,16 +34,18 @@ class Pattern:
     # How many requests its operations ask at most, and how many more for each time that they wait. Those that an array's
     # first use takes are among them: to find or make it, and to see what was left there.
     REQUESTS: Dict[str, Tuple[int, int]] = {}
-    # What a face has: the client, if it is of this face, and how it runs an operation's steps.
-    _checked: Callable[[Any], Any]
+    # What a face has: the type of its clients, and how it runs an operation's steps.
+    CLIENT: type
     _perform: Callable[..., Any]
     # After a caller was interrupted within the steps: by what it had asked, undoes what it had taken, or
     # gives back what it was giving back. All that it asked is answered or taken back.
     _mend: Callable[..., Steps[None]]
 
     def __init__(self, client: Any, name: str) -> None:
-        self._client = self._checked(client)
-        self._core: Core = client._core
+        if not isinstance(client, self.CLIENT):
+            raise TypeError(f"not a {self.CLIENT.__module__}.{self.CLIENT.__name__}: {client!r}")
+        self._client: Any = client
+        self._core: Core = self._client._core
         self._name = name
         self._array: Optional[Array] = None
         self._presence: Optional[Array] = None

@@ -278,13 +278,10 @@ atexit.register(aioworker.at_exit)
 class Awaiting(operations.Pattern, ForTasks):
     """The face for asyncio: an operation is awaited."""
 
+    CLIENT = AsyncClient
+
     def __init__(self, client: AsyncClient, name: Any, *sizes: Any, **more: Any) -> None:
         super().__init__(client, name, *sizes, **more)
-
-    def _checked(self, client: Any) -> AsyncClient:
-        if not isinstance(client, AsyncClient):
-            raise TypeError(f"not a femem.aio.AsyncClient: {client!r}")
-        return client
 
     def _perform(self, done: Any, *args: Any, **more: Any) -> Any:
         """The steps are made where it is called: a task that `asyncio.wait_for` makes is not its caller."""

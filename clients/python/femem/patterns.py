@@ -32,15 +32,11 @@ C = TypeVar("C", bound="Held")
 class Blocking(operations.Pattern, ForThreads):
     """The face for threads: an operation returns once it is done."""
 
+    CLIENT = Client
     _operations: Dict[str, operations.operation[Any, Any]] = {}
 
     def __init__(self, client: Client, name: Any, *sizes: Any, **more: Any) -> None:
         super().__init__(client, name, *sizes, **more)
-
-    def _checked(self, client: Any) -> Client:
-        if not isinstance(client, Client):
-            raise TypeError(f"not a femem.Client: {client!r}")
-        return client
 
     def __init_subclass__(cls) -> None:
         """Makes a function of each operation: when anything else has returned, Python looks for signals, too late to undo."""
