@@ -179,8 +179,6 @@ class AsyncWorker(Carrier):
 
 
 class _Connection(asyncio.Protocol):
-    """One connection of a client."""
-
     def __init__(self, worker: AsyncWorker) -> None:
         self.is_lost = False
         self.was_ready = False

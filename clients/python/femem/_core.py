@@ -369,7 +369,6 @@ class Core(JobRunner, Attachment):
         self.ended.append(ticket)
 
     def _pump(self, now: float) -> None:
-        """Sends what may be sent now."""
         if self.phase is not READY:
             return
         if self._leaving is not None:

@@ -631,5 +631,4 @@ class Turn(Pattern):
         return self._lock._give_back(got) if self._writes else self._lock._give_read_back(got)
 
     def _can_mend(self) -> bool:
-        self._array = self._lock._array
         return self._lock._can_mend()
