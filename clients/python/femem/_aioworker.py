@@ -31,11 +31,8 @@ class AsyncWorker(Carrier):
         self._timer: Optional[asyncio.TimerHandle] = None
         workers.add(self)
 
-    def prepare(self) -> None:
-        """Within the event loop, before anything else."""
-        self.changed = asyncio.Event()
-
     def start(self) -> None:
+        self.changed = asyncio.Event()
         self.connecting = asyncio.get_running_loop().create_task(self._keep_connected())
         self.move()
 

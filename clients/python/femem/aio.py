@@ -70,7 +70,6 @@ class AsyncClient(Calls, ForTasks):
         worker = self._worker
         if worker.connecting is not None and self.failure is None:
             raise RuntimeError("the client was opened before")
-        worker.prepare()
         file = self._core.file
         if file is not None and file.state.is_ending:
             try:
@@ -78,8 +77,10 @@ class AsyncClient(Calls, ForTasks):
             except BaseException:
                 file.abandon()
                 raise
-        if worker.is_chosen:
-            await self._enter()
+        if worker.is_chosen and os.path.isdir(registry.folder_of(self.path)):
+            end = partial(end_session, self.path)
+            await asyncio.get_running_loop().run_in_executor(None, registry.sweep, self.path, end)
+            worker.entry = registry.enter(self.path, self.session, self._choice.sessions)
         opening = self._future(self._core.open(now()))
         self._recover()
         worker.start()
@@ -92,12 +93,6 @@ class AsyncClient(Calls, ForTasks):
         except BaseException:
             await self.close()
             raise
-
-    async def _enter(self) -> None:
-        loop = asyncio.get_running_loop()
-        if os.path.isdir(registry.folder_of(self.path)):
-            await loop.run_in_executor(None, registry.sweep, self.path, partial(end_session, self.path))
-            self._worker.entry = registry.enter(self.path, self.session, self._choice.sessions)
 
     async def _end_session(self, file: SessionFile) -> None:
         """Ends the session, as the file's former process was about to. The file then begins with another one."""
