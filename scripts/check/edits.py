@@ -29,7 +29,7 @@ FEARED = (
 )
 # How many each crate has. One that is added or removed is counted here too.
 EACH = {
-    "fe_desk": 8, "fe_disk": 10, "fe_front": 6, "fe_hall": 16, "fe_journal": 15, "fe_keeper": 8, "fe_look": 4, "fe_mail": 6, "fe_memory": 1, "fe_pool": 5,
+    "fe_desk": 8, "fe_disk": 9, "fe_front": 6, "fe_hall": 16, "fe_journal": 15, "fe_keeper": 8, "fe_look": 4, "fe_mail": 6, "fe_memory": 1, "fe_pool": 5,
     "fe_server": 13, "fe_service": 1, "fe_shared": 11, "fe_state": 7, "fe_streams": 3, "fe_waits": 6, "fe_wire": 6, "fe_words": 6,
 }
 FUNCTION = re.compile(r"\s*(?:pub(?:\([a-z]+\))? )?(?:const )?(?:unsafe )?fn (\w+)")

@@ -21,7 +21,7 @@ MORE = [list(map(int, os.environ["EXPLORE_BOUND"].split(",")))] if "EXPLORE_BOUN
 MOST = 20000
 
 
-def test_of(scenario):
+def case_of(scenario):
     def test(self):
         found = tried(scenario, MORE, most=None if MORE else MOST)
         self.assertTrue(found.is_whole, str(found))
@@ -37,7 +37,7 @@ class EverySchedule(unittest.TestCase):
 
 
 for name, scenario in ALL.items():
-    setattr(EverySchedule, f"test_{name}", test_of(scenario))
+    setattr(EverySchedule, f"test_{name}", case_of(scenario))
 
 
 class ByChance(unittest.TestCase):
