@@ -79,7 +79,8 @@ int open(const char *path, int flags, ...) {
   return file;
 }
 
-static ssize_t written(writer real, int file, const void *bytes, size_t size, off_t at) {
+ssize_t pwrite(int file, const void *bytes, size_t size, off_t at) {
+  REAL(writer, "pwrite");
   if (file != store_file || !size) return real(file, bytes, size, at);
   pthread_mutex_lock(&lock);
   int had_lost = 0;
@@ -94,15 +95,8 @@ static ssize_t written(writer real, int file, const void *bytes, size_t size, of
   return wrote;
 }
 
-ssize_t pwrite(int file, const void *bytes, size_t size, off_t at) {
-  REAL(writer, "pwrite");
-  return written(real, file, bytes, size, at);
-}
-
-ssize_t pwrite64(int file, const void *bytes, size_t size, off_t at) {
-  REAL(writer, "pwrite64");
-  return written(real, file, bytes, size, at);
-}
+/* (an offset has 64 bits on this machine whatever the name) */
+ssize_t pwrite64(int file, const void *bytes, size_t size, off_t at) __attribute__((alias("pwrite")));
 
 int fdatasync(int file) {
   REAL(of_file, "fdatasync");

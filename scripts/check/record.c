@@ -37,6 +37,8 @@ static char how;
 #define REAL(type, name) \
   static type real; \
   if (!real) real = (type)dlsym(RTLD_NEXT, name)
+/* (an offset has 64 bits on this machine whatever the name) */
+#define SAME_AS(name) __attribute__((alias(name)))
 
 typedef long (*caller)(long, ...);
 static caller raw;
@@ -127,8 +129,6 @@ static int refused(void) {
 #define CAME(way, call) (way == 'f' || way == 's' ? refused() : (call))
 
 typedef int (*opener)(const char *, int, ...);
-typedef int (*of_path)(const char *);
-typedef int (*of_paths)(const char *, const char *);
 typedef int (*of_file)(int);
 typedef ssize_t (*writer)(int, const void *, size_t);
 typedef ssize_t (*placed_writer)(int, const void *, size_t, off_t);
@@ -136,7 +136,12 @@ typedef ssize_t (*placed_reader)(int, void *, size_t, off_t);
 typedef ssize_t (*sender)(int, const void *, size_t, int);
 typedef ssize_t (*receiver)(int, void *, size_t, int);
 
-static int opened(opener real, const char *path, int flags, mode_t mode) {
+int open(const char *path, int flags, ...) {
+  REAL(opener, "open");
+  va_list more;
+  va_start(more, flags);
+  mode_t mode = flags & O_CREAT ? va_arg(more, mode_t) : 0;
+  va_end(more);
   const char *found = within(path);
   if (!found) return real(path, flags, mode);
   char way = flags & O_CREAT ? next() : 0;
@@ -147,23 +152,7 @@ static int opened(opener real, const char *path, int flags, mode_t mode) {
   return file;
 }
 
-int open(const char *path, int flags, ...) {
-  REAL(opener, "open");
-  va_list more;
-  va_start(more, flags);
-  mode_t mode = flags & O_CREAT ? va_arg(more, mode_t) : 0;
-  va_end(more);
-  return opened(real, path, flags, mode);
-}
-
-int open64(const char *path, int flags, ...) {
-  REAL(opener, "open64");
-  va_list more;
-  va_start(more, flags);
-  mode_t mode = flags & O_CREAT ? va_arg(more, mode_t) : 0;
-  va_end(more);
-  return opened(real, path, flags, mode);
-}
+int open64(const char *path, int flags, ...) SAME_AS("open");
 
 int close(int file) {
   REAL(of_file, "close");
@@ -174,21 +163,28 @@ int close(int file) {
   return real(file);
 }
 
-/* Calls on a path. */
-#define OF_FILE(call) \
-  int call(int file) { \
-    REAL(of_file, #call); \
-    const char *found = named(file); \
-    if (!found) return real(file); \
+/* A call that changes what is in the folder, if `mine` holds: it is counted, and noted in that form. */
+#define CHANGE(call, parameters, given, mine, ...) \
+  int call parameters { \
+    typedef int (*type) parameters; \
+    REAL(type, #call); \
+    if (!(mine)) return real given; \
     char way = next(); \
-    int result = CAME(way, real(file)); \
-    note(NULL, 0, result, #call " %s", found); \
+    int result = CAME(way, real given); \
+    note(NULL, 0, result, __VA_ARGS__); \
     over(way); \
     return result; \
   }
 
-OF_FILE(fsync)
-OF_FILE(fdatasync)
+CHANGE(fsync, (int file), (file), named(file), "fsync %s", named(file))
+CHANGE(fdatasync, (int file), (file), named(file), "fdatasync %s", named(file))
+CHANGE(ftruncate, (int file, off_t size), (file, size), named(file), "ftruncate %s %ld", named(file), (long)size)
+CHANGE(fchmod, (int file, mode_t mode), (file, mode), named(file), "fchmod %s %o", named(file), mode)
+CHANGE(link, (const char *old, const char *made), (old, made), within(old) && within(made), "link %s %s", within(old), within(made))
+CHANGE(linkat, (int at, const char *old, int to_at, const char *made, int flags), (at, old, to_at, made, flags),
+       within(old) && within(made), "link %s %s", within(old), within(made))
+CHANGE(rename, (const char *old, const char *made), (old, made), within(old) && within(made), "rename %s %s", within(old), within(made))
+CHANGE(unlink, (const char *path), (path), within(path), "unlink %s", within(path))
 
 /* How many bytes such a write writes. */
 static size_t of(char way, size_t size) { return way == 'h' || way == 's' ? size / 2 : size; }
@@ -205,7 +201,8 @@ ssize_t write(int file, const void *from, size_t size) {
   return result;
 }
 
-static ssize_t placed(placed_writer real, int file, const void *from, size_t size, off_t at) {
+ssize_t pwrite(int file, const void *from, size_t size, off_t at) {
+  REAL(placed_writer, "pwrite");
   const char *found = named(file);
   if (!found) return real(file, from, size, at);
   char way = next();
@@ -216,56 +213,17 @@ static ssize_t placed(placed_writer real, int file, const void *from, size_t siz
   return result;
 }
 
-ssize_t pwrite(int file, const void *from, size_t size, off_t at) {
-  REAL(placed_writer, "pwrite");
-  return placed(real, file, from, size, at);
-}
+ssize_t pwrite64(int file, const void *from, size_t size, off_t at) SAME_AS("pwrite");
 
-ssize_t pwrite64(int file, const void *from, size_t size, off_t at) {
-  REAL(placed_writer, "pwrite64");
-  return placed(real, file, from, size, at);
-}
-
-static ssize_t placed_read(placed_reader real, int file, void *to, size_t size, off_t at) {
+ssize_t pread(int file, void *to, size_t size, off_t at) {
+  REAL(placed_reader, "pread");
   const char *found = named(file);
   ssize_t got = real(file, to, size, at);
   if (found) note(NULL, 0, got, "pread %s %ld %zu", found, (long)at, size);
   return got;
 }
 
-ssize_t pread(int file, void *to, size_t size, off_t at) {
-  REAL(placed_reader, "pread");
-  return placed_read(real, file, to, size, at);
-}
-
-ssize_t pread64(int file, void *to, size_t size, off_t at) {
-  REAL(placed_reader, "pread64");
-  return placed_read(real, file, to, size, at);
-}
-
-int ftruncate(int file, off_t size) {
-  typedef int (*cutter)(int, off_t);
-  REAL(cutter, "ftruncate");
-  const char *found = named(file);
-  if (!found) return real(file, size);
-  char way = next();
-  int result = CAME(way, real(file, size));
-  note(NULL, 0, result, "ftruncate %s %ld", found, (long)size);
-  over(way);
-  return result;
-}
-
-int fchmod(int file, mode_t mode) {
-  typedef int (*changer)(int, mode_t);
-  REAL(changer, "fchmod");
-  const char *found = named(file);
-  if (!found) return real(file, mode);
-  char way = next();
-  int result = CAME(way, real(file, mode));
-  note(NULL, 0, result, "fchmod %s %o", found, mode);
-  over(way);
-  return result;
-}
+ssize_t pread64(int file, void *to, size_t size, off_t at) SAME_AS("pread");
 
 int posix_fadvise(int file, off_t at, off_t size, int advice) {
   typedef int (*adviser)(int, off_t, off_t, int);
@@ -301,51 +259,6 @@ int fcntl(int file, int what, ...) {
   const char *found = named(file);
   int result = real(file, what, given);
   if (found && result > file && (what == F_DUPFD || what == F_DUPFD_CLOEXEC)) name(result, found);
-  return result;
-}
-
-int link(const char *old, const char *made) {
-  REAL(of_paths, "link");
-  const char *from = within(old), *to = within(made);
-  if (!from || !to) return real(old, made);
-  char way = next();
-  int result = CAME(way, real(old, made));
-  note(NULL, 0, result, "link %s %s", from, to);
-  over(way);
-  return result;
-}
-
-int linkat(int at, const char *old, int to_at, const char *made, int flags) {
-  typedef int (*linker)(int, const char *, int, const char *, int);
-  REAL(linker, "linkat");
-  const char *from = within(old), *to = within(made);
-  if (!from || !to) return real(at, old, to_at, made, flags);
-  char way = next();
-  int result = CAME(way, real(at, old, to_at, made, flags));
-  note(NULL, 0, result, "link %s %s", from, to);
-  over(way);
-  return result;
-}
-
-int rename(const char *old, const char *made) {
-  REAL(of_paths, "rename");
-  const char *from = within(old), *to = within(made);
-  if (!from || !to) return real(old, made);
-  char way = next();
-  int result = CAME(way, real(old, made));
-  note(NULL, 0, result, "rename %s %s", from, to);
-  over(way);
-  return result;
-}
-
-int unlink(const char *path) {
-  REAL(of_path, "unlink");
-  const char *found = within(path);
-  if (!found) return real(path);
-  char way = next();
-  int result = CAME(way, real(path));
-  note(NULL, 0, result, "unlink %s", found);
-  over(way);
   return result;
 }
 
