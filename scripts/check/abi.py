@@ -7,7 +7,7 @@ in a field's place has grown; then each function that takes it has two versions 
 import os
 import re
 import signal
-import subprocess
+from pathlib import Path
 
 from .harness import Server, compiler, holds, same, until, within
 from .install import done
@@ -126,8 +126,4 @@ def old_programs(place):
 
 def has_request(path):
     """Whether a session file has the request under the key."""
-    with open(path, "rb") as file:
-        return b"the key" in file.read()
-
-
-CHECKS = (keeps, numbered, old_programs)
+    return b"the key" in Path(path).read_bytes()

@@ -10,6 +10,7 @@ import subprocess
 import sys
 import threading
 import time
+from pathlib import Path
 
 from . import model, rescues, store, wire
 from .crowds import adding
@@ -44,24 +45,18 @@ def while_served(place):
     server = Server(place).start()
     load = Load(server)
     until(lambda: load.answered > 100 or load.raised, 30, "the load begins")
-    history, last = State(), 0
     for number in range(COPIES):
         copy, answered = place.path(f"copy{number}"), load.answered
         status, text, errors = ran(place, "backup", server.store, copy)
-        asked = load.asked
         same((status, errors), (0, ""), f"copy {number}")
         at, shown = re.fullmatch(r"place (\d+)\nstate (\w+)\n", text).groups()
-        at = int(at)
-        holds(max(answered, last) <= at <= asked, f"copy {number}: place {at}, after {last}; {answered} were answered, {asked} asked")
-        while history.place < at:
-            history.apply(load.entries.popleft())
+        history = load.at(int(at), answered, f"copy {number}")
         other = Server(place, f"c{number}", store=copy)
         same((other.looks(), shown), (history.looks(), sum_of(history)), f"copy {number}")
         same(os.stat(copy).st_mode & 0o7777, 0o600)
         if number % 10 == 0:
             serves_as_before(other.start(), history)
         os.unlink(copy)
-        last = at
     for _ in range(5):
         same(ran(place, "verify", server.store)[::2], (0, ""), "a store that is served is whole")
         said = f"{server.store}: it is served: process {server.process.pid}, "
@@ -69,7 +64,7 @@ def while_served(place):
     load.end()
     server.stop()
     same(sorted(it for it in os.listdir(place.folder) if it.startswith("copy")), [], "what the backups left")
-    return f"{COPIES} copies, {last} entries"
+    return f"{COPIES} copies, {at} entries"
 
 
 def serves_as_before(server, known):
@@ -189,8 +184,7 @@ def filled(place, name="s", rounds=60):
             number += 24
             conn.ask(wire.settle(number))
     server.stop()
-    with open(server.store, "rb") as file:
-        return server, file.read()
+    return server, Path(server.store).read_bytes()
 
 
 def restored(place):
@@ -370,7 +364,6 @@ def slow_sync(place):
             held.let_go()
         same(probe.returncode, status, said)
         holds(words in said, said)
-    server.stop()
 
 
 @within(120)
@@ -418,8 +411,3 @@ def former_names(place):
         status, text, errors = ran(place, *words, tool=place.path(f"tools/{name}"))
         holds((status, errors) == (0, "") and text.startswith(wanted), f"{name}: {text}{errors}")
     same([it for it in os.listdir(place.path("tools/femem_store")) if not it.endswith(".py")], [], "what the tools left")
-
-
-CHECKS = (
-    laid_out, made, repeated, restored, restored_over, sums, looks_twice, synced, probed, probed_at_once, slow_sync, former_names, while_served,
-)

@@ -3,47 +3,37 @@
 import glob
 import os
 import re
-import shutil
 import subprocess
 
-from .harness import Server, Skipped, compiler, holds, same, until, within
-from .store import JOURNAL
-from .storetool import TOOL
+from .harness import Server, holds, same
 from .texts import PAGES, TOP, block, split, text_of, told
 
 # Every block of the documents, by its first words: the checks that run it or compare it, or `not run:` and why none does.
 NOT_RUN = "not run: "
 EXAMPLES, STORE, FILE, PYTHON = "clients.tests_in_python", "docs/store.md", "docs/session-file.md", "clients/python/README.md"
 BLOCKS = {
-    "README.md": (("from femem import Client", "blocks.first_screen"), ("before: ", "blocks.first_screen")),  # and deb.first_screen, from the packages
+    "README.md": (("from femem import Client", "deb.first_screen"), ("before: ", "deb.first_screen")),
     "CONTRIBUTING.md": (
         ("make run ", "unproved.first_lines"),
         ("cd crates/fe_wire", NOT_RUN + "it proves a crate, which the gate does by other words; places.programs knows the folder"),
         ("# clause: Decoder::feed reads", "blocks.planted_edit"),
     ),
     "ARCHITECTURE.md": (("femem ", "places.layers"),),
-    "docs/cli.md": (("make -C clients/cli", "blocks.page_of_cli"), ("femem-cli counter hits", "blocks.page_of_cli"), ("1\n42", "blocks.page_of_cli")),
+    "docs/cli.md": (("make -C clients/cli", "deb_pages.pages"), ("femem-cli counter hits", "deb_pages.pages"), ("1\n42", "deb_pages.pages")),
     "docs/commands.md": (
-        ("femem serve --settings FILE", "manuals.synopsis"),
-        ("printf 'attach 7", "blocks.example_of_commands"),
+        ("femem serve --settings FILE", "manuals.synopsis"), ("printf 'attach 7", "blocks.example_of_commands"),
         ("welcome 7 1", "blocks.example_of_commands"),
     ),
     "docs/femem-store.md": (("femem-store make STORE", "manuals.of_the_tools"), ("place 6569", "rescues.shown")),
     "docs/formats.md": (("04 13 02 00", "facts.examples"), ("0000000000000003 ", "facts.examples")),
     "docs/operating.md": (
-        ("femem serve --settings /etc/femem.toml", "blocks.unit_line"),
-        ("apt install", "blocks.page_of_operating"),  # deb.py installs the packages, in a system of its own
-        ("femem-store check", "blocks.page_of_operating"),
-        ("name=test", "deb.leaves_nothing"),
-        ("folder=/srv/femem", "deb_clients.elsewhere"),
-        ("place 5", "blocks.page_of_operating"),
-        ("systemctl is-active femem", "blocks.page_of_operating"),
-        ("systemctl enable --now femem-watch.timer", "year.year"),
-        ("  femem-store backup", "blocks.page_of_operating"),
-        ("  systemctl enable --now femem-backup.timer", "year.year"),
-        ("systemctl stop femem\nfemem-store restore", "blocks.page_of_operating"),
-        ("systemctl stop femem\nfemem-store rescue", "blocks.page_of_operating"),
-        ("  printf 'attach 7", "blocks.page_of_operating"),
+        ("femem serve --settings /etc/femem.toml", "blocks.unit_line"), ("apt install", "deb_pages.operating"),
+        ("femem-store check", "deb_pages.operating"), ("name=test", "deb.leaves_nothing"),
+        ("folder=/srv/femem", "deb_clients.elsewhere"), ("place 5", "deb_pages.operating"),
+        ("systemctl is-active femem", "deb_pages.operating"), ("systemctl enable --now femem-watch.timer", "year.year"),
+        ("  femem-store backup", "deb_pages.operating"), ("  systemctl enable --now femem-backup.timer", "year.year"),
+        ("systemctl stop femem\nfemem-store restore", "deb_pages.operating"),
+        ("systemctl stop femem\nfemem-store rescue", "deb_pages.operating"), ("  printf 'attach 7", "deb_pages.operating"),
     ),
     "docs/patterns.md": (("femem run < examples/queue_of_one.txt", "runs.worked_schedules"),),
     "docs/headline.md": (("life 1 ", "blocks.timeline"),),
@@ -58,21 +48,20 @@ BLOCKS = {
         ("format ", "writes.life"), ("write   both header gates", "writes.orders"), ("PATH.new ", "writes.life"), ("sync\n1 ", "writes.life"),
     ),
     "clients/c/README.md": (
-        ("make ", "blocks.page_of_c"), ("femem *client;", "blocks.page_of_c"),
+        ("make ", "deb_pages.pages"), ("femem *client;", "deb_pages.pages"),
         ("femem_open_begin(", "examples.loop"),  # which runs examples/c/loop.c, a whole program of this form
-        *[(first, "blocks.page_of_c") for first in ("femem_open_file(", "femem_queue_open(", "femem_lock_open(")],
+        *[(first, "deb_pages.pages") for first in ("femem_open_file(", "femem_queue_open(", "femem_lock_open(")],
     ),
     PYTHON: (
-        ("python3 -m venv", "blocks.page_of_python"),
+        ("python3 -m venv", "deb_pages.pages"),
         *[(first, EXAMPLES) for first in ("from femem import", "import threading", *["from femem import"] * 3, "from collections", "import asyncio", "from femem")],
         ("def test_a_restart", EXAMPLES),
         ("import pytest", EXAMPLES),
-        ("python3 -m femem [", "blocks.page_of_python"),
+        ("python3 -m femem [", "deb_pages.pages"),
         ("python3 -m unittest", "clients.python"),  # and clients.tests_in_python; the last line takes ten minutes, and is not in the gate
     ),
     "bench/hall/README.md": (
-        ("bench/hall/run ", NOT_RUN + "it proves a program, in minutes"),
-        ("bench/hall/quick ", "counts.instructions"),
+        ("bench/hall/run ", NOT_RUN + "it proves a program, in minutes"), ("bench/hall/quick ", "counts.instructions"),
         ("bench/hall/threads ", "outside.competing_threads"),
     ),
 }
@@ -121,108 +110,6 @@ def example_of_commands(place):
     same(shell(place, words), block("docs/commands.md", "welcome 7 1"))
 
 
-def first_screen(place):
-    """the README's program prints what the README says, over a kill of its server"""
-    os.mkdir(place.path("bin"))
-    os.symlink(place.program, place.path("bin/femem"))
-    place.write("first.py", block("README.md", "from femem import Client").encode())
-    env = {"PYTHONPATH": os.path.join(TOP, "clients", "python"), "PYTHONDONTWRITEBYTECODE": "1", "TMPDIR": place.folder}
-    env["PATH"] = f"{place.path('bin')}:{os.environ['PATH']}"
-    same(shell(place, f"python3 '{place.path('first.py')}'", env=env), block("README.md", "before: "))
-
-
-FIRST_PATH = b"attach 7\n1 create cells 2 empty\n2 writeef 1 0 42\n3 readfe 1 0\n4 readxx 1 0\n"
-
-
-OPERATING = "docs/operating.md"
-# What stands for systemd here: it starts and stops nothing. deb.py asks the real one.
-SYSTEMCTL = "#!/bin/sh\n[ \"$1\" = is-active ] && echo active || true\n"
-
-
-def shell_of_operator(place, server):
-    """Runs commands of the operator's page, over a server of this check."""
-    os.mkdir(place.path("bin"))
-    os.symlink(place.program, place.path("bin/femem"))
-    os.chmod(place.write("bin/systemctl", SYSTEMCTL.encode()), 0o755)
-    os.symlink(TOOL, place.path("bin/femem-store"))
-    env = {
-        "PATH": f"{place.path('bin')}:/usr/sbin:/sbin:{os.environ['PATH']}",
-        "PYTHONPATH": os.path.join(TOP, "clients", "python"),
-        "FEMEM": place.program,
-        "FEMEM_PLACES": place.path("places"),
-        "PYTHONDONTWRITEBYTECODE": "1",
-    }
-    moved = {
-        "/run/femem/femem.socket": server.socket,
-        "/var/lib/femem/femem.store": server.store,
-        "/backup/": place.path("copy."),
-        "/etc/femem.toml": place.path("femem.toml"),
-    }
-
-    def runs(words):
-        for old, new in moved.items():
-            words = words.replace(old, new)
-        return shell(place, words, env=env)
-
-    return runs
-
-
-def page_of_operating(place):
-    """the commands of the operator's page watch a server, copy, restore and rescue its store, show its format, and end a session"""
-    if not shutil.which("ss", path=f"/usr/sbin:/sbin:{os.environ['PATH']}"):
-        raise Skipped("there is no ss")
-    server = Server(place, "femem").start()
-    runs = shell_of_operator(place, server)
-    same(runs(block(OPERATING, "apt install").splitlines()[-1]), "it serves\n")
-    same(place.run("call", "--socket", server.socket, given=FIRST_PATH)[::2], (0, b""), "the first path")
-    backup = runs(block(OPERATING, "  femem-store backup"))
-    holds(backup.startswith("place 5\nstate "), f"a backup while it runs: {backup}")
-    with server.connect():
-        words = block(OPERATING, "systemctl is-active")
-        watched(runs(words))
-        # (a connection of another command may be there for a moment)
-        until(lambda: runs(words.splitlines()[-2]) == "1\n", 20, "one connection")
-    server.stop()
-    # (the probe has added two entries)
-    wanted = [re.split("  +", it)[0] for it in block(OPERATING, "place 5").splitlines()]
-    same(server.looks().splitlines(), ["place 7", *wanted[1:]], "look")
-    holds(runs(block(OPERATING, "  femem-store backup")).startswith("place 7\n"), "a backup of the stopped store")
-    before_each_start(place, runs, server)
-    server.start()
-    same(runs(block(OPERATING, "  printf 'attach 7")), "welcome 7 1\ngoodbye 7\n")
-    server.stop()
-    saves(place, server, runs)
-
-
-def watched(said):
-    """What the commands of "Watching a server" say of a server with one connection."""
-    lines = said.splitlines()
-    same(lines[:3], ["active", "waiting 0", "waiting 0"])
-    holds(lines[-2] in ("1", "2"), f"connections: {lines[-2]}")
-    holds(lines[-1].startswith("stored in "), lines[-1])
-
-
-def before_each_start(place, runs, server):
-    """The page's lines for those without systemd: the check lets the server start, which here ends after one connection."""
-    with open(place.path("femem.toml"), "a", encoding="ascii") as file:
-        file.write("accepts = 1\n")
-    check, note = block(OPERATING, "femem-store check").splitlines()
-    asked = f"until [ -S {server.socket} ]; do sleep 0.05; done; femem call --socket {server.socket} < /dev/null; wait; rm {server.socket}"
-    said = runs(f"{check} > books & {asked}; {note}; cat {server.store}.place")
-    same(said, "place 7\n", "the last known place")
-
-
-def saves(place, server, runs):
-    """A backup is restored, and a store that is damaged then is rescued."""
-    same(runs(block(OPERATING, "systemctl stop femem\nfemem-store restore")), f"before: place 9, kept as {server.store}.before-restore\nnow: place 7\n")
-    same(server.looks().splitlines()[0], "place 7")
-    with open(server.store, "r+b") as file:
-        file.seek(JOURNAL + 5)
-        file.write(b"\x09")
-    told_of = runs(block(OPERATING, "systemctl stop femem\nfemem-store rescue"))
-    holds(told_of.startswith(f"damaged at byte {JOURNAL + 5}\n") and told_of.endswith("\nplace 0\n"), told_of)
-
-
 def timeline(place):
     """over the two stops that docs/headline.md shows, each request is answered as the page says, and adds once"""
     lives = [re.findall(r"(?<!\w)(\d) (create|int_fetch_add)(?: hits)?(?:, sent again)?(?:: (\d))?", line) for line in block("docs/headline.md", "life 1 ").splitlines()]
@@ -255,133 +142,3 @@ def shell(place, words, seconds=100, env=None):
     process.wait(seconds * place.options.patience)
     same(process.returncode, 0, f"{words}\n{place.read('shell.out').decode()}{place.read('shell.err').decode()}")
     return place.read("shell.out").decode()
-
-
-# The program around the page's examples. They leave it to the program to note each step and to make each key's request.
-PROGRAM = """#include <femem.h>
-#include <inttypes.h>
-#include <stdbool.h>
-#include <stdio.h>
-static uint64_t noted;
-static void write_progress(uint64_t step) { noted = step; }
-static uint64_t first(void) {
-FIRST
-  return was;
-}
-static void second(void) {
-  femem *client;
-  femem_settings settings = {.wait = 30000, .reconnect = 30000};
-  uint64_t done = 590;
-  char key[64];
-  femem_request add = {.operation = FEMEM_INT_FETCH_ADD, .array = 1, .index = 0, .operand = 1};
-  femem_answer answer;
-SECOND
-  femem_bye(client);
-  femem_close(client);
-}
-static unsigned worked;
-static bool work_on(uint64_t value) { return value == 7 && ++worked > 1; }
-static void third(void) {
-  femem *client;
-  femem_queue *queue;
-  femem_job job;
-  femem_open(&client, "SOCKET", 9, NULL);
-  femem_queue_open(&queue, client, "jobs", 1000, 3, 0);
-  femem_queue_put(queue, 7, NULL, 1000);
-  femem_queue_close(queue);
-#undef FEMEM_FOREVER
-#define FEMEM_FOREVER 500
-THIRD
-  femem_queue_close(queue);
-  femem_bye(client);
-  femem_close(client);
-}
-static uint64_t generation;
-static void write_with(uint64_t number) { generation = number; }
-static femem_error fourth(void) {
-  enum { count = 2 };
-  femem_answer answers[count];
-  femem *client;
-  femem_lock *lock;
-  femem_semaphore *semaphore;
-  femem_barrier *barrier;
-  femem_counter *counter;
-  uint64_t array;
-  femem_open(&client, "SOCKET", 10, NULL);
-  femem_create(client, "ready", 1, true, &array);
-  const femem_request requests[count] = {{.operation = FEMEM_WRITEEF, .array = array}, {.operation = FEMEM_READFF, .array = array}};
-FOURTH
-  femem_counter_close(counter);
-  femem_barrier_close(barrier);
-  femem_semaphore_close(semaphore);
-  femem_lock_close(lock);
-  femem_bye(client);
-  femem_close(client);
-  return answers[0].error == FEMEM_WITHDRAWN ? answers[1].error : answers[0].error;
-}
-int main(void) {
-  uint64_t was = first();
-  second();
-  third();
-  femem_error error = fourth();
-  printf("was %" PRIu64 ", then %" PRIu64 " more steps, %u tries, ", was, noted - 590, worked);
-  printf("%s, %s\\n", generation ? "locked" : "not locked", femem_error_text(error));
-}
-"""
-
-
-@within(110)
-def page_of_c(place):
-    """the commands of the C client's page build and install it; a program made of the page's examples runs against a server"""
-    compiler()
-    if not shutil.which("pkg-config"):
-        raise Skipped("there is no pkg-config")
-    server = Server(place).start()
-    shutil.copytree(os.path.join(TOP, "clients", "c"), place.path("c"), ignore=shutil.ignore_patterns("out"))
-    example = block("clients/c/README.md", "femem *client;").replace("/run/femem/femem.socket", server.socket)
-    second = block("clients/c/README.md", "femem_open_file(").replace("/run/femem/femem.socket", server.socket)
-    second = second.replace("/var/lib/worker/session", place.path("session"))
-    third = block("clients/c/README.md", "femem_queue_open(")
-    program = PROGRAM.replace("FIRST", example).replace("SECOND", second).replace("THIRD", third).replace("FOURTH", block("clients/c/README.md", "femem_lock_open("))
-    place.write("c/program.c", program.replace("SOCKET", server.socket).encode())
-    make, install, cc = block("clients/c/README.md", "make ").splitlines()
-    install = install.replace("/usr/local", place.path("usr"))
-    cc = f"{cc} -o program && ./program"
-    env = {"PKG_CONFIG_PATH": place.path("usr/lib/pkgconfig"), "LD_LIBRARY_PATH": place.path("usr/lib"), "MAKEFLAGS": "-j4"}
-    said = shell(place, f"cd c\n{make}\n{install}\n{cc}\n", env=env)
-    same(said.splitlines()[-1], "was 0, then 10 more steps, 2 tries, locked, ok")
-    server.stop()
-    holds("array 1 counter 1" in server.looks().splitlines(), "the example made its array")
-
-
-@within(110)
-def page_of_cli(place):
-    """the commands of femem-cli's page build and install it, and print against a server what the page says"""
-    compiler()
-    for folder in ("c", "cli"):
-        ignored = shutil.ignore_patterns("out")
-        shutil.copytree(os.path.join(TOP, "clients", folder), place.path(f"clients/{folder}"), ignore=ignored)
-    shell(place, block("docs/cli.md", "make -C").replace("/usr/local", place.path("usr")), env={"MAKEFLAGS": "-j4"})
-    server = Server(place).start()
-    env = {"PATH": f"{place.path('usr/bin')}:{os.environ['PATH']}", "FEMEM_SOCKET": server.socket}
-    same(shell(place, block("docs/cli.md", "femem-cli counter"), env=env), block("docs/cli.md", "1\n42"))
-
-
-@within(110)
-def page_of_python(place):
-    """the commands of the Python client's page install it; its shell reports what waits at a server"""
-    words = block("clients/python/README.md", "python3 -m venv").strip()
-    pip = ["python3", "-m", "ensurepip", "--version"]
-    if subprocess.run(pip, stdin=subprocess.DEVNULL, capture_output=True, timeout=60, check=False).returncode:
-        raise Skipped("there is no venv, of Debian's package python3-venv")
-    ignored = shutil.ignore_patterns("__pycache__", "build", "*.egg-info")
-    shutil.copytree(os.path.join(TOP, "clients", "python"), place.path("clients/python"), ignore=ignored)
-    shutil.copy(os.path.join(TOP, "LICENSE"), place.folder)
-    shell(place, words, env={"PIP_NO_INDEX": "1", "PIP_QUIET": "1", "PIP_DISABLE_PIP_VERSION_CHECK": "1"})
-    server = Server(place).start()
-    env = {"PATH": f"{place.path('femem-env/bin')}:{os.environ['PATH']}"}
-    said = shell(place, f"python3 -m femem '{server.socket}' report", env=env)
-    same(said, "waiting 0\n", "what the shell reports")
-
-
-CHECKS = (blocks_known, unit_line, targets, example_of_commands, timeline, first_screen, page_of_operating, planted_edit, page_of_c, page_of_cli, page_of_python)

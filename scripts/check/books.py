@@ -162,8 +162,7 @@ def streams_end(place):
         for frame, answer in (
             (wire.call(1, ("create", b"cells", 2, 0)), ("array", 1, 2)),
             (wire.call(2, ("access", 19, 1, 0, 42, False)), ("done",)),
-            (wire.call(3, ("access", 16, 1, 0, 0, False)), ("value", 42)),
-            (look(4, 0), ("value", 42)),
+            (wire.call(3, ("access", 16, 1, 0, 0, False)), ("value", 42)), (look(4, 0), ("value", 42)),
         ):
             for at in range(len(frame)):
                 slow.send(frame[at : at + 1])
@@ -199,15 +198,3 @@ def turns_end_a_connection(place):
     found = books_of(server)
     same((found["calls"], found["mails"], found["left"]), (0, 4, 0))
     holds(found["dropped"] <= 1, f"{found}")
-
-
-CHECKS = (
-    serve_and_call,
-    each_column,
-    waiting_goes,
-    of_many,
-    with_losses,
-    connections_come_and_go,
-    streams_end,
-    turns_end_a_connection,
-)

@@ -11,6 +11,3 @@ def c_kills(place):
     """a C client with a session file, killed at each point of its work and at random moments, in turns with its server"""
     compiler()
     return ran(place, [os.path.join(CLIENTS, "c", "check"), place.program, "kills"], 590)
-
-
-CHECKS = (c_kills,)

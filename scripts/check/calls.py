@@ -1,5 +1,6 @@
 """`femem call`: what goes over its connection and what it prints, against a server of this check that sends all its bytes at once."""
 
+import itertools
 import os
 import socket
 import threading
@@ -30,46 +31,20 @@ REPLIES = (
 
 # Lines outside the syntax.
 STRAY = (
-    b"gone",
-    b"c1 bye",
-    b"c1 gone",
-    b"c1 attach 7",
-    b"hold",
-    b"flush",
-    b"stop",
-    b"check",
-    b"jump",
-    b" ",
-    b"bye ",
-    b" bye",
-    b"Bye",
-    b"bye\r",
-    b"attach",
-    b"attach ",
-    b"attach 07",
-    b"attach  7",
-    b"attach 7 8",
-    b"attach 18446744073709551616",
-    b"1",
-    b"1 readfe 1",
-    b"1 create a 1",
+    b"gone", b"c1 bye", b"c1 gone", b"c1 attach 7", b"hold", b"flush", b"stop", b"check", b"jump", b" ", b"bye ", b" bye", b"Bye",
+    b"bye\r", b"attach", b"attach ", b"attach 07", b"attach  7", b"attach 7 ", b"attach 7 8", b"attach 18446744073709551616",
+    b"1", b"1 readfe 1", b"1 create a 1", b"1 create a 1 half", b"1 find a\tb c", b"# note",
     b"18446744073709551615 int_fetch_add 18446744073709551615 4294967295 18446744073709551615 nowait ",
 )
 
 # Bytes that are not a reply's frame, which shows at their last byte.
 BAD = (
-    b"\x00\x00\x00\x00",
-    b"\x00\x04\x00\x02",
-    b"\xff\xff\xff\xff",
-    b"\x00\x00\x00\x01\x41",
-    b"\x00\x00\x00\x01\x47",
-    b"\x00\x00\x00\x01\x08",
-    b"\x00\x00\x00\x09\x01\x00\x00\x00\x00\x00\x00\x00\x07",
-    b"\x00\x00\x00\x0a\x45\x00\x00\x00\x00\x00\x00\x00\x07\x00",
-    b"\x00\x00\x00\x0a\x46\x00\x00\x00\x00\x00\x00\x00\x02\x00",
-    b"\x00\x00\x00\x0a\x46\x00\x00\x00\x00\x00\x00\x00\x02\x0b",
+    b"\x00\x00\x00\x00", b"\x00\x04\x00\x02", b"\xff\xff\xff\xff", b"\x00\x00\x00\x01\x41", b"\x00\x00\x00\x02\x40\x31",
+    b"\x00\x00\x00\x10\x41" + bytes(15), b"\x00\x00\x00\x01\x47", b"\x00\x00\x00\x01\x08",
+    b"\x00\x00\x00\x09\x01\x00\x00\x00\x00\x00\x00\x00\x07", b"\x00\x00\x00\x0a\x45\x00\x00\x00\x00\x00\x00\x00\x07\x00",
+    b"\x00\x00\x00\x0a\x46\x00\x00\x00\x00\x00\x00\x00\x02\x00", b"\x00\x00\x00\x0a\x46\x00\x00\x00\x00\x00\x00\x00\x02\x0b",
     b"\x00\x00\x00\x16\x42\x00\x00\x00\x00\x00\x00\x00\x02\x0c\x00\x00\x00\x00\x00\x00\x00\x00\x00\x00\x00\x00",
-    b"\x00\x00\x00\x02\x47\xff",
+    b"\x00\x00\x00\x16\x42" + bytes(8) + b"\x02" + bytes(11) + b"\x01", b"\x00\x00\x00\x02\x47\xff",
 )
 
 # Other replies, with what is printed for each.
@@ -127,14 +102,14 @@ class Other:
     def __exit__(self, *_):
         self.listener.close()
 
-    def talk(self, place, lines, answers, ends=False, env=None, closed=""):
+    def talk(self, place, lines, answers, ends=False, **how):
         """Runs `call` with these lines, against these answers: its status, output and errors, and what it sent."""
         came = []
         is_over = threading.Event()
         thread = threading.Thread(target=self.serve, args=(answers, ends, came, is_over), daemon=True)
         thread.start()
         try:
-            ran = place.run("call", "--socket", self.path, given=lines, env=env, closed=closed)
+            ran = place.run("call", "--socket", self.path, given=lines, **how)
         finally:
             is_over.set()
             thread.join(20)
@@ -218,11 +193,8 @@ def odd_lines(place):
     longest = b"18446744073709551615 int_fetch_add 18446744073709551615 4294967295 18446744073709551615 nowait\n"
     with Other(place) as other:
         for lines, printed, sent in (
-            (b"", b"", b""),
-            (b"\n\n\n", b"", b""),
-            (b"bye", b"goodbye 7\n", wire.bye()),
-            (b"\n\nbye\n\n", b"goodbye 7\n", wire.bye()),
-            (longest, b"goodbye 7\n", wire.message_of(longest.split())),
+            (b"", b"", b""), (b"\n\n\n", b"", b""), (b"bye", b"goodbye 7\n", wire.bye()),
+            (b"\n\nbye\n\n", b"goodbye 7\n", wire.bye()), (longest, b"goodbye 7\n", wire.message_of(longest.split())),
         ):
             same(other.talk(place, lines, GOODBYE), ((0, printed, b""), sent), lines)
 
@@ -257,11 +229,11 @@ def bad_frames(place):
 
 
 def server_ends(place):
-    """a server that ends the connection within a reply, at each of its bytes, is `femem: socket`"""
+    """a server that ends the connection within a reply, the first or the second, at each of its bytes, is `femem: socket`"""
     with Other(place) as other:
-        for count in range(len(WELCOME)):
-            found = other.talk(place, b"attach 7\n" * 3, WELCOME + WELCOME[:count], ends=True)
-            same(found, ((4, b"welcome 7 1\n", b"femem: socket\n"), wire.attach(7) * 2), f"{count} bytes")
+        for before, count in itertools.product((0, 1), range(len(WELCOME))):
+            found = other.talk(place, b"attach 7\n" * 3, WELCOME * before + WELCOME[:count], ends=True)
+            same(found, ((4, b"welcome 7 1\n" * before, b"femem: socket\n"), wire.attach(7) * (before + 1)), f"{before} replies, {count} bytes")
     return f"{count + 1} lengths"
 
 
@@ -314,10 +286,8 @@ def streams_fail(place):
     with Other(place) as other:
         for call, wanted, calls in (
             # (the last read returns nothing)
-            ("read", behind_reads, len(FIRST_PATH) + 1),
-            ("write", behind_writes, len(PRINTED)),
-            ("recv", behind_receives, len(b"".join(REPLIES))),
-            ("send", behind_sends, len(b"".join(MESSAGES))),
+            ("read", behind_reads, len(FIRST_PATH) + 1), ("write", behind_writes, len(PRINTED)),
+            ("recv", behind_receives, len(b"".join(REPLIES))), ("send", behind_sends, len(b"".join(MESSAGES))),
         ):
             found = until_none_fails(place, other, library, call, 1, wanted)
             same(found, calls, call)
@@ -362,32 +332,15 @@ def closed_streams(place):
     told = b"femem: input\n"
     with Other(place) as other:
         for closed, sent, errors in (
-            ("<&-", b"", told),
-            (">&-", MESSAGES[0], told),
-            ("<&- >&-", b"", told),
-            (">&- 2>&-", MESSAGES[0], b""),
+            ("<&-", b"", told), (">&-", MESSAGES[0], told), ("<&- >&-", b"", told), (">&- 2>&-", MESSAGES[0], b""),
             ("<&- >&- 2>&-", b"", b""),
         ):
             # (what the server sends is also a line: a client that read its input from its connection would send it back)
             found = other.talk(place, FIRST_PATH, REPLIES[0] + b"\nattach 8\n", closed=closed)
             same(found, ((2, b"", errors), sent), closed)
+        with open("/dev/full", "wb") as full:
+            same(other.talk(place, b"attach 7\n", WELCOME, stdout=full)[0][::2], (2, told), "a full device")
         found = other.talk(place, b"jump\n", b"", closed="2>&-")
         same(found, ((2, b"", b""), b""), "a stray line, 2>&-")
     for words, closed in ((("run",), "<&-"), (("run",), ">&-"), (("--help",), ">&-")):
         same(place.run(*words, given=b"c1 attach 7\n", closed=closed), (2, b"", told), f"{words[0]} {closed}")
-
-
-CHECKS = (
-    first_path,
-    other_frames,
-    other_replies,
-    odd_lines,
-    much,
-    stray_lines,
-    bad_frames,
-    server_ends,
-    streams_fail,
-    memory_refused,
-    connects,
-    closed_streams,
-)

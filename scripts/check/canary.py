@@ -14,9 +14,10 @@ import subprocess
 import sys
 import tempfile
 from concurrent.futures import ThreadPoolExecutor
+from pathlib import Path
 
 from . import wrong_disks
-from .harness import Skipped, Wrong, compiler, holds, same, within
+from .harness import compiler, holds, same, within
 from .targets import copy_of
 from .texts import TOP
 
@@ -50,34 +51,20 @@ DISKS = {
 }
 # The bodies of the server's edge.
 EDGES = {
-    "writer_leaves_silently": ("ends.closed_with_reports",),
-    "reader_leaves_silently": ("crowds.bad_frames",),
-    "drained_rings_nobody": ("ends.half_closed_replies",),
-    "rest_rings_nobody": ("ends.half_closed_replies",),
-    "empty_box_rings_nobody": ("ends.half_closed_replies",),
-    "refusals_ring_nobody": ("crowds.refusals",),
-    "room_rings_nobody": ("crowds.waits_for_room",),
-    "room_rings_one": ("crowds.all_wait_for_room",),
-    "stop_rings_no_work": ("crowds.held_call_holds_one",),
-    "stop_rings_no_room": ("ends.fault_while_all_wait",),
-    "keeps_baton": ("crowds.pipelines",),
-    "sends_one_by_one": ("counts.a_window",),
-    "accepts_without_a_pause": ("counts.no_files_left",),
-    "admission_unannounced": ("ends.at_the_limit",),
-    "never_ended": ("ends.at_the_limit",),
-    "late_client_waits_half_a_minute": ("ends.door_behind_half_closed",),
-    "ends_after_three_seconds": ("ends.fault_with_silent_clients",),
-    "hangs_up_half": ("ends.fault_with_silent_clients",),
-    "streams_not_shut": ("ends.fault_with_silent_clients",),
-    "listener_not_shut": ("ends.told_before_a_fault",),
-    "socket_not_reached": ("ends.two_at_one_socket",),
-    "too_few_files_will_do": ("ends.few_descriptors",),
-    "leaves_name_beside": ("ends.ready_socket",),
-    "takes_anything_beside": ("ends.beside_another",),
-    "stacks_of_128_megabytes": ("faults.little_memory",),
-    "closed_streams_not_held": ("calls.closed_streams",),
-    "leaves_new_store": ("files.left_over",),
-    "waits_a_minute_for_a_reader": ("crowds.never_reads",),
+    "writer_leaves_silently": ("ends.closed_with_reports",), "reader_leaves_silently": ("crowds.bad_frames",),
+    "drained_rings_nobody": ("ends.half_closed_replies",), "rest_rings_nobody": ("ends.half_closed_replies",),
+    "empty_box_rings_nobody": ("ends.half_closed_replies",), "refusals_ring_nobody": ("crowds.refusals",),
+    "room_rings_nobody": ("crowds.waits_for_room",), "room_rings_one": ("crowds.all_wait_for_room",),
+    "stop_rings_no_work": ("crowds.held_call_holds_one",), "stop_rings_no_room": ("ends.fault_while_all_wait",),
+    "keeps_baton": ("crowds.pipelines",), "sends_one_by_one": ("counts.a_window",),
+    "accepts_without_a_pause": ("counts.no_files_left",), "admission_unannounced": ("ends.at_the_limit",),
+    "never_ended": ("ends.at_the_limit",), "late_client_waits_half_a_minute": ("ends.door_behind_half_closed",),
+    "ends_after_three_seconds": ("ends.fault_with_silent_clients",), "hangs_up_half": ("ends.fault_with_silent_clients",),
+    "streams_not_shut": ("ends.fault_with_silent_clients",), "listener_not_shut": ("ends.told_before_a_fault",),
+    "socket_not_reached": ("ends.two_at_one_socket",), "too_few_files_will_do": ("ends.few_descriptors",),
+    "leaves_name_beside": ("ends.ready_socket",), "takes_anything_beside": ("ends.beside_another",),
+    "stacks_of_128_megabytes": ("faults.little_memory",), "closed_streams_not_held": ("calls.closed_streams",),
+    "leaves_new_store": ("files.left_over",), "waits_a_minute_for_a_reader": ("crowds.never_reads",),
 }
 WRONG = {**DISKS, **EDGES}
 # Bodies that no check notices, and why.
@@ -105,11 +92,9 @@ def edited(copy):
 
 
 def replace(path, old, new):
-    with open(path, encoding="utf-8") as file:
-        content = file.read()
+    content = Path(path).read_text("utf-8")
     same(content.count(old), 1, f"{path}: how often it has {old!r}")
-    with open(path, "w", encoding="utf-8") as file:
-        file.write(content.replace(old, new))
+    Path(path).write_text(content.replace(old, new), "utf-8")
 
 
 def sum_of(folder):
@@ -139,8 +124,7 @@ def built():
         ran = subprocess.run([os.path.join(text, "scripts", "quick")], stdin=subprocess.DEVNULL, capture_output=True, text=True, check=False)
         same(ran.returncode, 0, ran.stdout + ran.stderr)
         os.replace(os.path.join(text, "out", "unproved", "femem-unproved"), program)
-        with open(known, "w", encoding="ascii") as file:
-            file.write(found)
+        Path(known).write_text(found, "ascii")
     shutil.rmtree(text)
     return program
 
@@ -227,7 +211,7 @@ LINES = {
     "checks, what breaks has passed": (HARNESS, '            why = f"{type(error).__name__}: {error}{where(error)}"\n', "            why = None\n", MUST_FAIL, FAILED),
     "checks, what is late has passed": (HARNESS, '            why = f"no end within {seconds} seconds"\n', "            pass\n", MUST_FAIL, FAILED),
     "checks, a part that is not run": ("scripts/check_programs", '"stops", "kills", ', '"stops", ', check("outside.all_run"), FAILED),
-    "checks, a test that is not there": ("scripts/check/ends.py", "    unread_reports,\n)", ")", check("outside.all_run"), FAILED),
+    "checks, a test that is not there": ("scripts/check/ends.py", 'cost less than 20 MB"""', 'cost less than 20 MB."""', check("outside.all_run"), FAILED),
     "checks, any clause will do": ("crates/fe_words/must-fail/add_saturates.edit", "# clause: Op::rule (", "# clause: Op::rules (", check("edits.fit"), FAILED),
     "gate, its status is lost": (".ci/run", "exec make test", "make test || true", check("constants.lines"), FAILED),
     "gate, more handles": ("HANDLES", "Net.", "Net, Processes.", check("constants.lines"), FAILED),
@@ -259,6 +243,3 @@ def lines(place):
     top = copy_of(place)
     same([it for it in LINES if not has_noticed(place, top, it)], [], "wrong lines that nothing noticed")
     return f"{len(LINES)} of {len(LINES)} wrong lines noticed"
-
-
-CHECKS = (edges, lines)

@@ -89,16 +89,10 @@ def spell(state, form=TWO):
 
 def names():
     say(
-        f"let attached {record(attached())}",
-        f"let created {record(CELLS)}",
-        f"let long {record(LONG)}",
-        f"let closed7 {record(('closed', 7))}",
-        f"let closed8 {record(('closed', 8))}",
-        f"let attached1 {record(attached(), ONE)}",
-        f"let created1 {record(CELLS, ONE)}",
-        f"let closed1 {record(('closed', 8), ONE)}",
-        f"let empty {spell(State())}",
-        f"let last_line {b'all-wait yes'.hex()}0a",
+        f"let attached {record(attached())}", f"let created {record(CELLS)}", f"let long {record(LONG)}",
+        f"let closed7 {record(('closed', 7))}", f"let closed8 {record(('closed', 8))}",
+        f"let attached1 {record(attached(), ONE)}", f"let created1 {record(CELLS, ONE)}",
+        f"let closed1 {record(('closed', 8), ONE)}", f"let empty {spell(State())}", f"let last_line {b'all-wait yes'.hex()}0a",
     )
 
 
@@ -165,14 +159,10 @@ def journal_rows():
     two, caught = held(1, EMPTY, LONG_RECORD, LONG_RECORDS), held(2, IMAGE_30, LONG_RECORDS)
     nothing = held(3, EMPTY)
     return [
-        ("append", f"group {LONG_RECORD}", 5, 4, new, one),
-        ("slot_close", "close 30", 9, 2, one, one),
-        ("slot_write", f"slice {IMAGE_30[:20]}", 11, 1, one, one),
-        ("append", f"group {LONG_RECORDS}", 12, 4, one, two),
-        ("slot_write", f"slice {IMAGE_30[20:]}", 16, 1, two, two),
-        ("slot_finish", f"open {LONG_RECORDS}", 17, 4, two, caught),
-        ("slot_close", "close 24", 21, 4, caught, caught),
-        ("slot_write", f"slice {EMPTY}", 25, 1, caught, caught),
+        ("append", f"group {LONG_RECORD}", 5, 4, new, one), ("slot_close", "close 30", 9, 2, one, one),
+        ("slot_write", f"slice {IMAGE_30[:20]}", 11, 1, one, one), ("append", f"group {LONG_RECORDS}", 12, 4, one, two),
+        ("slot_write", f"slice {IMAGE_30[20:]}", 16, 1, two, two), ("slot_finish", f"open {LONG_RECORDS}", 17, 4, two, caught),
+        ("slot_close", "close 24", 21, 4, caught, caught), ("slot_write", f"slice {EMPTY}", 25, 1, caught, caught),
         ("slot_finish", "open", 26, 4, caught, nothing),
     ]
 
@@ -521,10 +511,8 @@ def images():
     say(f"let image {spell(two_sessions(b'cells', kept), ONE)}", "again 1 $image")
     case("kept_answers_both_ways")
     kept = {
-        1: (("create", b"a_name_of_17bytes", 2, 1), ("array", 1, 2), 3),
-        2: (("find", b"wells"), ("no-array",), 4),
-        3: (("remove", 3), ("done",), 5),
-        5: (("access", 16, 1, 1, 0, 1), ("not-now",), 6),
+        1: (("create", b"a_name_of_17bytes", 2, 1), ("array", 1, 2), 3), 2: (("find", b"wells"), ("no-array",), 4),
+        3: (("remove", 3), ("done",), 5), 5: (("access", 16, 1, 1, 0, 1), ("not-now",), 6),
         32: (("access", 23, 1, 0, 2, 0), ("value", 40), 8),
     }
     say(f"again 2 {spell(two_sessions(b'a_name_of_17bytes', kept))}")
@@ -593,8 +581,7 @@ REMOVAL = (
 # A connection in use is not connected again, so a partial frame goes on. Nothing is read after a bad frame.
 # If the connection's number comes again, its replies are added to the earlier ones.
 BAD_FRAME = (
-    [(1, "00000009"), (1, "010000000000000007"), (1, "00000000" + attach(7)), (1, attach(7))],
-    {1: [welcome(7), welcome(7)]},
+    [(1, "00000009"), (1, "010000000000000007"), (1, "00000000" + attach(7)), (1, attach(7))], {1: [welcome(7), welcome(7)]},
     [1, 1],
 )
 PATHS = (("first_path", FIRST), ("broadcast", BROADCAST), ("removal", REMOVAL))
@@ -793,9 +780,6 @@ def laboratory(place):
     """the script of test_laboratory and its expected output are the model's"""
     for name, text in zip(("stdin", "stdout"), spelled()):
         same((FOLDER / name).read_text() == text, True)
-
-
-CHECKS = (laboratory,)
 
 if __name__ == "__main__":
     for name, text in zip(("stdin", "stdout"), spelled()):

@@ -105,4 +105,4 @@ def kept(_place):
     return told([*missing, "`scripts/census` writes the file anew: look at each line that it changes"] if missing else [], len(found), 2_000, "functions, constants and definitions")
 
 
-CHECKS = (kept, *closure.CHECKS)
+ALSO = ("closure",)

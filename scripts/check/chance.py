@@ -3,10 +3,11 @@
 import random
 import threading
 import time
+from pathlib import Path
 
 from . import wire
 from .copies import copied
-from .harness import Server, Wrong, holds, same, within
+from .harness import Server, holds, same, within
 from .history import History
 from .model import EMPTY, FULL
 
@@ -186,8 +187,7 @@ def histories(place):
         client.conn.wait(0.01)
         holds(not client.listen(0.01), "an answer came late")
     server.stop()
-    with open(server.store, "rb") as file:
-        history.read(file.read())
+    history.read(Path(server.store).read_bytes())
     for client in clients:
         for life, number, request, answer in client.told:
             found = history.finished.get((client.session, life, number))
@@ -211,6 +211,3 @@ def nobody_is_left(waiting, history, clients):
     for client in clients:
         same(seen.get(client.session, set()), set(client.open), f"what session {client.session} waits for")
     return len(rows)
-
-
-CHECKS = (histories,)

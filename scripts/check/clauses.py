@@ -130,6 +130,3 @@ def promised(_place):
                 missing += [f"{page}:{number}: {function} has no clause {it}" for it in lost]
                 missing += [f"{page}:{number}: no function {function}"] if listed and "::" in function and not known else []
     return told(missing, count, 220, "names")
-
-
-CHECKS = (clauses, cited, promised)

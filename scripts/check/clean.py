@@ -7,9 +7,10 @@ import random
 import re
 import shutil
 import subprocess
+from pathlib import Path
 
 from . import wire
-from .harness import Skipped, Wrong, same, until
+from .harness import Served, Skipped, Wrong, same, until
 
 STORE = "/var/lib/femem/femem.store"
 SOCKET = "/run/femem/femem.socket"
@@ -98,8 +99,7 @@ class Clean:
         """The first process of the namespaces, once it has become systemd."""
         if self.process.poll() is not None:
             raise Wrong(f"there is no clean Debian: {self.said('clean.err')}")
-        with open(f"/proc/{self.process.pid}/task/{self.process.pid}/children", encoding="ascii") as file:
-            found = file.read().split()
+        found = Path(f"/proc/{self.process.pid}/task/{self.process.pid}/children").read_text("ascii").split()
         for it in found:
             try:
                 with open(f"/proc/{it}/comm", encoding="ascii") as file:
@@ -148,21 +148,13 @@ class Clean:
         return self.ask("systemctl", "is-system-running")[1].strip()
 
 
-class Unit:
+class Unit(Served):
     """The server run by the unit, for the clients of the other checks."""
 
     def __init__(self, clean):
         self.clean = clean
         self.socket = clean.path(SOCKET)
         self.store = clean.path(STORE)
-
-    def connect(self, **how):
-        return wire.Connection(self.socket, **how)
-
-    def attached(self, session, **how):
-        conn = self.connect(**how)
-        same(conn.ask(wire.attach(session))[:2], ("welcome", session))
-        return conn
 
     def shows(self, *names):
         """What systemd says of the unit."""
@@ -190,12 +182,10 @@ class Unit:
 
     def status(self):
         """What the kernel says of the server's process."""
-        with open(self.clean.path(f"/proc/{self.pid()}/status"), encoding="ascii") as file:
-            return dict(re.findall(r"^(\w+):\s*(.*)$", file.read(), re.M))
+        return dict(re.findall(r"^(\w+):\s*(.*)$", Path(self.clean.path(f"/proc/{self.pid()}/status")).read_text("ascii"), re.M))
 
     def settings(self, text):
-        with open(self.clean.path("/etc/femem.toml"), "w", encoding="ascii") as file:
-            file.write(text)
+        Path(self.clean.path("/etc/femem.toml")).write_text(text, "ascii")
 
 
 def installed(clean, *names):

@@ -151,6 +151,3 @@ def alone(place):
         tried.append(place.read(f"{name}.trace").count(b"connect("))
         holds(3 <= tried[-1] <= MOST_ATTEMPTS, f"{name}: {tried[-1]} attempts")
     return f"{tried[0]} and {tried[1]} attempts"
-
-
-CHECKS = (tests_in_c, c, cli, tests_in_python, python, alone)

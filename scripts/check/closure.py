@@ -4,6 +4,7 @@ import functools
 import glob
 import os
 import re
+from pathlib import Path
 
 from .harness import holds, same
 from .texts import TOP, split, text_of
@@ -16,14 +17,10 @@ PLACED = re.compile(r"`(\w+)` \(`(fe_\w+)/(\w+)`\)")
 
 # What the clauses of the promise cite: each has to be counted.
 CITED = {
-    ("fe_desk.specs.Crash", "Advances"),
-    ("fe_keeper.specs.Stands", "LeavesPrefix"),
-    ("fe_desk.specs.Acknowledged", "AnswersStand"),
-    ("fe_desk.specs.Lives", "FinishOnceIn"),
-    ("fe_desk.specs.Lives", "StopsAreLives"),
-    ("fe_server.specs.Acknowledged", "HasCommitted"),
-    ("fe_server.specs.Acknowledged", "IsAcknowledged"),
-    ("fe_keeper.specs.Opened", "IsOpenedFrom"),
+    ("fe_desk.specs.Crash", "Advances"), ("fe_keeper.specs.Stands", "LeavesPrefix"),
+    ("fe_desk.specs.Acknowledged", "AnswersStand"), ("fe_desk.specs.Lives", "FinishOnceIn"),
+    ("fe_desk.specs.Lives", "StopsAreLives"), ("fe_server.specs.Acknowledged", "HasCommitted"),
+    ("fe_server.specs.Acknowledged", "IsAcknowledged"), ("fe_keeper.specs.Opened", "IsOpenedFrom"),
 }
 
 
@@ -59,8 +56,7 @@ def modules():
     found = {}
     root = os.path.join(TOP, "crates")
     for path in glob.glob(os.path.join(root, "*", "specs", "**", "*.antt"), recursive=True):
-        with open(path, encoding="utf-8") as file:
-            found[os.path.relpath(path, root)[:-5].replace("/", ".")] = Module(file.read().split("\n"))
+        found[os.path.relpath(path, root)[:-5].replace("/", ".")] = Module(Path(path).read_text("utf-8").split("\n"))
     return found
 
 
@@ -120,6 +116,3 @@ def headline(_place):
     missing = CITED - set(names)
     holds(not missing, f"the table counts what the promise cites: {sorted(missing)}")
     return ", ".join(f"{definitions} definitions of {count} lines" for _, definitions, count in rows[-2:])
-
-
-CHECKS = (headline,)

@@ -22,14 +22,10 @@ SANITIZERS = "-fsanitize=address,undefined -fno-sanitize-recover=all"
 
 # The table of CONTRIBUTING.md: what, and how much.
 FIXED = {
-    "handles that a crate may ask for": HANDLES.split(": ")[1],
-    "kills of the server under load": str(KILLS),
-    "kills in each check of stops": str(STOPS),
-    "patience of the gate": str(PATIENCE),
+    "handles that a crate may ask for": HANDLES.split(": ")[1], "kills of the server under load": str(KILLS),
+    "kills in each check of stops": str(STOPS), "patience of the gate": str(PATIENCE),
     "system calls of a lone call": f"{MOST_CALLS}, {MOST_FUTEX} of them futex",
-    "instructions, from the figures": f"{INSTRUCTIONS_WITHIN} %",
-    "warnings of C": WARNINGS,
-    "sanitizers of C": SANITIZERS,
+    "instructions, from the figures": f"{INSTRUCTIONS_WITHIN} %", "warnings of C": WARNINGS, "sanitizers of C": SANITIZERS,
 }
 # The lines of files that no other check reads, each with its whole text.
 LINES = {
@@ -74,6 +70,3 @@ def fixed(_place):
     """the table of CONTRIBUTING.md has the constants of the gate"""
     same({row[0]: row[1] for row in rows("CONTRIBUTING.md", "| what | how much |")}, FIXED)
     return f"{len(FIXED)} constants"
-
-
-CHECKS = (lines, test_files, fixed)

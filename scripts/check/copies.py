@@ -4,13 +4,13 @@ import os
 import shutil
 import signal
 import subprocess
-import threading
 import time
 
 from . import store, wire
 from .crowds import adding
 from .books import books_of, text
-from .harness import Held, Server, Skipped, holds, same, until, within
+from .harness import Held, Server, Skipped, holds, same, until
+from .looks import Load
 
 HEADERS = ((0, store.IMAGE), (store.SLOT, store.IMAGE))
 
@@ -37,38 +37,6 @@ def left_by_serve(place):
     same(other.looks(), "place 32\narray 1 cells 3\nsession 7 floor 1 kept 30\n")
 
 
-class Load:
-    """A client that adds to a word and settles until it is stopped."""
-
-    def __init__(self, server):
-        self.server = server
-        self.answered = 0
-        self.is_ending = False
-        self.raised = None
-        self.thread = threading.Thread(target=self.work, daemon=True)
-        self.thread.start()
-
-    def work(self):
-        try:
-            with self.server.attached(7) as conn:
-                number = 2
-                while not self.is_ending:
-                    conn.send(b"".join(wire.call(number + k, adding(1, 0, 1)) for k in range(15)) + wire.settle(number + 15))
-                    for k in range(15):
-                        same(conn.reply(), ("answer", number + k, ("value", self.answered)))
-                        self.answered += 1
-                    number += 15
-                    same(conn.reply(), ("settled", number))
-        except Exception as error:
-            self.raised = error
-
-    def end(self):
-        self.is_ending = True
-        self.thread.join(30)
-        if self.raised:
-            raise self.raised
-
-
 def copied(path):
     """A store's bytes, read from beginning to end while it is written: None if a checkpoint began or ended meanwhile."""
     with open(path, "rb") as file:
@@ -78,15 +46,11 @@ def copied(path):
         return content if before == headers() else None
 
 
-@within(60)
 def taken_in_mid_run(place):
     """copies of the file under load, with no checkpoint beginning or ending, have everything answered before them"""
     server = Server(place).start()
-    with server.attached(7) as conn:
-        same(conn.ask(wire.call(1, ("create", b"counter", 1, 1))), ("answer", 1, ("array", 1, 1)))
-        same(conn.ask(wire.settle(2)), ("settled", 2))
     load = Load(server)
-    until(lambda: load.answered, 10, "the load begins")
+    until(lambda: load.answered > 100 or load.raised, 30, "the load begins")
     copies = others = 0
     ends = time.monotonic() + 4
     while time.monotonic() < ends or copies < 8:
@@ -95,43 +59,18 @@ def taken_in_mid_run(place):
         if content is None:
             others += 1
             continue
-        later = load.answered
-        value = store.read_store(content)[2].arrays[1].words[0][0]
-        # (answers reach this check a moment after their entries are stored: at most 15 are on their way)
-        holds(answered <= value <= later + 15, f"a copy has {value}, of {answered} answers before it and {later} behind it")
+        state = store.read_store(content)[2]
+        holds(state == load.at(state.place, answered, f"copy {copies}"), f"copy {copies} is another state than that of its place")
         copies += 1
         if copies % 8 == 1:
-            file = place.write("copy", content)
-            status, output, errors = place.run("look", "--store", file)
-            same((status, errors), (0, b""), "look at a copy")
-            same(output.decode(), store.read_store(content)[2].looks())
-            if copies % 24 == 1:
-                opened(place, file, value)
+            other = Server(place, "t", store=place.write("copy", content), format=False)
+            same(other.looks(), state.looks())
+            with other.start().attached(8) as conn:
+                same(conn.ask(wire.call(1, adding(1, 0, 1))), ("answer", 1, ("value", state.arrays[1].words[0][0])))
+            other.stop()
         time.sleep(0.02)
     load.end()
-    server.stop()
     return f"{copies} copies, {others} given up, {load.answered} answers"
-
-
-def opened(place, file, value):
-    other = Server(place, "t", store=file, format=False).start()
-    with other.attached(8) as conn:
-        same(conn.ask(wire.call(1, adding(1, 0, 1))), ("answer", 1, ("value", value)))
-    other.stop()
-
-
-def left_by_a_kill(place):
-    """a store left by a kill shows the same at two looks"""
-    server = Server(place).start()
-    with server.attached(7) as conn:
-        conn.send(b"".join(wire.call(number, ("find", b"a")) for number in range(1, 33)))
-        conn.reply()
-        server.stop()
-    content = place.read("s.store")
-    first = server.looks()
-    same(server.looks(), first)
-    holds(place.read("s.store") == content, "`look` changed the store")
-    same(first, store.read_store(content)[2].looks())
 
 
 def copy_goes_on(place):
@@ -184,6 +123,3 @@ def may_only_be_read(place):
         raise Skipped("the folder of temporary files is open to its owner alone") from None
     holds(not may_write, "the user may write the store")
     same((look.returncode, look.stdout, look.stderr), (0, b"place 1\nsession 7 floor 1 kept 0\n", b""))
-
-
-CHECKS = (left_by_serve, taken_in_mid_run, copy_goes_on, left_by_a_kill, may_only_be_read)

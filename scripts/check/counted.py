@@ -5,13 +5,12 @@ plus is the least."""
 
 import glob
 import importlib
-import inspect
 import os
 import re
 import subprocess
 import sys
 
-from .harness import holds
+from .harness import checks_in, checks_of, holds
 from .texts import TOP, text_of
 
 FILE = "scripts/check/counted.txt"
@@ -50,12 +49,6 @@ def printed(line, said):
     return {name: sorted(counts) for name, counts in found.items()}
 
 
-def is_check(function):
-    """Whether a function is a check: it takes a place, and says what holds, without a full stop."""
-    names = list(inspect.signature(function).parameters)
-    return names in (["place"], ["_place"]) and function.__doc__ is not None and not function.__doc__.strip().endswith(".")
-
-
 def checks():
     """The checks that scripts/check_programs runs, and those that there are, by part and module."""
     programs = text_of("scripts/check_programs")
@@ -63,10 +56,9 @@ def checks():
     run, there = {}, set()
     for path in sorted(glob.glob(os.path.join(TOP, "scripts", "check", "*.py"))):
         name = os.path.basename(path).removesuffix(".py")
-        module = importlib.import_module(f"check.{name}")
-        there |= {f"{name}.{it.__name__}" for _, it in inspect.getmembers(module, inspect.isfunction) if it.__module__ == module.__name__ and is_check(it)}
+        there |= {f"{name}.{it.__name__}" for it in checks_in(importlib.import_module(f"check.{name}"))}
         if name in parts:
-            run[name] = [f"{it.__module__.removeprefix('check.')}.{it.__name__}" for it in module.CHECKS]
+            run[name] = [f"{it.__module__.removeprefix('check.')}.{it.__name__}" for it in checks_of(name)]
     return run, there
 
 

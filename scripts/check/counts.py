@@ -9,6 +9,7 @@ import shutil
 import struct
 import subprocess
 import time
+from pathlib import Path
 
 from . import wire
 from .clients import output_of
@@ -38,8 +39,7 @@ class Counted:
         os.chmod(place.program, 0o755)
 
     def all(self):
-        with open(self.file, "rb") as file:
-            return struct.unpack("512Q", file.read())
+        return struct.unpack("512Q", Path(self.file).read_bytes())
 
     def since(self, before):
         """How often each call was made since then, by name; `all` has the sum of all calls, named or not."""
@@ -103,13 +103,13 @@ def lone_calls(place):
             # (the next receive may have begun)
             holds(found["receive"] in (entries - 1, entries), name)
             holds(found["futex"] <= MOST_FUTEX * entries and found["all"] <= MOST_CALLS * entries, name)
-    server.stop()
     return f"{found['futex'] / entries:.1f} futex calls, {found['all'] / entries:.1f} in all"
 
 
 CLIENTS, WINDOWS = 48, 6
 
 
+@within(120)
 def windows(place):
     """48 clients with windows of 32 calls: fewer than 2 sends a window, and one futex call for two calls"""
     counted = Counted(place)
@@ -137,8 +137,7 @@ def windows(place):
 
 def processor_time(server):
     """The processor time of a server so far, in seconds."""
-    with open(f"/proc/{server.process.pid}/stat", encoding="utf-8") as file:
-        fields = file.read().rsplit(")", 1)[1].split()
+    fields = Path(f"/proc/{server.process.pid}/stat").read_text("utf-8").rsplit(")", 1)[1].split()
     return (int(fields[11]) + int(fields[12])) / os.sysconf("SC_CLK_TCK")
 
 
@@ -155,7 +154,6 @@ def lone_time(place):
             lone(conn, first, 50)
             took = processor_time(server) - before
             holds(took <= MOST_SECONDS, f"{first + 49} calls took {took:.2f} s")
-    server.stop()
     return f"{took:.2f} s"
 
 
@@ -171,7 +169,6 @@ def report_time(place):
             same(other.ask(wire.report())[0], "report")
             took = processor_time(server) - before
             holds(took <= MOST_FOR_REPORTS, f"{count} reports took {took:.2f} s")
-    server.stop()
     return f"{took:.2f} s"
 
 
@@ -224,7 +221,6 @@ def no_files_left(place):
     for conn in conns:
         same(conn.ask(wire.report())[0], "report")
         conn.close()
-    server.stop()
     return f"{count / seconds:.0f} tries a second"
 
 
@@ -265,7 +261,6 @@ def baton(place):
         os.unlink(mark)
         same([second.reply(), second.reply()], [("answer", number, ("value", 51 + number)) for number in (1, 2)])
         same([first.reply() for _ in range(6, 33)], [("answer", number, ("value", number - 1)) for number in range(6, 33)])
-    server.stop()
 
 
 # The figures of bench/hall/README.md, by the function that bench/hall/quick names.
@@ -295,8 +290,7 @@ def resident(server):
 
     def is_at_rest():
         time.sleep(0.1)
-        with open(f"/proc/{server.process.pid}/statm", encoding="ascii") as file:
-            sizes.append(int(file.read().split()[1]) * resource.getpagesize())
+        sizes.append(int(Path(f"/proc/{server.process.pid}/statm").read_text("ascii").split()[1]) * resource.getpagesize())
         return sizes[-1] == sizes[-2]
 
     until(is_at_rest, 20, "the server's memory comes to rest")
@@ -353,6 +347,3 @@ def memory(place):
         part = 2 if name == START else 4
         holds(abs(size - said[name]) <= said[name] / part, f"{name}: {size:.0f} bytes, not {said[name]:.0f}")
     return ", ".join(f"{size / 1024:.0f}" for size in found.values()) + " KB"
-
-
-CHECKS = (a_window, lone_calls, within(120)(windows), lone_time, report_time, idle, memory, no_files_left, baton, instructions)

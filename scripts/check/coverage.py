@@ -102,6 +102,3 @@ def python(place):
             found[os.path.relpath(path, TOP)] = (lines, its["summary"]["num_branches"], its["summary"]["covered_branches"])
     # (a client that is counted is some times slower, so a test that bounds its time may fail)
     return left("python", found) + "".join(f", {it} failed" for it in failed)
-
-
-CHECKS = (c, python)

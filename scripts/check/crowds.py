@@ -93,7 +93,6 @@ def hand_overs(place):
     together(2 * pairs, work)
     wanted = sorted(client * 1000 + number for client in range(pairs) for number in range(1, each + 1))
     same(sorted(value for it in taken for value in it), wanted)
-    server.stop()
     return f"{pairs * each} values"
 
 
@@ -164,7 +163,6 @@ def all_wait_for_room(place):
     held.let_go()
     for conn in others:
         same(conn.reply(), ("answer", 1, ("no-array",)))
-    server.stop()
 
 
 def attaches(server):
@@ -212,7 +210,6 @@ def one_after_another(place):
     until(lambda: threads_of(server) < 20, 10, "the threads of connections that ended are gone")
     grown = memory_of(server) - before
     holds(grown < 2 * 1024, f"the last 800 connections left {grown} KiB of memory behind")
-    server.stop()
     return f"{grown} KiB more at the end"
 
 
@@ -242,7 +239,6 @@ def the_257th(place):
     for conn in conns:
         same(conn.ask(wire.report())[0], "report")
         conn.close()
-    server.stop()
 
 
 def served(server):
@@ -254,36 +250,6 @@ def served(server):
     except wire.Ended:
         conn.close()
         return None
-
-
-def few_connections(place):
-    """`connections = 1`: a second one is closed, and the next comes in once the first has ended"""
-    server = Server(place, connections=1).start()
-    for turn in range(20):
-        first = until(lambda: served(server), 20, f"turn {turn}")
-        with server.connect() as second:
-            holds(second.has_ended(), "the second connection was served")
-        same(first.ask(wire.report())[0], "report")
-        first.close()
-    server.stop()
-
-
-def byte_at_a_time(place):
-    """a client that sends a byte at a time gets the same answers"""
-    server = Server(place).start()
-    with server.connect() as conn:
-        for frame, reply in (
-            (wire.attach(7), ("welcome", 7, 1)),
-            (wire.call(1, ("create", b"cells", 2, 0)), ("answer", 1, ("array", 1, 2))),
-            (wire.call(2, ("access", 19, 1, 0, 42, False)), ("answer", 2, ("done",))),
-            (wire.call(3, ("access", 16, 1, 0, 0, False)), ("answer", 3, ("value", 42))),
-            (wire.call(4, ("access", 18, 1, 0, 0, True)), ("answer", 4, ("value", 42))),
-            (wire.call(5, ("find", b"a_name_of_more_than_16_bytes")), ("answer", 5, ("no-array",))),
-        ):
-            for at in range(len(frame)):
-                conn.send(frame[at : at + 1])
-            same(conn.reply(), reply)
-    server.stop()
 
 
 # Frames of versions 1 and 2 and the server's replies, written by hand: the first path, then the other kinds.
@@ -372,24 +338,7 @@ def never_reads(place):
         # once the data in the streams is done with, the session is free
         with server.attached(7) as again:
             same(again.ask(wire.call(1, ("access", 18, 1, 0, 0, False)))[:2], ("answer", 1))
-    server.stop()
     return f"dropped within {dropped * len(piece) // 1024} kB, after {took:.0f} s"
-
-
-def slow_reader(place):
-    """a client that reads slowly, with few answers unread, gets all of them in order"""
-    server = Server(place).start()
-    made(server, (b"counter", 1, 1))
-    with server.attached(7) as conn:
-        number = 1
-        for _ in range(12):
-            conn.send(b"".join(wire.call(number + k, adding(1, 0, 1)) for k in range(32)))
-            time.sleep(0.05)
-            for k in range(32):
-                same(conn.reply(), ("answer", number + k, ("value", number + k - 1)))
-            number += 32
-            same(conn.ask(wire.settle(number)), ("settled", number))
-    server.stop()
 
 
 PIPELINED = 20000
@@ -408,13 +357,10 @@ def of_each_kind(number):
 
 # What is sent for each number, one reply for each message.
 PIPELINES = {
-    "calls and settles": calls_and_settles,
-    "settles": lambda number: [wire.settle(1)],
+    "calls and settles": calls_and_settles, "settles": lambda number: [wire.settle(1)],
     "answers that are sent again": lambda number: [wire.call(1, adding(1, 0, 1))],
-    "refusals": lambda number: [wire.call(number + 1000, adding(1, 0, 1))],
-    "cancels": lambda number: [wire.cancel(7)],
-    "reports": lambda number: [wire.report()],
-    "each kind": of_each_kind,
+    "refusals": lambda number: [wire.call(number + 1000, adding(1, 0, 1))], "cancels": lambda number: [wire.cancel(7)],
+    "reports": lambda number: [wire.report()], "each kind": of_each_kind,
 }
 
 
@@ -442,7 +388,6 @@ def pipelines(place):
                     holds(False, f"{name}: after {at} replies of {len(sent)}: {why}")
             sender.join()
             holds(conn.is_quiet(), f"{name}: more replies than messages")
-    server.stop()
     return f"{len(PIPELINES)} kinds"
 
 
@@ -465,16 +410,11 @@ def reads_slowly(place):
             same(conn.reply(), ("answer", number, ("value", number - 1)))
             same(conn.reply(), ("settled", number + 1))
         sender.join()
-    server.stop()
 
 
 BAD_FRAMES = (
-    ("of length 0", b"\0\0\0\0"),
-    ("of length 48", b"\0\0\0\x30"),
-    ("of the greatest length", b"\xff\xff\xff\xff"),
-    ("of kind 0", b"\0\0\0\1\0"),
-    ("of kind 10", b"\0\0\0\x0a\x0a"),
-    ("of a server's kind", wire.framed(65, bytes(16))),
+    ("of length 0", b"\0\0\0\0"), ("of length 48", b"\0\0\0\x30"), ("of the greatest length", b"\xff\xff\xff\xff"),
+    ("of kind 0", b"\0\0\0\1\0"), ("of kind 10", b"\0\0\0\x0a\x0a"), ("of a server's kind", wire.framed(65, bytes(16))),
     ("with another length than its kind's", b"\0\0\0\x0a\1"),
     ("with a name of 17 bytes in 16", wire.framed(3, bytes(8) + b"\x11" + b"a" * 16)),
     ("with a byte behind its name", wire.framed(3, bytes(8) + b"\1" + b"aa" + bytes(14))),
@@ -532,7 +472,6 @@ def taken_over(place):
             same(second.ask(wire.report())[1].splitlines()[1:3], ["word 1 0 session 7 number 1 readfe", "session 7 waits 1"])
             same(other.ask(wire.call(1, ("access", 19, 1, 0, 5, False))), ("answer", 1, ("done",)))
             same(second.reply(), ("answer", 1, ("value", 5)))
-    server.stop()
 
 
 def refusals(place):
@@ -551,47 +490,3 @@ def refusals(place):
         same(late.ask(wire.settle(0)), ("refused", 0, "below-floor"))
         same(late.ask(wire.settle(34)), ("refused", 34, "beyond-window"))
         same(late.ask(wire.cancel(3)), ("refused", 3, "not-waiting"))
-    for conn in conns:
-        conn.close()
-    server.stop()
-
-
-def turns(place):
-    """a connection ends after `turns` reads, and others are served"""
-    server = Server(place, turns=5).start()
-    with server.connect() as conn:
-        got = 0
-        try:
-            for _ in range(20):
-                same(conn.ask(wire.report())[0], "report")
-                got += 1
-        except wire.Ended as why:
-            holds("timed out" not in str(why), str(why))
-        holds(1 <= got <= 5, f"{got} replies")
-    with server.connect() as conn:
-        same(conn.ask(wire.report())[0], "report")
-    server.stop()
-    return f"{got} replies"
-
-
-CHECKS = (
-    in_parallel,
-    hand_overs,
-    held_call_holds_one,
-    waits_for_room,
-    all_wait_for_room,
-    one_after_another,
-    the_257th,
-    few_connections,
-    byte_at_a_time,
-    bytes_of_frames,
-    half_closed,
-    never_reads,
-    reads_slowly,
-    slow_reader,
-    pipelines,
-    bad_frames,
-    taken_over,
-    refusals,
-    turns,
-)

@@ -4,14 +4,15 @@ import os
 import random
 import re
 import time
+from pathlib import Path
 
-from . import deb_clients, deb_pages, deb_source, packages, store, wire, year
+from . import store, wire
 from .clean import DPKG, NAMES, SOCKET, STORE, Clean, Unit, installed
 from .harness import Skipped, holds, same, until, within
 from .history import History
 from .install import done
 from .manuals import versions
-from .kills import Adder, Load, Storm, counted, finish, make_arrays
+from .kills import Adder, Load, Storm, counted, finish, make_arrays, read
 from .model import LIMITS
 from .packages import built
 from .texts import TOP, block
@@ -27,8 +28,7 @@ def is_whole(unit):
     same(clean.do("stat", "--format=%a %U %G", "/var/lib/femem"), "750 femem femem\n")
     same(clean.shell("find /var/lib/femem -mindepth 1 | sort"), f"{STORE}\n{STORE}.place\n", "what the installation left")
     same(clean.do("stat", "--format=%a %U %G", "/var/lib/femem-places", "/var/backups/femem"), "755 femem femem\n700 femem femem\n")
-    with open(unit.store, "rb") as file:
-        same(store.read_store(file.read())[2].looks(), "place 0\n")
+    same(store.read_store(Path(unit.store).read_bytes())[2].looks(), "place 0\n")
 
 
 def confined(unit):
@@ -66,12 +66,12 @@ def serves(place):
             random.choice((load.wait_for_some, load.wait_for_checkpoint))(1)
             unit.kill()
             load.join()
-            compare(unit, history, load)
+            read(unit, history, load)
         clean.do("systemctl", "restart", "femem")
         finish(load)
         clean.do("systemctl", "stop", "femem")
         holds(not os.path.exists(clean.path("/run/femem")), "the socket's folder is left")
-        compare(unit, history, load)
+        read(unit, history, load)
         for index in range(3):
             counted(history.state, index, [it for it in adders if it.index == index])
         same(clean.do("femem", "look", "--store", STORE), history.state.looks())
@@ -82,8 +82,7 @@ def serves(place):
 def all_at_once(unit):
     """As many connections as a server may have are served through the unit, with its limits. Returns how many."""
     most = LIMITS["connections"][0]
-    with open(unit.clean.path("/etc/femem.toml"), encoding="ascii") as file:
-        settings = file.read()
+    settings = Path(unit.clean.path("/etc/femem.toml")).read_text("ascii")
     unit.settings(re.sub(r"^connections = .*$", "", settings, flags=re.M) + f"connections = {most}\n")
     unit.clean.do("systemctl", "restart", "femem")
     unit.waits()
@@ -97,19 +96,12 @@ def all_at_once(unit):
     return most
 
 
-def compare(unit, history, load):
-    with open(unit.store, "rb") as file:
-        history.read(file.read())
-    load.compare(history)
-
-
 @within(120)
 def statuses(place):
     """after status 2 or 0 the server stays down; after status 3 it is started again until the store is back, and needs nobody"""
     with Clean(place, built(place)) as clean:
         unit = installed(clean)
-        with open(clean.path("/etc/femem.toml"), encoding="ascii") as file:
-            settings = file.read()
+        settings = Path(clean.path("/etc/femem.toml")).read_text("ascii")
         unit.settings(settings + "connection = 1\n")
         holds(clean.ask("systemctl", "restart", "femem")[0] in (0, 1), "systemctl")
         until(lambda: unit.shows("ActiveState") == ("failed",), 60, "the unit has failed")
@@ -163,15 +155,13 @@ def removed(place):
         clean.do(*DPKG, "--remove", "femem")
         holds(not os.path.exists(unit.socket), "the server is still there")
         holds(not os.path.exists(clean.path("/usr/bin/femem")), "the program is still there")
-        with open(unit.store, "rb") as file:
-            kept = file.read()
+        kept = Path(unit.store).read_bytes()
         same(store.read_store(kept)[2].looks(), looks)
         installed(clean)
         unit.attached(7).close()
         clean.do(*DPKG, "--purge", "femem")
         holds(not os.path.exists(clean.path("/etc/femem.toml")), "the settings are still there")
-        with open(unit.store, "rb") as file:
-            same(store.read_store(file.read())[2].looks(), "place 2\nsession 7 floor 1 kept 0\n", "after a purge")
+        same(store.read_store(Path(unit.store).read_bytes())[2].looks(), "place 2\nsession 7 floor 1 kept 0\n", "after a purge")
         installed(clean)
         clean.do(*DPKG, "--purge", "femem", env={"FEMEM_PURGE_STORE": "yes"})
         holds(not os.path.exists(clean.path("/var/lib/femem")), "the store is still there after a purge that was told to take it")
@@ -273,4 +263,4 @@ def leaves_nothing(place):
     return f"{len(before):,} files before and after"
 
 
-CHECKS = (*packages.CHECKS, *deb_source.CHECKS, first_screen, serves, statuses, removed, upgraded, leaves_nothing, *deb_clients.CHECKS, *deb_pages.CHECKS, *year.CHECKS)
+ALSO = ("packages", "deb_source", "deb_clients", "deb_pages", "year")

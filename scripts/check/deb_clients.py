@@ -4,6 +4,7 @@ import os
 import re
 import shutil
 import subprocess
+from pathlib import Path
 
 from . import store
 from .clean import DPKG, NAMES, SOCKET, STORE, Clean, Unit, installed
@@ -98,13 +99,10 @@ def old_package(place):
     new = next(it for it in os.listdir(folder) if it.startswith("femem_"))
     subprocess.run(["dpkg-deb", "--raw-extract", os.path.join(folder, new), tree], check=True)
     control = os.path.join(tree, "DEBIAN", "control")
-    with open(control, encoding="utf-8") as file:
-        text = re.sub(r"^(Version: ).*$", r"\g<1>0.9.0", file.read(), flags=re.M)
-    with open(control, "w", encoding="utf-8") as file:
-        file.write(text)
+    text = re.sub(r"^(Version: ).*$", r"\g<1>0.9.0", Path(control).read_text("utf-8"), flags=re.M)
+    Path(control).write_text(text, "utf-8")
     for name in ("operating.md.gz", "proved.md.gz"):
-        with open(os.path.join(tree, "usr/share/doc/femem", name), "wb") as file:
-            file.write(b"old")
+        Path(os.path.join(tree, "usr/share/doc/femem", name)).write_bytes(b"old")
     os.unlink(os.path.join(tree, "usr/lib/tmpfiles.d/femem.conf"))
     made = place.path("femem_0.9.0_amd64.deb")
     words = ["dpkg-deb", "--root-owner-group", "-Znone", "--build", tree, made]
@@ -166,8 +164,7 @@ def upgrades(place):
         same(clean.do("femem-cli", "sessions"), "session 7 kept 0 waiting 0\n")
         same(clean.shell("dpkg --verify femem femem-cli libfemem1 libfemem-dev python3-femem femem-doc"), "", "dpkg --verify")
         keeps_choices(clean, unit)
-        with open(unit.store, "rb") as file:
-            same(store.read_store(file.read())[2].looks(), "place 1\nsession 7 floor 1 kept 0\n")
+        same(store.read_store(Path(unit.store).read_bytes())[2].looks(), "place 1\nsession 7 floor 1 kept 0\n")
         keeps_waiting(clean, unit)
         holds(len(named(clean)) > 20, "the packages left no trace")
         clean.do(*DPKG, "--purge", *NAMES, env={"FEMEM_PURGE_STORE": "yes"})
@@ -204,6 +201,3 @@ def elsewhere(place):
         unit.waits()
         unit.attached(4).close()
         same(sessions(clean, "/srv/femem" + "/femem.store"), [1, 2, 3, 4], "the store where the link leads")
-
-
-CHECKS = (clients, upgrades, elsewhere)

@@ -4,6 +4,7 @@ import os
 import re
 import shutil
 import subprocess
+from pathlib import Path
 
 from .harness import Skipped, same, within
 from .install import done, one_commit, recorded
@@ -17,8 +18,7 @@ def contents(folder, ends):
     found = {}
     for name in os.listdir(folder):
         if name.endswith(ends):
-            with open(os.path.join(folder, name), "rb") as file:
-                found[name] = file.read()
+            found[name] = Path(os.path.join(folder, name)).read_bytes()
     return found
 
 
@@ -73,6 +73,3 @@ def builds(place, top, env):
     for it in made:
         path = place.path(f"third/{it}")
         same((field(path, "Maintainer"), field(path, "Homepage")), (env["FEMEM_MAINTAINER"], env["FEMEM_HOMEPAGE"]), it)
-
-
-CHECKS = (source,)

@@ -4,6 +4,7 @@ import mmap
 import os
 import shutil
 import subprocess
+from pathlib import Path
 
 from . import store, wire
 from .crowds import adding
@@ -15,16 +16,14 @@ CONTROL = "/sys/class/zram-control"
 
 
 def put(path, text):
-    with open(path, "w", encoding="ascii") as file:
-        file.write(text)
+    Path(path).write_text(text, "ascii")
 
 
 class Device:
     """A device in memory with a file system, mounted at a folder."""
 
     def __init__(self, folder):
-        with open(f"{CONTROL}/hot_add", encoding="ascii") as file:
-            self.number = int(file.read())
+        self.number = int(Path(f"{CONTROL}/hot_add").read_text("ascii"))
         self.folder = folder
         self.node = f"/dev/zram{self.number}"
         self.is_mounted = False
@@ -94,8 +93,7 @@ def on_device(device, path):
     """The state on the device: the file system is mounted again, so that everything is read from it."""
     device.unmount()
     device.mount()
-    with open(path, "rb") as file:
-        return store.read_store(file.read())[2]
+    return store.read_store(Path(path).read_bytes())[2]
 
 
 WORK = [adding(1, 0, 1)] * 6
@@ -157,6 +155,3 @@ def at_gate(content):
     while content[at] == 1:
         at += 5 + int.from_bytes(content[at + 1 : at + 5], "big")
     return at
-
-
-CHECKS = (restarted, mapped)

@@ -4,8 +4,8 @@ import glob
 import html
 import os
 import re
+from pathlib import Path
 
-from . import blocks, clauses, headers, imports, measured, names, places, promises, rules, tried
 from .texts import NAME, PAGES, READMES, TOP, bases, exists, headings, is_path, slug, split, text_of, told
 from .wire import OPS
 
@@ -31,8 +31,7 @@ def naming(words, roots):
         for folder, folders, files in os.walk(os.path.join(TOP, root)):
             folders[:] = [it for it in folders if it not in ("out", ".git", "__pycache__")]
             for file in files:
-                with open(os.path.join(folder, file), "rb") as opened:
-                    text = opened.read().lower().replace(b"_", b"")
+                text = Path(os.path.join(folder, file)).read_bytes().lower().replace(b"_", b"")
                 if all(re.search(word, text) for word in words):
                     found.append(os.path.relpath(os.path.join(folder, file), TOP))
     return found
@@ -130,4 +129,4 @@ def links(_place):
     return told(missing, count, 100, "links")
 
 
-CHECKS = (*blocks.CHECKS, *names.CHECKS, *clauses.CHECKS, *tried.CHECKS, *headers.CHECKS, *places.CHECKS, *measured.CHECKS, *rules.CHECKS, *imports.CHECKS, *promises.CHECKS, touched, crates, versions, pictures, links)
+ALSO = ("blocks", "names", "clauses", "tried", "headers", "places", "measured", "rules", "imports", "promises")

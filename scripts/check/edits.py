@@ -14,18 +14,17 @@ from .texts import TOP, text_of, told
 # The wrong bodies that a reader would fear most. Each must be tried under this name, in whatever crate.
 FEARED = (
     "accepts_trailing_byte", "accepts_unused_bytes", "always_device", "always_mismatch", "answers_from_opening",
-    "append_without_last_sync", "attaches_unasked", "bad_frame_too_early", "books_call_never_made", "books_call_twice", "calls_unheard",
-    "closes_closed_gate", "closes_over_strange_receipts", "damaged_for_odd_gate", "drains_halls_beginning",
+    "append_without_last_sync", "attaches_unasked", "bad_frame_too_early", "books_call_never_made", "books_call_twice",
+    "calls_unheard", "closes_closed_gate", "closes_over_strange_receipts", "damaged_for_odd_gate", "drains_halls_beginning",
     "drops_batch_and_posts", "drops_each_tenth_call", "drops_last_frames", "drops_one_of_a_session", "drops_receipts",
     "echoes_input", "ends_before_last_read", "every_access_waits", "finishes_a_number_twice", "first_on_another_word",
-    "forgets_catch_up", "forgets_other_words", "formats_what_is_damaged", "gate_with_payload", "gives_an_id_again", "half_a_cascade",
-    "ignores_open_groups", "invented_answer", "keeps_three_lists", "leaves_node_on_word_list",
-    "leaves_replica_changed", "made_up_answer_at_accept", "made_up_answer_first", "mail_before_second_sync", "mails_unsynced_resend",
-    "makes_no_mail", "notes_before_append", "opens_gate_without_catch_up", "other_operand", "posts_before_append",
-    "posts_other_answers", "purge_keeps_value", "readfe_leaves_full", "reads_half_of_turns",
-    "removes_array_behind_list", "runs_kept_number_again", "serves_another_path", "serves_with_other_seats",
-    "side_ends_at_once", "stops_after_one_wake", "stops_by_itself", "takes_cancel_for_bye", "takes_groups_back",
-    "tells_another_connection",
+    "forgets_catch_up", "forgets_other_words", "formats_what_is_damaged", "gate_with_payload", "gives_an_id_again",
+    "half_a_cascade", "ignores_open_groups", "invented_answer", "keeps_three_lists", "leaves_node_on_word_list",
+    "leaves_replica_changed", "made_up_answer_at_accept", "made_up_answer_first", "mail_before_second_sync",
+    "mails_unsynced_resend", "makes_no_mail", "notes_before_append", "opens_gate_without_catch_up", "other_operand",
+    "posts_before_append", "posts_other_answers", "purge_keeps_value", "readfe_leaves_full", "reads_half_of_turns",
+    "removes_array_behind_list", "runs_kept_number_again", "serves_another_path", "serves_with_other_seats", "side_ends_at_once",
+    "stops_after_one_wake", "stops_by_itself", "takes_cancel_for_bye", "takes_groups_back", "tells_another_connection",
 )
 # How many each crate has. One that is added or removed is counted here too.
 EACH = {
@@ -149,6 +148,3 @@ def counted(_place):
     """each crate has as many must-fail edits as are counted here, so none goes unseen"""
     same(dict(collections.Counter(it.crate for it in edits())), EACH)
     return f"{sum(EACH.values())} edits of {len(EACH)} crates"
-
-
-CHECKS = (fit, feared, counted)

@@ -53,7 +53,6 @@ def descriptors_of(server):
     return len(os.listdir(f"/proc/{server.process.pid}/fd"))
 
 
-@within(60)
 def half_closed_replies(place):
     """clients that send and at once shut their sending side get each reply, byte for byte, and then the end of the stream"""
     turns = place.options.turns or 100
@@ -73,11 +72,9 @@ def half_closed_replies(place):
             with server.attached(session) as conn:
                 same(conn.ask(wire.report())[1].splitlines()[0], "waiting 0")
                 same(conn.ask(wire.bye()), ("goodbye", session))
-    server.stop()
     return f"{turns} clients"
 
 
-@within(60)
 def half_closed_long(place):
     """a client that sends more than a socket holds, shuts its sending side and reads late gets every reply"""
     server = Server(place).start()
@@ -99,7 +96,6 @@ def half_closed_long(place):
                 same(str(why), "the stream ended")
             same(sum(reply[0] == "answer" for reply in replies), 32)
             same(sum(reply[0] == "report" for reply in replies), calls)
-    server.stop()
 
 
 def half_closed_in_a_sync(place):
@@ -118,10 +114,8 @@ def half_closed_in_a_sync(place):
         held.let_go()
         holds(conn.has_ended(), "the connection did not end")
         same(other.reply(), ("answer", 1, ("value", 0)))
-    server.stop()
 
 
-@within(60)
 def closed_at_once(place):
     """clients that send and at once close leave no thread and no open file"""
     turns = place.options.turns or 100
@@ -134,16 +128,14 @@ def closed_at_once(place):
             conn.send(wire.attach(turn % 60) + wire.call(turn // 60 + 1, adding(1, 0, 1)) + wire.report() * 20)
     until(lambda: threads_of(server) <= 2, 20, "the threads of connections that ended are gone")
     until(lambda: descriptors_of(server) == before, 20, "the open files of connections that ended are gone")
-    server.stop()
     return f"{turns} clients"
 
 
-@within(60)
 def closed_with_reports(place):
     """clients that ask for long reports and close while these block their write side leave no thread"""
     turns = place.options.turns or 30
     server = Server(place, connections=256).start()
-    waiting = waiters(server)
+    waiting = waiters(server)  # (they stay open)
     before = threads_of(server)
     for turn in range(turns):
         conns = [server.connect() for _ in range(5)]
@@ -154,9 +146,6 @@ def closed_with_reports(place):
         for conn in conns:
             conn.close()
     until(lambda: threads_of(server) <= before, 20, "the threads of connections that ended are gone")
-    for conn in waiting:
-        conn.close()
-    server.stop()
     return f"{5 * turns} clients"
 
 
@@ -181,11 +170,9 @@ def last_turn(place):
         with server.connect() as conn:
             conn.send(wire.attach(turn % 60) + wire.settle(1) + wire.bye())
             same(rest_of(conn), welcome(turn % 60) + settled(1) + goodbye(turn % 60), f"turn {turn}")
-    server.stop()
     return f"{turns} connections"
 
 
-@within(60)
 def at_the_limit(place):
     """`connections = 1`: a client that closes and at once connects again is served, and not only after a second"""
     turns = place.options.turns or 200
@@ -209,11 +196,9 @@ def at_the_limit(place):
         with server.connect() as second:
             holds(second.has_ended(), "one connection too many was served")
         holds(time.monotonic() - began < wire.patience, "one connection too many was not turned away at once")
-    server.stop()
     return f"{turns} turns"
 
 
-@within(60)
 def ready_socket(place):
     """once the socket's file exists a client can connect, and no temporary socket is left"""
     turns = place.options.turns or 20
@@ -274,8 +259,7 @@ def few_descriptors(place):
     said = []
     for count in range(4, 16):
         server = Server(place, f"d{count}", store=place.path("store"))
-        server.start(waits=False, limit=(resource.RLIMIT_NOFILE, count))
-        until(lambda: os.path.exists(server.socket) or not server.is_running(), 30, f"{count} descriptors: it serves or ends")
+        server.start(waits=False, limit=(resource.RLIMIT_NOFILE, count)).begins()
         if server.is_running() and can_connect(server):
             server.attached(7).close()
             said.append("serves")
@@ -399,11 +383,9 @@ def door_behind_half_closed(place):
             other.close()
             with until(lambda: served(server), 20, "a place is free again") as conn:
                 same(conn.ask(wire.attach(3)), ("welcome", 3, 1))
-    server.stop()
     return f"after {first:.2f} s, then {later:.2f} s"
 
 
-@within(60)
 def accepts_while_one_waits(place):
     """at the limit, while a newcomer waits for a place that is about to be free: the next is turned away at once, and the first is served where another has left"""
     server = Server(place, connections=2).start()
@@ -430,7 +412,6 @@ def accepts_while_one_waits(place):
     return f"{took:.2f} s"
 
 
-@within(60)
 def late_client_is_the_last(place):
     """a newcomer who waited for its place may be the last of `accepts`: the server ends after it, and without another connection"""
     server = Server(place, accepts=3, connections=2).start()
@@ -599,11 +580,10 @@ def is_written_after_fault(place, turn):
     return is_there
 
 
-@within(60)
 def unread_reports(place):
     """forty connections that each ask for 200 long reports and read nothing cost less than 20 MB"""
     server = Server(place, connections=256).start()
-    waiting = waiters(server)
+    waiting = waiters(server)  # (they stay open)
     with server.connect() as conn:
         length = len(conn.ask(wire.report())[1])
     before = memory_of(server)
@@ -619,31 +599,4 @@ def unread_reports(place):
         # (the reports still come, one after another)
         same({conn.reply()[0] for _ in range(10)}, {"report"})
         conn.close()
-    for conn in waiting:
-        conn.close()
-    server.stop()
     return f"{highest * 1024 / 1e6:.1f} MB, reports of {length} bytes"
-
-
-CHECKS = (
-    half_closed_replies,
-    half_closed_long,
-    half_closed_in_a_sync,
-    closed_at_once,
-    closed_with_reports,
-    last_turn,
-    at_the_limit,
-    ready_socket,
-    two_at_one_socket,
-    few_descriptors,
-    long_paths,
-    beside_another,
-    datagrams_beside,
-    door_behind_half_closed,
-    accepts_while_one_waits,
-    late_client_is_the_last,
-    fault_with_silent_clients,
-    fault_while_all_wait,
-    told_before_a_fault,
-    unread_reports,
-)

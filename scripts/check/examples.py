@@ -452,6 +452,3 @@ def monitoring(place):
     if tools:
         subprocess.run([tools, "check", "rules", os.path.join(EXAMPLES, "monitoring", "femem-alerts.yml")], check=True, capture_output=True)
     return f"{len(exported)} metrics, {len(expressions)} rules" + ("" if tools else ", promtool is not installed here")
-
-
-CHECKS = (short, work_queue, pipeline, leader, written_once, orders, wavefront, loop, counter, rate_limit, nightly, monitoring)

@@ -4,7 +4,7 @@ The codes, frames, offsets, limits and the operation table are the ones by which
 
 import re
 
-from . import calls, fields, sessions, store, tables, wire, writes
+from . import calls, store, tables, wire
 from .crowds import TALK
 from .harness import holds, preload, same
 from .model import LIMITS, TOP_FLOOR, TOP_PLACE
@@ -157,8 +157,7 @@ def statuses(place):
     said_of = lambda word: [status for status, meaning in meant.items() if word in meaning]
     with open("/dev/full", "wb") as full:
         ends = {
-            "no fault": place.run("run"),
-            "the command line": place.run("jump"),
+            "no fault": place.run("run"), "the command line": place.run("jump"),
             "the settings": place.run("serve", "--settings", place.path("none")),
             "a line of the input": place.run("run", given=b"c1 jump\n"),
             "standard input or output": place.run("run", given=b"c1 attach 7\n", stdout=full),
@@ -192,4 +191,4 @@ def unit(_place):
     holds("RequiresMountsFor=" in page and "`MALLOC_ARENA_MAX=1`" in page and lines["Environment"] == "MALLOC_ARENA_MAX=1", "the page names them")
 
 
-CHECKS = (exchange, kinds, examples, never_wait, definitions, settings, statuses, unit, *fields.CHECKS, *writes.CHECKS, *sessions.CHECKS)
+ALSO = ("fields", "writes", "sessions")

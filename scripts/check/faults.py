@@ -6,6 +6,7 @@ import random
 import resource
 import subprocess
 import sys
+import time
 
 from . import store, wire
 from .crowds import adding
@@ -13,7 +14,6 @@ from .crowds import served as served_one
 from .harness import Server, Wrong, holds, preload, same, until, within
 from .model import State
 from .records import calls_of
-from .tables import said
 
 
 CHANGES = ("write", "pwrite", "fdatasync", "fsync", "ftruncate", "fchmod", "fadvise", "link", "rename", "unlink")
@@ -83,45 +83,40 @@ def fills_and_others(calls, tried=lambda call: True):
 
 
 class Trial:
-    """A store, created if there is no base, and one client's work over it, in which one call after another is made to fail."""
+    """A store, which a server makes if there is no base, and one client's work over it, in which one call after another ends the server."""
 
-    def __init__(self, place, base, state, work):
-        self.place = place
-        self.base = base
-        self.work = work
-        self.wanted = answered(work, state)
+    def __init__(self, place, base, work, formats):
+        self.place, self.base, self.work, self.formats = place, base, work, formats
+        self.wanted = answered(work, None if base is None or formats else store.read_store(base)[2])
         self.library = preload(place, "record.c")
-        self.count = 0
 
-    def run(self, **how):
-        """Runs a server until the work is done or the server ends: the server, its client, and the server's calls."""
-        self.count += 1
-        name = f"r{self.count}"
+    def started(self, env=None):
+        """A server on the store as it was at the beginning."""
         for file in os.listdir(self.place.folder):
-            if file.startswith("store"):
+            if file.startswith(("store", "calls")):
                 os.unlink(self.place.path(file))
-        path = self.place.path("store")
         if self.base is not None:
             self.place.write("store", self.base)
-        server = Server(self.place, name, store=path, format=self.base is None)
-        record = self.place.path(f"{name}.record")
-        server.start({"LD_PRELOAD": self.library, "RECORD": record, **{key: str(value) for key, value in how.items()}}, waits=False)
-        until(lambda: os.path.exists(server.socket) or not server.is_running(), 30, "the server serves or ends")
+        return Server(self.place, store=self.place.path("store"), format=self.formats).start(env, waits=False)
+
+    def run(self, **how):
+        """Runs a server, whose calls are recorded, until the work is done or the server ends: the server, and its client."""
+        env = {"LD_PRELOAD": self.library, "RECORD": self.place.path("calls"), **{key: str(value) for key, value in how.items()}}
+        server = self.started(env).begins()
         client = Client(server, self.work)
         if not server.is_running() or client.until_end():
             server.process.wait(30 * wire.patience)
-        found = calls_of(record) if os.path.exists(record) else []
-        for file in (record, f"{record}.bytes"):
-            os.unlink(file)
-        return server, client, found
+        return server, client
 
     def right(self):
-        """The calls of a run without faults."""
-        server, client, found = self.run()
+        """The calls of a run without faults. `seconds` is then how long it took."""
+        began = time.monotonic()
+        server, client = self.run()
+        self.seconds = time.monotonic() - began
         holds(server.is_running(), f"the server ended without a fault: {server.errors()}")
         same(client.answers, self.wanted)
         server.stop()
-        return found
+        return calls_of(self.place.path("calls"))
 
     def faults(self, ways):
         """Fails each call in turn, and checks the answers and the store afterwards. Returns how many calls of each kind failed."""
@@ -132,8 +127,8 @@ class Trial:
                 if how == "short" and "write" not in kind:
                     continue
                 name = f"{kind}, call {number}, {how}"
-                server, client, calls = self.run(TURN=number, HOW=how)
-                same([call.kind for call in calls if call.error == errno.EIO], [kind], name)
+                server, client = self.run(TURN=number, HOW=how)
+                same([call.kind for call in calls_of(self.place.path("calls")) if call.error == errno.EIO], [kind], name)
                 same(server.ended(), (3, "", "femem: store device\n"), f"{name}, {len(client.answers)} answers")
                 goes_on(self.place, server, client, self.wanted, name)
                 same([file for file in os.listdir(self.place.folder) if file.startswith("store")], ["store"], name)
@@ -165,7 +160,7 @@ WORK = [("create", b"counter", 2, 1)] + [adding(1, 0, 1)] * 6
 @within(240)
 def new_stores(place):
     """each device call, from the creation of a store on, fails in turn: `femem: store device`, status 3, no answer lost or invented"""
-    found = Trial(place, None, None, WORK).faults(("fails", "short"))
+    found = Trial(place, None, WORK, True).faults(("fails", "short"))
     # A file is created, opened and formatted, linked under its final name and unlinked from the first; then an opening and eight groups
     # (docs/store.md). Three of the writes that fill the file fail.
     once = {"open": 1, "write": 3, "fsync": 1 + 1 + 1 + 1, "link": 1, "unlink": 1, "fadvise": 1 + 1}
@@ -174,20 +169,18 @@ def new_stores(place):
 
 
 def near_a_checkpoint():
-    """A store in which a checkpoint of three slices is due after the first group, and its state."""
+    """A store in which a checkpoint of three slices is due after the first group."""
     state = State()
     entries = [("attached", 7, 1), ("finished", 7, 32, ("create", b"big", 20000, 1), ("array", 1, 20000))]
     for entry in entries + [("settled", 7, 1)]:
         state.apply(entry)
-    base = bytes(store.device_of(store.TWO, state, [[("attached", 9, 1)] * 3300] * 2, 3, 1))
-    return base, store.read_store(base)[2]
+    return bytes(store.device_of(store.TWO, state, [[("attached", 9, 1)] * 3300] * 2, 3, 1))
 
 
 @within(240)
 def in_checkpoints(place):
     """each device call of a checkpoint between groups fails in turn, with the same result"""
-    base, state = near_a_checkpoint()
-    found = Trial(place, base, state, [adding(1, 19999, 1)] * 9).faults(("fails", "short"))
+    found = Trial(place, near_a_checkpoint(), [adding(1, 19999, 1)] * 9, False).faults(("fails", "short"))
     # an opening; ten groups; a header, three slices and the end of a checkpoint
     same(found, {"fadvise": 1, "pwrite": 10 * 2 + 1 + 3 + 2, "fdatasync": 1 + 10 * 2 + 2})
     return in_words(found)
@@ -209,8 +202,7 @@ def sync_lost(place, library, base, work, wanted, number):
     place.write("lost", b"")
     path = place.write("store", base)
     env = {"LD_PRELOAD": library, "STORE": path, "LOST": place.path("lost")}
-    server = Server(place, f"l{number}", store=path, format=False).start({**env, "FAIL_SYNC": str(number)}, waits=False)
-    until(lambda: os.path.exists(server.socket) or not server.is_running(), 30, "the server serves or ends")
+    server = Server(place, f"l{number}", store=path, format=False).start({**env, "FAIL_SYNC": str(number)}, waits=False).begins()
     client = Client(server, work)
     if server.is_running() and not client.until_end():
         same(client.answers, wanted)
@@ -260,9 +252,8 @@ def syncs_that_lose(place):
     found = [lost_syncs(place, at_an_end_of_a_page(), work)]
     same(found, [1 + 5 * 2])
     # an opening; ten groups; the end of a checkpoint
-    found.append(lost_syncs(place, near_a_checkpoint()[0], [adding(1, 19999, 1)] * 9))
+    found.append(lost_syncs(place, near_a_checkpoint(), [adding(1, 19999, 1)] * 9))
     same(found[1], 1 + 10 * 2 + 2)
-    same(found, list(said("docs/proved.md", "| N and N syncs |", 2)), "docs/proved.md")
 
 
 @within(120)
@@ -278,8 +269,7 @@ def memory_refused(place):
         for file in (mark, place.path("s.store"), place.path("s.socket")):
             if os.path.exists(file):
                 os.unlink(file)
-        server = Server(place).start({"LD_PRELOAD": library, "REFUSE": str(number), "REFUSED": mark}, waits=False)
-        until(lambda: os.path.exists(server.socket) or not server.is_running(), 30, "the server serves or ends")
+        server = Server(place).start({"LD_PRELOAD": library, "REFUSE": str(number), "REFUSED": mark}, waits=False).begins()
         client = Client(server, work, seconds=3)
         has_ended = not server.is_running() or client.until_end()
         if not os.path.exists(mark):
@@ -314,12 +304,8 @@ def commands_where_memory_ends(place):
         ("serve", ("--settings", place.write("right", (paths + "turns = 5\nconnections = 7\n").encode())), 3),
         ("serve", ("--settings", place.write("wrong", (paths + "turns = 0\n").encode())), 2),
         ("serve", ("--settings", place.write("unknown", (paths + "other = [1, 'a']\n").encode())), 2),
-        ("serve", ("--settings", place.write("broken", (paths + "other").encode())), 2),
-        ("jump", (), 2),
-        ("look", (), 2),
-        ("look", ("--store", b"\xff"), 2),
-        ("--version", (), 0),
-        ("help", (), 0),
+        ("serve", ("--settings", place.write("broken", (paths + "other").encode())), 2), ("jump", (), 2), ("look", (), 2),
+        ("look", ("--store", b"\xff"), 2), ("--version", (), 0), ("help", (), 0),
     ):
         told[name] = told.get(name, 0) + refused_in_turn(place, library, (name, *given), status)
     return ", ".join(f"{name} {number}" for name, number in told.items())
@@ -353,15 +339,13 @@ def few_files(place):
         conn.close()
     with server.attached(7) as conn:
         same(conn.ask(wire.call(1, ("find", b"a"))), ("answer", 1, ("no-array",)))
-    server.stop()
 
 
 def little_memory(place):
     """a server with little memory: each connection is served or closed, and the server goes on or ends with `femem: memory`"""
     told = {}
     for megabytes in (8, 16, 24, 32, 48, 64, 96, 128):
-        server = Server(place, f"{megabytes}", connections=256).start(waits=False, limit=(resource.RLIMIT_AS, megabytes << 20))
-        until(lambda: os.path.exists(server.socket) or not server.is_running(), 30, "the server serves or ends")
+        server = Server(place, f"{megabytes}", connections=256).start(waits=False, limit=(resource.RLIMIT_AS, megabytes << 20)).begins()
         conns = [open_or_none(server, number) for number in range(100 * server.is_running())]
         served = sum(conn is not None for conn in conns)
         for conn in filter(None, conns):
@@ -390,6 +374,3 @@ def open_or_none(server, number):
         if "nothing listens" in str(why):
             server.ended()
         return None
-
-
-CHECKS = (new_stores, in_checkpoints, syncs_that_lose, memory_refused, commands_where_memory_ends, few_files, little_memory)

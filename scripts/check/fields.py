@@ -262,6 +262,3 @@ def told_again(_place):
     for page, form in (("docs/headline.md", r"\| the (\w+) rows \|"), ("README.md", r"#operations\) are (\w+)\.")):
         same(counted[re.search(form, text(page))[1]], len(operations()), f"operations of {page}")
     return f"{len(entries)} entries"
-
-
-CHECKS = (images, operation_table, frames, codes, areas, bounds, replies, refusals, first_refusal, told_again)

@@ -3,8 +3,8 @@
 import os
 import shutil
 import stat
-import struct
 import subprocess
+from pathlib import Path
 
 from . import store, wire
 from .crowds import adding
@@ -54,14 +54,9 @@ def behind_a_second_name(change):
 
 # Each with the name of the server's file afterwards, if it still has a name and its size.
 CHANGES = {
-    "cut to nothing": (cut_to(0), None),
-    "cut by a byte": (cut_to(SIZE - 1), None),
-    "longer by a byte": (cut_to(SIZE + 1), None),
-    "removed": (os.unlink, None),
-    "renamed": (rename, "store.other"),
-    "folder renamed": (rename_folder, "store"),
-    "replaced": (replace, None),
-    "a link to another": (link_to_another, None),
+    "cut to nothing": (cut_to(0), None), "cut by a byte": (cut_to(SIZE - 1), None), "longer by a byte": (cut_to(SIZE + 1), None),
+    "removed": (os.unlink, None), "renamed": (rename, "store.other"), "folder renamed": (rename_folder, "store"),
+    "replaced": (replace, None), "a link to another": (link_to_another, None),
     "removed, but for a second name": (behind_a_second_name(os.unlink), "store.second"),
     "replaced, but for a second name": (behind_a_second_name(replace), "store.second"),
 }
@@ -71,8 +66,7 @@ def files_in(folder):
     """The contents of a folder's files, by name."""
     found = {}
     for name in os.listdir(folder):
-        with open(os.path.join(folder, name), "rb") as file:
-            found[name] = file.read()
+        found[name] = Path(os.path.join(folder, name)).read_bytes()
     return found
 
 
@@ -157,7 +151,6 @@ def while_it_starts(place):
         same(server.start(waits=False).ended(), (3, "", "femem: store device\n"), "a file without a name")
     server = Server(place, "again", store=place.path("replaced.store"), format=False).start()
     server.attached(7).close()
-    server.stop()
 
 
 OVERWRITES = {"cp": copied_over, "dd": written_over, "in place": updated_in_place, "a hole": hole_in_journal}
@@ -198,10 +191,8 @@ def stored(count, generation=1, slot=0, place=0):
 
 # What is served (None: a store that the server makes), and what is copied over it before the first group.
 EARLY = {
-    "another store over a new one": (None, (60,)),
-    "another store in slot 1 over a new one": (None, (60, 2, 1)),
-    "another image, and no groups": ((0,), (0, 1, 0, 5)),
-    "a backup that lacks groups": ((60,), (56,)),
+    "another store over a new one": (None, (60,)), "another store in slot 1 over a new one": (None, (60, 2, 1)),
+    "another image, and no groups": ((0,), (0, 1, 0, 5)), "a backup that lacks groups": ((60,), (56,)),
     "a backup that lacks a checkpoint": ((0, 3, 0, 60), (60, 2, 1)),
 }
 
@@ -405,6 +396,3 @@ def begun_at_once(place):
         serving.stop()
         same(serving.looks(), "place 1\nsession 7 floor 1 kept 0\n")
         same([file for file in os.listdir(place.folder) if file.startswith(f"store{turn}")], [f"store{turn}"])
-
-
-CHECKS = (changed_meanwhile, overwritten, overwritten_early, equal_groups, while_it_starts, renamed_in_a_group, by_other_paths, kept_bytes, nothing_to_keep, modes, left_over, begun_at_once)

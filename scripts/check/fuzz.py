@@ -54,7 +54,6 @@ def session(place):
     # (it ends with an error once the server is gone, and leaves its file)
     script = INHERITS.replace('print("ready", flush=True)\nsys.stdin.readline()\n', "client.once('a key', __import__('femem').requests.int_fetch_add(array, 0, 1))\nos._exit(0)\n")
     output_of(place, ["env", *(f"{key}={it}" for key, it in environment(place).items()), sys.executable, "-c", script, os.path.join(CLIENTS, "python"), server.socket, file], 60)
-    server.stop()
     return fuzzed(place, "session", [place.read("kept.session")])
 
 
@@ -128,6 +127,3 @@ def readers(place):
         holds(runs >= LEAST // 10, said)
     leave("fuzz-readers", [("`scripts/check/fuzz.py`", f"{seconds}", *(" and ".join(it) for it in zip(*said)), "none")])
     return "; ".join(" runs, ".join(it) for it in said)
-
-
-CHECKS = (session, replies, readers)

@@ -1,11 +1,14 @@
 """Checks and the processes that they start: each check has a folder and a deadline, and leaves no process running."""
 
+import importlib
+import inspect
 import os
 import resource
 import shutil
 import signal
 import subprocess
 import time
+from pathlib import Path
 
 from . import wire
 
@@ -71,8 +74,7 @@ class Place:
         return os.path.join(self.folder, name)
 
     def write(self, name, content):
-        with open(self.path(name), "wb") as file:
-            file.write(content)
+        Path(self.path(name)).write_bytes(content)
         return self.path(name)
 
     def start(self, words, name="program", env=None, stdin=subprocess.DEVNULL, stdout=None, stderr=None, limit=None, group=False):
@@ -99,8 +101,7 @@ class Place:
         return process.returncode, self.read("run.out"), self.read("run.err")
 
     def read(self, name):
-        with open(self.path(name), "rb") as file:
-            return file.read()
+        return Path(self.path(name)).read_bytes()
 
     def end(self):
         for process in self.started:
@@ -116,7 +117,25 @@ class Place:
         self.groups.clear()
 
 
-class Server:
+class Served:
+    """A server at `socket`, as its clients see it. What starts it has its `process` and its `errors`."""
+
+    def is_there(self):
+        if self.process.poll() is not None:
+            raise Wrong(f"the server ended with status {self.process.returncode}: {self.errors()}")
+        return os.path.exists(self.socket)
+
+    def connect(self, **how):
+        return wire.Connection(self.socket, **how)
+
+    def attached(self, session, **how):
+        """A connection that has attached the session."""
+        conn = self.connect(**how)
+        same(conn.ask(wire.attach(session))[:2], ("welcome", session))
+        return conn
+
+
+class Server(Served):
     """`femem serve` with its own socket, store and settings."""
 
     def __init__(self, place, name="s", **settings):
@@ -137,20 +156,10 @@ class Server:
             until(self.is_there, 30, "the socket is there")
         return self
 
-    def is_there(self):
-        if self.process.poll() is not None:
-            raise Wrong(f"the server ended with status {self.process.returncode}: {self.errors()}")
-        return os.path.exists(self.socket)
-
-    def connect(self, **how):
-        return wire.Connection(self.socket, **how)
-
-    def attached(self, session, **how):
-        """A connection that has attached the session."""
-        conn = self.connect(**how)
-        reply = conn.ask(wire.attach(session))
-        same(reply[:2], ("welcome", session))
-        return conn
+    def begins(self):
+        """Waits until it serves or has ended."""
+        until(lambda: os.path.exists(self.socket) or not self.is_running(), 30, "the server serves or ends")
+        return self
 
     def output(self):
         return self.place.read(f"{self.name}.out").decode()
@@ -250,6 +259,23 @@ class Runner:
             print(f"ok      {part}: {named(check)} ({note + ', ' if note else ''}{took})", flush=True)
         else:
             print(f"FAILED  {part}: {named(check)} ({took})\n        {why}", flush=True)
+
+
+def is_check(function):
+    """Whether a function is a check: it takes a place, and says what holds, without a full stop."""
+    names = list(inspect.signature(function).parameters)
+    return names in (["place"], ["_place"]) and function.__doc__ is not None and not function.__doc__.strip().endswith(".")
+
+
+def checks_in(module):
+    """The checks that a module of this folder has, in their order."""
+    return [it for it in vars(module).values() if inspect.isfunction(it) and it.__module__ == module.__name__ and is_check(it)]
+
+
+def checks_of(part):
+    """The checks of a part: those of its module, and of the modules that it names in ALSO."""
+    names = [part, *getattr(importlib.import_module(f"check.{part}"), "ALSO", ())]
+    return [it for name in names for it in checks_in(importlib.import_module(f"check.{name}"))]
 
 
 def named(check):

@@ -80,6 +80,3 @@ def of_python(_place):
             elif arguments:
                 missing += [f"{PYTHON_PAGE}:{number}: {name} {it}" for it in takes(function, arguments[1:-1])]
     return told(missing, count, 55, "methods")
-
-
-CHECKS = (of_c, of_python)

@@ -13,7 +13,7 @@ import time
 from . import store, wire
 from .harness import Server, holds, preload, same, within
 from .history import History
-from .kills import Client, Load, Storm
+from .kills import Client, Load, Storm, read
 from .model import EMPTY, FULL, State, table
 from .records import Call, Journal, calls_of, is_in_time, left_in_time, too_early
 from .store import TWO, record_of
@@ -241,11 +241,8 @@ def small_records(_place):
         same(is_in_time(calls, store.device_of(TWO), {}), at > last, f"a reply before call {at + 1}")
     received, answered = {"a": 1, "b": 4, "c": 2}, {"a": 3, "b": 6, "c": 5}
     for places, wrong in (
-        ({"a": 0, "b": 1, "c": 2}, None),
-        ({"a": 1, "b": 2, "c": 0}, None),
-        ({"a": 2, "b": 1, "c": 0}, ("a", "b")),
-        ({"a": 1, "b": 0, "c": 2}, ("a", "b")),
-        ({"a": 1, "b": 0}, ("a", "b")),
+        ({"a": 0, "b": 1, "c": 2}, None), ({"a": 1, "b": 2, "c": 0}, None), ({"a": 2, "b": 1, "c": 0}, ("a", "b")),
+        ({"a": 1, "b": 0, "c": 2}, ("a", "b")), ({"a": 1, "b": 0}, ("a", "b")),
     ):
         same(out_of_order(places, received, answered), wrong, f"{places}")
     same(out_of_order({"a": 1, "b": 0}, received, {}), None)
@@ -350,9 +347,7 @@ class Lives:
         self.server.stop()
         self.load.join()
         holds(came >= wanted, f"{came} answers in life {len(self.records) + 1}, and no more come")
-        with open(self.server.store, "rb") as file:
-            self.history.read(file.read())
-        self.load.compare(self.history)
+        read(self.server, self.history, self.load)
         self.records.append(calls_of(record, is_cut=True))
 
     def asked(self):
@@ -453,6 +448,3 @@ def killed(place):
     holds(over and without and withdrawn, f"{over} answered after a kill, {without} without an answer, {withdrawn} withdrawn")
     holds(checkpoints > 0, "no checkpoint came")
     return f"{KILLS} kills, {len(operations)} operations, {over} of them answered after a kill, {withdrawn} withdrawn, {replies} replies, {checkpoints} checkpoints"
-
-
-CHECKS = (small_orders, small_records, killed)

@@ -12,11 +12,11 @@ import random
 import shutil
 import subprocess
 import time
+from pathlib import Path
 
-from . import wire
-from .harness import Wrong, holds, same, until, within
+from .harness import Served, Wrong, holds, same, until, within
 from .history import History
-from .kills import Adder, Consumer, Load, Producer, Storm, asked_for, counted, finish, make_arrays
+from .kills import Adder, Consumer, Load, Producer, Storm, asked_for, counted, finish, make_arrays, read
 
 PACKAGES = {
     "nbd-server": "nbd-server", "qemu-nbd": "qemu-utils", "nbdfuse": "libnbd-bin", "mkfs.ext4": "e2fsprogs", "ip": "iproute2",
@@ -52,8 +52,7 @@ class Host:
         self.do("ip", "link", "set", "lo", "up")
 
     def child(self):
-        with open(f"/proc/{self.holder.pid}/task/{self.holder.pid}/children", encoding="ascii") as file:
-            found = file.read().split()
+        found = Path(f"/proc/{self.holder.pid}/task/{self.holder.pid}/children").read_text("ascii").split()
         return int(found[0]) if found else None
 
     def inside(self, *words):
@@ -137,7 +136,7 @@ class Host:
         os.rename(self.disk, f"{self.disk}.gone")
 
 
-class Server:
+class Server(Served):
     """The server of a host, for the clients of the other checks."""
 
     def __init__(self, host):
@@ -167,25 +166,8 @@ class Server:
         except subprocess.TimeoutExpired:
             raise Wrong("the server has not ended") from None
 
-    def is_there(self):
-        if self.process.poll() is not None:
-            raise Wrong(f"the server ended with status {self.process.returncode}: {self.errors()}")
-        return os.path.exists(self.socket)
-
     def errors(self):
         return self.host.place.read(f"femem.{self.host.name}.err").decode()
-
-    def connect(self, **how):
-        return wire.Connection(self.socket, **how)
-
-    def attached(self, session, **how):
-        conn = self.connect(**how)
-        same(conn.ask(wire.attach(session))[:2], ("welcome", session))
-        return conn
-
-    def reads(self, history):
-        with open(self.store, "rb") as file:
-            history.read(file.read())
 
 
 class Pair:
@@ -244,8 +226,7 @@ class Crew:
 
     def compare(self, server):
         """Compares the clients' replies with a host's disk."""
-        server.reads(self.history)
-        self.load.compare(self.history)
+        read(server, self.history, self.load)
 
     def finish(self, server):
         producer, consumer = self.pair
@@ -377,6 +358,3 @@ def one_side_is_not_enough(place):
         except Wrong as why:
             return f"{answered} answers: {why}"
     raise Wrong("nothing is missing")
-
-
-CHECKS = (taken_over, peer_is_lost, wire_is_cut, one_side_is_not_enough)

@@ -41,6 +41,3 @@ def imports(_place):
                 count += len(names)
                 wrong += [f"{path}: {it}" for it in names if it not in SILENT and not stands(it, body)]
     return told(wrong, count, 10000, "names imported")
-
-
-CHECKS = (imports,)

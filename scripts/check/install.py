@@ -6,6 +6,7 @@ import shutil
 import subprocess
 import sys
 import zipfile
+from pathlib import Path
 
 from .clean import NAMES
 from .harness import Server, compiler, holds, same, within
@@ -62,14 +63,12 @@ def c(place):
     for name in ("include/femem.h", "lib/libfemem.a", "lib/libfemem.so", "lib/libfemem.so.1", "lib/pkgconfig/femem.pc"):
         holds(os.path.exists(os.path.join(root, "usr", name)), f"there is no {name}")
     is_well_formed(os.path.join(root, "usr/share/man/man3/libfemem.3"))
-    with open(os.path.join(root, "usr/lib/pkgconfig/femem.pc"), encoding="utf-8") as file:
-        pc = file.read()
+    pc = Path(os.path.join(root, "usr/lib/pkgconfig/femem.pc")).read_text("utf-8")
     same(re.search(r"^Version: (.*)$", pc, re.M)[1], versions.of_sources()[0])
     source = [os.path.join(TOP, "clients", "c", "counter.c"), *flags(pc, "Cflags", root)]
     for name, libraries in (("shared", flags(pc, "Libs", root)), ("static", [f"{root}/usr/lib/libfemem.a"])):
         done(place, [compiler(), "-std=c11", "-D_POSIX_C_SOURCE=200809L", "-o", place.path(name), *source, *libraries])
-    with open(place.path("shared"), "rb") as file:
-        holds(b"libfemem.so.1\0" in file.read(), "the program does not ask for libfemem.so.1")
+    holds(b"libfemem.so.1\0" in Path(place.path("shared")).read_bytes(), "the program does not ask for libfemem.so.1")
     server = Server(place).start()
     count = 0
     for name in ("shared", "static"):
@@ -132,8 +131,7 @@ def dist_refuses(place):
     folder = place.path("dist")
     words = [os.path.join(TOP, "scripts", "dist"), "--try", place.program]
     for fault, path in (
-        ("there is no record", place.path("none")),
-        ("is of another program", recorded(place, "of_another", program="0" * 64)),
+        ("there is no record", place.path("none")), ("is of another program", recorded(place, "of_another", program="0" * 64)),
         ("the sources have changed", recorded(place, "of_others", sources="0" * 64)),
     ):
         said = done(place, [*words, path, folder], status=1)
@@ -197,13 +195,10 @@ def one_version(_place):
 def text_with(place, name, changelog):
     """A repository of the sources that name the version, with another CHANGELOG.md, committed. Returns its path, and what runs git."""
     top = place.path(name)
-    for path in (*(it for it, _ in (*versions.SOURCES, *versions.PYTHON_SOURCES)), "scripts/version", "scripts/release/versions.py"):
+    for path in (*(it for it, _ in (*versions.SOURCES, *versions.PYTHON_SOURCES)), "scripts/version", "scripts/release/versions.py", "scripts/release/__init__.py"):
         os.makedirs(os.path.dirname(os.path.join(top, path)), exist_ok=True)
         shutil.copy(os.path.join(TOP, path), os.path.join(top, path))
-    for path in ("__init__.py",):
-        shutil.copy(os.path.join(TOP, "scripts", "release", path), os.path.join(top, "scripts", "release", path))
-    with open(os.path.join(top, "CHANGELOG.md"), "w", encoding="utf-8") as file:
-        file.write(changelog)
+    Path(os.path.join(top, "CHANGELOG.md")).write_text(changelog, "utf-8")
     names = {f"GIT_{who}_{what}": "femem@localhost" for who in ("AUTHOR", "COMMITTER") for what in ("NAME", "EMAIL")}
 
     def git(*words, at="2026-12-01T10:00:00Z"):
@@ -219,7 +214,6 @@ def sorts(place, version, other):
     return subprocess.run(["dpkg", "--compare-versions", version, "lt", other], check=False).returncode == 0
 
 
-@within(60)
 def moves(place):
     """each commit has a version above the last, below the release's, for Debian and Python; a release is a dated, tagged, unchanged text"""
     before = "# Changes\n\n## 2.3.0, 2026-11-01\n\n- It is old.\n"
@@ -256,6 +250,3 @@ def moves(place):
     holds("does not have the tag v2.4.0" in fault() and versions.is_dated_before(top), fault())
     versions.commit.cache_clear()
     return f"{len(chain)} versions"
-
-
-CHECKS = (program, c, dist, dist_refuses, one_path, one_version, moves)

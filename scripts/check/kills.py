@@ -4,6 +4,7 @@ import os
 import random
 import threading
 import time
+from pathlib import Path
 
 from . import store, wire
 from .harness import Server, Wrong, holds, same, until, within
@@ -408,8 +409,7 @@ def store_of_format_1():
     """A store whose first checkpoint, which moves it to format 2, begins after a few hundred entries."""
     state = State()
     for entry in (
-        ("attached", SETTER, 1),
-        ("finished", SETTER, 1, ("create", b"counters", 3, 1), ("array", 1, 3)),
+        ("attached", SETTER, 1), ("finished", SETTER, 1, ("create", b"counters", 3, 1), ("array", 1, 3)),
         ("finished", SETTER, 2, ("create", b"hands", 3, 0), ("array", 2, 3)),
         ("finished", SETTER, 3, ("create", b"big", 30000, 1), ("array", 3, 30000)),
     ):
@@ -443,8 +443,7 @@ def killed_in_migrations(place):
 
 
 def read(server, history, load):
-    with open(server.store, "rb") as file:
-        history.read(file.read())
+    history.read(Path(server.store).read_bytes())
     load.compare(history)
 
 
@@ -465,6 +464,3 @@ def killed_in_its_beginning(place):
         same(again.looks(), "place 1\nsession 7 floor 1 kept 0\n")
         same([file for file in os.listdir(place.folder) if file.startswith(f"{turn}.store")], [f"{turn}.store"])
     return f"{begun} had no store yet"
-
-
-CHECKS = (killed_in_its_beginning, killed_in_migrations, killed)

@@ -2,7 +2,6 @@
 
 import os
 import socket
-import threading
 
 from . import wire
 from .harness import Server, holds, same, until
@@ -42,7 +41,6 @@ def commands(place):
     server = Server(place).start()
     for given in (("call", "--socket", server.socket), ("call", f"--socket={server.socket}")):
         same(place.run(*given, given=b"report\n"), (0, b"waiting 0\n", b""), given)
-    server.stop()
 
 
 def help_and_version(place):
@@ -141,11 +139,8 @@ def store_refusals(place):
     """a store that is missing, of a wrong size, unformatted or not a file, with `serve` and `look`"""
     new = device_of(TWO)
     for name, content, line in (
-        ("none", None, "store device"),
-        ("ten", b"0123456789", "store size 10"),
-        ("empty", b"", "store size 0"),
-        ("short", bytes(SIZE - 1), f"store size {SIZE - 1}"),
-        ("long", bytes(new) + b"\0", f"store size {SIZE + 1}"),
+        ("none", None, "store device"), ("ten", b"0123456789", "store size 10"), ("empty", b"", "store size 0"),
+        ("short", bytes(SIZE - 1), f"store size {SIZE - 1}"), ("long", bytes(new) + b"\0", f"store size {SIZE + 1}"),
         ("zeros", bytes(SIZE), "store unformatted"),
     ):
         path = place.path(name) if content is None else place.write(name, content)
@@ -178,7 +173,6 @@ def formats(place):
     same((other.looks(), os.path.getsize(other.store)), ("place 0\n", SIZE))
     server.settings["format"] = False
     server.start()
-    server.stop()
 
 
 def sockets(place):
@@ -212,91 +206,3 @@ def two_servers(place):
         same(conn.ask(wire.call(1, ("find", b"a"))), ("answer", 1, ("no-array",)))
     first.stop()
     same(first.looks(), "place 2\nsession 7 floor 1 kept 1\n")
-
-
-def run_faults(place):
-    """`run`: a wrong line, and a full output"""
-    same(place.run("run", given=b"c1 attach 7\n\nc1 jump\nc1 bye\n"), (2, b"c1 welcome 7 1\n", b"femem: line 3\n"))
-    same(place.run("run", given=b"c1 attach 7\r\n"), (2, b"", b"femem: line 1\n"))
-    same(place.run("run", given=b""), (0, b"", b""))
-    with open("/dev/full", "wb") as full:
-        same(place.run("run", given=b"c1 attach 7\n", stdout=full)[::2], (2, b"femem: input\n"))
-    same(place.run("run", stdout=None, given=b"c1 attach 7"), (0, b"c1 welcome 7 1\n", b""))
-
-
-def call_faults(place):
-    """`call`: no server, a wrong line, a full output"""
-    same(place.run("call", "--socket", place.path("none"), given=b"attach 7\n"), (4, b"", b"femem: socket\n"))
-    server = Server(place).start()
-    ask = lambda given, **how: place.run("call", "--socket", server.socket, given=given, **how)
-    same(ask(b"attach 7\n\njump\nbye\n"), (2, b"welcome 7 1\n", b"femem: line 3\n"))
-    same(ask(b""), (0, b"", b""))
-    for line in (b"c1 attach 7", b"gone", b"stop", b"hold", b"attach  7", b"attach 07", b"attach 7 ", b"1 find a\tb c", b"# note", b"1 create a 1 half"):
-        same(ask(line + b"\n"), (2, b"", b"femem: line 1\n"), line)
-    with open("/dev/full", "wb") as full:
-        same(ask(b"attach 7\n", stdout=full)[::2], (2, b"femem: input\n"))
-    server.stop()
-
-
-def call_and_wrong_servers(place):
-    """`call`: a server that ends, stops within a frame, or sends an invalid frame is `femem: socket`"""
-    welcome = wire.framed(65, bytes(7) + b"\7" + bytes(7) + b"\1")
-    same(wire.reply_of(welcome[4:]), ("welcome", 7, 1), "the frame of this check")
-    for number, (written, shown) in enumerate(
-        (
-            (b"", b""),
-            (welcome[:9], b""),
-            (b"\0\0\0\0", b""),
-            (b"\xff\xff\xff\xff", b""),
-            (b"\0\4\0\2" + b"\x47" + bytes(64), b""),
-            (wire.framed(64, b"1"), b""),
-            (wire.framed(65, bytes(15)), b""),
-            (wire.framed(66, bytes(8) + b"\xff" + bytes(12)), b""),
-            (wire.framed(66, bytes(8) + b"\2" + bytes(11) + b"\1"), b""),
-            (wire.framed(70, bytes(8) + b"\0"), b""),
-            (wire.framed(71, b"\xff"), b""),
-            (welcome + wire.framed(1, bytes(8)), b"welcome 7 1\n"),
-        )
-    ):
-        path = place.path(f"{number}.socket")
-        with socket.socket(socket.AF_UNIX) as listener:
-            listener.bind(path)
-            listener.listen(1)
-            listener.settimeout(20)
-            thread = threading.Thread(target=serve_once, args=(listener, written), daemon=True)
-            thread.start()
-            same(place.run("call", "--socket", path, given=b"attach 7\nbye\n"), (4, shown, b"femem: socket\n"), written)
-            thread.join(20)
-
-
-def serve_once(listener, written):
-    """Reads something, writes those bytes, and ends the connection once the client has."""
-    conn, _ = listener.accept()
-    with conn:
-        conn.settimeout(5)
-        try:
-            conn.recv(100)
-            conn.sendall(written)
-            conn.shutdown(socket.SHUT_WR)
-            while conn.recv(100):
-                pass
-        except OSError:
-            pass
-
-
-CHECKS = (
-    words,
-    commands,
-    help_and_version,
-    settings_unreadable,
-    settings_in_order,
-    settings_bounds,
-    settings_values,
-    store_refusals,
-    formats,
-    sockets,
-    two_servers,
-    run_faults,
-    call_faults,
-    call_and_wrong_servers,
-)

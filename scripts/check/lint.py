@@ -19,6 +19,3 @@ def lint(place):
     ran = subprocess.run(words, stdout=subprocess.PIPE, stderr=subprocess.STDOUT, text=True, timeout=290 * place.options.patience, check=False)
     same((ran.returncode, re.findall(r"^[EW]: .*$", ran.stdout, re.M)), (0, []), ran.stdout)
     return f"{len(os.listdir(folder))} packages"
-
-
-CHECKS = (lint,)

@@ -3,6 +3,7 @@
 import collections
 import os
 import threading
+from pathlib import Path
 
 from . import store, wire
 from .crowds import adding
@@ -22,6 +23,7 @@ class Load:
         self.server = server
         self.state = State()  # after everything requested
         self.entries = collections.deque()  # those requested and not yet taken
+        self.known = State()  # at the last place that was shown
         self.asked = 0
         self.answered = 0
         self.is_ending = False
@@ -71,6 +73,14 @@ class Load:
         except Exception as error:
             self.raised = error
 
+    def at(self, place, answered, what):
+        """The state at a place that was shown now. It has all that was answered before, and nothing that was not asked for; places never fall."""
+        last, asked = self.known.place, self.asked
+        holds(max(answered, last) <= place <= asked, f"{what}: place {place}, after {last}; {answered} were answered, {asked} asked")
+        while self.known.place < place:
+            self.known.apply(self.entries.popleft())
+        return self.known
+
     def end(self):
         self.is_ending = True
         self.thread.join(60)
@@ -80,8 +90,7 @@ class Load:
 
 def generation(path):
     """The generation of the slot that counts, in a store that is not being written."""
-    with open(path, "rb") as file:
-        return store.slots_of(file.read())[0].generation
+    return store.slots_of(Path(path).read_bytes())[0].generation
 
 
 @within(400)
@@ -90,27 +99,21 @@ def while_served(place):
     server = Server(place).start()
     load = Load(server)
     until(lambda: load.answered > 100 or load.raised, 30, "the load begins")
-    history = State()
-    last = first = load.answered
+    first = load.answered
     for number in range(LOOKS):
         answered = load.answered
         text = server.looks()
         # (what a look shows was stored before the look ended, so it was requested before)
-        asked = load.asked
         at = int(text.split("\n", 1)[0].removeprefix("place "))
-        holds(max(answered, last) <= at <= asked, f"look {number}: place {at}, after {last}; {answered} were answered, {asked} asked")
-        while history.place < at:
-            history.apply(load.entries.popleft())
-        same(text, history.looks(), f"look {number}")
+        same(text, load.at(at, answered, f"look {number}").looks(), f"look {number}")
         holds(load.raised is None, f"the load ended: {load.raised}")
-        last = at
     load.end()
     text = server.looks()
     server.stop()
     same(server.looks(), text, "a look at the store that the server left")
     checkpoints = generation(server.store) - 1
     holds(checkpoints >= LEAST_CHECKPOINTS, f"only {checkpoints} checkpoints")
-    return f"{LOOKS} looks, {last - first} entries, {checkpoints} checkpoints"
+    return f"{LOOKS} looks, {at - first} entries, {checkpoints} checkpoints"
 
 
 def beside_one_that_starts(place):
@@ -122,6 +125,3 @@ def beside_one_that_starts(place):
     other = Server(place, "t", store=server.store).start(waits=False)
     same(other.ended(), (3, "", "femem: store device\n"), "a second server")
     holds(not os.path.exists(other.socket), "the second server made its socket")
-
-
-CHECKS = (beside_one_that_starts, while_served)

@@ -147,6 +147,3 @@ def of_the_tools(place):
     same([status for status, word in words.items() if word not in table.get(status, "")], [], "statuses")
     same((sorted(table), ran(place, "backup")[0]), (sorted(words), files.USAGE))
     return f"{len(usages)} commands"
-
-
-CHECKS = (warnings, told, synopsis, of_the_tools)

@@ -3,12 +3,11 @@ pages quote is there."""
 
 import re
 
-from .edits import edits
 from .harness import holds, same
 from .manuals import pages  # noqa: F401  (this sets the path of release)
 from .tables import rows
 
-from release import figures, planted  # noqa: E402
+from release import figures  # noqa: E402
 
 PAGE = "docs/performance.md"
 
@@ -39,34 +38,6 @@ def generated(_place):
     return f"{count} rows"
 
 
-def gate_counts(_place):
-    """in bench/results/figures.md the checks of the gate's parts add up, and it refused as many edits as the text has, within 5 %"""
-    page = "\n".join(figures.section("The last gate"))
-    *parts, whole = [int(it) for it in re.findall(r"(\d+) passed, 0 failed$", page, re.M)]
-    same(sum(parts), whole, "checks that passed")
-    count = int(re.search(r"must-fail edits: (\d+) refused", page)[1])
-    holds(abs(count - len(edits())) <= count / 20, f"{count} edits, not {len(edits())}")
-    return f"{whole} checks, {count} edits"
-
-
-def wrong_bodies(_place):
-    """in bench/results/figures.md each crate was tried or was not, what is explained is in scripts/planted.txt, and a body is counted once"""
-    lines = figures.section("Wrong bodies")
-    found = cells(lines)
-    absent = re.findall(r"\w+", next(it for it in lines if it.startswith("Not tried: "))[len("Not tried: ") :])
-    same(sorted([*found, *absent]), sorted(planted.crates()), "crates")
-    known = planted.explained()
-    for name, (functions, *counts, present) in found.items():
-        tried, refused, proved, without = (int(value(it)) for it in counts)
-        rows_of = lambda kind: sum(it.startswith(kind) for it in known.get(name, []))
-        holds(present in ("this", "an earlier one") and refused > 0, f"{name}: {counts}")
-        holds(0 <= tried - refused - proved <= tried / 10, f"{name}: {tried} bodies, {refused} refused, {proved} proved")
-        same((proved > 0, without > 0), (rows_of("proves") > 0, rows_of("no-ensures") > 0), f"{name}: what is explained")
-        holds(rows_of("proves") <= proved and 0 < value(functions) <= figures.counts(name)[3], f"{name}: {functions} functions")
-        holds(value(functions) <= tried, f"{name}: {functions} functions, {tried} bodies")
-    return f"{len(found)} crates"
-
-
 # How the README's rows begin, and what the loads of docs/performance.md have, in their order.
 LOADS = (("a client adds", "1 x 1"), ("64 clients do, a call", "64 x 1"), ("64 clients do, 32 calls", "64 x 32"), ("a hand-off", "hand-off"))
 
@@ -79,6 +50,3 @@ def speeds(_place):
         holds(row[0].startswith(begin) and load in wanted[0], f"README.md has {row[0]} where {PAGE} has {wanted[0]}")
         same(row[1:], wanted[1:], f"README.md: {row[0]}")
     return f"{len(shown)} rows"
-
-
-CHECKS = (generated, gate_counts, wrong_bodies, speeds)

@@ -9,10 +9,11 @@ import os
 import re
 import shutil
 import subprocess
+from pathlib import Path
 
 from . import deb_pages
 from .clean import NAMES
-from .harness import Skipped, holds, same, within
+from .harness import Skipped, checks_in, holds, same, within
 from .targets import copy_of, packages_of_the_pages
 from .texts import text_of
 
@@ -60,8 +61,7 @@ class Minimal:
         self.does("root", f"useradd --create-home {USER}; apt-get -q update && apt-get -q -y install make")
         shutil.move(copy_of(self.place), self.root + CLONE)
         self.does("root", f"chown -R {USER} {CLONE}; mkdir /srv/stand-in")
-        with open(f"{self.root}/srv/stand-in/rt", "w", encoding="ascii") as file:
-            file.write(STAND_IN)
+        Path(f"{self.root}/srv/stand-in/rt").write_text(STAND_IN, "ascii")
         os.chmod(f"{self.root}/srv/stand-in/rt", 0o755)
 
     def runs(self, user, words, folder="/", network=True):
@@ -146,7 +146,7 @@ def pages(place):
     before = os.environ.get("FEMEM_CLEAN_ROOT")
     os.environ["FEMEM_CLEAN_ROOT"] = minimal.root
     try:
-        for check in deb_pages.CHECKS:
+        for check in checks_in(deb_pages):
             check(place)
             place.end()
             shutil.rmtree(place.path("room"))
@@ -154,6 +154,3 @@ def pages(place):
         os.environ.pop("FEMEM_CLEAN_ROOT")
         if before:
             os.environ["FEMEM_CLEAN_ROOT"] = before
-
-
-CHECKS = (lacks, first_commands, tests_lack, packs, tests_have, pages)

@@ -1,10 +1,11 @@
 """Checks that must fail, each by what other checks rest on. scripts/must_fail compares the last line that is said of them with LAST."""
 
+import sys
 import time
 
 from . import counted
 from .clients import output_of
-from .harness import Skipped, holds, same, until, within
+from .harness import Skipped, checks_in, holds, same, until, within
 from .texts import told
 
 
@@ -59,5 +60,5 @@ def lacking(_place):
     raise Skipped("this is only tried")
 
 
-CHECKS = (different, untrue, never, missing, few, uncounted, broken, late, status, lacking)
+CHECKS = checks_in(sys.modules[__name__])
 LAST = f"0 passed, {len(CHECKS)} failed (1 of them not run here: must_fail: this is only tried)"

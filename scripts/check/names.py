@@ -132,6 +132,3 @@ def words(_place):
             count += len(found)
             missing += [f"{page}:{number}: no file has {it}" for it in found if it not in vocabulary()]
     return told(missing, count, 5000, "words")
-
-
-CHECKS = (paths, items, definitions, model, words)

@@ -75,6 +75,3 @@ def all_run(_place):
     same(sorted(there - run), [], "checks that no part runs")
     same(sorted(run - there), [], "parts of what is no check")
     return f"{counted.compare('checks', {part: [len(its)] for part, its in by_part.items()})} checks"
-
-
-CHECKS = (loads, beside, competing_threads, disk_edits, all_run)

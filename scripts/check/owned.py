@@ -187,6 +187,7 @@ OWNED = (
     (MODEL, "there are fewer than # | a missing session opens, floor # |", STATE, "most_sessions = #", lambda n: [n, 1]),
     (MODEL, "at most # higher, and at most # - # |", STATE, "window_length = # .. greatest_floor = #", lambda window, floor: [window, floor + window, window]),
     ("docs/proved.md", "| at most # entries, in order", STATE, "most_batch_entries = #"),
+    ("docs/proved.md", "with `--stops #` all", "scripts/check/stops.py", "share_of(points, #, 5)"),
     ("docs/proved.md", "`steps_are_few` (# entries)", STATE, "most_event_entries = #"),
     ("docs/proved.md", "`boxes_stay_short` (# mails)", MAILS, "most_mails_in_box = #"),
     ("docs/proved.md", "The list has the first # attaches and calls", "crates/fe_history/src/strange.rt", "LISTED: usize = #;"),

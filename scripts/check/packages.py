@@ -5,6 +5,7 @@ import re
 import shutil
 import subprocess
 import tarfile
+from pathlib import Path
 
 from . import texts
 from .clean import NAMES, SOCKET, STORE
@@ -108,8 +109,7 @@ def package(place):
 
 def of_the_server(place, found, path):
     """The program byte for byte, the tools, a folder for the store, and settings that format none."""
-    with open(place.program, "rb") as program:
-        holds(found["/usr/bin/femem"] == program.read(), "the package has another program")
+    holds(found["/usr/bin/femem"] == Path(place.program).read_bytes(), "the package has another program")
     for name in TOOLS:
         holds(f"/usr/lib/femem/{name}" in found, f"there is no {name}")
     for name in UNITS:
@@ -173,6 +173,3 @@ def links(place):
             count += 1
             missing += [] if path in there else [f"{name}: {path}"]
     return texts.told(missing, count, 150, "links")
-
-
-CHECKS = (package, links)

@@ -4,7 +4,7 @@ install."""
 import os
 import re
 
-from .harness import holds, same
+from .harness import same
 from .manuals import pages  # noqa: F401  (this sets the path of release)
 from .sources import below
 from .tables import rows, said, statuses, text
@@ -99,6 +99,3 @@ def recipe(_place):
     status = said("docs/replication.md", "`femem: store device`, status N")
     missing += [] if statuses()[status].startswith("the store") else [f"status {status} is not of a store"]
     return told(missing + [f"hosts.py does not run {it}" for it in programs if it not in hosts], len(wanted), 7, "options")
-
-
-CHECKS = (layers, programs, packages, recipe)

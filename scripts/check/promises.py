@@ -43,6 +43,3 @@ def kept(_place):
             missing += [f"{page}: no test {name}" for name in names if not re.search(form.format(name), tests, re.M)]
         missing += [f"{page} names {it}" for it in re.findall(r"`(test_\w+)`", text)]
     return told(missing, count, 50, "sentences")
-
-
-CHECKS = (kept,)

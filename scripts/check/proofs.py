@@ -8,6 +8,7 @@ import os
 import re
 import shutil
 import subprocess
+from pathlib import Path
 
 from .clients import output_of
 from .edits import edits
@@ -36,8 +37,7 @@ TEST = re.compile(r"#\[test\]\s*(?:#\[[^\]]*\]\s*)*(?:pub )?fn (\w+)")
 def log_of(place):
     if not place.options.log:
         raise Skipped("there is no output of a gate (--log FILE)")
-    with open(place.options.log, encoding="utf-8", errors="replace") as file:
-        return file.read()
+    return Path(place.options.log).read_text("utf-8", errors="replace")
 
 
 def tests(place):
@@ -132,6 +132,3 @@ def seeded(place):
     same([os.stat(it).st_mtime_ns for it in stamps], times, "libraries that were built anew")
     proved = set(re.findall(r"^fn (\w+)::\S+: proved$", said, re.M))
     same(proved, {SEEDED[-1]}, "crates that were proved")
-
-
-CHECKS = (tests, refused, memory_ends, seeded)

@@ -594,6 +594,3 @@ def replies_wait(place):
     same(store.slots_of(device)[0].generation, 2, "a checkpoint was made")
     syncs = sum(call.kind == "fdatasync" for call in calls)
     return f"{count} replies, {syncs} syncs"
-
-
-CHECKS = (sees_all, made, kept, opened, looked, appended, migrated, migrated_by_a_name, replies_wait)

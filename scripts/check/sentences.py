@@ -96,6 +96,4 @@ def listed(_place):
     return f"{len(here)} sentences"
 
 
-from . import wrong_sentences  # noqa: E402  (it tries `wrong_of`)
-
-CHECKS = (owned, listed, *wrong_sentences.CHECKS)
+ALSO = ("wrong_sentences",)

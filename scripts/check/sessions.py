@@ -105,6 +105,3 @@ def examples(_place):
     given = next(it.value for it in tree.body if isinstance(it, ast.Assign) and it.targets[0].id == "EXAMPLE")
     same(eval(compile(ast.Expression(given), "EXAMPLE", "eval")), whole, "clients/python/tests/test_sessionformat.py")
     return f"{len(whole)} bytes"
-
-
-CHECKS = (tables, examples)

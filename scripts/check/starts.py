@@ -2,7 +2,7 @@
 
 import fcntl
 import os
-import pathlib
+from pathlib import Path
 import re
 import subprocess
 
@@ -23,8 +23,7 @@ def noted(server, place):
     paths = [f"{server.store}.place", place.path(f"places/{server.store.replace('/', '%2F')}.place")]
     said = []
     for it in paths:
-        with open(it, encoding="ascii") as file:
-            said.append(file.read())
+        said.append(Path(it).read_text("ascii"))
     return paths, said
 
 
@@ -178,7 +177,7 @@ def causes(place):
         os.chmod(it.path, 0o600)
         own = os.path.dirname(os.path.realpath(place.folder))
         # (a machine's folder for temporary files may be another user's or root's alone)
-        shut = [it for it in (*map(str, reversed(pathlib.Path(own).parents)), own) if not os.stat(it).st_mode & 1]
+        shut = [it for it in (*map(str, reversed(Path(own).parents)), own) if not os.stat(it).st_mode & 1]
         ended = ran(place, "why", "--user", "nobody", it.path)
         holds(ended[0] == 1 and f"user 65534 may not use the folder {shut[0]} (mode " in ended[1], f"{ended}")
         os.chmod(own, 0o711)
@@ -253,6 +252,3 @@ def metrics(place):
     found = dict(it.split(" ") for it in place.read("femem.prom").decode().splitlines())
     same(("femem_place" in found, found["femem_probe_status"]), (False, "4"))
     until(lambda: not os.path.exists(place.path("femem.prom.new")), 1, "nothing is left")
-
-
-CHECKS = (lower_places, copied_over, lost_headers, causes, by_settings, compared, metrics)

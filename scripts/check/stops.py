@@ -9,13 +9,11 @@ import subprocess
 import threading
 import time
 
-from . import store, wire
+from . import faults, store, wire
 from .crowds import adding
-from .faults import Client, answered, fills_and_others, is_change, near_a_checkpoint
-from .harness import Server, holds, preload, same, until, within
+from .faults import Client, fills_and_others, is_change
+from .harness import holds, same, within
 from .model import State
-from .records import calls_of
-from .tables import said
 
 
 COVERED = 108  # every point is taken once in COVERED / N commits
@@ -37,47 +35,12 @@ def share_of(points, stops, number):
     return points[number % strides :: strides]
 
 
-class Trial:
-    """A store, or none, and one client's work on it. `others` has the files next to the store at the end."""
+class Trial(faults.Trial):
+    """The same, with the server killed at its calls. `others` has the files next to the store at the end."""
 
     def __init__(self, place, base, work, formats, others=()):
-        self.place = place
-        self.base = base
-        self.work = work
-        self.formats = formats
+        super().__init__(place, base, work, formats)
         self.others = dict(others)
-        state = store.read_store(base)[2] if base is not None and not formats else State()
-        self.wanted = answered(work, state)
-        self.library = preload(place, "record.c")
-        self.count = 0
-
-    def started(self, **env):
-        """A server on the store as it was at the beginning."""
-        self.count += 1
-        for file in os.listdir(self.place.folder):
-            if file.startswith("store") or file.startswith("calls"):
-                os.unlink(self.place.path(file))
-        path = self.place.path("store")
-        if self.base is not None:
-            self.place.write("store", self.base)
-        return Server(self.place, "s", store=path, format=self.formats).start({key: str(value) for key, value in env.items()}, waits=False)
-
-    def recorded(self, **env):
-        return self.started(LD_PRELOAD=self.library, RECORD=self.place.path("calls"), **env)
-
-    def begins(self, server):
-        until(lambda: os.path.exists(server.socket) or not server.is_running(), 30, "the server serves or is killed")
-
-    def calls(self):
-        """The calls of a run without a kill, and how long it takes."""
-        server, began = self.recorded(), time.monotonic()
-        self.begins(server)
-        client = Client(server, self.work)
-        holds(client.attempt(), "a connection ended")
-        same(client.answers, self.wanted)
-        seconds = time.monotonic() - began
-        server.stop()
-        return calls_of(self.place.path("calls")), seconds
 
     def points(self, calls):
         """Before and after each call that changes a file, and within each write; three of the writes that fill a file with zeros."""
@@ -87,13 +50,8 @@ class Trial:
         return found
 
     def killed_at(self, number, how):
-        server = self.recorded(TURN=number, HOW=how)
-        self.begins(server)
-        client = Client(server, self.work)
-        if server.is_running():
-            holds(not client.attempt(), f"the server lives on behind call {number}")
-        server.process.wait(30 * wire.patience)
-        same(server.process.returncode, -9, f"killed {how} call {number}")
+        server, client = self.run(TURN=number, HOW=how)
+        same(server.process.returncode, -9, f"killed {how} call {number}: {len(client.answers)} answers")
         self.goes_on(server, client, f"killed {how} call {number}")
 
     def killed_behind(self, seconds):
@@ -113,14 +71,7 @@ class Trial:
 
     def goes_on(self, server, client, name):
         """The next start opens the store with each answer, and does unanswered requests once. No other file is left."""
-        if os.path.exists(server.socket):
-            os.unlink(server.socket)
-        told, client.answers = client.answers, []
-        server.start()
-        holds(client.attempt(), f"{name}: the server that was started again ended a connection")
-        same(client.answers[: len(told)], told, f"{name}: what was answered before")
-        same(client.answers, self.wanted, name)
-        server.stop()
+        faults.goes_on(self.place, server, client, self.wanted, name)
         found = store.read_store(self.place.read("store"))[2].sessions[7].kept
         same([found[number][1] for number in range(1, len(self.wanted) + 1)], self.wanted, name)
         left = {file: self.place.read(file) for file in os.listdir(self.place.folder) if file.startswith("store.")}
@@ -128,7 +79,7 @@ class Trial:
 
     def kills(self):
         """Kills the server at this commit's points, and at random moments. Returns how often at each, and at which of how many points."""
-        calls, seconds = self.calls()
+        calls = self.right()
         points, stops = self.points(calls), self.place.options.stops
         chosen = share_of(points, stops, commits())
         holds(chosen and chosen[0] in points[: max(1, COVERED // stops)], f"no point was chosen of {len(points)}")
@@ -136,7 +87,7 @@ class Trial:
             self.killed_at(number, how)
         left = max(0, stops - len(chosen))
         for _ in range(left):
-            self.killed_behind(random.uniform(0, seconds))
+            self.killed_behind(random.uniform(0, self.seconds))
         kinds = sorted({call.kind for call in calls if is_change(call)})
         which = f"from point {points.index(chosen[0]) + 1} of {len(points)} on"
         return f"{len(chosen)} kills {which}, in calls of {', '.join(kinds)}, {left} at random moments"
@@ -158,7 +109,7 @@ WORK = [("create", b"counter", 2, 1)] + [adding(1, 0, 1)] * 3
 
 def kept_before():
     """The bytes of a former store whose first slot does not count."""
-    device = bytearray(near_a_checkpoint()[0])
+    device = bytearray(faults.near_a_checkpoint())
     device[store.SLOT] += 1
     return bytes(device)
 
@@ -171,61 +122,28 @@ def of_format_1(entries):
     return bytes(store.device_of(store.ONE, state, [[("attached", 9, 1)] * entries] * 2, 2, 1))
 
 
-# The trial of each check below.
-TRIALS = {
-    "making": lambda place: Trial(place, None, WORK, True),
-    "formatting": lambda place: Trial(place, bytes(store.SIZE), WORK, True),
-    "keeping": lambda place: Trial(place, kept_before(), WORK, True, [("store.before-format", kept_before())]),
-    "checkpointing": lambda place: Trial(place, near_a_checkpoint()[0], [adding(1, 19999, 1)] * 9, False),
-    "migrating": lambda place: Trial(place, of_format_1(4095), [adding(1, 19999, 1)] * 9, False),
-    "by a name": lambda place: Trial(place, of_format_1(10), [adding(1, 0, 1), ("find", b"seventeen_letters"), adding(1, 0, 1)], False),
-}
+def killed(name, says, made):
+    """A check that kills the server of a trial."""
+
+    @within(300)
+    def check(place):
+        return Trial(place, *made()).kills()
+
+    check.__name__, check.__doc__ = name, says
+    return check
 
 
-def all_points(place):
-    """docs/proved.md has the number of points at which these checks kill the server"""
-    found = 0
-    for made in TRIALS.values():
-        trial = made(place)
-        found += len(trial.points(trial.calls()[0]))
-    same(found, said("docs/proved.md", "a ninth of N points"))
-    return f"{found} points"
-
-
-@within(300)
-def making(place):
-    """a server is killed while it makes its store: the next start opens it, with every answer"""
-    return TRIALS["making"](place).kills()
-
-
-@within(300)
-def formatting(place):
-    """the same while it formats a file of zeros; no copy of it is left"""
-    return TRIALS["formatting"](place).kills()
-
-
-@within(300)
-def keeping(place):
-    """the same while it formats a former store; a whole copy of that is left"""
-    return TRIALS["keeping"](place).kills()
-
-
-@within(300)
-def checkpointing(place):
-    """the same while it makes a checkpoint between groups"""
-    return TRIALS["checkpointing"](place).kills()
-
-
-@within(300)
-def migrating(place):
-    """the same while a checkpoint between groups moves the store from format 1 to format 2"""
-    return TRIALS["migrating"](place).kills()
-
-
-@within(300)
-def migrating_by_a_name(place):
-    """the same while it is moved because of a name that has no record in format 1"""
-    return TRIALS["by a name"](place).kills()
-
-
-CHECKS = (covered, all_points, making, formatting, keeping, checkpointing, migrating, migrating_by_a_name)
+NINE, NAMED = [adding(1, 19999, 1)] * 9, [adding(1, 0, 1), ("find", b"seventeen_letters"), adding(1, 0, 1)]
+making = killed("making", "a server is killed while it makes its store: the next start opens it, with every answer", lambda: (None, WORK, True))
+formatting = killed("formatting", "the same while it formats a file of zeros; no copy of it is left", lambda: (bytes(store.SIZE), WORK, True))
+keeping = killed(
+    "keeping", "the same while it formats a former store; a whole copy of that is left",
+    lambda: (kept_before(), WORK, True, [("store.before-format", kept_before())]),
+)
+checkpointing = killed("checkpointing", "the same while it makes a checkpoint between groups", lambda: (faults.near_a_checkpoint(), NINE, False))
+migrating = killed(
+    "migrating", "the same while a checkpoint between groups moves the store from format 1 to format 2", lambda: (of_format_1(4095), NINE, False),
+)
+migrating_by_a_name = killed(
+    "migrating_by_a_name", "the same while it is moved because of a name that has no record in format 1", lambda: (of_format_1(10), NAMED, False),
+)

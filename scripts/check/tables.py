@@ -6,6 +6,7 @@ import functools
 import os
 import re
 import struct
+from pathlib import Path
 
 TOP = os.path.normpath(os.path.join(os.path.dirname(os.path.realpath(__file__)), "..", ".."))
 
@@ -22,8 +23,7 @@ PLANTED = {}
 def text(name):
     if name in PLANTED:
         return PLANTED[name]
-    with open(os.path.join(TOP, name), encoding="utf-8") as file:
-        return file.read()
+    return Path(os.path.join(TOP, name)).read_text("utf-8")
 
 
 def rows(name, first):

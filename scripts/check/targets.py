@@ -6,6 +6,7 @@ import re
 import shutil
 import signal
 import subprocess
+from pathlib import Path
 
 from . import must_fail, wire
 from .clean import NAMES
@@ -14,6 +15,7 @@ from .harness import Skipped, compiler, holds, same, until, within
 from .install import done, recorded
 from .manuals import versions
 from .schedules import paths
+from .stops import commits
 from .texts import TOP, text_of
 
 from release import record  # noqa: E402  (the path is set by manuals)
@@ -67,8 +69,7 @@ def prove(place):
         holds(part in seen, f"the toolchain does not see {part}")
     same(re.findall(r"^(?:\./crates/)?test_\w+|must-fail", seen, re.M), [], "tests and edits that the toolchain sees")
     same(record.fault_of(made, kept, top), None)
-    with open(made, encoding="ascii") as file:
-        same(file.read(), "the program\n")
+    same(Path(made).read_text("ascii"), "the program\n")
     # (what is up to date, or was only touched, is not proved again, and needs no toolchain; what was changed is)
     os.unlink(place.path("seen"))
     bare = {**env, "PATH": machine(place, {"rt"})}
@@ -248,13 +249,9 @@ def refuse_each(place):
     """scripts/refuse_each finds no wrong end of three schedules, with each allocation refused in turn: of all by turns of commits"""
     compiler()
     schedules = [f"{os.path.relpath(it, TOP)}.txt" for it in paths().values()]
-    count = subprocess.run(["git", "-C", TOP, "rev-list", "--count", "HEAD"], capture_output=True, text=True, check=False).stdout
-    first = int(count or 0) * 3
+    first = commits() * 3
     chosen = [schedules[(first + it) % len(schedules)] for it in range(3)]
     said = output_of(place, [os.path.join(TOP, "scripts", "refuse_each"), place.program, *chosen], 600)
     found = re.search(r"^3 schedules, (\d+) allocations refused, .* 0 wrong$", said, re.M)
     holds(found and int(found[1]) > 100, said[-1000:])
     return f"{found[1]} allocations of {', '.join(chosen)}"
-
-
-CHECKS = (prove, adds_up, lacks, deb, targets, serve, refuse_each)

@@ -20,6 +20,3 @@ def typed(place):
         raise Skipped("there is no mypy, of Debian's package mypy")
     same((ran.returncode, ran.stderr), (0, ""), ran.stdout + ran.stderr)
     return ran.stdout.strip().removeprefix("types: ")
-
-
-CHECKS = (typed,)

@@ -3,6 +3,7 @@
 import os
 import re
 import subprocess
+from pathlib import Path
 
 from .harness import Wrong, holds, same, within
 from .schedules import content_of, paths
@@ -39,8 +40,7 @@ def schedules_alike(place):
 def first_lines(place):
     """CONTRIBUTING.md's first commands run unchanged, except for the folder of their files"""
     built(place)
-    with open(os.path.join(TOP, "CONTRIBUTING.md"), encoding="utf-8") as file:
-        text = file.read()
+    text = Path(os.path.join(TOP, "CONTRIBUTING.md")).read_text("utf-8")
     found = re.search(r"^```sh\n(.*?femem=.*?)^```\n\n(.*?)\n\n", text, re.M | re.S)
     holds(found, "the page has a first block of commands, and a paragraph that says what they print")
     settings = place.path("femem.toml")
@@ -56,6 +56,3 @@ def first_lines(place):
     printed = re.findall(r"`(welcome [^`]*|[0-9]+ [^`]*)`", found[2])
     holds(len(printed) == 6, f"the page says what six lines are: {printed}")
     same([it for it in said if re.match(r"welcome |[0-9]+ ", it)][-6:], printed)
-
-
-CHECKS = (schedules_alike, first_lines)

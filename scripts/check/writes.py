@@ -108,6 +108,3 @@ def costs(_place):
     same((int(number_format), words.index(writes), words.index(syncs)), (TWO.number, *(int(it[0]) for it in table["format"])), "docs/proved.md")
     same(number(re.search(r"the buffer of ([\d,]+) bytes", text(PAGE))[1]), store.AREAS["image"][1], "the buffer")
     return f"{count} calls"
-
-
-CHECKS = (orders, layout, life, costs)

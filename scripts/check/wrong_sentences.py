@@ -2,11 +2,11 @@
 read it, and then a row of owned.py, or one of the checks below, has to fail."""
 
 from . import facts, fields, headers, places, sentences, sessions, tables
-from .harness import Wrong, same
+from .harness import Wrong, checks_in, same
 from .owned import C_PAGE, CLI, FORMATS, OPERATING, PATTERNS, PY_PAGE, SESSION, TOOL, WORK
 from .texts import text_of
 
-CHECKS_OF_PAGES = (fields.codes, fields.frames, fields.bounds, fields.told_again, facts.exchange, facts.definitions, facts.unit, sessions.tables, *headers.CHECKS, places.packages)
+CHECKS_OF_PAGES = (fields.codes, fields.frames, fields.bounds, fields.told_again, facts.exchange, facts.definitions, facts.unit, sessions.tables, *checks_in(headers), places.packages)
 # A page, what it says, and what it says then.
 SENTENCES = (
     ("README.md", "#operations) are eight.", "#operations) are seven."),
@@ -75,6 +75,3 @@ def noticed(_place):
     """each of the false sentences is noticed by a check that compares pages with code"""
     same([it for it in SENTENCES if not is_noticed(*it)], [], "false sentences that no check notices")
     return f"{len(SENTENCES)} sentences"
-
-
-CHECKS = (noticed,)

@@ -5,6 +5,7 @@ import re
 import shutil
 import subprocess
 import time
+from pathlib import Path
 
 from . import store, wire
 from .clean import SOCKET, STORE, Clean, Unit
@@ -88,8 +89,7 @@ class Year:
     def watch(self, *wanted):
         """The metrics are written: exactly these alerts fire."""
         self.runs("femem-watch.service")
-        with open(self.clean.path(METRICS), encoding="ascii") as file:
-            self.alerts.take(file.read())
+        self.alerts.take(Path(self.clean.path(METRICS)).read_text("ascii"))
         # (on a busy machine storing may be slow, and a refused start is tried again after five seconds)
         may = {"FememRestarts"} if "FememDoesNotAnswer" in wanted else {"FememStoresSlowly"} if self.alerts.samples[-1]["femem_probe_seconds"] > 1 else set()
         same(sorted(self.alerts.firing() - (may - set(wanted))), sorted(wanted), f"alerts, of {self.alerts.samples[-1]}")
@@ -120,8 +120,7 @@ def installed(year):
     clean.install("femem")
     year.unit.waits()
     entries = [("attached", 7, 1), ("finished", 7, 1, ("create", b"count", 1, 1), ("array", 1, 1))]
-    with open(clean.path("/srv/older"), "wb") as file:
-        file.write(store.device_of(store.TWO, None, [entries]))
+    Path(clean.path("/srv/older")).write_bytes(store.device_of(store.TWO, None, [entries]))
     # copied over the store that is served, before its first group: nobody is answered over it, and the next start has all of it
     clean.shell(f"cp /srv/older {STORE}")
     with year.unit.connect() as conn:
@@ -257,8 +256,7 @@ def year(place):
         raise Skipped("there is no loop device")
     with Clean(place, built(place)) as clean:
         it = Year(place, clean)
-        with open(clean.path("/srv/empty"), "wb") as file:
-            file.write(store.device_of(store.TWO))
+        Path(clean.path("/srv/empty")).write_bytes(store.device_of(store.TWO))
         for step in (installed, nights, bad_sector, overwritten, upgraded, full_disk, hung_disk, lost_mount):
             try:
                 step(it)
@@ -266,6 +264,3 @@ def year(place):
                 raise Wrong(f"{step.__name__}: {why}: {clean.shell('journalctl -u femem -u femem-watch -u femem-backup -o cat --no-pager -n 12')}") from None
         same(it.reads(), it.count, "the counter")
         return f"{it.count} additions"
-
-
-CHECKS = (year,)

@@ -17,6 +17,7 @@ import tarfile
 import tempfile
 import time
 import zipfile
+from pathlib import Path
 
 from . import builds, package, record as records, tree, versions
 
@@ -44,8 +45,7 @@ def packed(path, files, epoch):
             info.mtime = epoch
             info.pax_headers = {}
             archive.addfile(info, io.BytesIO(content) if info.isreg() else None)
-    with open(path, "wb") as file:
-        file.write(gzip.compress(made.getvalue(), 9, mtime=0))
+    Path(path).write_bytes(gzip.compress(made.getvalue(), 9, mtime=0))
 
 
 def dated_source(path, epoch):
@@ -73,8 +73,7 @@ def c(clients, folder, epoch):
                 info = archive.gettarinfo(path)
                 content = b""
                 if info.isreg():
-                    with open(path, "rb") as file:
-                        content = file.read()
+                    content = Path(path).read_bytes()
                 files.append((f"{name}/{os.path.relpath(path, top)}", info, content))
         packed(os.path.join(folder, f"{name}.tar.gz"), files, epoch)
 

@@ -14,6 +14,7 @@ import glob
 import os
 import re
 import subprocess
+from pathlib import Path
 
 from . import pages, planted, record
 
@@ -38,15 +39,13 @@ def text_of(crate):
     """The sources of a crate."""
     text = ""
     for path in sorted(glob.glob(os.path.join(TOP, "crates", crate, "src", "**", "*.rt"), recursive=True)):
-        with open(path, encoding="utf-8") as file:
-            text += file.read()
+        text += Path(path).read_text("utf-8")
     return text
 
 
 def crates():
     """The crates, in the order of crates.txt."""
-    with open(os.path.join(TOP, "crates.txt"), encoding="utf-8") as file:
-        return re.findall(r"^(\w+)", file.read(), re.M)
+    return re.findall(r"^(\w+)", Path(os.path.join(TOP, "crates.txt")).read_text("utf-8"), re.M)
 
 
 def counts(crate):
@@ -98,8 +97,7 @@ def of_processes():
 def chain(found):
     """The dearest chain of crates, each of which stands on the one before: its seconds and its crates. None if the gate did not prove
     all crates in that run."""
-    with open(os.path.join(TOP, "crates.txt"), encoding="utf-8") as file:
-        listed = re.findall(r"^(\w+)[^:\n]*:(.*)$", file.read(), re.M)
+    listed = re.findall(r"^(\w+)[^:\n]*:(.*)$", Path(os.path.join(TOP, "crates.txt")).read_text("utf-8"), re.M)
     dearest = {}
     for crate, below in listed:
         if not crate.startswith("test_"):
@@ -122,12 +120,10 @@ def gate():
     if not all(os.path.exists(os.path.join(GATE, it)) for it in ("last", "costs", "commit", "spent")):
         yield from section("The last gate")
         return
-    with open(os.path.join(GATE, "last"), encoding="utf-8") as file:
-        last = file.read().strip().splitlines()
+    last = Path(os.path.join(GATE, "last")).read_text("utf-8").strip().splitlines()
     seconds, found = costs(os.path.join(GATE, "costs"))
     of_kind = lambda kind: sum(spent for (_, it), spent in found.items() if it == kind)
-    with open(os.path.join(GATE, "commit"), encoding="ascii") as file:
-        commit, processors = file.read().split()
+    commit, processors = Path(os.path.join(GATE, "commit")).read_text("ascii").split()
     yield f"Commit {commit[:12]}, {record.said('rt', 'version')}, {processors} processors:"
     yield ""
     yield from (f"- {it}" for it in last)
@@ -187,8 +183,7 @@ def left(heading, name, *head):
     """A table of what parts of scripts/check_programs left in out/figures, or else the page has, of the files that are there."""
     texts = ["\n".join(section(heading))]
     for path in sorted(glob.glob(os.path.join(TOP, "out", "figures", f"{name}-*"))):
-        with open(path, encoding="utf-8") as file:
-            texts.append(file.read())
+        texts.append(Path(path).read_text("utf-8"))
     found = {name: line for text in texts for line, name in re.findall(r"^(\| `([^`]+)` \|.*)$", text, re.M)}
     yield from (row(head), "|---|" + "---|" * (len(head) - 1))
     yield from (line for name, line in sorted(found.items()) if os.path.exists(os.path.join(TOP, name)))
@@ -232,8 +227,7 @@ def words():
     found = {}
     for name in listed:
         if name != os.path.relpath(PAGE, TOP):
-            with open(os.path.join(TOP, name), encoding="utf-8") as file:
-                found[name] = len(file.read().split())
+            found[name] = len(Path(os.path.join(TOP, name)).read_text("utf-8").split())
     yield row(("document", "words"))
     yield "|---|---|"
     yield from (row((f"`{name}`", f"{count:,}")) for name, count in sorted(found.items(), key=lambda it: -it[1]))
@@ -271,6 +265,5 @@ def main():
     # (the other page counts the words of this one)
     for path, text in ((SPEED, performance), (PAGE, lambda: page(asked))):
         made = text()
-        with open(path, "w", encoding="utf-8") as file:
-            file.write(made)
+        Path(path).write_text(made, "utf-8")
         print(os.path.relpath(path, TOP))

@@ -17,6 +17,7 @@ import subprocess
 import sys
 import tempfile
 import zipfile
+from pathlib import Path
 
 from . import builds, pages, record as records, versions
 from .tree import TOP, Tree, read
@@ -185,10 +186,8 @@ def main():
     fault = None if unproved else records.fault_of(program, words[2])
     if fault:
         sys.exit(f"femem: {fault}: 'make prove' proves these sources")
-    with open(program, "rb") as file:
-        content = file.read()
+    content = Path(program).read_bytes()
     kept = None
     if not unproved:
-        with open(words[2], "rb") as file:
-            kept = file.read()
+        kept = Path(words[2]).read_bytes()
     print("\n".join(build(content, folder, kept)))

@@ -11,6 +11,7 @@ import os
 import re
 import sys
 import time
+from pathlib import Path
 
 from .versions import TOP, epoch, version
 
@@ -56,8 +57,7 @@ SHELL = (
 
 
 def document(name):
-    with open(os.path.join(TOP, "docs", name), encoding="utf-8") as file:
-        return file.read().splitlines()
+    return Path(os.path.join(TOP, "docs", name)).read_text("utf-8").splitlines()
 
 
 def sections_of(lines, wanted):
@@ -269,5 +269,4 @@ def main():
         sys.exit("usage: scripts/man_pages FOLDER")
     os.makedirs(sys.argv[1], exist_ok=True)
     for name, number, *rest in PAGES:
-        with open(os.path.join(sys.argv[1], f"{name}.{number}"), "w", encoding="ascii") as file:
-            file.write(page(name, number, *rest))
+        Path(os.path.join(sys.argv[1], f"{name}.{number}")).write_text(page(name, number, *rest), "ascii")

@@ -3,6 +3,7 @@
 import hashlib
 import os
 import re
+from pathlib import Path
 
 from . import pages, record
 
@@ -74,8 +75,7 @@ def write(crate, said, before):
     """Keeps what a run found, if the crate has not changed since it began."""
     if counts_of(said) is not None and sources(crate) == before:
         os.makedirs(OUT, exist_ok=True)
-        with open(os.path.join(OUT, crate), "w", encoding="utf-8") as file:
-            file.write(f"{before}\n{said}")
+        Path(os.path.join(OUT, crate)).write_text(f"{before}\n{said}", "utf-8")
 
 
 def figures():
@@ -84,7 +84,6 @@ def figures():
     for crate in crates():
         path = os.path.join(OUT, crate)
         if os.path.exists(path):
-            with open(path, encoding="utf-8") as file:
-                was, said = file.read().split("\n", 1)
+            was, said = Path(path).read_text("utf-8").split("\n", 1)
             found[crate] = (counts_of(said), was == sources(crate))
     return found

@@ -13,6 +13,7 @@ import os
 import re
 import subprocess
 import sys
+from pathlib import Path
 
 from . import versions
 
@@ -20,8 +21,7 @@ TOP = versions.TOP
 
 
 def sum_of(path):
-    with open(path, "rb") as file:
-        return hashlib.sha256(file.read()).hexdigest()
+    return hashlib.sha256(Path(path).read_bytes()).hexdigest()
 
 
 def sources(top=TOP):
@@ -49,14 +49,12 @@ def write(program, record, before, by):
     if sources() != before:
         sys.exit("femem: the sources changed while they were proved; nothing is recorded")
     fields = {"program": sum_of(program), "sources": before, "commit": commit(), "toolchain": said("rt", "version"), "by": by}
-    with open(record, "w", encoding="utf-8") as file:
-        file.write("".join(f"{name} {value}\n" for name, value in fields.items()) + f"\n{last}")
+    Path(record).write_text("".join(f"{name} {value}\n" for name, value in fields.items()) + f"\n{last}", "utf-8")
 
 
 def fields_of(record):
     """The fields of a record: the lines before its first empty line."""
-    with open(record, encoding="utf-8") as file:
-        return dict(line.split(" ", 1) for line in file.read().split("\n\n", 1)[0].splitlines())
+    return dict(line.split(" ", 1) for line in Path(record).read_text("utf-8").split("\n\n", 1)[0].splitlines())
 
 
 def fault_of(program, record, top=TOP):

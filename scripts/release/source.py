@@ -12,6 +12,7 @@ import re
 import subprocess
 import sys
 import tarfile
+from pathlib import Path
 
 from . import package, tree, versions
 from .tree import TOP, read
@@ -24,8 +25,7 @@ def copied(folder):
     with tarfile.open(fileobj=io.BytesIO(packed)) as archive:
         archive.extractall(folder)
     name, seconds, is_changed = versions.commit()
-    with open(os.path.join(folder, versions.EXPORTED), "w", encoding="ascii") as file:
-        file.write(f"{name} {seconds}{' changed' if is_changed else ''}\n")
+    Path(os.path.join(folder, versions.EXPORTED)).write_text(f"{name} {seconds}{' changed' if is_changed else ''}\n", "ascii")
 
 
 def stanza(name):
@@ -39,8 +39,7 @@ def debian(folder):
     """Writes the folder `debian`."""
     own = lambda name: read("packaging", "source", name).decode()
     files = {
-        "control": "\n".join([tree.filled(own("control")), *(stanza(it) for it in package.PACKAGES)]),
-        "rules": own("rules"),
+        "control": "\n".join([tree.filled(own("control")), *(stanza(it) for it in package.PACKAGES)]), "rules": own("rules"),
         "changelog": tree.changelog().decode(),
         "copyright": read("packaging", "debian", "copyright").decode().replace("@LICENSE@", tree.licence()),
         "source/format": "3.0 (native)\n",
@@ -51,8 +50,7 @@ def debian(folder):
     os.makedirs(os.path.join(folder, "debian", "source"))
     for name, content in files.items():
         path = os.path.join(folder, "debian", name)
-        with open(path, "w", encoding="utf-8") as file:
-            file.write(content)
+        Path(path).write_text(content, "utf-8")
         os.chmod(path, 0o755 if name == "rules" else 0o644)
         os.utime(path, (versions.epoch(), versions.epoch()))
 

@@ -7,6 +7,7 @@ import re
 import subprocess
 import sys
 import textwrap
+from pathlib import Path
 
 from . import versions
 
@@ -21,8 +22,7 @@ FOR_DPKG = {
 
 
 def read(*path):
-    with open(os.path.join(TOP, *path), "rb") as file:
-        return file.read()
+    return Path(os.path.join(TOP, *path)).read_bytes()
 
 
 def needed_c_library(program):
@@ -85,8 +85,7 @@ class Tree:
     def put(self, path, content, mode=0o644):
         where = os.path.join(self.folder, path)
         self.folders(os.path.dirname(path))
-        with open(where, "wb") as file:
-            file.write(content)
+        Path(where).write_bytes(content)
         os.chmod(where, mode)
 
     def link(self, path, target):

@@ -15,6 +15,7 @@ import re
 import subprocess
 import sys
 import time
+from pathlib import Path
 
 TOP = os.path.normpath(os.path.join(os.path.dirname(os.path.realpath(__file__)), "..", ".."))
 NUMBER = r"[0-9]+\.[0-9]+\.[0-9]+"
@@ -37,8 +38,7 @@ PARTS = ("MAJOR", "MINOR", "PATCH")
 
 
 def read(path, top=TOP):
-    with open(os.path.join(top, path), encoding="utf-8") as file:
-        return file.read()
+    return Path(os.path.join(top, path)).read_text("utf-8")
 
 
 def entries(top=TOP):
@@ -112,11 +112,9 @@ def filled(folder):
 
 def replaced(path, pattern, value):
     """Replaces the group of a pattern in a file."""
-    with open(path, encoding="utf-8") as file:
-        text = file.read()
+    text = Path(path).read_text("utf-8")
     found = re.search(pattern, text, re.M)
-    with open(path, "w", encoding="utf-8") as file:
-        file.write(text[:found.start(1)] + value + text[found.end(1):])
+    Path(path).write_text(text[:found.start(1)] + value + text[found.end(1):], "utf-8")
 
 
 def write():
