@@ -77,10 +77,10 @@ serve: $(PROGRAM) ## starts a server with the settings of examples/femem.toml, a
 	@exec $(PROGRAM) serve --settings $(DATA)/femem.toml
 
 schedules: $(PROGRAM) ## runs every schedule of examples/ and scripts/check/schedules/, and compares its output
-	@scripts/run_schedules $(PROGRAM)
+	@scripts/check_programs $(PROGRAM) runs.worked_schedules
 
 faults: $(PROGRAM) ## runs every schedule with each allocation refused in turn, and the tests of refused memory
-	@scripts/refuse_each $(PROGRAM)
+	@scripts/check_programs $(PROGRAM) runs.refuse_each --turns 1000 --patience 4
 	@scripts/refuse_test
 
 check-programs: $(PROGRAM) ## real processes: crowds, kills under load, damaged stores, faults, clients, installations (4 to 10 minutes)

@@ -1,12 +1,11 @@
 """`femem call`: what goes over its connection and what it prints, against a server of this check that sends all its bytes at once."""
 
 import itertools
-import os
 import socket
 import threading
 
 from . import wire
-from .harness import holds, preload, same, within
+from .harness import holds, in_turn, preload, same, within
 
 WELCOME = wire.framed(65, bytes(7) + b"\7" + bytes(7) + b"\1")
 GOODBYE = wire.framed(69, bytes(7) + b"\7")
@@ -240,18 +239,14 @@ def server_ends(place):
 def until_none_fails(place, other, library, call, most, wanted):
     """Fails each call of that kind in turn, with at most `most` bytes for each call, and counts them. `wanted` says what a run
     leaves after that many bytes: its status, its line on standard error, what it printed, and what it sent."""
-    number = 0
-    while True:
-        number += 1
-        mark = place.path("mark")
-        env = {"LD_PRELOAD": library, "CALL": call, "SHORT": str(most), "FAIL": str(number), "MARK": mark}
-        ran, sent = other.talk(place, FIRST_PATH, b"".join(REPLIES), env=env)
-        if not os.path.exists(mark):
-            same((ran, sent), ((0, PRINTED, b""), b"".join(MESSAGES)), f"{call}, {most} bytes")
-            return number - 1
-        os.unlink(mark)
-        status, line, printed, front = wanted((number - 1) * most)
-        same((ran, sent), ((status, printed, line), front), f"{call} {number}, {most} bytes")
+    env = {"LD_PRELOAD": library, "CALL": call, "SHORT": str(most)}
+    ask = lambda more: other.talk(place, FIRST_PATH, b"".join(REPLIES), env={**env, **more})
+    count = 0
+    for number, found in in_turn(place, ask, "FAIL", "MARK"):
+        status, line, printed, front = wanted(count * most) if number else (0, b"", PRINTED, b"".join(MESSAGES))
+        same(found, ((status, printed, line), front), f"{call} {number}, {most} bytes")
+        count += number is not None
+    return count
 
 
 def behind_reads(count):
@@ -297,24 +292,17 @@ def streams_fail(place):
 
 def memory_refused(place):
     """each allocation is refused in turn: `femem: memory`, or the same as with enough memory; what was sent and printed is a prefix"""
-    library = preload(place, "../refuse.c")
-    mark = place.path("refused")
-    number = 0
+    library, last = preload(place, "../refuse.c"), 0
     with Other(place) as other:
-        while True:
-            number += 1
-            env = {"LD_PRELOAD": library, "REFUSE": str(number), "REFUSED": mark}
-            found = other.talk(place, FIRST_PATH, b"".join(REPLIES), env=env)
-            if not os.path.exists(mark):
-                break
-            os.unlink(mark)
+        for number, found in in_turn(place, lambda more: other.talk(place, FIRST_PATH, b"".join(REPLIES), env={"LD_PRELOAD": library, **more})):
             ran, sent = found
-            if ran != (0, PRINTED, b""):
+            if number and ran != (0, PRINTED, b""):
                 same(ran[::2], (3, b"femem: memory\n"), f"allocation {number} refused")
                 holds(PRINTED.startswith(ran[1]) and b"".join(MESSAGES).startswith(sent), f"allocation {number} refused: {found}")
+            last = number or last
     same(found, ((0, PRINTED, b""), b"".join(MESSAGES)))
-    holds(number > 50, f"{number - 1} allocations")
-    return f"{number - 1} allocations"
+    holds(last > 50, f"{last} allocations")
+    return f"{last} allocations"
 
 
 def connects(place):

@@ -11,7 +11,7 @@ import time
 from . import store, wire
 from .crowds import adding
 from .crowds import served as served_one
-from .harness import Server, Wrong, holds, preload, same, until, within
+from .harness import Server, Wrong, holds, in_turn, preload, same, until, within
 from .model import State
 from .records import calls_of
 
@@ -313,20 +313,14 @@ def commands_where_memory_ends(place):
 
 def refused_in_turn(place, library, words, status):
     """Refuses each allocation of a run that otherwise ends with that status. Returns how many there were."""
-    wanted = place.run(*words)
+    wanted, count = place.run(*words), 0
     same(wanted[0], status, words)
-    mark = place.path("refused")
-    number = 0
-    while True:
-        number += 1
-        found = place.run(*words, env={"LD_PRELOAD": library, "REFUSE": str(number), "REFUSED": mark})
-        if not os.path.exists(mark):
-            same(found, wanted, words)
-            holds(number > 1, f"{words} took no memory")
-            return number - 1
-        os.unlink(mark)
-        is_short = found[::2] == (3, b"femem: memory\n") and wanted[1].startswith(found[1])
+    for number, found in in_turn(place, lambda more: place.run(*words, env={"LD_PRELOAD": library, **more})):
+        is_short = found[::2] == (3, b"femem: memory\n") and wanted[1].startswith(found[1]) and number is not None
         holds(is_short or found == wanted, f"{words}, allocation {number} refused: {found}")
+        count += number is not None
+    holds(count > 0, f"{words} took no memory")
+    return count
 
 
 def few_files(place):

@@ -1,12 +1,11 @@
 """The tables of docs/formats.md that the checks' own reader and writer of frames and stores do not take: the fields of an image and of
 frames, codes and bounds, and which message gets which reply and refusal. And the table of operations of docs/commands.md, by runs."""
 
-import os
 import re
 
 from . import store, wire
 from .crowds import TALK
-from .harness import Server, Wrong, holds, preload, same
+from .harness import Server, in_turn, holds, preload, same
 from .model import LIMITS, TOP_FLOOR, TOP_PLACE, State
 from .sources import source_of
 from .tables import codes_in_record, operations, rows, said, text
@@ -197,19 +196,14 @@ def spent(place):
 
 def short_of_memory(place):
     """The messages that are refused `no-memory` if one allocation of a run is refused, each in turn."""
-    library, mark = preload(place, "../refuse.c"), place.path("refused")
+    library = preload(place, "../refuse.c")
     lines = {
         "attach": "attach 7", "create": "1 create cells 2 empty", "find": "2 find cells", "access": "3 readxx 1 0", "cancel": "cancel 3",
         "settle": "settle 2", "report": "report", "remove": "4 remove 1", "bye": "bye",
     }
-    given, found = "".join(f"c1 {it}\n" for it in lines.values()).encode(), set()
-    for number in range(1, 10000):
-        output = place.run("run", given=given, env={"LD_PRELOAD": library, "REFUSE": str(number), "REFUSED": mark})[1].decode()
-        if not os.path.exists(mark):
-            return found
-        os.unlink(mark)
-        found |= {kind for kind, reply in zip(lines, output.splitlines()) if reply.endswith(" no-memory")}
-    raise Wrong("some allocation is always refused")
+    given = "".join(f"c1 {it}\n" for it in lines.values()).encode()
+    runs = in_turn(place, lambda more: place.run("run", given=given, env={"LD_PRELOAD": library, **more})[1].decode())
+    return {kind for _, output in runs for kind, reply in zip(lines, output.splitlines()) if reply.endswith(" no-memory")}
 
 
 OLD, OPERAND = 5, 2**64 - 2

@@ -2,6 +2,7 @@
 
 import importlib
 import inspect
+import itertools
 import os
 import resource
 import shutil
@@ -297,6 +298,19 @@ def preload(place, source):
     ran = subprocess.run(words, stdin=subprocess.DEVNULL, stdout=subprocess.PIPE, stderr=subprocess.STDOUT, timeout=60)
     same(ran.returncode, 0, ran.stdout.decode())
     return made
+
+
+def in_turn(place, ask, number="REFUSE", mark="REFUSED"):
+    """What `ask` gives with the variables by which a preload refuses the allocation, or fails the call, of a number: of 1, 2 and so on,
+    each with its number, and last of one that is not reached, with None."""
+    kept = place.path("mark")
+    for at in itertools.count(1):
+        found = ask({number: str(at), mark: kept})
+        if not os.path.exists(kept):
+            yield None, found
+            return
+        os.unlink(kept)
+        yield at, found
 
 
 def late(*_):

@@ -6,7 +6,8 @@ import resource
 import subprocess
 
 from . import schedules
-from .harness import holds, preload, same, within
+from .harness import holds, in_turn, preload, same, within
+from .stops import commits
 
 # The worked schedules, each as a file of one of the two folders.
 WORKED = (
@@ -280,14 +281,13 @@ def with_streams(place, library, given, **how):
 
 def until_none_fails(place, library, call, most, wanted):
     """Fails each call of that kind in turn, with at most `most` bytes for each call, and counts them."""
-    number = 0
-    while True:
-        number += 1
-        ran, failed = with_streams(place, library, FIRST_PATH, CALL=call, SHORT=most, FAIL=number)
-        if not failed:
-            same(ran, (0, FIRST_ANSWERS, b""), f"{call}, {most} bytes")
-            return number - 1
-        same(ran, (2, wanted((number - 1) * most), b"femem: input\n"), f"{call} {number}, {most} bytes")
+    env = {"LD_PRELOAD": library, "CALL": call, "SHORT": str(most)}
+    count = 0
+    for number, ran in in_turn(place, lambda more: place.run("run", given=FIRST_PATH, env={**env, **more}), "FAIL", "MARK"):
+        due = (2, wanted(count * most), b"femem: input\n") if number else (0, FIRST_ANSWERS, b"")
+        same(ran, due, f"{call} {number}, {most} bytes")
+        count += number is not None
+    return count
 
 
 def short_streams(place):
@@ -317,65 +317,49 @@ def streams_fail(place):
     return ", ".join(told)
 
 
-# What the first path prints if there is no memory for its array.
-NO_MEMORY = b"c1 welcome 7 1\nc1 refused 1 no-memory\nc1 2 no-array\nc1 3 no-array\nc1 4 no-array\n"
-
-
-# The output if there is no memory for the creation or for one of two reports: later requests are answered as usual.
+# What some schedules print where a creation or a report is refused for lack of memory: later requests are answered as usual.
 ARRAY, WAITS = b"c1 1 array 1 2\n", b"c1 waiting 1\nc1 word 1 0 session 7 number 2 readfe\nc1 session 7 waits 1\nc1 all-wait yes\n"
-REST = b"c1 2 value 5\nc1 3 done\n"
-ASKED_AGAIN = tuple(
-    (0, b"c1 welcome 7 1\n" + b"".join(it) + b"c1 4 array 1 2\n", b"")
-    for it in (
-        (b"c1 refused 1 no-memory\n", ARRAY, WAITS, WAITS, REST, b"c1 waiting 0\n"),
-        (ARRAY, ARRAY, b"c1 refused 0 no-memory\n", WAITS, REST, b"c1 waiting 0\n"),
-        (ARRAY, ARRAY, WAITS, b"c1 refused 0 no-memory\n", REST, b"c1 waiting 0\n"),
-        (ARRAY, ARRAY, WAITS, WAITS, REST, b"c1 refused 0 no-memory\n"),
-    )
-)
+REST, NO_ARRAY, NO_REPORT = b"c1 2 value 5\nc1 3 done\n", b"c1 refused 1 no-memory\n", b"c1 refused 0 no-memory\n"
+NO_MEMORY = {
+    "first_path": (NO_ARRAY + b"c1 2 no-array\nc1 3 no-array\nc1 4 no-array\n",),
+    "asked_again": tuple(
+        b"".join(it) + b"c1 4 array 1 2\n" for it in (
+            (NO_ARRAY, ARRAY, WAITS, WAITS, REST, b"c1 waiting 0\n"), (ARRAY, ARRAY, NO_REPORT, WAITS, REST, b"c1 waiting 0\n"),
+            (ARRAY, ARRAY, WAITS, NO_REPORT, REST, b"c1 waiting 0\n"), (ARRAY, ARRAY, WAITS, WAITS, REST, NO_REPORT),
+        )
+    ),
+}
+ENDS = (b"femem: memory\n", b"femem: store device\n")
 
 
-@within(120)
+@within(300)
 def refuse_each(place):
-    """each allocation of four schedules is refused in turn: the run ends with status 3, or a creation or a report is refused with `no-memory`"""
-    library = preload(place, "../refuse.c")
-    mark = place.path("refused")
-    told = []
-    for name in ("first_path", "broadcast", "remove_answers_waiters", "asked_again"):
-        given, output = (schedules.content_of(name, kind) for kind in ("txt", "out"))
-        number = named = 0
-        while True:
-            number += 1
-            ran = place.run("run", given=given, env={"LD_PRELOAD": library, "REFUSE": str(number), "REFUSED": mark})
-            if not os.path.exists(mark):
-                same(ran, (0, output, b""), name)
-                break
-            os.unlink(mark)
-            if name == "first_path" and ran == (0, NO_MEMORY, b"") or name == "asked_again" and ran in ASKED_AGAIN:
+    """each allocation of two schedules, and of five more by turns of commits, is refused in turn: the run ends with status 3, or does without, or refuses a creation or a report with `no-memory`"""
+    library, told = preload(place, "../refuse.c"), []
+    names, first, count = [it for it in schedules.paths() if it not in NO_MEMORY], commits() * 5, place.options.turns or 5
+    for name in (*NO_MEMORY, *dict.fromkeys(names[(first + it) % len(names)] for it in range(count))):
+        given, output, errors = (schedules.content_of(name, kind) for kind in ("txt", "out", "err"))
+        wanted, named, tried = (2 if errors else 0, output, errors), 0, 0
+        for number, ran in in_turn(place, lambda more: place.run("run", given=given, env={"LD_PRELOAD": library, **more})):
+            what, tried = f"{name}, allocation {number} refused: {ran}", number or tried
+            if number is None:
+                same(ran, wanted, name)
+            elif ran[2] in ENDS:
+                holds(ran[0] == 3 and output.startswith(ran[1]), what)
+            elif ran != wanted:
                 named += 1
-            elif name == "asked_again":
-                holds(ran[0] == 3 or ran == (0, output, b""), f"{name}, allocation {number} refused: {ran}")
-            elif ran[0] == 0:
-                holds(ran[1] == output or is_refused(output, ran[1]), f"{name}, allocation {number} refused: {ran}")
-            else:
-                same((ran[0], ran[2] in (b"femem: memory\n", b"femem: store device\n")), (3, True), f"{name}, {number}")
-                holds(is_front(ran[1], output) or is_front(ran[1], NO_MEMORY), f"{name}, allocation {number} refused: {ran}")
-        holds(number > 50 and (named or name not in ("first_path", "asked_again")), f"{name}: {number - 1} allocations, {named} told no-memory")
-        told.append(f"{name} {number - 1}")
+                holds(ran[::2] == wanted[::2] and is_refused(output, ran[1]), what)
+                holds(name not in NO_MEMORY or ran[1].removeprefix(b"c1 welcome 7 1\n") in NO_MEMORY[name], what)
+        holds((tried > 50 or not output) and (named or name not in NO_MEMORY), f"{name}: {tried} allocations, {named} told no-memory")
+        told.append(f"{name} {tried}")
     return ", ".join(told)
 
 
-def is_front(text, whole):
-    return whole.startswith(text)
-
-
 def is_refused(output, found):
-    """Whether the first differing line is a refusal in place of the request's answer."""
-    for wanted, line in zip(output.splitlines(), found.splitlines()):
-        if line != wanted:
-            conn, number, *_ = wanted.split()
-            return line == conn + b" refused " + number + b" no-memory"
-    return False
+    """Whether the first differing line is a refusal in place of the request's answer; of a report it has the number 0."""
+    wanted, line = next(it for it in zip(output.splitlines(), [*found.splitlines(), b""]) if it[0] != it[1])
+    conn, number, *_ = wanted.split()
+    return line == conn + b" refused " + number.replace(b"waiting", b"0") + b" no-memory"
 
 
 def streams_closed(place):

@@ -1,5 +1,5 @@
-"""The Makefile's targets that no other part runs: `make prove`, `make deb`, `make serve`, and scripts/refuse_each; and what `make run`
-and `make test` say of a machine that lacks something."""
+"""The Makefile's targets that no other part runs: `make prove`, `make deb`, `make serve`; and what `make run` and `make test` say of a
+machine that lacks something."""
 
 import os
 import re
@@ -10,12 +10,9 @@ from pathlib import Path
 
 from . import must_fail, wire
 from .clean import NAMES
-from .clients import output_of
-from .harness import Skipped, compiler, holds, same, until, within
+from .harness import Skipped, holds, same, until, within
 from .install import done, recorded
 from .manuals import versions
-from .schedules import paths
-from .stops import commits
 from .texts import TOP, text_of
 
 from release import record  # noqa: E402  (the path is set by manuals)
@@ -242,16 +239,3 @@ def serve(place):
         # (the server is a process below `make`, which may end before it)
         until(lambda: served() is None, 30, "the server that was killed is gone")
     holds(f"{place.program} serves at {socket}" in place.read("serve1.out").decode(), "it says where it serves")
-
-
-@within(600)
-def refuse_each(place):
-    """scripts/refuse_each finds no wrong end of three schedules, with each allocation refused in turn: of all by turns of commits"""
-    compiler()
-    schedules = [f"{os.path.relpath(it, TOP)}.txt" for it in paths().values()]
-    first = commits() * 3
-    chosen = [schedules[(first + it) % len(schedules)] for it in range(3)]
-    said = output_of(place, [os.path.join(TOP, "scripts", "refuse_each"), place.program, *chosen], 600)
-    found = re.search(r"^3 schedules, (\d+) allocations refused, .* 0 wrong$", said, re.M)
-    holds(found and int(found[1]) > 100, said[-1000:])
-    return f"{found[1]} allocations of {', '.join(chosen)}"
