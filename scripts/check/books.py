@@ -28,16 +28,6 @@ def text(**numbers):
     return first + "\n" + " ".join(f"{key} {it[key]}" for key in ("mails", "taken", "dropped", "left")) + "\n"
 
 
-def serve_and_call(place):
-    """one connection through `call`: the books after five lines, and what `look` then shows"""
-    server = Server(place, accepts=1).start()
-    given = b"attach 7\n1 create cells 2 empty\n2 writeef 1 0 42\n3 readfe 1 0\n4 readxx 1 0\n"
-    told = b"welcome 7 1\n1 array 1 2\n2 done\n3 value 42\n4 value 42\n"
-    same(place.run("call", "--socket", server.socket, given=given), (0, told, b""))
-    same(server.ended(), (0, text(calls=4, completed=4, mails=5, taken=5), ""))
-    same(server.looks(), "place 5\narray 1 cells 2\nsession 7 floor 1 kept 4\n")
-
-
 def each_column(place):
     """each column of the books, with clients that read everything sent to them"""
     server = Server(place, accepts=2).start()

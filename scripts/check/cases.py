@@ -3,6 +3,7 @@
 `python3 -m check.cases`, in scripts/, writes the crate's files `stdin` and `stdout`. The check compares them with the crate's.
 """
 
+import itertools
 import struct
 from pathlib import Path
 
@@ -28,6 +29,14 @@ def case(name):
 
 def calls(level, *more):
     say(f"calls {level}", *(f"- {call}" for call in more))
+
+
+def ran(level, made, *told, store=None):
+    """Calls, on a new store if its format is given, that end well, and what holds then."""
+    if store:
+        say(f"store {store}")
+    calls(level, *made)
+    say("run ok", *told)
 
 
 # Entries and states
@@ -59,19 +68,13 @@ def record(entry, form=TWO):
 CELLS = created(b"cells", 2, 1, 2)
 LONG = created(b"seventeen_letters", 3, 2, 1)
 SMALL = (attached(), CELLS)
+ONES = ("group $attached1", "group $created1")
 
 
 def spell_words(words):
     """An array's words, with each run of equal words as one piece."""
-    pieces, k = [], 0
-    while k < len(words):
-        same = 1
-        while k + same < len(words) and words[k + same] == words[k]:
-            same += 1
-        value, tag = words[k]
-        pieces.append(f"{struct.pack('>BQ', tag, value).hex()}" + (f"*{same}" if same > 1 else ""))
-        k += same
-    return pieces
+    runs = ((struct.pack(">BQ", tag, value).hex(), sum(1 for _ in run)) for (value, tag), run in itertools.groupby(words))
+    return [f"{word}*{count}" if count > 1 else word for word, count in runs]
 
 
 def spell(state, form=TWO):
@@ -167,6 +170,13 @@ def journal_rows():
     ]
 
 
+def around_gate(passed, before, behind):
+    """Stops up to the sync of a gate, while that is torn, and behind it."""
+    say(f"stop {passed} {passed + 2} any {before}")
+    say(*(f"stop {passed + 3} {passed + 3} {torn} {behind if torn in ('kept', '01') else before}" for torn in TORN))
+    say(f"stop {passed + 4} {passed + 4} any {behind}")
+
+
 def stops_in_journals():
     rows = journal_rows()
     for name in ("append", "slot_close", "slot_write", "slot_finish"):
@@ -177,28 +187,19 @@ def stops_in_journals():
             if before == behind:
                 say(f"stop {passed} {passed + count} any {before}")
                 continue
-            say(f"stop {passed} {passed + 2} any {before}")
-            for torn in TORN:
-                say(f"stop {passed + 3} {passed + 3} {torn} {behind if torn in ('kept', '01') else before}")
-            say(f"stop {passed + 4} {passed + 4} any {behind}")
+            around_gate(passed, before, behind)
     case("stop_in_append_of_format_1")
     one, two = record(attached(), ONE), record(CELLS, ONE)
     say("store 1")
-    calls("journal", "group $attached1", "group $created1")
+    calls("journal", *ONES)
     for passed, before, behind in ((5, [], [one]), (9, [one], [one, two])):
-        before, behind = held(1, EMPTY, *before), held(1, EMPTY, *behind)
-        say(f"stop {passed} {passed + 2} any {before}")
-        for torn in TORN:
-            say(f"stop {passed + 3} {passed + 3} {torn} {behind if torn in ('kept', '01') else before}")
-        say(f"stop {passed + 4} {passed + 4} any {behind}")
+        around_gate(passed, held(1, EMPTY, *before), held(1, EMPTY, *behind))
 
 
 def torn_gates():
     case("torn_gates")
     header = (ONE.magic + struct.pack(">QI", 2, 24)).hex()
-    say("store 1")
-    calls("journal", "group $attached1", "group $created1")
-    say("run ok", "calls journal", "write 1052741 37", f"image {held(1, EMPTY, record(attached(), ONE))}")
+    ran("journal", ONES, "calls journal", "write 1052741 37", f"image {held(1, EMPTY, record(attached(), ONE))}", store=1)
     say("calls keeper", f"image {spell(after(attached()))}", "write 1052741 01")
     say("holds place 2 used 138 format One", f"image {spell(after(*SMALL))}")
     say("write 1052742 00000000", "holds Damaged { offset: 1052741 }", f"write 1052742 4:{ONE.record}", "holds place 2 used 138 format One")
@@ -212,15 +213,12 @@ def torn_gates():
 
 
 def small():
-    say("store 2")
-    calls("keeper", "append $attached $created")
-    say("run ok")
+    ran("keeper", ["append $attached $created"], store=2)
 
 
 def full():
     small()
-    calls("keeper", *["append $attached*4000"] * 3)
-    say("run ok")
+    ran("keeper", ["append $attached*4000"] * 3)
 
 
 MOST = created(b"cells", 2, 1, 65536)
@@ -228,9 +226,7 @@ MOST = created(b"cells", 2, 1, 65536)
 
 def most():
     """A store with the largest image of one array: ten slices."""
-    say("store 2")
-    calls("keeper", f"append $attached {record(MOST)}")
-    say("run ok")
+    ran("keeper", [f"append $attached {record(MOST)}"], store=2)
 
 
 def old():
@@ -300,40 +296,30 @@ def batches():
         calls("keeper", f"append {batch}".strip())
         say(f"run Mismatch {{ place: {place} }}", f"image {spell(State())}")
     case("batch_with_a_creation")
-    calls("keeper", "append $attached $created")
-    say("run ok", f"image {spell(after(*SMALL))}")
+    ran("keeper", ["append $attached $created"], f"image {spell(after(*SMALL))}")
     case("group_is_replayed")
-    say("store 2")
-    calls("keeper", "append $attached $closed7")
-    say("run ok", "holds place 2 used 165 format Two", f"image {spell(after(attached(), ('closed', 7)))}")
+    closed = spell(after(attached(), ("closed", 7)))
+    ran("keeper", ["append $attached $closed7"], "holds place 2 used 165 format Two", f"image {closed}", store=2)
     case("example_record")
     entry = accessed(2, 0, 19, 42, ("done",))
     start = (attached(), created(b"cells", 1, 1, 2), entry)
     for form in (ONE, TWO):
-        say(f"store {form.number}")
-        calls("keeper", "append " + " ".join(record(one) for one in start[:2]), f"append {record(entry)} {record(('closed', 7))}")
-        at = JOURNAL + 5 + 2 * form.record
-        group = record(entry, form) + record(("closed", 7), form)
-        say("run ok", f"reads {at} 01 4:{2 * form.record} {group}", f"image {spell(after(*start, ('closed', 7)))}")
+        made = ["append " + " ".join(record(one) for one in start[:2]), f"append {record(entry)} {record(('closed', 7))}"]
+        group = f"reads {JOURNAL + 5 + 2 * form.record} 01 4:{2 * form.record} {record(entry, form)}{record(('closed', 7), form)}"
+        ran("keeper", made, group, f"image {spell(after(*start, ('closed', 7)))}", store=form.number)
 
 
 def checkpoints():
     case("largest_checkpoint")
     most()
-    calls("keeper", "begin", "begin", *SLICES, "finish", "finish")
-    say("run ok", "told yn" + "yyyy" * 3 + "nyn", "holds place 5 used 245 format Two")
+    ran("keeper", ["begin", "begin", *SLICES, "finish", "finish"], "told yn" + "yyyy" * 3 + "nyn", "holds place 5 used 245 format Two")
     say("reads 2101256 8:2", "reads 2101264 000900b1", "reads 3153920 01 4:240", "reads 3154165 00", f"image {spell(after(attached(), MOST, *[attached()] * 3))}")
     case("whole_checkpoint_for_a_batch")
-    say("store 2")
     many = "append $attached*4000"
-    calls("keeper", many, many, many)
-    say("run ok", "holds place 12000 used 960015 format Two")
-    calls("keeper", many)
-    say("run ok", "holds place 16000 used 320005 format Two")
+    ran("keeper", [many] * 3, "holds place 12000 used 960015 format Two", store=2)
+    ran("keeper", [many], "holds place 16000 used 320005 format Two")
     case("finished_for_a_batch")
-    say("store 2")
-    calls("keeper", many, many, "begin", many, many, "finish")
-    say("run ok", "told yyyyyn", "holds place 16000 used 640010 format Two")
+    ran("keeper", [many, many, "begin", many, many, "finish"], "told yyyyyn", "holds place 16000 used 640010 format Two", store=2)
 
 
 def damaged_stores():
@@ -353,46 +339,39 @@ def damaged_stores():
 def migration():
     case("old_format_opens")
     state = spell(after(*SMALL))
-    say("store 1")
-    calls("journal", "group $attached1", "group $created1")
-    say("run ok", "holds place 2 used 138 format One", "calls keeper", f"image {state}")
+    ran("journal", ONES, "holds place 2 used 138 format One", "calls keeper", f"image {state}", store=1)
     calls("keeper", "begin", "finish")
     say("fuse 12", f"stop 0 12 any {state}", "run ok", "told yy", "holds place 2 used 0 format Two", f"image {state}")
     case("long_name_migrates")
-    say("store 1")
-    calls("journal", "group $attached1", "group $created1")
-    say("run ok")
-    calls("keeper", "append $long")
-    say("run ok", "holds place 3 used 85 format Two", f"image {spell(after(*SMALL, LONG))}")
+    ran("journal", ONES, store=1)
+    ran("keeper", ["append $long"], "holds place 3 used 85 format Two", f"image {spell(after(*SMALL, LONG))}")
     case("migration_by_append")
     image = image_of(after(attached()), ONE)
     say("store 1", f"write 16 4:{len(image)}", f"write 4096 {image.hex()}")
     many = ["append $attached*3000"] * 4
     calls("keeper", "begin", *many)
     say("try ok", "calls keeper", "holds place 1 used 0 format One")
-    calls("keeper", "begin", *many, "append $attached*1108")
-    say("run ok", "holds place 13109 used 88645 format Two")
+    ran("keeper", ["begin", *many, "append $attached*1108"], "holds place 13109 used 88645 format Two")
     say("reads 8 8:3", "reads 2101256 8:2", f"reads 3153920 01 4:{12000 * 80}")
     case("room_in_migration")
     say("store 1", f"write 16 4:{len(image)}", f"write 4096 {image.hex()}")
     # After the 12,000 records there is room for 88,565 bytes: 1,107 records fit, and 1,108 do not.
-    calls("keeper", "begin", *many, "finish")
-    say("run ok", "told yyyyyy", "holds place 12001 used 960005 format Two")
+    ran("keeper", ["begin", *many, "finish"], "told yyyyyy", "holds place 12001 used 960005 format Two")
     calls("keeper", "append $attached*1108")
     say("try ok", "counts 5 7 6")
-    calls("keeper", "append $attached*1107")
-    say("run ok", "counts 4 2 3", "holds place 13108 used 1048570 format Two", "reads 8 8:1", "reads 2101256 8:2")
+    held_then = ("holds place 13108 used 1048570 format Two", "reads 8 8:1", "reads 2101256 8:2")
+    ran("keeper", ["append $attached*1107"], "counts 4 2 3", *held_then)
 
 
 def told_of(device, start):
     """The result of opening a store with one changed byte."""
     try:
-        state = read_store(device)
+        state = read_store(device)[-1]
     except Unformatted:
         return "Unformatted"
     except Damaged as damage:
         return f"Damaged {{ offset: {damage.offset} }}"
-    return "same" if state_of_store(state) == start else f"other {from_start(image_of(state_of_store(state), TWO), image_of(start, TWO))}"
+    return "same" if state == start else f"other {from_start(image_of(state, TWO), image_of(start, TWO))}"
 
 
 def from_start(image, start):
@@ -406,11 +385,6 @@ def from_start(image, start):
     return " ".join(pieces + ([f"$start:{k}:{len(start)}"] if k < len(start) else []))
 
 
-def state_of_store(read):
-    """The last state that `read_store` returns."""
-    return read[-1]
-
-
 def lies():
     case("lies")
     begun = after(*SMALL)
@@ -420,8 +394,8 @@ def lies():
     image = image_of(begun, TWO)
     area = device[JOURNAL : JOURNAL + 170].hex()
     say("store 2", f"write 16 4:{len(image)}", f"write 4096 {image.hex()}")
-    calls("keeper", "append $attached", "append $long")
-    say("run ok", "calls keeper", f"let start {spell(start)}", "image $start", f"reads 1052672 {area}")
+    then = ("calls keeper", f"let start {spell(start)}", "image $start", f"reads 1052672 {area}")
+    ran("keeper", ["append $attached", "append $long"], *then)
     calls("keeper", "append $attached", "begin", "step", "append $attached", "finish")
     for change in (0x01, 0x80, 0xFF):
         rows = []
@@ -444,11 +418,9 @@ def arrays_of_each_length():
     case("arrays_of_each_length")
     for length in LENGTHS:
         entries = [attached(), created(b"cells", 1, 1, length), accessed(2, length - 1, 19, 42, ("done",))]
-        say("store 2")
-        calls("keeper", "append " + " ".join(record(one) for one in entries[:2]), "append " + record(entries[2]))
-        say("run ok", f"let full {spell(after(*entries))}", "image $full")
-        calls("keeper", "begin", "finish")
-        say("run ok", "told yy", "holds place 3 used 0 format Two", "image $full")
+        made = ["append " + " ".join(record(one) for one in entries[:2]), "append " + record(entries[2])]
+        ran("keeper", made, f"let full {spell(after(*entries))}", "image $full", store=2)
+        ran("keeper", ["begin", "finish"], "told yy", "holds place 3 used 0 format Two", "image $full")
 
 
 def two_letters(k):
@@ -460,16 +432,13 @@ def full_directory():
     entries = []
     for session in range(64):
         entries += [attached(session), created(two_letters(session), 1, session + 1, 1024, 1, session)]
-    say("store 2")
-    calls("keeper", *("append " + " ".join(record(one) for one in entries[k : k + 2]) for k in range(0, 128, 2)))
-    say("run ok", f"let full {spell(after(*entries))}", "image $full")
-    calls("keeper", "begin", "finish")
-    say("run ok", "told yy", "image $full")
+    made = ("append " + " ".join(record(one) for one in entries[k : k + 2]) for k in range(0, 128, 2))
+    ran("keeper", made, f"let full {spell(after(*entries))}", "image $full", store=2)
+    ran("keeper", ["begin", "finish"], "told yy", "image $full")
     calls("keeper", "append " + record(attached(64)))
     say("run Mismatch { place: 128 }")
     taken = ("finished", 0, 2, ("create", two_letters(0), 1024, 1), ("name-taken",))
-    calls("keeper", "append " + record(taken))
-    say("run ok", f"image {spell(after(*entries, taken))}")
+    ran("keeper", ["append " + record(taken)], f"image {spell(after(*entries, taken))}")
 
 
 # Images
@@ -600,12 +569,8 @@ def pieces():
     for name, (sent, told, groups) in (*PATHS, ("bad_frame", BAD_FRAME)):
         case(f"pieces_of_{name}")
         for size in (1, 7, 64):
-            rows = []
-            for conn, frame in sent:
-                rows += [f"connect {conn}", f"pieces {size} {conn} {frame}"]
-            say("store 2")
-            calls("desk", *rows)
-            say("run ok")
+            rows = [row for conn, frame in sent for row in (f"connect {conn}", f"pieces {size} {conn} {frame}")]
+            ran("desk", rows, store=2)
             check_written(told, groups)
 
 
@@ -624,9 +589,7 @@ def desk_sweeps():
 
 def stop_in_slices():
     case("stop_in_slices")
-    say("store 2")
-    calls("desk", f"line 1 {attach(7)} {create(1, 65536)}")
-    say("run ok", "groups 2")
+    ran("desk", [f"line 1 {attach(7)} {create(1, 65536)}"], "groups 2", store=2)
     slices = []
     for slice in range(1, 11):
         slices += ["step"] + ([f"bytes 1 {attach(7)}"] if slice % 3 == 0 else [])
@@ -707,11 +670,10 @@ def told_with(place, byte):
 
 def desk_lies():
     case("lies_to_a_desk")
-    say("store 2")
     later = [access(5, 1, WRITEEF, 9), access(6, 1, READFF), access(7, 1, FETCH_ADD, 1), access(8, 1, PURGE)]
     sent = [f"line {conn} {frame}" for conn, frame in FIRST[0]]
-    calls("desk", *sent, "begin", "step", "finish", *(f"line 1 {frame}" for frame in later))
-    say("run ok", "groups" + " 1" * 9, "reads 2101264 4:459", "reads 3154175 01", "reads 3154260 00")
+    made = [*sent, "begin", "step", "finish", *(f"line 1 {frame}" for frame in later)]
+    ran("desk", made, "groups" + " 1" * 9, "reads 2101264 4:459", "reads 3154175 01", "reads 3154260 00", store=2)
     sent = [f"line {conn} {frame}" for conn, frame in BROADCAST[0]]
     calls("desk", *sent, "begin", "step", f"line 1 {access(3, 1, READFE)}", "finish")
     for change in ("01", "80", "ff"):
@@ -729,8 +691,8 @@ def desk_sizes():
         ]
         say("store 2")
         for sent, told in rows:
-            calls("desk", f"line 1 {attach(7)}", *(f"line 1 {frame}" for frame in sent), "begin", "finish")
-            say("run ok", f"written 1 {welcome(7)} {' '.join(told)}")
+            made = [f"line 1 {frame}" for frame in (attach(7), *sent)]
+            ran("desk", [*made, "begin", "finish"], f"written 1 {welcome(7)} {' '.join(told)}")
     case("full_directory_of_a_desk")
     state = State()
     state.place, state.next_id = 1000123, 65
@@ -738,18 +700,15 @@ def desk_sizes():
     state.sessions = {session: Session(1) for session in range(1, 65)}
     image = image_of(state, TWO)
     say("store 2", f"let image {spell(state)}", f"write 16 4:{len(image)}", "write 4096 $image")
-    calls("desk", *(f"line {conn} {attach(conn)} {access(1, 0, READFF)}" for conn in range(1, 65)), f"line 1 {wire.report().hex()}")
-    say("run ok", f"report 1 26 130 {b'waiting'.hex()} 20 {b'64'.hex()} 0a")
-    calls("desk", f"line 65 {attach(65)}")
-    say("run ok", f"written 65 {refused(65, 2)}")
+    made = [f"line {conn} {attach(conn)} {access(1, 0, READFF)}" for conn in range(1, 65)]
+    ran("desk", [*made, f"line 1 {wire.report().hex()}"], f"report 1 26 130 {b'waiting'.hex()} 20 {b'64'.hex()} 0a")
+    ran("desk", [f"line 65 {attach(65)}"], f"written 65 {refused(65, 2)}")
     case("report_of_the_most")
     rows = [f"line 1 {attach(1)}", f"line 1 {create(1, 1)}", f"line 1 {wire.settle(2).hex()}"]
     for conn in range(1, 65):
         rows += [f"line {conn} {attach(conn)}"] if conn > 1 else []
         rows += [f"line {conn} {access(number, 0, READFF)}" for number in range(2 if conn == 1 else 1, 33)]
-    say("store 2")
-    calls("desk", *rows, f"line 1 {wire.report().hex()}")
-    say("run ok", f"report 1 65 2113 {b'waiting'.hex()} 20 {b'2047'.hex()} 0a")
+    ran("desk", [*rows, f"line 1 {wire.report().hex()}"], f"report 1 65 2113 {b'waiting'.hex()} 20 {b'2047'.hex()} 0a", store=2)
 
 
 ALL = [

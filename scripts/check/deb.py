@@ -9,10 +9,9 @@ from pathlib import Path
 from . import store, wire
 from .clean import DPKG, NAMES, SOCKET, STORE, Clean, Unit, installed
 from .harness import Skipped, holds, same, until, within
-from .history import History
 from .install import done
 from .manuals import versions
-from .kills import Adder, Load, Storm, counted, finish, make_arrays, read
+from .kills import Crew, Storm
 from .model import LIMITS
 from .packages import built
 from .texts import TOP, block
@@ -58,25 +57,23 @@ def serves(place):
         level = confined(unit)
         same(clean.do("systemctl", "is-enabled", "femem"), "enabled\n")
         clean.do("sh", "-c", f"femem call --socket {SOCKET} < /dev/null")
-        make_arrays(unit)
-        adders = [Adder(session, session % 3) for session in range(1, 5)]
-        history, load = History(), Load(unit, [*adders, Storm(40)])
+        crew = Crew(unit, (), [Storm(40)])
+        load = crew.load
         for _ in range(KILLS):
             load.begin()
             random.choice((load.wait_for_some, load.wait_for_checkpoint))(1)
             unit.kill()
             load.join()
-            read(unit, history, load)
+            crew.compare(unit)
         clean.do("systemctl", "restart", "femem")
-        finish(load)
+        crew.finish()
         clean.do("systemctl", "stop", "femem")
         holds(not os.path.exists(clean.path("/run/femem")), "the socket's folder is left")
-        read(unit, history, load)
-        for index in range(3):
-            counted(history.state, index, [it for it in adders if it.index == index])
-        same(clean.do("femem", "look", "--store", STORE), history.state.looks())
+        crew.judge(unit)
+        state = crew.history.state
+        same(clean.do("femem", "look", "--store", STORE), state.looks())
         most = all_at_once(unit)
-    return f"{KILLS} kills, {history.state.place} entries, {most} connections at once, exposed {level}"
+    return f"{KILLS} kills, {state.place} entries, {most} connections at once, exposed {level}"
 
 
 def all_at_once(unit):

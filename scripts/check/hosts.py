@@ -14,9 +14,9 @@ import subprocess
 import time
 from pathlib import Path
 
+from . import kills
 from .harness import Served, Wrong, holds, same, until, within
 from .history import History
-from .kills import Adder, Consumer, Load, Producer, Storm, asked_for, counted, finish, make_arrays, read
 
 PACKAGES = {
     "nbd-server": "nbd-server", "qemu-nbd": "qemu-utils", "nbdfuse": "libnbd-bin", "mkfs.ext4": "e2fsprogs", "ip": "iproute2",
@@ -210,34 +210,20 @@ class Pair:
         self.link()
 
 
-class Crew:
+class Crew(kills.Crew):
     """Clients that continue on every host."""
 
     def __init__(self, server):
-        make_arrays(server)
-        self.adders = [Adder(session, session % 3) for session in range(1, 5)]
-        self.pair = Producer(10, 0, 1), Consumer(20, 0, 1)
-        self.history = History()
-        self.load = Load(server, [*self.adders, *self.pair, Storm(40)])
+        super().__init__(server, (1,), [kills.Storm(40)])
 
     def over(self, server):
         self.load.server = server
         self.load.begin()
 
-    def compare(self, server):
-        """Compares the clients' replies with a host's disk."""
-        read(server, self.history, self.load)
-
-    def finish(self, server):
-        producer, consumer = self.pair
-        producer.most = consumer.most = max(producer.count, consumer.count)
+    def end(self, server):
         self.load.server = server
-        finish(self.load)
-        self.compare(server)
-        asked_for(self.history, self.load)
-        for index in range(3):
-            counted(self.history.state, index, [it for it in self.adders if it.index == index])
-        same(consumer.values, list(range(1, producer.count + 1)), "what was handed over")
+        self.finish()
+        self.judge(server)
 
 
 def begun(pair, confirmed=2):
@@ -276,7 +262,7 @@ def taken_over(place):
             pair.returns(active, other)
             active, other = other, active
             server = active.mounts(active.mirror(pair.hosts, 2)).start()
-        crew.finish(server)
+        crew.end(server)
         holds(answers > 100 * TAKE_OVERS, f"only {answers} answers")
     return f"{TAKE_OVERS} hosts killed, {answers} answers before, {crew.history.checkpoints} checkpoints, {crew.history.state.place} entries"
 

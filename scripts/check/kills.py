@@ -333,22 +333,29 @@ def make_arrays(server):
 
 
 class Crew:
-    """The clients of a server that is killed a hundred times."""
+    """Clients over the lives of a server, in which they make their arrays first, and its history. Each pair has a word, and a window."""
 
-    def __init__(self):
+    def __init__(self, server, windows, others):
+        make_arrays(server)
         self.adders = [Adder(session, session % 3) for session in range(1, 5)]
-        self.pairs = [(Producer(10 + k, k, w), Consumer(20 + k, k, w)) for k, w in enumerate((1, 1, 6))]
-        self.others = [Restless(30), Restless(31), Storm(40), Storm(41), Storm(42)]
-        self.all = [*self.adders, *(it for pair in self.pairs for it in pair), *self.others]
+        self.pairs = [(Producer(10 + k, k, w), Consumer(20 + k, k, w)) for k, w in enumerate(windows)]
+        self.all = [*self.adders, *(it for pair in self.pairs for it in pair), *others]
+        self.history, self.load = History(), Load(server, self.all)
 
-    def finish(self, load):
+    def compare(self, server):
+        read(server, self.history, self.load)
+
+    def finish(self):
         """A last life of the server, in which every open request ends."""
         for producer, consumer in self.pairs:
             producer.most = consumer.most = max(producer.count, consumer.count)
-        finish(load)
+        finish(self.load)
 
-    def sums(self, state):
+    def judge(self, server):
         """Checks what the words hold at the end, and what was handed over."""
+        self.compare(server)
+        asked_for(self.history, self.load)
+        state = self.history.state
         for index in range(3):
             counted(state, index, [it for it in self.adders if it.index == index])
         for producer, consumer in self.pairs:
@@ -376,9 +383,8 @@ def finish(load):
 def killed(place):
     """the server is killed under load and restarted: every answer is kept, each number takes effect once, nothing is skipped"""
     server = Server(place, connections=100).start()
-    make_arrays(server)
-    crew = Crew()
-    history, load = History(), Load(server, crew.all)
+    crew = Crew(server, (1, 1, 6), [Restless(30), Restless(31), Storm(40), Storm(41), Storm(42)])
+    history, load = crew.history, crew.load
     began = time.monotonic()
     kills = place.options.kills
     for left in range(kills, 0, -1):
@@ -387,7 +393,7 @@ def killed(place):
         random.choice((load.wait_for_some, load.wait_for_checkpoint))(min(max(pace, 0.05), 0.5))
         server.stop()
         load.join()
-        read(server, history, load)
+        crew.compare(server)
         server.start(waits=False)
         if random.random() < 0.1:
             # while it starts
@@ -395,11 +401,9 @@ def killed(place):
             server.stop()
             server.start(waits=False)
         until(server.is_there, 30, "the socket is there")
-    crew.finish(load)
+    crew.finish()
     server.stop()
-    read(server, history, load)
-    asked_for(history, load)
-    crew.sums(history.state)
+    crew.judge(server)
     same(server.looks(), history.state.looks())
     seconds = time.monotonic() - began
     return f"{kills} kills in {seconds:.0f} s, {history.cut_checkpoints} of them within one of {history.checkpoints} checkpoints, {history.state.place} entries"

@@ -159,22 +159,6 @@ def store_refusals(place):
     holds(not os.path.exists(place.path("x.socket")), "a refused server made its socket")
 
 
-def formats(place):
-    """`format = true` makes a missing store, and leaves an existing one as it is"""
-    server = Server(place, store=place.write("zeros", bytes(SIZE)), format=True).start()
-    server.attached(7).close()
-    server.stop()
-    same(server.looks(), "place 1\nsession 7 floor 1 kept 0\n")
-    server.start()
-    server.stop()
-    same(server.looks(), "place 1\nsession 7 floor 1 kept 0\n")
-    other = Server(place, "t").start()
-    other.stop()
-    same((other.looks(), os.path.getsize(other.store)), ("place 0\n", SIZE))
-    server.settings["format"] = False
-    server.start()
-
-
 def sockets(place):
     """a socket path that is taken, too long or in a missing folder is `femem: socket`; a fault of the store comes first"""
     store = place.write("store", bytes(device_of(TWO)))
@@ -192,17 +176,3 @@ def sockets(place):
     same(place.run("look", "--store", made), (0, b"place 0\n", b""))
     same(place.read("file"), b"mine")
     holds(os.path.exists(place.path("dead")), "the socket of another was removed")
-
-
-def two_servers(place):
-    """a second server on the same store or socket is refused, a look is not, and the first server goes on"""
-    first = Server(place).start()
-    text = f'store = "{first.store}"\n'
-    refused(place, f'socket = "{place.path("x.socket")}"\n' + text, "store device", 3)
-    refused(place, f'socket = "{first.socket}"\n' + text, "store device", 3)
-    refused(place, f'socket = "{first.socket}"\nstore = "{place.path("t.store")}"\nformat = true\n', "socket", 4)
-    same(first.looks(), "place 0\n")
-    with first.attached(7) as conn:
-        same(conn.ask(wire.call(1, ("find", b"a"))), ("answer", 1, ("no-array",)))
-    first.stop()
-    same(first.looks(), "place 2\nsession 7 floor 1 kept 1\n")

@@ -5,6 +5,7 @@ An entry is ("attached", SESSION, FLOOR), ("closed", SESSION), ("settled", SESSI
 """
 
 import re
+from dataclasses import dataclass, field
 
 from . import tables
 from .wire import OPS
@@ -32,33 +33,24 @@ def table(op, operand, value, tag):
     return after, TAGS.get(tag_after, tag), {"old value": ("value", value), "done": ("done",)}[answer]
 
 
+@dataclass
 class Array:
-    def __init__(self, name, words):
-        self.name = name
-        self.words = words
-
-    def __eq__(self, other):
-        return (self.name, self.words) == (other.name, other.words)
+    name: bytes
+    words: list
 
 
+@dataclass
 class Session:
-    def __init__(self, floor):
-        self.floor = floor
-        self.kept = {}
-
-    def __eq__(self, other):
-        return (self.floor, self.kept) == (other.floor, other.kept)
+    floor: int
+    kept: dict = field(default_factory=dict)
 
 
+@dataclass
 class State:
-    def __init__(self):
-        self.place = 0
-        self.next_id = 1
-        self.arrays = {}
-        self.sessions = {}
-
-    def __eq__(self, other):
-        return (self.place, self.next_id, self.arrays, self.sessions) == (other.place, other.next_id, other.arrays, other.sessions)
+    place: int = 0
+    next_id: int = 1
+    arrays: dict = field(default_factory=dict)
+    sessions: dict = field(default_factory=dict)
 
     def looks(self):
         """What `femem look` prints for it."""

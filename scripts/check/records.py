@@ -8,6 +8,7 @@ import shutil
 import struct
 import subprocess
 import threading
+from collections import namedtuple
 
 from . import store, wire
 from .crowds import adding
@@ -16,15 +17,8 @@ from .model import State
 from .store import AREA, GATE, IMAGE, JOURNAL, ONE, SLOT, TWO, image_of, record_of
 
 
-class Call:
+class Call(namedtuple("Call", "kind file numbers error data")):
     """One line of a record: the call, its file, its numbers, its errno, and the bytes transferred."""
-
-    def __init__(self, kind, file, numbers, error, data):
-        self.kind = kind
-        self.file = file
-        self.numbers = numbers
-        self.error = error
-        self.data = data
 
     def __repr__(self):
         return " ".join(str(it) for it in (self.kind, self.file, *self.numbers)) + (f" = {self.error}" if self.error else "")

@@ -4,7 +4,6 @@ import fcntl
 import os
 from pathlib import Path
 import re
-import subprocess
 
 from . import store, wire
 from .harness import Server, holds, same, until, within
@@ -68,29 +67,6 @@ def lower_places(place):
     for content in (new, old):
         same(ran(place, "restore", place.write("copy", content), settings)[0], 0)
         same(check(), (0, "", ""), "a restore means it")
-
-
-def copied_over(place):
-    """a backup is copied over a store that a server has answered for: it ends, and the start after it is refused, until a restore means it"""
-    server = Server(place, format=False)
-    place.write("s.store", copied(place, [[("attached", 7, 1)]]))
-    server.start()
-    entered(server, 8)
-    backup = place.write("backup", place.read("s.store"))
-    entered(server, 9)
-    # (as the timer does each minute)
-    same(ran(place, "probe", *PATIENT, "--metrics", "--store", server.store, server.socket)[0], 0)
-    subprocess.run(["cp", backup, server.store], check=True)
-    with server.connect() as conn:
-        conn.send(wire.attach(10))
-        holds(conn.has_ended(), "an answer over a store that was overwritten")
-    same(server.ended(), (3, "", "femem: store device\n"))
-    # (as the unit does at each end)
-    same(ran(place, "note", server.store), (0, "", ""))
-    status, _, errors = ran(place, "check", server.store)
-    holds(status == 1 and "is at place 3, and the last known place is 7" in errors, errors)
-    same(ran(place, "restore", backup, server.store)[0], 0)
-    same(ran(place, "check", server.store)[::2], (0, ""))
 
 
 @within(120)
